@@ -11,8 +11,8 @@ use Rattle.ports_core.specs.Message.{SaysOn, SaysAll}
 use Rattle.ports_core.specs.declared.tool.Tool.TheVariants.{Tee}
 use Rattle.ports_core.specs.declared.fault.Fault.{Fault}
 use Rattle.ports_core.proofs.MessageLemmas.{all_said_state, says_more, says_after}
-use Rattle.tee_core.specs.Run.{output_names, OutputLeft, output_whole, output_cut, broke_before, broke_in, fault_in, none_left, said_in, said_before, FileLeft, file_whole, file_unopened, file_cut, file_unclosed, said_of_input}
-use Rattle.tee_core.specs.inner.Steps.{HasStreams, SaysTo, broken_of, output_slot, said_since, Copies, FileHas, has_all, has_none, has_begun, EachFile, no_more, one_more, IsTeeOf, all_of, HasCopied}
+use Rattle.tee_core.specs.Run.{EachFile, FilesLeft, no_file, one_file, output_names, OutputLeft, output_whole, output_cut, broke_before, broke_in, fault_in, none_left, said_in, said_before, FileLeft, file_whole, file_unopened, file_cut, file_unclosed, said_of_input}
+use Rattle.tee_core.specs.inner.Steps.{HasStreams, SaysTo, broken_of, output_slot, said_since, Copies, FileHas, has_all, has_none, has_begun, IsTeeOf, all_of, HasCopied}
 use Rattle.std.specs.List.{concat}
 use Rattle.std.proofs.lemmas.List.Folds.{concat-append}
 use Rattle.ports_core.specs.declared.slot.Mode.{Mode}
@@ -218,19 +218,19 @@ pub files_go : {Is Then : List ℕ → Option ℕ → Slot → Type 0} {Change :
     → (news : List Slot)
     → length news ≡ length olds → ((n : ℕ) → n < length olds → Change (slot_at olds n) (slot_at news n)) → EachFile Is names broke olds
     → (after : List (Option ℕ)) × EachFile Then names after news × AllMark call broke after (flags olds) (flags news)
-files_go go [] many changes no_more = ([], no_more, none_marked)
-files_go go (new ∷ news) many changes no_more = absurd (omega (arith, many))
-files_go go [] many changes (one_more name names first broke old olds one rest) = absurd (omega (arith, many))
-files_go go (new ∷ news) many changes (one_more name names first broke old olds one rest) =
+files_go go [] many changes no_file = ([], no_file, none_marked)
+files_go go (new ∷ news) many changes no_file = absurd (omega (arith, many))
+files_go go [] many changes (one_file name names first broke old olds one rest) = absurd (omega (arith, many))
+files_go go (new ∷ news) many changes (one_file name names first broke old olds one rest) =
     let here = go name first old new one (changes 0 (omega arith)) in
     let there = files_go go news (omega (arith, many)) (λ n within. changes (suc n) (omega arith)) rest in
-    (here.0 ∷ there.0, one_more name names here.0 there.0 new news here.1 there.1, all_marked first here.0 old.is_broken new.is_broken broke there.0 _ _ here.2 there.2)
+    (here.0 ∷ there.0, one_file name names here.0 there.0 new news here.1 there.1, all_marked first here.0 old.is_broken new.is_broken broke there.0 _ _ here.2 there.2)
 
 -- the outputs of a run
 
 pub length-files : {Is : List ℕ → Option ℕ → Slot → Type 0} {names : List (List ℕ)} {broke : List (Option ℕ)} {files : List Slot} → EachFile Is names broke files → length files ≡ length names
-length-files no_more = refl
-length-files (one_more name names first broke file files one rest) = ap suc (length-files rest)
+length-files no_file = refl
+length-files (one_file name names first broke file files one rest) = ap suc (length-files rest)
 
 output_usable : (told : Bool) {pieces : List (List ℕ)} {first : Option ℕ} {output : Slot} → OutputLeft told pieces first output → IsUsable output
 output_usable told output_whole = λ sound. refl
@@ -242,9 +242,9 @@ file_usable told (has_none kept named) = λ sound. absurd (false≢true (sym sou
 file_usable told (has_begun before that after n is within) = λ sound. refl
 
 files_usable : (told : Bool) {mode : Mode} {pieces : List (List ℕ)} {names : List (List ℕ)} {broke : List (Option ℕ)} {files : List Slot} (n : ℕ) → n < length files → EachFile (FileHas told mode pieces) names broke files → IsUsable (slot_at files n)
-files_usable told n within no_more = absurd (omega arith)
-files_usable told zero within (one_more name names first broke file files one rest) = file_usable told one
-files_usable told (suc n) within (one_more name names first broke file files one rest) = files_usable told n (omega arith) rest
+files_usable told n within no_file = absurd (omega arith)
+files_usable told zero within (one_file name names first broke file files one rest) = file_usable told one
+files_usable told (suc n) within (one_file name names first broke file files one rest) = files_usable told n (omega arith) rest
 
 -- a file's place, counted from the first file
 pub file_place : {names : List (List ℕ)} {tee : TeeState} (place : ℕ) → IsTeeOf names tee → IsFile tee place → (n : ℕ) × (place ≡ suc (suc n)) × (n < length names)
@@ -413,9 +413,9 @@ file_flag told (file_unopened kept named) = refl
 file_flag told (file_cut before that after n is within) = refl
 file_flag told file_unclosed = refl
 
-file_flags : (told : Bool) {mode : Mode} {pieces : List (List ℕ)} {names : List (List ℕ)} {broke : List (Option ℕ)} {files : List Slot} → EachFile (FileLeft told mode pieces) names broke files → flags files ≡ map (λ (when : Option ℕ). not (is_none when)) broke
-file_flags told no_more = refl
-file_flags told (one_more name names first broke file files one rest) =
+file_flags : (told : Bool) {mode : Mode} {pieces : List (List ℕ)} {names : List (List ℕ)} {broke : List (Option ℕ)} {files : List Slot} → FilesLeft told mode pieces names broke files → flags files ≡ map (λ (when : Option ℕ). not (is_none when)) broke
+file_flags told no_file = refl
+file_flags told (one_file name names first broke file files one rest) =
     ap (λ (flag : Bool). flag ∷ flags files) (file_flag told one) ∙ ap (λ flags. not (is_none first) ∷ flags) (file_flags told rest)
 
 module _ (told : Bool) (mode : Mode) (names : List (List ℕ)) where

@@ -10,8 +10,8 @@ use Rattle.ports_core.specs.declared.fault.Fault.TheVariants.{Read, Memory}
 use Rattle.ports_core.specs.declared.slot.Mode.{Mode}
 use Rattle.ports_core.proofs.InputsLemmas.{HasRead, broken_now, read_broken, read_failed, read_more, read_none_more, read_to_end, of_content}
 use Rattle.ports_core.specs.Inputs.{BreaksOnly, largest_piece, OfContent, empty}
-use Rattle.tee_core.specs.Run.{IsRead, LeavesOf, to_end, to_break, to_limit, to_last_output, EndsAs, copied, no_room, file_whole, file_unopened, file_cut, file_unclosed, FileLeft, FilesLeft, no_file, one_file, ComesIn, IsUnread, OutputLeft, output_whole, output_cut, all_copied, are_sound, broke_before, messages_of, none_left, output_names, said_before, said_in, status_of}
-use Rattle.tee_core.specs.inner.Steps.{Copies, CopiesRead, all_of, EachFile, no_more, one_more, CopiesInput, any_of}
+use Rattle.tee_core.specs.Run.{IsRead, LeavesOf, to_end, to_break, to_limit, to_last_output, EndsAs, copied, no_room, file_whole, file_unopened, file_cut, file_unclosed, FilesLeft, no_file, one_file, ComesIn, IsUnread, OutputLeft, output_whole, output_cut, all_copied, are_sound, broke_before, messages_of, none_left, output_names, said_before, said_in, status_of}
+use Rattle.tee_core.specs.inner.Steps.{Copies, CopiesRead, all_of, any_of, HasCopied}
 use Rattle.std.proofs.lemmas.Bool.Decides.{nat_tests}
 use Rattle.ports_core.specs.Text.{message_of}
 use Rattle.ports_core.specs.Message.{SaysAll, SaysOn, output_named}
@@ -97,17 +97,11 @@ one_fails sound whole = grind (arith, nat_tests)
 status_is : (broke : List (Option ℕ)) (fault : Option Fault) (failed : Bool) {known : List Bool} → failed ≡ (not (is_none fault) || any_of known) → known ≡ map (λ (when : Option ℕ). not (is_none when)) broke → (if failed then 1 else 0) ≡ status_of broke fault
 status_is broke fault failed failing is = cc (failing, is, any_broken broke, one_fails (is_none fault) (are_sound broke))
 
-all_left : {told : Bool} {mode : Mode} {pieces names : List (List ℕ)} {broke : List (Option ℕ)} {files : List Slot} → EachFile (FileLeft told mode pieces) names broke files → FilesLeft told mode pieces names broke files
-all_left no_more = no_file
-all_left (one_more name names first broke file files one rest) = one_file name names first broke file files one (all_left rest)
-
-pub ends_copied : {told_in : Bool} (told : Bool) {mode : Mode} {names : List (List ℕ)} {content : Content} {source : Source} {new : List Slot} (failed : Bool) {status : ℕ} → status ≡ (if failed then 1 else 0) → CopiesInput told_in told mode names content source new failed → EndsAs told_in told mode names content source new status
-ends_copied {told_in} told {content} {source} failed is copies =
-    copied copies.pieces copies.fault copies.copied.first copies.copied.broke copies.copied.output copies.copied.error copies.copied.files (subst (λ (flag : Bool). ComesIn told_in content source flag copies.pieces copies.fault) (sym copies.copied.vain_is) copies.read) copies.copied.some_left copies.copied.output_left (all_left copies.copied.files_left) copies.copied.said copies.copied.are
-    (is ∙ status_is (copies.copied.first ∷ copies.copied.broke) copies.fault failed copies.failed_is copies.copied.known_are)
-
-pub of_content_too : (told : Bool) (there : Content) (P Q : Content → Type 0) → ((content : Content) → P content → Q content) → OfContent told there P → OfContent told there Q
-of_content_too told there P Q more (content, is, holds) = (content, is, more content holds)
+pub ends_copied : {told_in : Bool} (told : Bool) {mode : Mode} {names : List (List ℕ)} {content : Content} {source : Source} {pieces : List (List ℕ)} {fault : Option Fault} {is_vain failed : Bool} {slots : List Slot} {known : List Bool} → failed ≡ (not (is_none fault) || any_of known) → ComesIn told_in content source is_vain pieces fault
+    → HasCopied told mode names pieces fault is_vain slots known → EndsAs told_in told mode names content source slots (if failed then 1 else 0)
+ends_copied {told_in} told {content} {source} {pieces} {fault} {failed = failed} failing read left =
+    copied pieces fault left.first left.broke left.output left.error left.files (subst (λ (flag : Bool). ComesIn told_in content source flag pieces fault) (sym left.vain_is) read) left.some_left left.output_left left.files_left left.said left.are
+    (status_is (left.first ∷ left.broke) fault failed failing left.known_are)
 
 -- there was no memory
 

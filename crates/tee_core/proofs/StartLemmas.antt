@@ -13,11 +13,10 @@ use Rattle.ports_core.specs.Message.{SaysAll}
 use Rattle.ports_core.specs.declared.tool.Tool.TheVariants.{Tee}
 use Rattle.ports_core.proofs.Runs.{adds-nil}
 use Rattle.ports_core.specs.Streams.{standard_output, standard_error}
-use Rattle.tee_core.specs.Run.{OutputLeft, output_whole, fault_in, output_names}
-use Rattle.tee_core.specs.inner.Steps.{Copies, FileHas, has_all, has_none, EachFile, HasStreams, IsTeeOf, SaysTo, all_of, broken_of, said_since}
+use Rattle.tee_core.specs.Run.{EachFile, no_file, one_file, OutputLeft, output_whole, fault_in, output_names}
+use Rattle.tee_core.specs.inner.Steps.{Copies, FileHas, has_all, has_none, HasStreams, IsTeeOf, SaysTo, all_of, broken_of, said_since}
 use Rattle.tee_core.proofs.CopyLemmas.{AllMark, Marked, all_marked, marked_none, marked_now, none_marked, none_now, said_marked}
 use Rattle.ports_core.specs.declared.fault.Fault.TheVariants as fault
-use Rattle.tee_core.specs.inner.Steps as steps
 
 -- one file
 
@@ -134,11 +133,11 @@ FilesStart told mode names files =
     (broke : List (Option ℕ)) × EachFile (FileHas told mode []) names broke files × AllMark 0 (replicate (length names) None) broke (replicate (length names) false) (map (λ (file : Slot). file.is_broken) files)
 
 files_start : (told : Bool) {mode : Mode} {names : List (List ℕ)} {files : List Slot} → OpensEach mode names files → FilesStart told mode names files
-files_start told no_more = ([], steps.no_more, none_marked)
+files_start told no_more = ([], no_file, none_marked)
 files_start told (one_more name names file files one rest) =
     let here = file_starts told one in
     let there = files_start told rest in
-    (here.0 ∷ there.0, steps.one_more name names here.0 there.0 file files here.1 there.1, all_marked None here.0 false file.is_broken _ there.0 _ _ here.2 there.2)
+    (here.0 ∷ there.0, one_file name names here.0 there.0 file files here.1 there.1, all_marked None here.0 false file.is_broken _ there.0 _ _ here.2 there.2)
 
 pub opened_streams : {mode : Mode} {names : List (List ℕ)} {slots : List Slot} → Opens mode names streams slots → HasStreams slots (length names)
 opened_streams {names} opens = grind (arith, common_steps, length-since)

@@ -119,14 +119,15 @@ pub data FileLeft (told : Bool) (mode : Mode) (pieces : List (List ℕ)) (name :
   file_unclosed : FileLeft told mode pieces name (Some (suc (length pieces)))
       (breaks (closes (adds (told_of told (concat pieces)) (opened name mode))))
 
--- the files, each in one of these ways, whatever became of the others
-pub data FilesLeft (told : Bool) (mode : Mode) (pieces : List (List ℕ)) : List (List ℕ) → List (Option ℕ) → List Slot
-    → Type 0 where
-  no_file : FilesLeft told mode pieces [] [] []
+-- each file is so, by its name and the call in which it broke, whatever became of the others
+pub data EachFile (Is : List ℕ → Option ℕ → Slot → Type 0) : List (List ℕ) → List (Option ℕ) → List Slot → Type 0 where
+  no_file : EachFile Is [] [] []
   one_file : (name : List ℕ) (names : List (List ℕ)) (first : Option ℕ) (broke : List (Option ℕ)) (file : Slot)
-      (files : List Slot)
-      → FileLeft told mode pieces name first file → FilesLeft told mode pieces names broke files
-      → FilesLeft told mode pieces (name ∷ names) (first ∷ broke) (file ∷ files)
+      (files : List Slot) → Is name first file → EachFile Is names broke files
+      → EachFile Is (name ∷ names) (first ∷ broke) (file ∷ files)
+
+abbrev pub FilesLeft : Bool → Mode → List (List ℕ) → List (List ℕ) → List (Option ℕ) → List Slot → Type 0
+FilesLeft told mode pieces = EachFile (FileLeft told mode pieces)
 
 -- A run ended so: some output was left as each piece was read, and where none is left the reading ended with that;
 -- standard output and each file were left as they must be by what broke when, the messages for that were said, and the

@@ -1,5 +1,5 @@
 //! A whole run of `tee`.
-ghost use Rattle.std.specs.Prelude.{◌≡◌, ◌∷◌, ◌+◌, ◌-◌, ◌^◌, ◌<◌, ◌≤◌, not, ◌&&◌, ◌||◌, replicate, suc, ◌++◌, ℕ, List, Option, Bool, [], true, false, map, length, get_or, IfOk, IfErr, IsTrue, is_none};
+ghost use Rattle.std.specs.Prelude.{◌≡◌, ◌∷◌, ◌+◌, ◌-◌, ◌^◌, ◌<◌, ◌≤◌, not, ◌&&◌, ◌||◌, replicate, suc, ◌++◌, ℕ, List, Option, Bool, [], true, false, map, length, get_or, IfOk, IfErr, IsTrue, is_none, if◌then◌else◌};
 ghost use Rattle.ports_core.specs.declared.fault.Fault.{Fault};
 ghost use Rattle.ports_core.specs.declared.slot.Mode.{Mode};
 ghost use Rattle.ports_core.specs.Slot.{Slot, is_open, slot_at, streams};
@@ -9,7 +9,7 @@ ghost use Rattle.ports_core.specs.Source.{source_at, is_readable, IsFresh};
 ghost use Rattle.ports_core.specs.Inputs.{BreaksOnly, KeepsOthers, OfContent, AsksAtMost, largest_piece};
 ghost use Rattle.tee_core.specs.Opening.{Opens};
 ghost use Rattle.tee_core.specs.Run.{EndsAs, all_copied, output_names, said_of_input};
-ghost use Rattle.tee_core.specs.inner.Steps.{HasCopied, Copies, CopiesInput, CopiesRead, HasStreams, IsTeeOf, SaysTo, all_of, any_of, broken_of, output_slot, said_since};
+ghost use Rattle.tee_core.specs.inner.Steps.{HasCopied, Copies, CopiesRead, HasStreams, IsTeeOf, SaysTo, all_of, any_of, broken_of, output_slot, said_since};
 
 use crate::tee::Tee;
 use ports_core::{Fault, Inputs, Mode, Outs, Tool, fed_with, say, tell};
@@ -64,7 +64,7 @@ fn copy_input<I: Inputs, O: Outs>(
 ) -> Result<bool, Fault>
     requires fresh { IsFresh (I.sources inputs.old) }
     requires outputs { O.slots outs.old ≡ streams }
-    ensures copied { IfOk result (λ failed. OfContent I.told (source_at (I.sources inputs.old) 0).left (λ content. CopiesInput I.told O.told mode (map (λ name. name.now) names.now) content (source_at (I.sources inputs.new) 0) (O.slots outs.new) failed
+    ensures copied { IfOk result (λ failed. OfContent I.told (source_at (I.sources inputs.old) 0).left (λ content. EndsAs I.told O.told mode (map (λ name. name.now) names.now) content (source_at (I.sources inputs.new) 0) (O.slots outs.new) (if failed then 1 else 0)
         × BreaksOnly I.told content (source_at (I.sources inputs.new) 0))) }
     ensures err { IfErr result (λ fault. (fault ≡ Fault.Memory) × (O.slots outs.new ≡ O.slots outs.old) × (I.sources inputs.new ≡ I.sources inputs.old)) }
     ensures others { KeepsOthers 0 (I.sources inputs.old) (I.sources inputs.new) }
@@ -95,7 +95,7 @@ fn copy_all<I: Inputs, O: Outs>(
     requires opened { (mode : Mode) × Opens mode (map (λ name. name.now) names.now) streams (O.slots outs.old) }
     requires unknown { known.old ≡ replicate (length names.now + 1) false }
     ensures copied { (mode : Mode) → Opens mode (map (λ name. name.now) names.now) streams (O.slots outs.old)
-        → OfContent I.told (source_at (I.sources inputs.old) 0).left (λ content. CopiesInput I.told O.told mode (map (λ name. name.now) names.now) content (source_at (I.sources inputs.new) 0) (O.slots outs.new) result
+        → OfContent I.told (source_at (I.sources inputs.old) 0).left (λ content. EndsAs I.told O.told mode (map (λ name. name.now) names.now) content (source_at (I.sources inputs.new) 0) (O.slots outs.new) (if result then 1 else 0)
         × BreaksOnly I.told content (source_at (I.sources inputs.new) 0)) }
     ensures others { KeepsOthers 0 (I.sources inputs.old) (I.sources inputs.new) }
     ensures asked { AsksAtMost largest_piece (I.sources inputs.new) }

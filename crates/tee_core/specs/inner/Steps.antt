@@ -9,7 +9,7 @@ use Rattle.ports_core.specs.declared.slot.Mode.{Mode}
 use Rattle.ports_core.specs.declared.tool.Tool.TheVariants.{Tee}
 use Rattle.ports_core.specs.declared.fault.Fault.{Fault}
 use Rattle.ports_core.specs.Streams.{standard_error}
-use Rattle.tee_core.specs.Run.{ComesIn, FileLeft, OutputLeft, messages_of, none_left, output_names, said_before}
+use Rattle.tee_core.specs.Run.{ComesIn, EachFile, FilesLeft, OutputLeft, messages_of, none_left, output_names, said_before}
 use Rattle.tee_core.specs.TeeState.{TeeState}
 
 abbrev pub any_of : List Bool → Bool
@@ -68,13 +68,6 @@ pub data FileHas (told : Bool) (mode : Mode) (pieces : List (List ℕ)) (name : 
       → FileHas told mode pieces name (Some (suc (length before)))
       (breaks (adds (told_of told (concat before ++ take n piece)) (opened name mode)))
 
--- each file is so, by its name and the call in which it broke
-pub data EachFile (Is : List ℕ → Option ℕ → Slot → Type 0) : List (List ℕ) → List (Option ℕ) → List Slot → Type 0 where
-  no_more : EachFile Is [] [] []
-  one_more : (name : List ℕ) (names : List (List ℕ)) (first : Option ℕ) (broke : List (Option ℕ)) (file : Slot)
-      (files : List Slot) → Is name first file → EachFile Is names broke files
-      → EachFile Is (name ∷ names) (first ∷ broke) (file ∷ files)
-
 -- these pieces were copied, before the files are closed
 pub record Copies (told : Bool) (mode : Mode) (names : List (List ℕ)) (pieces : List (List ℕ))
     (messages : List (List ℕ)) (slots : List Slot) (known : List Bool) : Type 0 where
@@ -110,19 +103,8 @@ pub record HasCopied (told : Bool) (mode : Mode) (names : List (List ℕ)) (piec
   pub broke : List (Option ℕ)
   pub are : slots ≡ output ∷ error ∷ files
   pub output_left : OutputLeft told pieces first output
-  pub files_left : EachFile (FileLeft told mode pieces) names broke files
+  pub files_left : FilesLeft told mode pieces names broke files
   pub said : SaysAll told Tee (messages_of names (first ∷ broke) (length pieces) fault) standard_error error
   pub known_are : known ≡ map (λ when. not (is_none when)) (first ∷ broke)
   pub some_left : none_left (length pieces) (first ∷ broke) ≡ false
   pub vain_is : none_left (suc (length pieces)) (first ∷ broke) ≡ is_vain
-
--- the whole input was copied, and this tells whether a fault was met
-pub record CopiesInput (told_in told : Bool) (mode : Mode) (names : List (List ℕ)) (content : Content) (source : Source)
-    (slots : List Slot) (failed : Bool) : Type 0 where
-  pub pieces : List (List ℕ)
-  pub fault : Option Fault
-  pub known : List Bool
-  pub is_vain : Bool
-  pub read : ComesIn told_in content source is_vain pieces fault
-  pub copied : HasCopied told mode names pieces fault is_vain slots known
-  pub failed_is : failed ≡ (not (is_none fault) || any_of known)

@@ -2,8 +2,9 @@ use Rattle.std.proofs.Common.{subst, arith}
 use Rattle.std.proofs.lemmas.Grind.{common_steps}
 use Rattle.std.proofs.lemmas.List.{length-map}
 use Rattle.tee_core.specs.Run.{said_of_input}
-use Rattle.tee_core.specs.inner.Steps.{HasStreams, all_of}
+use Rattle.tee_core.specs.inner.Steps.{HasStreams}
 use Rattle.tee_core.proofs.CopyLemmas.{copies_said, copies_streams}
+use Rattle.tee_core.proofs.EndLemmas.{ends_copied}
 use Rattle.tee_core.proofs.StartLemmas.{length-names, opened_streams, some_at_first, starts}
 use Rattle.tee_core.proofs.run.copy_all.Goals as goal
 
@@ -30,22 +31,8 @@ close_all-requires-clause-copies g c =
 
 pub returns-clause-copied : goal.returns-clause-copied
 returns-clause-copied g c mode opens =
-    let copied = c.copy_pieces-fault.ensures.copies mode (starts _ opens (length-names c.args.names.now c.requires.unknown) c.tell_broken.ensures.said c.tell_broken.ensures.known) in (
-      copied.0,
-      copied.1,
-      (
-        record {
-          fault = c.copy_pieces-fault.result;
-          pieces = copied.2.0.pieces;
-          known = c.close_all.new.known;
-          is_vain = all_of c.copy_pieces-fault.new.known;
-          read = copied.2.0.read;
-          copied = c.close_all.ensures mode copied.2.0.pieces c.copy_pieces-fault.result (copies_said _ mode _ copied.2.0.copies c.tell_input.ensures);
-          failed_is = c.has_failed.ensures;
-        },
-        copied.2.1,
-      ),
-    )
+    let (content, is, (read, breaks)) = c.copy_pieces-fault.ensures.copies mode (starts _ opens (length-names c.args.names.now c.requires.unknown) c.tell_broken.ensures.said c.tell_broken.ensures.known) in
+    (content, is, (ends_copied _ c.has_failed.ensures read.read (c.close_all.ensures mode read.pieces c.copy_pieces-fault.result (copies_said _ mode _ read.copies c.tell_input.ensures)), breaks))
 
 pub tell_broken-requires-clause-known : goal.tell_broken-requires-clause-known
 tell_broken-requires-clause-known g c = grind (arith, common_steps)
