@@ -161,31 +161,8 @@ fn spread_words(
     }
 }
 
-/// The same. Mostly each word is closed by itself, and then the landings are followed: no word waits for another.
-fn spread_apart(
-    words: &mut [u64],
-    nodes: &[Node],
-    base: &Base,
-    closures: &Closures,
-    at_first: bool,
-    at_last: bool,
-)
-    requires code { IsCode nodes.now }
-    requires size { length words.old ≡ width nodes.now }
-    requires base { IsBase nodes.now base.now }
-    requires begun { (number : ℕ) → IsIn base.now.words.items number → IsIn words.old number }
-    requires closures { AreClosures nodes.now closures.now }
-    ensures { SpreadsOut nodes.now at_first at_last words.old words.new }
-{
-    let over = close_words(words, nodes, base, closures);
-    if over == 0 {
-        land(words, nodes, &base.landings);
-        return;
-    }
-    spread_words(words, nodes, base, closures, at_first, at_last);
-}
-
-/// The same, in the way that is faster: where there are no landings, the words are gone over only once.
+/// The same, in the way that is faster. Mostly each word is closed by itself, and then the landings are followed: no word waits
+/// for another. Where there are no landings, the words are gone over only once.
 #[inline(always)]
 pub fn spread(
     words: &mut [u64],
@@ -206,7 +183,12 @@ pub fn spread(
         spread_words(words, nodes, base, closures, at_first, at_last);
         return;
     }
-    spread_apart(words, nodes, base, closures, at_first, at_last);
+    let over = close_words(words, nodes, base, closures);
+    if over == 0 {
+        land(words, nodes, &base.landings);
+        return;
+    }
+    spread_words(words, nodes, base, closures, at_first, at_last);
 }
 
 /// The same for any set, looking at each word.

@@ -1,7 +1,7 @@
 use Rattle.std.proofs.Common.{subst}
 use Rattle.scan_core.specs.inner.Landings.{HasLanded}
 use Rattle.scan_core.proofs.Closings.{spread_landed, spread_after}
-use Rattle.scan_core.proofs.closing.spread_apart.Goals as goal
+use Rattle.scan_core.proofs.closing.spread.Goals as goal
 
 pub returns-then-over-eq0 : goal.returns-then-over-eq0
 returns-then-over-eq0 c =
@@ -9,4 +9,4 @@ returns-then-over-eq0 c =
     (subst (λ landings. HasLanded c.args.nodes.now landings c.close_words-over.new.words c.land.new.words) c.deref.ensures.value c.land.ensures)
 
 pub returns : goal.returns
-returns c = spread_after c.close_words-over.result c.close_words-over.ensures c.spread_words.ensures
+returns c = spread_after c.close_words-over.result c.close_words-over.ensures c.spread_words-2.ensures
