@@ -1,7 +1,7 @@
 //! What `split` is asked for: POSIX.1-2017, XCU split; `-C`, `-n`, `-d`, `-x`, `-e`, `-t` and
 //! `--additional-suffix` are GNU's.
 ghost use Rattle.std.specs.Prelude.{◌≡◌, ℕ, ◌^◌, ◌<◌, ◌≤◌, map, IfOk, IfErr};
-ghost use Rattle.ports_core.specs.Name.{name_count, radix};
+ghost use Rattle.ports_core.specs.Name.{name_count};
 ghost use Rattle.words_core.specs.Given.{asked_by, operand_seen, option_seen};
 ghost use Rattle.words_core.specs.SplitWords.{dealt, files_in, fixed, free, least_width, names_all, no_options, split_by, split_asked, suffix_for, way_in, way_of};
 ghost use Rattle.words_core.specs.inner.SplitWords.{with_way};
@@ -230,18 +230,7 @@ fn least_width(alphabet: Alphabet, files: u64) -> u32
 fn names_all(alphabet: Alphabet, files: u64, width: u32) -> bool
     ensures { result ≡ names_all alphabet files width }
 {
-    files <= radix(alphabet).saturating_pow(width)
-}
-
-/// How many characters an alphabet has.
-fn radix(alphabet: Alphabet) -> u64
-    ensures { result ≡ radix alphabet }
-{
-    match alphabet {
-        Alphabet::Letters => 26,
-        Alphabet::Digits => 10,
-        Alphabet::Hex => 16,
-    }
+    files <= alphabet.radix().saturating_pow(width)
 }
 
 /// The operands: the name of the input, and what the names of files begin with.
