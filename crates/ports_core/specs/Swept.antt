@@ -1,6 +1,6 @@
 -- Which files are left where a tool removes what it made.
-use Rattle.std.specs.Prelude.{◌≡◌, ℕ, ◌≤◌, ◌<◌, eqb, ◌||◌, Bool, true, false, List, [], ◌∷◌, length}
-use Rattle.ports_core.specs.Slot.{Slot, slot_at, has_file, changed_at, closes, breaks, removes, with_broken, is_removable}
+use Rattle.std.specs.Prelude.{◌≡◌, ℕ, ◌≤◌, ◌<◌, eqb, ◌||◌, Bool, true, false, List, [], ◌∷◌, ◌++◌, length}
+use Rattle.ports_core.specs.Slot.{Slot, slot_at, has_file, changed_at, closes, breaks, removes, is_removable}
 
 -- one file: it is removed; or its removal failed, and it is broken and closed; or there is none
 pub data Cleared (old : Slot) : Slot → Type 0 where
@@ -32,15 +32,17 @@ abbrev pub AreThere : List ℕ → List Slot → Type 0
 AreThere [] slots = Unit {0}
 AreThere (place ∷ places) slots = is_removable slots place × (is_among place places ≡ false) × AreThere places slots
 
+-- what the removal of one file makes of its slot, and whether its place is left
+pub data Tries (place : ℕ) : (Slot → Slot) → List ℕ → Type 0 where
+  goes : Tries place removes []
+  stays : Tries place (λ slot. breaks (closes slot)) (place ∷ [])
+
 -- These files are removed, one after another, and nothing else is touched. Those are left whose removal failed: each of
 -- them is broken and closed, and the next is tried.
 pub data Removes : List ℕ → List Slot → List ℕ → List Slot → Type 0 where
   all_tried : (slots : List Slot) → Removes [] slots [] slots
-  goes : (place : ℕ) (places left : List ℕ) (old new : List Slot)
-      → Removes places (changed_at place removes old) left new → Removes (place ∷ places) old left new
-  stays : (place : ℕ) (places left : List ℕ) (old new : List Slot)
-      → Removes places (with_broken place (changed_at place closes old)) left new
-      → Removes (place ∷ places) old (place ∷ left) new
+  tried : (place : ℕ) (places kept left : List ℕ) (change : Slot → Slot) (old new : List Slot) → Tries place change kept
+      → Removes places (changed_at place change old) left new → Removes (place ∷ places) old (kept ++ left) new
 
 -- these files are removed, or all stay
 abbrev pub RemovesIf : Bool → List ℕ → List Slot → List ℕ → List Slot → Type 0
