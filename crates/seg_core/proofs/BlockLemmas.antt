@@ -19,7 +19,7 @@ text_of-append (block ∷ front) back = ap (λ x. block.bytes ++ x) (text_of-app
 
 pub count_of-append : (front back : List BlockState) → count_of (front ++ back) ≡ count_of front + count_of back
 count_of-append [] back = omega arith
-count_of-append (block ∷ front) back = let rest = count_of-append front back in omega arith
+count_of-append (block ∷ front) back = omega (arith, count_of-append front back)
 
 -- one more block at the end
 pub text_push : (blocks : List BlockState) (block : BlockState) (rest : List ℕ) → text_of (blocks ++ block ∷ []) ++ rest ≡ text_of blocks ++ (block.bytes ++ rest)
@@ -54,8 +54,7 @@ all_counted delim [] each = refl
 all_counted delim (block ∷ blocks) each =
     let here = counted_at delim (block ∷ blocks) 0 (omega arith) refl each in
     let rest = all_counted delim blocks (All-drop (HasCount delim) 1 (block ∷ blocks) each) in
-    let both = delimiters-append delim block.bytes (text_of blocks) in
-    omega arith
+    omega (arith, delimiters-append delim block.bytes (text_of blocks))
 
 -- the counts stay right, once bytes went at the front of the first block, and once some came to the last
 pub dropped_counts : (delim n : ℕ) {gone : ℕ} (blocks : List BlockState) {first new : BlockState} → 0 < length blocks → first ≡ get_or blocks 0 first → new ≡ record { bytes = drop n first.bytes; count = first.count - gone } → gone ≡ delimiters delim (take n first.bytes) → HaveCounts delim blocks
@@ -107,8 +106,7 @@ rest_goes {n} {left} {bytes} so_far =
 pub rest_have_counts : (delim : ℕ) {n : ℕ} {blocks left : List BlockState} {bytes count : ℕ} → Gone n blocks left bytes count → HaveCounts delim blocks → HaveCounts delim left
 rest_have_counts delim {left} so_far each =
     let gone = so_far.gone in
-    subst (HaveCounts delim) (drop_at gone left (length gone) refl)
-    (All-drop (HasCount delim) (length gone) (gone ++ left) (subst (HaveCounts delim) so_far.whole each))
+    rw (drop_at gone left (length gone) refl) at (All-drop (HasCount delim) (length gone) (gone ++ left) (rw so_far.whole at each))
 
 pub rest_counted : (delim : ℕ) {n : ℕ} {blocks left : List BlockState} {bytes count : ℕ} → Gone n blocks left bytes count → HaveCounts delim blocks → count + delimiters delim (take bytes (text_of left)) ≡ delimiters delim (take n (text_of blocks))
 rest_counted delim {n} {blocks} {left} {bytes} so_far each =
@@ -116,8 +114,8 @@ rest_counted delim {n} {blocks} {left} {bytes} so_far each =
     let text = text_of gone in
     let front : take n (text_of blocks) ≡ text ++ take bytes (text_of left) =
     ap (take n) (text_whole so_far) ∙ ap (λ k. take k (text ++ text_of left)) so_far.long ∙ take-append-add text (text_of left) bytes in
-    let counts : HaveCounts delim gone = subst (HaveCounts delim) (take_at gone left (length gone) refl)
-    (All-take (HasCount delim) (length gone) (gone ++ left) (subst (HaveCounts delim) so_far.whole each)) in
+    let counts : HaveCounts delim gone = rw (take_at gone left (length gone) refl) at
+    (All-take (HasCount delim) (length gone) (gone ++ left) (rw so_far.whole at each)) in
     omega (arith, ap (delimiters delim) front ∙ delimiters-append delim text (take bytes (text_of left)), so_far.counted ∙ all_counted delim gone counts)
 
 -- delimiters of a part that begins at `start`, and of what follows it

@@ -44,7 +44,7 @@ count_stretch delim x at width more so_far is = grind (arith, common_steps, deli
 
 -- a count that goes on by one byte
 pub count_more : (delim : ℕ) (x : List ℕ) (i : ℕ) {n : ℕ} (one : ℕ) → n ≡ delimiters delim (take i x) → i < length x → one ≡ delimiters delim (get_or x i 0 ∷ []) → n + one ≡ delimiters delim (take (i + 1) x)
-count_more delim x i one so_far h here = let more = delimiters_more delim x i h in omega arith
+count_more delim x i one so_far h here = omega (arith, delimiters_more delim x i h)
 
 -- a count that goes on byte by byte
 pub count_yes : {delim : ℕ} (x : List ℕ) (i : ℕ) {n : ℕ} → n ≡ delimiters delim (take i x) → i < length x → get_or x i 0 ≡ delim → n + 1 ≡ delimiters delim (take (i + 1) x)

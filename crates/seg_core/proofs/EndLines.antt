@@ -17,7 +17,7 @@ line_count-grows delim x [] = grind (arith, common_steps)
 line_count-grows delim x (byte ∷ y) = grind (arith, common_steps, line_count-front, line_count-some, line_count_near)
 
 pub after_lines-past : (delim n : ℕ) (x : List ℕ) → delimiters delim x < n → after_lines delim n x ≡ []
-after_lines-past delim n x past = ap joined (drop_all n (lines_of delim x) (let near = (line_count_near delim x).1 in omega arith))
+after_lines-past delim n x past = ap joined (drop_all n (lines_of delim x) (omega (arith, (line_count_near delim x).1)))
 
 -- the last lines of a text that goes on are among its last lines and what follows
 pub last_lines-append : (delim n : ℕ) (x y : List ℕ) → last_lines delim n (x ++ y) ≡ last_lines delim n (last_lines delim n x ++ y)

@@ -20,13 +20,13 @@ line_count-some delim (byte ∷ x) some = grind (arith, common_steps)
 
 pub line_count-le-length : (delim : ℕ) (x : List ℕ) → line_count delim x ≤ length x
 line_count-le-length delim [] = omega arith
-line_count-le-length delim (byte ∷ x) = let here = cons_step (eqb byte delim) byte (lines_of delim x) in let rest = line_count-le-length delim x in omega arith
+line_count-le-length delim (byte ∷ x) = let here = cons_step (eqb byte delim) byte (lines_of delim x) in omega (arith, line_count-le-length delim x)
 
 -- what is left of a text has no more lines
 pub line_count-drop : (delim k : ℕ) (x : List ℕ) → line_count delim (drop k x) ≤ line_count delim x
 line_count-drop delim zero x = omega arith
 line_count-drop delim (suc k) [] = omega arith
-line_count-drop delim (suc k) (byte ∷ x) = let here = cons_step (eqb byte delim) byte (lines_of delim x) in let rest = line_count-drop delim k x in omega arith
+line_count-drop delim (suc k) (byte ∷ x) = let here = cons_step (eqb byte delim) byte (lines_of delim x) in omega (arith, line_count-drop delim k x)
 
 count_step : (is_delim : Bool) (byte : ℕ) (lines : List (List ℕ)) → 0 < length lines
     → length (cond is_delim ((byte ∷ []) ∷ lines) (onto_first byte lines)) ≡ cond is_delim (length lines + 1) (length lines)

@@ -36,8 +36,8 @@ lines_of-other delim byte x other = grind (arith, common_steps)
 pub AreLines-lines_of : (delim : ℕ) (x : List ℕ) → AreLines delim (lines_of delim x)
 AreLines-lines_of delim [] = tt
 AreLines-lines_of delim (byte ∷ x) = elim (cases_eq byte delim) [
-  | inl e ↦ subst (AreLines delim) (sym (lines_of-delimiter x e)) (subst (λ b. AreLines delim ((b ∷ []) ∷ lines_of delim x)) (sym e) (complete_first delim (lines_of delim x) (AreLines-lines_of delim x)))
-  | inr other ↦ subst (AreLines delim) (sym (lines_of-other delim byte x other)) (other_first delim byte (lines_of delim x) other (AreLines-lines_of delim x))
+  | inl e ↦ rw (lines_of-delimiter x e) (rw e (complete_first delim (lines_of delim x) (AreLines-lines_of delim x)))
+  | inr other ↦ rw (lines_of-other delim byte x other) (other_first delim byte (lines_of delim x) other (AreLines-lines_of delim x))
 ]
 
 pub IsLines-lines_of : {delim : ℕ} {x : List ℕ} → IsLines delim x (lines_of delim x)

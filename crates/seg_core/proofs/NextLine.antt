@@ -54,11 +54,11 @@ cut_after {delim} {x} {k} line {rest} h here none front back =
     let ends : line ≡ take k x ++ delim ∷ [] = front ∙ take_more x k 0 h ∙ ap (λ byte. take k x ++ byte ∷ []) (eqb-true (get_or x k 0) delim here) in
     let whole : (take k x ++ delim ∷ []) ++ rest ≡ x = let all = take-append-drop (k + 1) x in cc in
     let cut = complete_cut (take k x) (HasNone-take delim k x (omega arith) none) in
-    subst (λ l. IsCutFrom delim x l rest) (sym ends) (subst (λ z. IsCutFrom delim z (take k x ++ delim ∷ []) rest) whole cut)
+    rw ends (subst (λ z. IsCutFrom delim z (take k x ++ delim ∷ []) rest) whole cut)
 
 pub cut_at_end : {delim : ℕ} {x : List ℕ} (line : List ℕ) {rest : List ℕ} → Nowhere (Passes (is_byte delim) x) 0 (length x) → line ≡ take (length x) x → rest ≡ drop (length x) x
     → IsCutFrom delim x line rest
 cut_at_end {delim} {x} line {rest} none front back =
     let whole = take_all (length x) x (omega arith) in
-    let cut = open_cut (subst (HasNone delim) whole (HasNone-take delim (length x) x (omega arith) none)) in
-    subst (λ l. IsCutFrom delim x l rest) (sym (front ∙ whole)) (subst (IsCutFrom delim x x) (sym (back ∙ drop_all (length x) x (omega arith))) cut)
+    let cut = open_cut (rw whole at (HasNone-take delim (length x) x (omega arith) none)) in
+    rw (front ∙ whole) (rw (back ∙ drop_all (length x) x (omega arith)) cut)

@@ -22,7 +22,7 @@ loop-left-preserved c =
     let shorter = ap length (take_rest left STEP) ∙ length-drop STEP left in
     record {
       counted = omega arith;
-      few = subst (λ n. Each1 (IsFew n) (zip2 (λ a b. a + b) lanes step)) (sym shorter) (more_few lanes step (length left) c.loop-left-test.true c.loop-left.invariant.few c.delimiters_in_step-lanes.ensures.each);
+      few = rw shorter (more_few lanes step (length left) c.loop-left-test.true c.loop-left.invariant.few c.delimiters_in_step-lanes.ensures.each);
     }
 
 pub overflow_add-result : goal.overflow_add-result

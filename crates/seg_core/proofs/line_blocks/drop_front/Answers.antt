@@ -25,5 +25,4 @@ overflow_add-result c =
     let text = text_of c.args.queue.now.items in
     let all = rest_counted c.args.delim c.drop_whole-left.ensures.gone c.requires.each in
     let part = delimiters-take-le c.args.delim c.args.n text in
-    let few = delimiters-le-length c.args.delim text in
-    omega arith
+    omega (arith, delimiters-le-length c.args.delim text)

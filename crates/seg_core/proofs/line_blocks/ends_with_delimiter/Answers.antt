@@ -16,4 +16,4 @@ returns-in-Some c =
     let last : length bytes - 1 + 1 ≡ length bytes = omega arith in
     ap (λ byte. eqb byte c.args.delim) (c.in-Some.ensures.item.3.1 0) ∙ sym (ends_with-last c.args.delim bytes (length bytes - 1) last)
     ∙ ap (ends_with c.args.delim) c.bytes.ensures
-    ∙ sym (ends_in c.args.delim items (c.loop-left.left - 1) here c.index.ensures none (subst (λ x. 0 < length x) c.bytes.ensures some))
+    ∙ sym (ends_in c.args.delim items (c.loop-left.left - 1) here c.index.ensures none (rw c.bytes.ensures at some))

@@ -24,11 +24,10 @@ returns c =
     let inside = c.self.inside in
     let block = c.args.block.now in
     let held = text_of inside.blocks.items in
-    let is : c.if-self-eq0.is_closed ≡ ends_with inside.delim (block ++ held) =
-    elim c.if-self-eq0.branch [
-      | then-self-eq0 w ↦ let none : length held ≡ 0 = let empty = w.if-self-eq0.true in omega arith in w.is_closed-is ∙ ends_with-alone inside.delim block held none c.requires.some
-      | else-self-eq0 w ↦ let some : 0 < length held = let other = w.if-self-eq0.false in omega arith in w.is_closed-is ∙ w.ends_with_delimiter-is_closed.ensures ∙ sym (ends_with-append inside.delim block held some)
+    let is : c.if-self-eq0.is_closed ≡ ends_with inside.delim (block ++ held) = elim c.if-self-eq0.branch [
+      | then-self-eq0 w ↦ let none : length held ≡ 0 = omega (arith, w.if-self-eq0.true) in w.is_closed-is ∙ ends_with-alone inside.delim block held none c.requires.some
+      | else-self-eq0 w ↦ let some : 0 < length held = omega (arith, w.if-self-eq0.false) in w.is_closed-is ∙ w.ends_with_delimiter-is_closed.ensures ∙ sym (ends_with-append inside.delim block held some)
     ] in
     let more = subst (λ (w : Window). c.args.count ≡ delimiters w.delim block) (sym c.self.view_is) c.requires.counted in
-    subst (λ (w : Window). inside.delimiters + c.args.count + c.from.result ≡ line_count w.delim (block ++ w.held)) c.self.view_is
+    rw (← c.self.view_is)
     (line_count-both inside.delim block held c.if-self-eq0.is_closed c.args.count c.from.result c.requires.some c.self.invariant.counted more is c.from.ensures)
