@@ -1,6 +1,6 @@
 -- Lemmas on what all continuations agree on.
 use Rattle.std.proofs.lemmas.Grind.{common_steps}
-use Rattle.std.proofs.Common.{◌≡◌, ◌≢◌, ℕ, ◌+◌, ◌-◌, ◌<◌, ◌≤◌, zero, suc, List, [], ◌∷◌, ◌++◌, length, get_or, replicate, inl, inr, sym, ◌∙◌, ap, arith, length-append, lit<, map, take, drop, refl, subst, rules}
+use Rattle.std.proofs.Common.{◌≡◌, ◌≢◌, ℕ, ◌+◌, ◌-◌, ◌<◌, ◌≤◌, zero, suc, List, [], ◌∷◌, ◌++◌, length, get_or, replicate, inl, inr, sym, ◌∙◌, ap, arith, length-append, lit<, map, take, drop, refl, rules}
 use Rattle.std.proofs.lemmas.List.{append-nil, get_or_append_left, length-map}
 use Rattle.std.proofs.lemmas.Bool.{cases_lt}
 use Rattle.ports_core.specs.Part.{IsBeginning, Begins, File, Part, FilesBegin}
@@ -57,8 +57,7 @@ agreed_by work x few y more begin few_bytes bytes no_more same = record {
     λ these begins also.
         let here : output_at (work.whole (x ++ y)) place ≡ output_at (work.settled x) place = ap (λ outputs. get_or outputs place []) same ∙ get_or_append_left (outputs_of (work.settled x)) more [] place less in
         let short = beginning_short these (output_at (work.whole (x ++ y)) place) begins in
-        let long : length (output_at (work.whole (x ++ y)) place) ≡ length (output_at (work.settled x) place) = ap length here in
-        omega (arith, short, long),
+        omega (arith, short, ap length here),
   );
 }
 
@@ -83,7 +82,7 @@ some_spot one spots is = cc
 pub none_before : (from i place offset : ℕ) (outputs : List (List ℕ)) → place < from → spots_from from outputs i ≡ spot place offset ∷ [] → ⊥
 none_before from i place offset [] before is = grind (arith, common_steps)
 none_before from i place offset (bytes ∷ outputs) before is = elim (cases_lt i (length bytes)) [
-  | inl within ↦ (let e : from ≡ place = ap (λ those. (get_or those 0 (spot from i)).place) (sym (spot_in from i bytes outputs within) ∙ is) in omega (arith, before, e))
+  | inl within ↦ (omega (arith, before, ap (λ those. (get_or those 0 (spot from i)).place) (sym (spot_in from i bytes outputs within) ∙ is)))
   | inr past ↦ none_before (from + 1) (i - length bytes) place offset outputs (omega (arith, before)) (sym (spot_past from i bytes outputs past) ∙ is)
 ]
 
@@ -125,12 +124,12 @@ no_longer one other place agreed also less within =
 
 pub one_is_agreed : (work : Work) (x : List ℕ) (one other : Part) → IsAgreed work x one → IsAgreed work x other → outputs_of one ≡ outputs_of other
 one_is_agreed work x one other agreed also =
-    let count : length (outputs_of one) ≡ length (outputs_of other) = (let few = no_more one other agreed also in let little = no_more other one also agreed in omega (arith, few, little)) in
+    let count : length (outputs_of one) ≡ length (outputs_of other) = (let few = no_more one other agreed also in omega (arith, few, no_more other one also agreed)) in
     lists_same (outputs_of one) (outputs_of other) count (λ place less.
-    let within : place < length (outputs_of other) = subst (λ n. place < n) count less in
+    let within : place < length (outputs_of other) = rw count at less in
     beginnings_same (output_at one place) (output_at other place) (output_at (work.whole (x ++ [])) place)
     (begins_at place (agreed.common [] none_comes) less) (begins_at place (also.common [] none_comes) within)
-    (let short = no_longer one other place agreed also less within in let long = no_longer other one place also agreed within less in omega (arith, short, long)))
+    (let short = no_longer one other place agreed also less within in omega (arith, short, no_longer other one place also agreed within less)))
 
 module _ (spots_of : List ℕ → ℕ → List Spot) (x : List ℕ) where
   begins_no_later : (one other : List ℕ) (here : IsUndecided spots_of x one) (there : IsUndecided spots_of x other) → length here.before ≤ length there.before

@@ -1,6 +1,6 @@
 -- Lemmas on what all engines share.
 use Rattle.std.proofs.lemmas.Grind.{common_steps}
-use Rattle.std.proofs.Common.{◌≡◌, ℕ, ◌+◌, ◌≤◌, ◌<◌, Bool, false, List, arith, Result, Ok, Err, IfErr, refl, subst}
+use Rattle.std.proofs.Common.{◌≡◌, ℕ, ◌+◌, ◌≤◌, ◌<◌, Bool, false, List, arith, Result, Ok, Err, IfErr, refl}
 use Rattle.ports_core.specs.Slot.{Slot}
 use Rattle.ports_core.specs.Work.{Work, IsLawful}
 use Rattle.ports_core.specs.Engine.{EndsShort, CutsOff, IsCaused, cut, met}
@@ -23,7 +23,7 @@ module _ {S : Type 0} (Holds : S → List ℕ → Type 0) (Owns : S → ℕ → 
 -- why its stage stopped is why an engine did
 module _ {S : Type 0} (Met : S → Fault → Type 0) (state guard : GuardState S) (size : ℕ) (old new : List Slot) (is : state ≡ guard) (going : state.is_over ≡ false) where
   pub caused : (f : Fault) → Met state.stage f → IsCaused (Met guard.stage) guard.is_over guard.fed size old new f
-  caused f why = subst (λ (those : GuardState S). IsCaused (Met those.stage) those.is_over those.fed size old new f) is (met f going why)
+  caused f why = rw (← is) (met f going why)
 
   pub caused_end : (result : Result (Unit {0}) Fault) → IfErr result (Met state.stage) → IfErr result (IsCaused (Met guard.stage) guard.is_over guard.fed size old new)
   caused_end (Ok u) why = tt

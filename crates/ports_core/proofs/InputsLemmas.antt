@@ -1,6 +1,6 @@
 -- Lemmas on what reads leave of the inputs of a run.
 use Rattle.std.proofs.lemmas.Grind.{common_steps}
-use Rattle.std.proofs.Common.{◌≡◌, ℕ, ◌≤◌, Bool, true, false, IsTrue, List, [], ◌++◌, take, slice_index_or, arith, sym, ◌∙◌, ap, subst, append-nil, take-append-drop}
+use Rattle.std.proofs.Common.{◌≡◌, ℕ, ◌≤◌, Bool, true, false, IsTrue, List, [], ◌++◌, take, slice_index_or, arith, sym, ◌∙◌, ap, append-nil, take-append-drop}
 use Rattle.std.proofs.lemmas.Bool.{and_parts, not-true}
 use Rattle.ports_core.specs.Inputs.{AsksAtMost, BreaksOnly, KeepsOthers, OfContent}
 use Rattle.ports_core.specs.Slot.{changed_at}
@@ -64,10 +64,10 @@ read_none_more content x slot sources new size n read can none is = grind (arith
 
 -- no read asked for more
 pub asked_again : (slot size most n : ℕ) (sources new : List Source) → IsTrue (is_readable sources slot) → new ≡ changed_at slot (gives size n) sources → size ≤ most → (source_at sources slot).asked ≤ most → (source_at new slot).asked ≤ most
-asked_again slot size most n sources new can is within so_far = subst (λ asked. asked ≤ most) (sym (ap (λ (source : Source). source.asked) (changed_source slot (gives size n) sources new can is))) (omega (arith, so_far, within))
+asked_again slot size most n sources new can is within so_far = rw (ap (λ (source : Source). source.asked) (changed_source slot (gives size n) sources new can is)) (omega (arith, so_far, within))
 
 pub asked_at_end : (slot size most : ℕ) (sources new : List Source) → IsTrue (is_readable sources slot) → new ≡ changed_at slot (fails size) sources → size ≤ most → (source_at sources slot).asked ≤ most → (source_at new slot).asked ≤ most
-asked_at_end slot size most sources new can is within so_far = subst (λ asked. asked ≤ most) (sym (ap (λ (source : Source). source.asked) (changed_source slot (fails size) sources new can is))) (omega (arith, so_far, within))
+asked_at_end slot size most sources new can is within so_far = rw (ap (λ (source : Source). source.asked) (changed_source slot (fails size) sources new can is)) (omega (arith, so_far, within))
 
 pub broken_now : (slot size : ℕ) (sources new : List Source) → IsTrue (is_readable sources slot) → new ≡ changed_at slot (fails size) sources → (source_at new slot).is_broken ≡ true
 broken_now slot size sources new can is = ap (λ (source : Source). source.is_broken) (changed_source slot (fails size) sources new can is)

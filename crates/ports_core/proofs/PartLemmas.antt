@@ -1,6 +1,6 @@
 -- Lemmas on what outputs have got.
 use Rattle.std.proofs.lemmas.Grind.{common_steps}
-use Rattle.std.proofs.Common.{◌≡◌, ℕ, ◌+◌, ◌<◌, ◌≤◌, zero, suc, List, [], ◌∷◌, ◌++◌, length, take, drop, Bool, true, false, IsTrue, ◌⊎◌, inl, inr, refl, sym, ◌∙◌, ap, subst, arith, append_assoc, rules}
+use Rattle.std.proofs.Common.{◌≡◌, ℕ, ◌+◌, ◌<◌, ◌≤◌, zero, suc, List, [], ◌∷◌, ◌++◌, length, take, drop, Bool, true, false, IsTrue, ◌⊎◌, inl, inr, refl, sym, ◌∙◌, ap, arith, append_assoc, rules}
 use Rattle.std.proofs.lemmas.List.{append-nil, take-append-drop, drop_all, length-map}
 use Rattle.std.proofs.lemmas.Bool.{false≢true, and_parts, not-true}
 use Rattle.ports_core.specs.Slot.{Slot, is_open, slot_at, is_writable, with_written, with_broken, told_of}
@@ -89,7 +89,7 @@ out_cut told before part old new more n at broke = record {
   from = inl refl;
 } where
   there : 0 < length (with_written 0 (told_of told (take n more)) old)
-  there = subst (λ n. 0 < n) (sym (length-changed_at 0 _ old)) (omega (arith, at.standard, outputs_count told before part old at))
+  there = rw (length-changed_at 0 _ old) (omega (arith, at.standard, outputs_count told before part old at))
 
 -- a fault that came before anything was written, and from no output
 pub stopped_here : (told : Bool) (before : List Slot) (low high : Part) (fault : Fault) (old new : List Slot) → OutputsAt told before low old → Begins low high → Marks (IsNext low high) fault old new → IsAt fault (length before) 0 (length low.files) → StoppedBetween told before low high fault new
@@ -123,7 +123,7 @@ next_in part front file rest files begins place named = absurd begins
 
 next_wider : {part high : Part} (more : Part) → Begins high more → (name : List ℕ) → IsNext part high name → IsNext part more name
 next_wider {part} more begins name next =
-    let found = next_in part next.front next.file next.rest more.files (subst (λ files. FilesBegin files more.files) next.files begins.files) next.place next.name_is in
+    let found = next_in part next.front next.file next.rest more.files (rw next.files at begins.files) next.place next.name_is in
     record { front = found.0; file = found.1; rest = found.2; files = found.3; place = found.4; name_is = found.5 }
 
 -- what stopped in turn between two parts stopped between one that begins the lower and one that the higher begins
@@ -144,7 +144,7 @@ done_by (suc place) (file ∷ part) (whole ∷ high) begins closed within =
 pub no_fewer : (low part : List File) → FilesBegin low part → length low ≤ length part
 no_fewer [] part begins = omega arith
 no_fewer (file ∷ low) [] begins = absurd begins
-no_fewer (file ∷ low) (whole ∷ part) begins = let fewer : length low ≤ length part = no_fewer low part begins.5 in omega arith
+no_fewer (file ∷ low) (whole ∷ part) begins = omega (arith, no_fewer low part begins.5)
 
 -- in turn is in order
 pub in_order : {low part high : List File} {place : ℕ} → FilesBegin low part → FilesBegin part high → InTurn part place → InOrder low part high place

@@ -75,7 +75,7 @@ module _ (told : Bool) (out : List ℕ) (front : List File) where
   last_place : (file : File) {before old : List Slot} {slot : ℕ} → suc slot ≡ length old → OutputsAt told before (with_last out front file) old → slot ≡ length before + length front
   last_place file {before} {old} last at =
       let all : length old ≡ length before + length (front ++ file ∷ []) = outputs_count told before (with_last out front file) old at in
-      let files : length (front ++ file ∷ []) ≡ length front + 1 = length-append front (file ∷ []) in omega (arith, last)
+      omega (arith, last, length-append front (file ∷ []))
 
   -- a file is opened
   pub opens : (name : List ℕ) {old new : List Slot} → new ≡ old ++ opened name Fresh ∷ [] → Becomes told (record { out = out; files = front }) (with_last out front (file_of name [] state.Open)) old new None
@@ -110,6 +110,5 @@ module _ (told : Bool) (out : List ℕ) (front : List File) where
       → Becomes told (with_last out front (file_of name bytes state.Open)) (with_last out front (file_of name bytes state.Closed)) old new (Some (fault.Write slot))
   closes_not name bytes {slot} old closed last is =
       becomes_again (close_begins out front name bytes) (closes_last name bytes old last refl) (halts_here (part_begins_itself _)
-      (turn_last front (file_of name bytes state.Closed) (length front) refl closed)
-      (let size : length (changed_at slot closes old) ≡ length old = length-changed_at slot closes old in omega (arith, last), is)
+      (turn_last front (file_of name bytes state.Closed) (length front) refl closed) (omega (arith, last, length-changed_at slot closes old), is)
       (λ before at. inr (last_place (file_of name bytes state.Closed) (last ∙ sym (length-changed_at slot closes old)) at)))

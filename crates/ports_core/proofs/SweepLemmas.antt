@@ -1,8 +1,8 @@
 -- Lemmas on removing many files.
 use Rattle.std.proofs.lemmas.Grind.{common_steps}
-use Rattle.std.proofs.Common.{◌≡◌, ℕ, ◌+◌, ◌<◌, ◌≤◌, zero, suc, eqb, eq-eqb, true, false, ◌||◌, List, [], ◌∷◌, ◌++◌, length, get_or, set, take, drop, Result, Ok, Err, is_ok, OnOk, IfErr, IsTrue, refl, sym, ◌∙◌, ap, subst, arith, length-set, take-suc, take-suc-set, drop-cons, drop-set-lt, rules, append-nil, append_assoc}
+use Rattle.std.proofs.Common.{◌≡◌, ℕ, ◌+◌, ◌<◌, ◌≤◌, zero, suc, eqb, eq-eqb, true, false, ◌||◌, List, [], ◌∷◌, ◌++◌, length, get_or, set, take, drop, Result, Ok, Err, is_ok, OnOk, IfErr, refl, sym, ◌∙◌, ap, arith, length-set, take-suc, take-suc-set, drop-cons, drop-set-lt, rules, append-nil, append_assoc}
 use Rattle.std.proofs.lemmas.Bool.{false≢true, or_parts}
-use Rattle.ports_core.specs.Slot.{Slot, has_file, slot_at, changed_at, with_broken, removes, closes, breaks, is_removable}
+use Rattle.ports_core.specs.Slot.{Slot, has_file, slot_at, changed_at, with_broken, removes, closes, breaks}
 use Rattle.ports_core.specs.Swept.{Cleared, SweptFrom, removed, stuck, none, is_among, AreThere, Tries, Removes, all_tried, tried, goes, stays}
 use Rattle.ports_core.specs.declared.fault.Fault.{Fault}
 use Rattle.ports_core.specs.declared.fault.Fault.TheVariants as fault
@@ -34,7 +34,7 @@ module _ (one : ℕ) (change : Slot → Slot) (old : List Slot) where
   still_there (place ∷ files) apart are =
       let both = or_parts (eqb one place) (is_among one files) apart in
       let same = slot_at-elsewhere one place change old (λ same. differs place both.0 (sym same)) in
-      ((are.0.0, subst (λ (slot : Slot). IsTrue (has_file slot.state)) (sym same) are.0.1), are.1, still_there files both.1 are.2)
+      ((are.0.0, rw same are.0.1), are.1, still_there files both.1 are.2)
 
   still_has : (place : ℕ) (places : List ℕ) → eqb place one ≡ false → has_file (slot_at old place).state ≡ is_among place (one ∷ places)
       → has_file (slot_at (changed_at one change old) place).state ≡ is_among place places
@@ -59,8 +59,7 @@ kept_apart left place stays other = ap (λ b. b || is_among place left) other
 tried_more : {files left : List ℕ} {old mid new : List Slot} (place : ℕ) (more : List ℕ) → Removes files old left mid → Removes (place ∷ []) mid more new
     → Removes (files ++ place ∷ []) old (left ++ more) new
 tried_more place more (all_tried slots) last = last
-tried_more {new} place more (tried one places kept left' change old' mid' tries rest) last =
-    subst (λ those. Removes (one ∷ places ++ place ∷ []) old' those new) (sym (append_assoc kept left' more))
+tried_more {new} place more (tried one places kept left' change old' mid' tries rest) last = rw (append_assoc kept left' more)
     (tried one (places ++ place ∷ []) kept (left' ++ more) change old' new tries (tried_more place more rest last))
 
 -- the files before this place were tried, and the first `left` are those that couldn't be removed
@@ -84,13 +83,12 @@ one_tried {files} {now} {next} {kept} {place} {left} {few} {old} {mid} {file} {c
     let less : place < length files = omega (arith, within, so_far.size) in
     let front = sym (drop-cons now place 0 within) ∙ so_far.rest ∙ drop-cons files place 0 less in
     let same : file ≡ get_or files place 0 = file_is ∙ ap (λ those. get_or those 0 0) front in
-    let are = subst (λ those. AreThere those mid) (drop-cons files place 0 less ∙ ap (λ one. one ∷ drop (suc place) files) (sym same)) so_far.are in
-    subst (λ n. Sweeping files next n few old (changed_at file change mid)) (let e : suc place ≡ place + 1 = omega arith in e)
-    (record {
+    let are = rw (drop-cons files place 0 less ∙ ap (λ one. one ∷ drop (suc place) files) (sym same)) at so_far.are in
+    rw (← (let e : suc place ≡ place + 1 = omega arith in e)) (record {
       size = size ∙ so_far.size;
       few = omega (arith, fits, so_far.few);
       tried = rw (front_is, take-suc files place 0 less, ← same) (tried_more file kept so_far.tried
-          (subst (λ those. Removes (file ∷ []) mid those (changed_at file change mid)) (append-nil kept) (tried file [] kept [] change mid _ tries (all_tried _))));
+          (rw (append-nil kept) at (tried file [] kept [] change mid _ tries (all_tried _))));
       rest = rest ∙ ap (drop 1) front;
       are = still_there file change mid (drop (suc place) files) are.1 are.2;
     })
@@ -106,7 +104,7 @@ pub sweep_past : {files now : List ℕ} {place left file : ℕ} {old mid new : L
     → IfErr result (λ f. (f ≡ fault.Write file) × (new ≡ with_broken file (changed_at file closes mid))) → Sweeping files (set now left file) (place + 1) (left + 1) old new
 sweep_past (Ok done) so_far within file_is failed stuck_so = search rules
 sweep_past {files} {now} {place} {left} {file} {old} {mid} {new} (Err f) so_far within file_is failed stuck_so =
-    subst (λ n. Sweeping files (set now left file) (place + 1) n old new) (let e : suc left ≡ left + 1 = omega arith in e)
+    rw (← (let e : suc left ≡ left + 1 = omega arith in e))
     (rw (stuck_so.1, changed_at-again file closes breaks mid) (one_tried so_far within file_is (length-set now left file) (omega arith)
     (drop-set-lt (suc place) now left file (omega (arith, so_far.few))) (take-suc-set now left file (omega (arith, so_far.few, within))) stays))
 
@@ -135,8 +133,7 @@ first_is {one} change old are rest = others_same one rest are.1 ∙ there one ch
 pub each_cleared : {files left : List ℕ} {old new : List Slot} (place : ℕ) → Removes files old left new → AreThere files old → has_file (slot_at old place).state ≡ is_among place files → Cleared (slot_at old place) (slot_at new place)
 each_cleared place (all_tried slots) are has = none has
 each_cleared place (tried one places kept left' change old' new' tries rest) are has = by_place place one
-    (λ same. rw (same, first_is change old' are rest) (cleared_one tries are.0.1))
-    (λ other. subst (λ slot. Cleared slot (slot_at new' place)) (elsewhere one change old' place other)
+    (λ same. rw (same, first_is change old' are rest) (cleared_one tries are.0.1)) (λ other. rw (elsewhere one change old' place other) at
     (each_cleared place rest (still_there one change old' places are.1 are.2) (still_has one change old' place places other has)))
 
 -- and has a file just where that is left
@@ -150,7 +147,7 @@ pub left_there : (files left : List ℕ) (old new : List Slot) → Removes files
 left_there files left old new (all_tried slots) are = tt
 left_there files left old new (tried one places kept left' change old' new' goes rest) are = left_there places left' _ new' rest (still_there one change old' places are.1 are.2)
 left_there files left old new (tried one places kept left' change old' new' stays rest) are = (
-  (are.0.0, subst (λ (slot : Slot). IsTrue (has_file slot.state)) (sym (first_is change old' are rest)) refl),
+  (are.0.0, rw (first_is change old' are rest) refl),
   left_apart places left' _ new' one rest are.1,
   left_there places left' _ new' rest (still_there one change old' places are.1 are.2),
 )

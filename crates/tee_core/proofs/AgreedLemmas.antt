@@ -1,6 +1,6 @@
 -- What all continuations agree on, of a copied input.
 use Rattle.std.proofs.lemmas.Grind.{common_steps}
-use Rattle.std.proofs.Common.{◌≡◌, ℕ, ◌+◌, ◌<◌, ◌≤◌, nat_lt, zero, suc, List, [], ◌∷◌, ◌++◌, length, map, get_or, Bool, cond, inl, inr, refl, sym, ◌∙◌, ap, subst, arith, append-nil}
+use Rattle.std.proofs.Common.{◌≡◌, ℕ, ◌+◌, ◌<◌, ◌≤◌, nat_lt, zero, suc, List, [], ◌∷◌, ◌++◌, length, map, get_or, Bool, inl, inr, refl, sym, ◌∙◌, ap, arith, append-nil}
 use Rattle.std.proofs.lemmas.Bool.{cond_both, lt-ltb}
 use Rattle.ports_core.specs.Agreed.{IsAgreed, IsUndecided, Spot, spot, output_at, GoesTo, ArePlaced}
 use Rattle.ports_core.specs.Part.{File, FilesBegin, OutputsAt, file_of, told_file}
@@ -64,23 +64,22 @@ no_output mode (name ∷ names) x (suc place) offset less = (omega (arith, no_ou
 goes_to_each : (from : ℕ) (names : List (List ℕ)) (i k : ℕ) → k < length names → GoesTo (spot (from + k) i) (spots_each from names i)
 goes_to_each from [] i k less = absurd (omega (arith, less))
 goes_to_each from (name ∷ names) i zero less = inl (ap (λ place. spot place i) (let e : from + 0 ≡ from = omega arith in e))
-goes_to_each from (name ∷ names) i (suc k) less = inr (subst (λ place. GoesTo (spot place i) (spots_each (from + 1) names i)) (let e : from + 1 + k ≡ from + suc k = omega arith in e) (goes_to_each (from + 1) names i k (omega (arith, less))))
+goes_to_each from (name ∷ names) i (suc k) less = inr (rw (let e : from + 1 + k ≡ from + suc k = omega arith in e) at (goes_to_each (from + 1) names i k (omega (arith, less))))
 
 tee_filled : (mode : Mode) (names : List (List ℕ)) (x : List ℕ) (place offset : ℕ) → offset < length (output_at ((tee_work mode names).whole x) place) → (i : ℕ) × (i < length x) × GoesTo (spot place offset) (tee_spots names x i)
-tee_filled mode names x zero offset less = (offset, less, subst (λ within. GoesTo (spot 0 offset) (cond within (spot 0 offset ∷ spots_each 1 names offset) [])) (sym (lt-ltb offset (length x) less)) (inl refl))
+tee_filled mode names x zero offset less = (offset, less, rw (lt-ltb offset (length x) less) (inl refl))
 tee_filled mode names x (suc place) offset less =
     let there = no_output mode names x place offset less in
-    let within : offset < length x = subst (λ those. offset < length those) (file_has mode names place there) less in (
+    let within : offset < length x = rw (file_has mode names place there) at less in (
       offset,
       within,
-      subst (λ is. GoesTo (spot (suc place) offset) (cond is (spot 0 offset ∷ spots_each 1 names offset) [])) (sym (lt-ltb offset (length x) within))
-          (inr (subst (λ k. GoesTo (spot k offset) (spots_each 1 names offset)) (let e : 1 + place ≡ suc place = omega arith in e) (goes_to_each 1 names offset place there))),
+      rw (lt-ltb offset (length x) within) (inr (rw (let e : 1 + place ≡ suc place = omega arith in e) at (goes_to_each 1 names offset place there))),
     )
 
 pub tee_placed : (mode : Mode) (names : List (List ℕ)) → ArePlaced (tee_work mode names) (tee_spots names)
 tee_placed mode names = record {
   stands = λ x i at less goes. (let one = tee_goes names x at goes in let has = output_has mode names at.place one.1 in
-      (subst (λ those. at.offset < length those) (sym has) (omega (arith, one.0, less)), ap (λ those. get_or those at.offset 0) has ∙ ap (λ k. get_or x k 0) one.0));
+      (rw has (omega (arith, one.0, less)), ap (λ those. get_or those at.offset 0) has ∙ ap (λ k. get_or x k 0) one.0));
   filled = λ x at less. tee_filled mode names x at.place at.offset less;
   apart = λ x i j at goes also. sym (tee_goes names x at goes).0 ∙ (tee_goes names x at also).0;
 }

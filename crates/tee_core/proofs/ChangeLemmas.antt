@@ -1,6 +1,6 @@
 -- Lemmas on outputs of which some are changed, on what they get, and on how many broke.
 use Rattle.std.proofs.lemmas.Grind.{common_steps}
-use Rattle.std.proofs.Common.{◌≡◌, ℕ, ◌+◌, ◌<◌, ◌≤◌, zero, suc, List, [], ◌∷◌, length, Bool, true, false, not, ◌&&◌, if◌then◌else◌, ◌⊎◌, inl, inr, refl, sym, ◌∙◌, ap, subst, arith, ◌++◌, take, length-append}
+use Rattle.std.proofs.Common.{◌≡◌, ℕ, ◌+◌, ◌<◌, ◌≤◌, zero, suc, List, [], ◌∷◌, length, Bool, true, false, not, ◌&&◌, if◌then◌else◌, ◌⊎◌, inl, inr, refl, sym, ◌∙◌, ap, arith, ◌++◌, take, length-append}
 use Rattle.std.proofs.lemmas.Bool.{false≢true, cases_eq, cases_lt}
 use Rattle.std.proofs.lemmas.Bool.Decides.{nat_tests}
 use Rattle.tee_core.specs.inner.Turns.{Turns}
@@ -72,8 +72,7 @@ pub turned_same : {Change : Slot → Slot → Type 0} (place : ℕ) {slots : Lis
 turned_same {Change} place {slots} changes = record {
   changes = record {
     count = refl;
-    each = λ other here. subst (λ at. Change (slot_at slots at) (slot_at slots at))
-        (sym here) changes;
+    each = λ other here. rw here changes;
     others = λ other differs. refl;
   };
   broke_are = sym (newly_none slots);
@@ -83,8 +82,7 @@ pub turned_one : {Change : Slot → Slot → Type 0} (place : ℕ) (change : Slo
 turned_one {Change} place change {old} {new} within sound breaks changes is = record {
   changes = record {
     count = ap length is ∙ length-changed_at place change old;
-    each = λ other here. subst (λ at. Change (slot_at old at) (slot_at new at)) (sym here)
-        (subst (λ slot. Change (slot_at old place) slot) (sym (ap (λ those. slot_at those place) is ∙ slot_at-changed place change old within)) changes);
+    each = λ other here. rw here (rw (ap (λ those. slot_at those place) is ∙ slot_at-changed place change old within) changes);
     others = λ other differs. ap (λ those. slot_at those other) is ∙ slot_at-elsewhere place other change old differs;
   };
   broke_are = sym (ap (newly_broken old) is ∙ newly_one place change old within sound breaks);
@@ -103,8 +101,8 @@ turned_both {Change} {IsOne} {IsOther} {old} {mid} {new} broke more stays first_
       ∙ ap (λ n. n + newly_broken mid new) (sym first.broke_are) ∙ ap (λ n. broke + n) (sym second.broke_are));
 } where
   by : (place : ℕ) → IsOne place ⊎ IsOther place → Change (slot_at old place) (slot_at new place)
-  by place (inl is) = subst (λ slot. Change (slot_at old place) slot) (sym (second.changes.others place (λ other. apart place is other))) (first.changes.each place is)
-  by place (inr is) = subst (λ slot. Change slot (slot_at new place)) (first.changes.others place (λ one. apart place one is)) (second.changes.each place is)
+  by place (inl is) = rw (second.changes.others place (λ other. apart place is other)) (first.changes.each place is)
+  by place (inr is) = rw (first.changes.others place (λ one. apart place one is)) at (second.changes.each place is)
 
 -- the loops go over the files from the first on
 
@@ -134,15 +132,15 @@ next_in_turn first n broke more old now new stays so_far turned one = record {
 -- one output
 
 pub gets_more : (told : Bool) {x y : List ℕ} {old mid new : Slot} → Gets told x old mid → Gets told y mid new → Gets told (x ++ y) old new
-gets_more told {x} {y} {old} (gets_all sound) (gets_all again) = subst (Gets told (x ++ y) old) (sym (adds_both told x y old)) (gets_all sound)
+gets_more told {x} {y} {old} (gets_all sound) (gets_all again) = rw (adds_both told x y old) (gets_all sound)
 gets_more told {x} {y} {old} (gets_all sound) (breaks_off again n within) =
-    subst (Gets told (x ++ y) old) (ap (λ bytes. breaks (adds (told_of told bytes) old)) (take-append-add x y n) ∙ sym (ap breaks (adds_both told x (take n y) old)))
+    rw (← (ap (λ bytes. breaks (adds (told_of told bytes) old)) (take-append-add x y n) ∙ sym (ap breaks (adds_both told x (take n y) old))))
     (breaks_off sound (length x + n) (omega (arith, within, length-append x y)))
 gets_more told (gets_all sound) (gets_none broken) = absurd (false≢true (sym sound ∙ broken))
 gets_more told (breaks_off sound n within) (gets_all again) = absurd (false≢true (sym again))
 gets_more told (breaks_off sound n within) (breaks_off again m less) = absurd (false≢true (sym again))
 gets_more told {x} {y} {old} (breaks_off sound n within) (gets_none broken) =
-    subst (Gets told (x ++ y) old) (ap (λ bytes. breaks (adds (told_of told bytes) old)) (take-append-le n x y (omega (arith, within))))
+    rw (← (ap (λ bytes. breaks (adds (told_of told bytes) old)) (take-append-le n x y (omega (arith, within)))))
     (breaks_off sound n (omega (arith, within, length-append x y)))
 gets_more told (gets_none broken) (gets_all again) = absurd (false≢true (sym again ∙ broken))
 gets_more told (gets_none broken) (breaks_off again m less) = absurd (false≢true (sym again ∙ broken))
@@ -205,5 +203,4 @@ closed_short {place} {old} usable sound is =
 pub fed : (told : Bool) {piece : List ℕ} (tee : TeeState) (broke more : ℕ) {old mid new : List Slot} → (0 < tee.count → 2 ≤ tee.first) → Turns (Gets told piece) (λ place. place ≡ 0) old mid broke → Turns (Gets told piece) (IsFile tee) mid new more → Turns (Gets told piece) (IsOutput tee) old new (broke + more)
 fed told tee broke more streams first second =
     turned_both broke more (still_broken told) (λ place. cases_eq place 0) (is_between tee.first (tee.first + tee.count))
-    (λ place is file. let past : 2 ≤ tee.first = streams (omega (arith, file.0, file.1)) in omega (arith, is, past, file.0))
-    (λ place is. is) (λ place is. is) first second
+    (λ place is file. omega (arith, is, file.0, streams (omega (arith, file.0, file.1)))) (λ place is. is) (λ place is. is) first second

@@ -2,7 +2,7 @@
 use Rattle.std.proofs.lemmas.Grind.{common_steps}
 use Rattle.std.proofs.lemmas.Bool.Decides.{nat_tests}
 use Rattle.std.proofs.lemmas.Bool.{cond_both, false≢true}
-use Rattle.std.proofs.Common.{◌≡◌, ℕ, ◌+◌, ◌<◌, zero, suc, List, [], ◌∷◌, ◌++◌, length, map, take, drop, get_or, set, Bor, Bool, true, false, not, ◌&&◌, if◌then◌else◌, refl, sym, ◌∙◌, ap, subst, arith, append_assoc, ◌≤◌, Option, Some, None, inl, inr, length-append, append-nil, is_none}
+use Rattle.std.proofs.Common.{◌≡◌, ℕ, ◌+◌, ◌<◌, zero, suc, List, [], ◌∷◌, ◌++◌, length, map, take, drop, get_or, set, Bor, Bool, true, false, not, ◌&&◌, if◌then◌else◌, refl, sym, ◌∙◌, ap, arith, append_assoc, ◌≤◌, Option, Some, None, inl, inr, length-append, append-nil, is_none}
 use Rattle.std.proofs.Math.ListN.{get_or-map}
 use Rattle.std.proofs.lemmas.List.{append-nil, length-map}
 use Rattle.ports_core.specs.Slot.{Slot, no_slot, slot_at, is_open, changed_at, opened, adds, breaks, told_of}
@@ -57,9 +57,8 @@ count_broken {count} has = ap (λ those. length (broken_of those)) has.are ∙ (
 
 pub says_too : (told : Bool) (texts : List (List ℕ)) (text : List ℕ) {count : ℕ} {old : List Slot} (now new : List Slot) → HasStreams old count → SaysTo told texts old now → SaysOn told Tee text now new → SaysTo told (texts ++ text ∷ []) old new
 says_too told texts text now new has so_far says =
-    let first = subst (λ those. SaysTo told texts those now) has.are so_far in let said = says has.output first.0 has.files first.2 in
-    subst (λ those. SaysTo told (texts ++ text ∷ []) those new) (sym has.are)
-    (said.0, says_more told Tee texts text has.error first.0 said.0 first.1 said.1, said.2)
+    let first = rw has.are at so_far in let said = says has.output first.0 has.files first.2 in
+    rw has.are (said.0, says_more told Tee texts text has.error first.0 said.0 first.1 said.1, said.2)
 
 broken_still : (told : Bool) (texts : List (List ℕ)) (output error : Slot) (files now : List Slot) (n : ℕ) → SaysTo told texts (output ∷ error ∷ files) now → (slot_at now (output_slot n)).is_broken ≡ get_or (broken_of (output ∷ error ∷ files)) n false
 broken_still told texts output error files now n said = ap (λ those. (slot_at those (output_slot n)).is_broken) said.2 ∙ broken_at output said.0 files n
@@ -73,14 +72,14 @@ pub record Telling (told : Bool) (fault : Fault) (names : List (List ℕ)) (know
 
 pub error_open : (told : Bool) {fault : Fault} {names : List (List ℕ)} {before known : List Bool} {n count : ℕ} {old now : List Slot} → HasStreams old count → Telling told fault names before n old now known → is_open (slot_at now 1).state ≡ true
 error_open told {now} has so_far =
-    let said : SaysTo told so_far.so_far (has.output ∷ has.error ∷ has.files) now = subst (λ those. SaysTo told so_far.so_far those now) has.are so_far.said in
+    let said : SaysTo told so_far.so_far (has.output ∷ has.error ∷ has.files) now = rw has.are at so_far.said in
     ap (λ those. is_open (slot_at those 1).state) said.2 ∙ ap is_open (all_said_state told Tee so_far.so_far has.error said.0 said.1) ∙ has.opened
 
 pub tells_next : (told : Bool) {fault : Fault} {names : List (List ℕ)} {before known : List Bool} (other : Bool) {n count : ℕ} {old now new : List Slot} {name : List ℕ} {broken : Bool} → HasStreams old count → length names ≡ count + 1 → length before ≡ count + 1 → n < length before → Telling told fault names before n old now known
     → name ≡ get_or names n [] → broken ≡ (slot_at now (output_slot n)).is_broken → ((not (get_or known n other) && broken) ≡ true → SaysOn told Tee (message_of Tee fault name) now new) → ((not (get_or known n other) && broken) ≡ false → new ≡ now)
     → Telling told fault names before (n + 1) old new (set known n broken)
 tells_next told {fault} {names} {before} {known} other {n} {count} {old} {now} {new} {name} {broken} has names_many many within so_far named tells says quiet =
-    subst (λ k. Telling told fault names before k old new (set known n broken)) (let e : suc n ≡ n + 1 = omega arith in e) (record {
+    rw (← (let e : suc n ≡ n + 1 = omega arith in e)) (record {
       so_far = so_far.so_far ++ here_said;
       said = cond_both (not (get_or known n other) && broken) (message_of Tee fault name ∷ []) [] (λ texts. SaysTo told (so_far.so_far ++ texts) old new)
           (λ is. says_too told so_far.so_far (message_of Tee fault name) now new has so_far.said (says is))
@@ -95,7 +94,7 @@ tells_next told {fault} {names} {before} {known} other {n} {count} {old} {now} {
       broken_are = count_broken has
 
       here : broken ≡ get_or (broken_of old) n false
-      here = tells ∙ broken_still told so_far.so_far has.output has.error has.files now n (subst (λ those. SaysTo told so_far.so_far those now) has.are so_far.said) ∙ ap (λ those. get_or (broken_of those) n false) (sym has.are)
+      here = tells ∙ broken_still told so_far.so_far has.output has.error has.files now n (rw has.are at so_far.said) ∙ ap (λ those. get_or (broken_of those) n false) (sym has.are)
 
       was : get_or known n other ≡ get_or before n false
       was = ap (λ those. get_or those n other) so_far.known_are ∙ get_next n before (broken_of old) other within (broken_are ∙ sym many)
@@ -182,10 +181,9 @@ abbrev pub Marked : (Option ℕ → Slot → Type 0) → ℕ → Option ℕ → 
 Marked Is call first was new = (after : Option ℕ) × Is after new × Marks call first after was new.is_broken
 
 output_more : (told : Bool) {pieces : List (List ℕ)} {piece : List ℕ} {first : Option ℕ} {old new : Slot} → OutputLeft told pieces first old → Gets told piece old new → Marked (OutputLeft told (pieces ++ piece ∷ [])) (suc (length pieces)) first old.is_broken new
-output_more told {pieces} {piece} output_whole (gets_all sound) =
-    (None, subst (OutputLeft told (pieces ++ piece ∷ []) None) (sym (whole_now told pieces piece standard_output)) output_whole, marked_none)
+output_more told {pieces} {piece} output_whole (gets_all sound) = (None, rw (whole_now told pieces piece standard_output) output_whole, marked_none)
 output_more told {pieces} {piece} output_whole (breaks_off sound n within) =
-    (Some (suc (length pieces)), subst (OutputLeft told (pieces ++ piece ∷ []) (Some (suc (length pieces)))) (sym (begun_now told pieces piece n standard_output)) (output_cut pieces piece [] n refl within), marked_now)
+    (Some (suc (length pieces)), rw (begun_now told pieces piece n standard_output) (output_cut pieces piece [] n refl within), marked_now)
 output_more told output_whole (gets_none broken) = absurd (false≢true broken)
 output_more told (output_cut before that after n is within) (gets_all again) = absurd (false≢true (sym again))
 output_more told (output_cut before that after n is within) (breaks_off again m less) = absurd (false≢true (sym again))
@@ -194,10 +192,9 @@ output_more told {piece} (output_cut before that after n is within) (gets_none b
 
 file_more : (told : Bool) {mode : Mode} {pieces : List (List ℕ)} {piece : List ℕ} {name : List ℕ} {first : Option ℕ} {old new : Slot} → FileHas told mode pieces name first old → Gets told piece old new
     → Marked (FileHas told mode (pieces ++ piece ∷ []) name) (suc (length pieces)) first old.is_broken new
-file_more told {mode} {pieces} {piece} {name} has_all (gets_all sound) =
-    (None, subst (FileHas told mode (pieces ++ piece ∷ []) name None) (sym (whole_now told pieces piece (opened name mode))) has_all, marked_none)
+file_more told {mode} {pieces} {piece} {name} has_all (gets_all sound) = (None, rw (whole_now told pieces piece (opened name mode)) has_all, marked_none)
 file_more told {mode} {pieces} {piece} {name} has_all (breaks_off sound n within) =
-    (Some (suc (length pieces)), subst (FileHas told mode (pieces ++ piece ∷ []) name (Some (suc (length pieces)))) (sym (begun_now told pieces piece n (opened name mode))) (has_begun pieces piece [] n refl within), marked_now)
+    (Some (suc (length pieces)), rw (begun_now told pieces piece n (opened name mode)) (has_begun pieces piece [] n refl within), marked_now)
 file_more told has_all (gets_none broken) = absurd (false≢true broken)
 file_more told (has_none kept named) (gets_all again) = absurd (false≢true (sym again))
 file_more told (has_none kept named) (breaks_off again m less) = absurd (false≢true (sym again))
@@ -248,8 +245,8 @@ files_usable told (suc n) within (one_file name names first broke file files one
 
 -- a file's place, counted from the first file
 pub file_place : {names : List (List ℕ)} {tee : TeeState} (place : ℕ) → IsTeeOf names tee → IsFile tee place → (n : ℕ) × (place ≡ suc (suc n)) × (n < length names)
-file_place {tee} zero is file = absurd (let first : tee.first ≡ 2 = is.first (omega (arith, file.0, file.1)) in omega (arith, file.0, first))
-file_place {tee} (suc zero) is file = absurd (let first : tee.first ≡ 2 = is.first (omega (arith, file.0, file.1)) in omega (arith, file.0, first))
+file_place {tee} zero is file = absurd (omega (arith, file.0, is.first (omega (arith, file.0, file.1))))
+file_place {tee} (suc zero) is file = absurd (omega (arith, file.0, is.first (omega (arith, file.0, file.1))))
 file_place {names} {tee} (suc (suc n)) is file = let first : tee.first ≡ 2 = is.first (omega (arith, file.0, file.1)) in let count : tee.count ≡ length names = is.count in (n, refl, omega (arith, file.1, first, count))
 
 pub place_file : {names : List (List ℕ)} {tee : TeeState} (n : ℕ) → IsTeeOf names tee → n < length names → IsFile tee (suc (suc n))
@@ -261,13 +258,12 @@ error_no_output is (inr file) = let there = file_place 1 is file in omega (arith
 
 module _ (told : Bool) (mode : Mode) (names : List (List ℕ)) where
   pub copies_ready : {pieces : List (List ℕ)} {messages : List (List ℕ)} {slots : List Slot} {known : List Bool} {tee : TeeState} → IsTeeOf names tee → Copies told mode names pieces messages slots known → IsReady tee slots
-  copies_ready {tee} is copies place output = subst (λ those. IsUsable (slot_at those place)) (sym copies.are) (by output) where
+  copies_ready {tee} is copies place output = rw copies.are (by output) where
     by : IsOutput tee place → IsUsable (slot_at (copies.output ∷ copies.error ∷ copies.files) place)
-    by (inl here) = subst (λ at. IsUsable (slot_at (copies.output ∷ copies.error ∷ copies.files) at)) (sym here) (output_usable told copies.output_has)
+    by (inl here) = rw here (output_usable told copies.output_has)
     by (inr file) =
         let there = file_place place is file in
-        subst (λ at. IsUsable (slot_at (copies.output ∷ copies.error ∷ copies.files) at)) (sym there.1)
-        (files_usable told there.0 (omega (arith, there.2, length-files copies.files_have)) copies.files_have)
+        rw there.1 (files_usable told there.0 (omega (arith, there.2, length-files copies.files_have)) copies.files_have)
 
   -- the outputs after a call, before anything is said of it
   pub record After (OutputIs : Option ℕ → Slot → Type 0) (FileIs : List ℕ → Option ℕ → Slot → Type 0)
@@ -296,9 +292,7 @@ module _ (told : Bool) (mode : Mode) (names : List (List ℕ)) where
         let same : other ≡ copies.error = sym (ap (λ those. slot_at those 1) are) ∙ error ∙ ap (λ those. slot_at those 1) copies.are in
         let here = one output (ap (λ those. slot_at those 0) are) in let many = length-files copies.files_have in
         let rest = files_go go files (omega (arith, ap length are, count, ap length copies.are))
-        (λ n within. subst (λ slot. Change (slot_at copies.files n) slot)
-        (ap (λ those. slot_at those (suc (suc n))) are)
-        (subst (λ slot. Change slot (slot_at mid (suc (suc n)))) (ap (λ those. slot_at those (suc (suc n))) copies.are)
+        (λ n within. rw (ap (λ those. slot_at those (suc (suc n))) are) at (rw (ap (λ those. slot_at those (suc (suc n))) copies.are) at
         (changes (suc (suc n)) (place_file n is (omega (arith, within, many)))))) copies.files_have in
         record {
           output = output;
@@ -308,8 +302,7 @@ module _ (told : Bool) (mode : Mode) (names : List (List ℕ)) where
           are = are ∙ ap (λ slot. output ∷ slot ∷ files) same;
           output_is = here.1;
           files_are = rest.1;
-          marked = subst (λ those. AllMark call (copies.first ∷ copies.broke) (here.0 ∷ rest.0) those (broken_of mid)) (sym (ap broken_of copies.are))
-              (subst (AllMark call (copies.first ∷ copies.broke) (here.0 ∷ rest.0) (broken_of (copies.output ∷ copies.error ∷ copies.files))) (sym (ap broken_of are))
+          marked = rw (ap broken_of copies.are) (rw (ap broken_of are)
               (all_marked copies.first here.0 copies.output.is_broken output.is_broken copies.broke rest.0 _ _ here.2 rest.2));
         }
 
@@ -321,7 +314,7 @@ module _ (told : Bool) (mode : Mode) (names : List (List ℕ)) where
   said_after {pieces} {messages} {mid} {known} copies next says =
       rw (said_marked (output_names names) next.marked, all_older (suc (length pieces)) (output_names names) (omega arith) next.marked, ← copies.known_are)
       (says_after told Tee (said_before (suc (length pieces)) (output_names names) (copies.first ∷ copies.broke) ++ messages) _ standard_error copies.error says.0 copies.said
-      (subst (λ slot. SaysAll told Tee (said_since (fault_in (suc (length pieces))) (output_names names) known (broken_of mid)) slot says.0) (ap (λ those. slot_at those 1) next.are) says.1))
+      (rw (ap (λ those. slot_at those 1) next.are) at says.1))
 
   -- a piece was fed
 
@@ -329,8 +322,7 @@ module _ (told : Bool) (mode : Mode) (names : List (List ℕ)) where
       → (copies : Copies told mode names pieces messages old known) → ChangesEach (Gets told piece) (IsOutput tee) old mid
       → After (OutputLeft told (pieces ++ piece ∷ [])) (FileHas told mode (pieces ++ piece ∷ [])) (suc (length pieces)) copies mid
   fed_next {pieces} {piece} {mid} is copies gets = called is copies (suc (length pieces)) gets.count (gets.others 1 (error_no_output is))
-      (λ output here. output_more told copies.output_has (subst (λ slot. Gets told piece copies.output slot) here
-      (subst (λ slot. Gets told piece slot (slot_at mid 0)) (ap (λ those. slot_at those 0) copies.are) (gets.each 0 (inl refl)))))
+      (λ output here. output_more told copies.output_has (rw here at (rw (ap (λ those. slot_at those 0) copies.are) at (gets.each 0 (inl refl)))))
       (λ place file. gets.each place (inr file)) (λ name first old new has got. file_more told has got)
 
   -- the message for it was said
@@ -346,8 +338,8 @@ module _ (told : Bool) (mode : Mode) (names : List (List ℕ)) where
     are = new_is;
     output_has = next.output_is;
     files_have = next.files_are;
-    said = subst (λ texts. SaysAll told Tee texts standard_error says.0) (ap (λ texts. texts ++ said_in (suc (length pieces)) (output_names names) (next.first ∷ next.broke)) (append-nil _)
-        ∙ sym (append-nil _) ∙ ap (λ call. said_before (suc call) (output_names names) (next.first ∷ next.broke) ++ []) one_more_call)
+    said = rw (ap (λ texts. texts ++ said_in (suc (length pieces)) (output_names names) (next.first ∷ next.broke)) (append-nil _)
+        ∙ sym (append-nil _) ∙ ap (λ call. said_before (suc call) (output_names names) (next.first ∷ next.broke) ++ []) one_more_call) at
         (said_after copies next says);
     known_are = flags_are ∙ ap broken_of next.are ∙ sym (ap broken_of new_is);
     some_left = ap (λ call. none_left call (next.first ∷ next.broke)) (sym one_more_call) ∙ none_then next.marked ∙ ap all_of (sym copies.known_are) ∙ some;
@@ -430,8 +422,8 @@ module _ (told : Bool) (mode : Mode) (names : List (List ℕ)) where
     are = new_is;
     output_has = copies.output_has;
     files_have = copies.files_have;
-    said = subst (λ those. SaysAll told Tee (those ++ texts) standard_error says.0) (append-nil _)
-        (says_after told Tee (said_before (suc (length pieces)) (output_names names) (copies.first ∷ copies.broke) ++ []) texts standard_error copies.error says.0 copies.said (subst (λ slot. SaysAll told Tee texts slot says.0) (ap (λ those. slot_at those 1) copies.are) says.1));
+    said = rw (append-nil _) at
+        (says_after told Tee (said_before (suc (length pieces)) (output_names names) (copies.first ∷ copies.broke) ++ []) texts standard_error copies.error says.0 copies.said (rw (ap (λ those. slot_at those 1) copies.are) at says.1));
     known_are = copies.known_are ∙ ap broken_of copies.are ∙ sym (ap broken_of new_is);
     some_left = copies.some_left;
     is_vain = copies.is_vain;

@@ -14,7 +14,7 @@ use Rattle.tee_core.specs.Run.{IsRead, LeavesOf, to_end, to_break, to_limit, to_
 use Rattle.tee_core.specs.inner.Steps.{Copies, CopiesRead, all_of, any_of, HasCopied}
 use Rattle.std.proofs.lemmas.Bool.Decides.{nat_tests}
 use Rattle.ports_core.specs.Text.{message_of}
-use Rattle.ports_core.specs.Message.{SaysAll, SaysOn, output_named}
+use Rattle.ports_core.specs.Message.{SaysOn, output_named}
 use Rattle.ports_core.specs.declared.tool.Tool.TheVariants.{Tee}
 use Rattle.ports_core.specs.Streams.{standard_output, standard_error}
 
@@ -100,7 +100,7 @@ status_is broke fault failed failing is = cc (failing, is, any_broken broke, one
 pub ends_copied : {told_in : Bool} (told : Bool) {mode : Mode} {names : List (List ℕ)} {content : Content} {source : Source} {pieces : List (List ℕ)} {fault : Option Fault} {is_vain failed : Bool} {slots : List Slot} {known : List Bool} → failed ≡ (not (is_none fault) || any_of known) → ComesIn told_in content source is_vain pieces fault
     → HasCopied told mode names pieces fault is_vain slots known → EndsAs told_in told mode names content source slots (if failed then 1 else 0)
 ends_copied {told_in} told {content} {source} {pieces} {fault} {failed = failed} failing read left =
-    copied pieces fault left.first left.broke left.output left.error left.files (subst (λ (flag : Bool). ComesIn told_in content source flag pieces fault) (sym left.vain_is) read) left.some_left left.output_left left.files_left left.said left.are
+    copied pieces fault left.first left.broke left.output left.error left.files (rw left.vain_is read) left.some_left left.output_left left.files_left left.said left.are
     (status_is (left.first ∷ left.broke) fault failed failing left.known_are)
 
 -- there was no memory
@@ -161,7 +161,7 @@ whole_if told {mode} {names} zero_is (copied pieces fault first broke output err
     let good = status_zero (is_none fault) (are_sound (first ∷ broke)) (sym is ∙ zero_is) in let sounds = sound_first first (are_sound broke) good.0 in
     let silent = quiet fault (length pieces) (first ∷ broke) good.1 good.0 in
     at ∙ ap (λ slot. slot ∷ error ∷ files) (whole_output told pieces first output sounds.0 output_left)
-    ∙ ap (λ slot. adds (told_of told (concat pieces)) standard_output ∷ slot ∷ files) (subst (λ texts. SaysAll told Tee texts standard_error error) silent said)
+    ∙ ap (λ slot. adds (told_of told (concat pieces)) standard_output ∷ slot ∷ files) (rw silent at said)
     ∙ ap (λ those. adds (told_of told (concat pieces)) standard_output ∷ standard_error ∷ those) (whole_files told mode pieces names broke files sounds.1 files_left)
     ∙ ap (all_copied told mode names) (sym (read_whole _ (ap (λ when. broke_before (suc (length pieces)) when && none_left (suc (length pieces)) broke) sounds.0) good.1 read.read)) where
       quiet : (fault : Option Fault) (pieces : ℕ) (broke : List (Option ℕ)) → is_none fault ≡ true → are_sound broke ≡ true → messages_of names broke pieces fault ≡ []

@@ -1,6 +1,6 @@
 -- Lemmas on a run's start: files that are opened one after another, and the messages for those that could not be.
 use Rattle.std.proofs.lemmas.Grind.{common_steps}
-use Rattle.std.proofs.Common.{◌≡◌, ℕ, ◌+◌, ◌-◌, ◌^◌, ◌<◌, ◌≤◌, zero, suc, List, [], ◌∷◌, ◌++◌, length, map, take, drop, get_or, Bor, true, inl, inr, refl, sym, ◌∙◌, ap, subst, arith, append_assoc, length-append, replicate, Bool, false, Option, Some, None}
+use Rattle.std.proofs.Common.{◌≡◌, ℕ, ◌+◌, ◌-◌, ◌^◌, ◌<◌, ◌≤◌, zero, suc, List, [], ◌∷◌, ◌++◌, length, map, take, drop, get_or, Bor, true, inl, inr, refl, sym, ◌∙◌, ap, arith, append_assoc, length-append, replicate, Bool, false, Option, Some, None}
 use Rattle.std.proofs.lemmas.List.{append-nil, get_or-append-add, get_or_append_left, length-map}
 use Rattle.std.proofs.lemmas.Bool.{false≢true}
 use Rattle.ports_core.specs.Slot.{Slot, no_slot, slot_at, opened, unopened, is_open, FailsToOpen, broke, changed_at, streams}
@@ -9,11 +9,9 @@ use Rattle.tee_core.specs.Opening.{OpensAs, is_opened, is_unopened, OpensEach, n
 use Rattle.tee_core.specs.inner.Opening.{OpensOne}
 use Rattle.tee_core.specs.Outputs.{IsOutput, IsReady, IsUsable}
 use Rattle.tee_core.specs.TeeState.{TeeState}
-use Rattle.ports_core.specs.Message.{SaysAll}
-use Rattle.ports_core.specs.declared.tool.Tool.TheVariants.{Tee}
 use Rattle.ports_core.proofs.Runs.{adds-nil}
 use Rattle.ports_core.specs.Streams.{standard_output, standard_error}
-use Rattle.tee_core.specs.Run.{EachFile, no_file, one_file, OutputLeft, output_whole, fault_in, output_names}
+use Rattle.tee_core.specs.Run.{EachFile, no_file, one_file, output_whole, fault_in, output_names}
 use Rattle.tee_core.specs.inner.Steps.{Copies, FileHas, has_all, has_none, HasStreams, IsTeeOf, SaysTo, all_of, broken_of, said_since}
 use Rattle.tee_core.proofs.CopyLemmas.{AllMark, Marked, all_marked, marked_none, marked_now, none_marked, none_now, said_marked}
 use Rattle.ports_core.specs.declared.fault.Fault.TheVariants as fault
@@ -93,7 +91,7 @@ ready_to_go {names} {old} {new} tee some standard opens count first place is = b
   by (inr file) =
       let start = first (omega (arith, file.0, file.1)) in let many = length-since names opens.since opens.each in
       let there : place ≡ length old + (place - length old) = omega (arith, start, file.0) in
-      subst IsUsable (sym (ap (λ at. slot_at new at) there ∙ ap (λ those. slot_at those (length old + (place - length old))) opens.slots ∙ get_or-append-add old opens.since (place - length old) no_slot))
+      rw (ap (λ at. slot_at new at) there ∙ ap (λ those. slot_at those (length old + (place - length old))) opens.slots ∙ get_or-append-add old opens.since (place - length old) no_slot)
       (since_usable names opens.since (place - length old) opens.each (omega (arith, start, file.0, file.1, many, count)))
 
 -- the same of names as the code has them
@@ -108,8 +106,7 @@ first_and_rest other (name ∷ names) some = grind (arith, common_steps)
 
 pub opens_more_at : {mode : Mode} {names : List (List ℕ)} (other : Bor (List ℕ)) (left : List (Bor (List ℕ))) {old now new : List Slot} {slot : ℕ} → 1 ≤ length left → Opening mode names (map (λ name. name.now) left) old now → slot ≡ length now → slot < 2 ^ 64 → OpensOne mode (get_or left 0 other).now now new
     → Opening mode names (map (λ name. name.now) (take (length left - 1) (drop 1 left))) old new
-opens_more_at {mode} {names} other left {old} {now} some so_far number small one =
-    opens_more (subst (λ those. Opening mode names those old now) (first_and_rest other left some) so_far) number small one
+opens_more_at {mode} {names} other left {old} {now} some so_far number small one = opens_more (rw (first_and_rest other left some) at so_far) number small one
 
 pub opens_next_at : {mode : Mode} (other : Bor (List ℕ)) (names : List (Bor (List ℕ))) {old mid new : List Slot} → 1 ≤ length names → OpensOne mode (get_or names 0 other).now old mid → Opens mode (map (λ name. name.now) (take (length names - 1) (drop 1 names))) mid new → Opens mode (map (λ name. name.now) names) old new
 opens_next_at other names some one rest = rw (first_and_rest other names some) (opens_next one rest)
@@ -125,7 +122,7 @@ pub in_range : {mode : Mode} {names : List (List ℕ)} {old new : List Slot} →
 in_range {names} {old} opens = grind (arith, common_steps, length-since)
 
 file_starts : (told : Bool) {mode : Mode} {name : List ℕ} {file : Slot} → OpensAs mode name file → Marked (FileHas told mode [] name) 0 None false file
-file_starts told {mode} {name} is_opened = (None, subst (FileHas told mode [] name None) (adds-nil told (opened name mode)) has_all, marked_none)
+file_starts told {mode} {name} is_opened = (None, rw (← (adds-nil told (opened name mode))) has_all, marked_none)
 file_starts told (is_unopened kept named) = (Some 0, has_none kept named, marked_now)
 
 abbrev FilesStart : Bool → Mode → List (List ℕ) → List Slot → Type 0
@@ -154,12 +151,10 @@ starts told {names} {old} {new} {known} opens unknown says flags =
       first = None;
       broke = files.0;
       are = new_is;
-      output_has = subst (OutputLeft told [] None) (adds-nil told standard_output) output_whole;
+      output_has = rw (← (adds-nil told standard_output)) output_whole;
       files_have = files.1;
-      said = subst (λ texts. SaysAll told Tee texts standard_error says.0)
-          (ap (λ flags. said_since (fault_in 0) (output_names names) flags (broken_of old)) (unknown ∙ ap (λ n. replicate n false) (let e : length names + 1 ≡ suc (length names) = omega arith in e)) ∙ ap (λ those. said_since (fault_in 0) (output_names names) (false ∷ replicate (length names) false) (broken_of those)) opens.slots
-          ∙ sym (said_marked (output_names names) marked) ∙ sym (append-nil _))
-          (subst (λ slot. SaysAll told Tee (said_since (fault_in 0) (output_names names) known (broken_of old)) slot says.0) (ap (λ those. slot_at those 1) opens.slots) says.1);
+      said = rw (ap (λ flags. said_since (fault_in 0) (output_names names) flags (broken_of old)) (unknown ∙ ap (λ n. replicate n false) (let e : length names + 1 ≡ suc (length names) = omega arith in e)) ∙ ap (λ those. said_since (fault_in 0) (output_names names) (false ∷ replicate (length names) false) (broken_of those)) opens.slots
+          ∙ sym (said_marked (output_names names) marked) ∙ sym (append-nil _)) at (rw (ap (λ those. slot_at those 1) opens.slots) at says.1);
       known_are = flags ∙ ap broken_of opens.slots ∙ sym (ap broken_of new_is);
       some_left = refl;
       is_vain = none_now marked ∙ ap all_of (sym (flags ∙ ap broken_of opens.slots));

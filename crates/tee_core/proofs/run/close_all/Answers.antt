@@ -1,6 +1,5 @@
-use Rattle.std.proofs.Common.{◌+◌, ap, subst, ◌∙◌}
+use Rattle.std.proofs.Common.{◌+◌, ap, ◌∙◌}
 use Rattle.std.proofs.lemmas.List.{length-map}
-use Rattle.tee_core.specs.inner.Steps.{HasStreams}
 use Rattle.tee_core.proofs.CopyLemmas.{after_streams, copies_ready, known_many, closed_next, closing_said}
 use Rattle.tee_core.proofs.run.close_all.Goals as goal
 
@@ -10,7 +9,7 @@ close-requires g c = λ live. let (mode, pieces, messages, copies) = c.requires.
 pub tell_broken-requires-clause-streams : goal.tell_broken-requires-clause-streams
 tell_broken-requires-clause-streams g c =
     let (mode, pieces, messages, copies) = c.requires.copies in
-    subst (HasStreams (g.O.Outs.slots c.close.new.outs)) (length-map c.args.names.now _) (after_streams _ mode _ (closed_next _ mode _ c.requires.tee copies (c.close.ensures.closes c.requires.tee.live)))
+    rw (length-map c.args.names.now _) at (after_streams _ mode _ (closed_next _ mode _ c.requires.tee copies (c.close.ensures.closes c.requires.tee.live)))
 
 pub tell_broken-requires-clause-known : goal.tell_broken-requires-clause-known
 tell_broken-requires-clause-known g c =

@@ -1,15 +1,14 @@
-use Rattle.std.proofs.Common.{subst, arith}
+use Rattle.std.proofs.Common.{arith}
 use Rattle.std.proofs.lemmas.Grind.{common_steps}
 use Rattle.std.proofs.lemmas.List.{length-map}
 use Rattle.tee_core.specs.Run.{said_of_input}
-use Rattle.tee_core.specs.inner.Steps.{HasStreams}
 use Rattle.tee_core.proofs.CopyLemmas.{copies_said, copies_streams}
 use Rattle.tee_core.proofs.EndLemmas.{ends_copied}
 use Rattle.tee_core.proofs.StartLemmas.{length-names, opened_streams, some_at_first, starts}
 use Rattle.tee_core.proofs.run.copy_all.Goals as goal
 
 pub tell_broken-requires-clause-streams : goal.tell_broken-requires-clause-streams
-tell_broken-requires-clause-streams g c = subst (HasStreams (g.O.Outs.slots c.args.outs.now)) (length-map c.args.names.now _) (opened_streams c.requires.opened.1)
+tell_broken-requires-clause-streams g c = rw (length-map c.args.names.now _) at (opened_streams c.requires.opened.1)
 
 pub copy_pieces-fault-requires-clause-copies : goal.copy_pieces-fault-requires-clause-copies
 copy_pieces-fault-requires-clause-copies g c = grind (arith, common_steps, starts, length-names)

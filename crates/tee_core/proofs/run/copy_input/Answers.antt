@@ -1,6 +1,5 @@
-use Rattle.std.proofs.Common.{◌∙◌, map, subst}
+use Rattle.std.proofs.Common.{◌∙◌}
 use Rattle.ports_core.proofs.InputsLemmas.{fresh_asks}
-use Rattle.tee_core.specs.Opening.{Opens}
 use Rattle.tee_core.proofs.StartLemmas.{is_tee_of}
 use Rattle.tee_core.proofs.run.copy_input.Goals as goal
 
@@ -11,7 +10,7 @@ pub copy_all-requires-clause-tee : goal.copy_all-requires-clause-tee
 copy_all-requires-clause-tee g c = is_tee_of c.args.names.now c.requires.outputs c.in_ok-tee.ensures.live c.in_ok-tee.ensures.files.0 c.in_ok-tee.ensures.files.1
 
 pub returns-clause-copied : goal.returns-clause-copied
-returns-clause-copied g c = c.copy_all.ensures.copied c.args.mode (subst (λ slots. Opens c.args.mode (map (λ name. name.now) c.args.names.now) slots (g.O.Outs.slots c.open.new.outs)) c.requires.outputs c.in_ok-tee.ensures.opens)
+returns-clause-copied g c = c.copy_all.ensures.copied c.args.mode (rw c.requires.outputs at c.in_ok-tee.ensures.opens)
 
 pub copy_all-requires-clause-room : goal.copy_all-requires-clause-room
 copy_all-requires-clause-room g c = c.deref_mut.ensures.len ∙ c.in_ok-buffer.ensures.len

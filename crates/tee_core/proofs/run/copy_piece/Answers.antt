@@ -1,6 +1,5 @@
-use Rattle.std.proofs.Common.{◌+◌, ap, subst, ◌∙◌}
+use Rattle.std.proofs.Common.{◌+◌, ap, ◌∙◌}
 use Rattle.std.proofs.lemmas.List.{length-map}
-use Rattle.tee_core.specs.inner.Steps.{HasStreams}
 use Rattle.tee_core.proofs.CopyLemmas.{copies_ready, fed_next, after_streams, known_many, piece_said}
 use Rattle.tee_core.proofs.run.copy_piece.Goals as goal
 
@@ -10,7 +9,7 @@ feed-requires g c = λ live. let (mode, pieces, copies) = c.requires.copies in c
 pub tell_broken-requires-clause-streams : goal.tell_broken-requires-clause-streams
 tell_broken-requires-clause-streams g c =
     let (mode, pieces, copies) = c.requires.copies in
-    subst (HasStreams (g.O.Outs.slots c.feed.new.outs)) (length-map c.args.names.now _) (after_streams _ mode _ (fed_next _ mode _ c.requires.tee copies (c.feed.ensures.gets c.requires.tee.live)))
+    rw (length-map c.args.names.now _) at (after_streams _ mode _ (fed_next _ mode _ c.requires.tee copies (c.feed.ensures.gets c.requires.tee.live)))
 
 pub tell_broken-requires-clause-known : goal.tell_broken-requires-clause-known
 tell_broken-requires-clause-known g c =

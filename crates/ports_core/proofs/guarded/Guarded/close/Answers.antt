@@ -1,5 +1,5 @@
-use Rattle.std.proofs.Common.{refl, OnOk, ap, sym, subst, ◌∙◌}
-use Rattle.ports_core.specs.Engine.{EndsThere, Finishes, IsMet, over}
+use Rattle.std.proofs.Common.{refl, ap, sym, ◌∙◌}
+use Rattle.ports_core.specs.Engine.{EndsThere, IsMet, over}
 use Rattle.ports_core.proofs.GuardLemmas.{caused_end, has_ended}
 use Rattle.ports_core.proofs.guarded.Guarded.close.Goals as goal
 
@@ -10,7 +10,7 @@ pub returns-then-replace-clause-refused : goal.returns-then-replace-clause-refus
 returns-then-replace-clause-refused g c = over (sym (ap (λ guard. guard.is_over) c.self.view_is) ∙ sym c.replace.ensures.value ∙ c.if-replace.true) refl
 
 pub returns-clause-outputs : goal.returns-clause-outputs
-returns-clause-outputs g c = subst (λ guard. OnOk c.finish.result (Finishes g.S.Stage.Holds g.S.Stage.Owns g.S.Stage.work guard.stage g.O.Outs.told (g.O.Outs.slots c.args.outs.now) (g.O.Outs.slots c.finish.new.outs))) c.self.view_is c.finish.ensures.outputs
+returns-clause-outputs g c = rw (← c.self.view_is) c.finish.ensures.outputs
 
 pub returns-clause-refused : goal.returns-clause-refused
 returns-clause-refused g c =

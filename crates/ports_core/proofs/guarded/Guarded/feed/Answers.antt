@@ -1,6 +1,6 @@
-use Rattle.std.proofs.Common.{◌≡◌, true, refl, ap, sym, subst, ◌∙◌, length, arith}
+use Rattle.std.proofs.Common.{◌≡◌, true, refl, ap, sym, ◌∙◌, length, arith}
 use Rattle.std.proofs.lemmas.Grind.{common_steps}
-use Rattle.ports_core.specs.Engine.{CutsOff, EndsWith, IsMet, over, long}
+use Rattle.ports_core.specs.Engine.{EndsWith, IsMet, over, long}
 use Rattle.ports_core.proofs.GuardLemmas.{caused, is_long, too_long, has_failed}
 use Rattle.ports_core.proofs.guarded.Guarded.feed.Goals as goal
 
@@ -20,7 +20,7 @@ pub returns-in-Ok-clause-holds : goal.returns-in-Ok-clause-holds
 returns-in-Ok-clause-holds g c = grind (arith, common_steps)
 
 pub returns-in-Err-clause-cut : goal.returns-in-Err-clause-cut
-returns-in-Err-clause-cut g c = subst (λ guard. CutsOff g.S.Stage.Holds g.S.Stage.Owns g.S.Stage.work guard.stage c.args.piece.now g.O.Outs.told (g.O.Outs.slots c.args.outs.now) (g.O.Outs.slots c.pass.new.outs) c.in-Err.fault) c.self.view_is c.in-Err.ensures.cut
+returns-in-Err-clause-cut g c = rw (← c.self.view_is) c.in-Err.ensures.cut
 
 pub returns-in-Err-clause-refused : goal.returns-in-Err-clause-refused
 returns-in-Err-clause-refused g c =

@@ -1,7 +1,3 @@
-use Rattle.std.proofs.Common.{◌≡◌, ◌+◌, subst}
-use Rattle.tee_core.specs.Outputs.{Closes}
-use Rattle.tee_core.specs.TeeState.{TeeState}
-use Rattle.tee_core.specs.inner.Turns.{Turns}
 use Rattle.tee_core.proofs.ChangeLemmas.{next_in_turn, none_in_turn, closed_broken}
 use Rattle.tee_core.proofs.tee.Tee.close_files.Goals as goal
 
@@ -9,5 +5,4 @@ pub loop-n-init : goal.loop-n-init
 loop-n-init g c = none_in_turn
 
 pub loop-n-preserved : goal.loop-n-preserved
-loop-n-preserved g c = next_in_turn _ _ _ _ _ _ _ closed_broken c.loop-n.invariant (subst (λ (tee : TeeState). Turns Closes (λ place. place ≡ tee.first + c.loop-n.n)
-    (g.O.Outs.slots c.loop-n.outs) (g.O.Outs.slots c.close_file-broke.new.outs) c.close_file-broke.result) c.self.view_is c.close_file-broke.ensures.turned) c.close_file-broke.ensures.few
+loop-n-preserved g c = next_in_turn _ _ _ _ _ _ _ closed_broken c.loop-n.invariant (rw (← c.self.view_is) c.close_file-broke.ensures.turned) c.close_file-broke.ensures.few

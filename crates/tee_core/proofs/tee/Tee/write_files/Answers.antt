@@ -1,7 +1,3 @@
-use Rattle.std.proofs.Common.{◌≡◌, ◌+◌, subst}
-use Rattle.tee_core.specs.Outputs.{Gets}
-use Rattle.tee_core.specs.TeeState.{TeeState}
-use Rattle.tee_core.specs.inner.Turns.{Turns}
 use Rattle.tee_core.proofs.ChangeLemmas.{next_in_turn, none_in_turn, still_broken}
 use Rattle.tee_core.proofs.tee.Tee.write_files.Goals as goal
 
@@ -9,5 +5,4 @@ pub loop-n-init : goal.loop-n-init
 loop-n-init g c = none_in_turn
 
 pub loop-n-preserved : goal.loop-n-preserved
-loop-n-preserved g c = next_in_turn _ _ _ _ _ _ _ (still_broken _) c.loop-n.invariant (subst (λ (tee : TeeState). Turns (Gets g.O.Outs.told c.args.piece.now) (λ place. place ≡ tee.first + c.loop-n.n)
-    (g.O.Outs.slots c.loop-n.outs) (g.O.Outs.slots c.write_piece-broke.new.outs) c.write_piece-broke.result) c.self.view_is c.write_piece-broke.ensures.turned) c.write_piece-broke.ensures.few
+loop-n-preserved g c = next_in_turn _ _ _ _ _ _ _ (still_broken _) c.loop-n.invariant (rw (← c.self.view_is) c.write_piece-broke.ensures.turned) c.write_piece-broke.ensures.few
