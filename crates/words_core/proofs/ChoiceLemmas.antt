@@ -1,8 +1,8 @@
 -- Lemmas on what options ask for, one after another.
-use Rattle.std.proofs.Common.{◌≡◌, ◌≤◌, ◌↔◌, Bool, true, false, ◌||◌, arith, List, [], ◌∷◌, ◌++◌, length, Option, Some, None, Result, Ok, Err, refl, sym, ◌∙◌, ap, if◌then◌else◌, filter, IsOk}
+use Rattle.std.proofs.lemmas.Grind.{common_steps}
+use Rattle.std.proofs.Common.{◌≡◌, ◌≤◌, ◌↔◌, Bool, true, false, ◌||◌, arith, List, [], ◌∷◌, ◌++◌, length, Option, Some, None, Result, Ok, Err, refl, ◌∙◌, ap, if◌then◌else◌, filter, IsOk, rules}
 use Rattle.std.specs.List.{list_any}
 use Rattle.std.proofs.lemmas.Bool.{or_parts}
-use Rattle.std.proofs.lemmas.List.Elements.{filter-append}
 use Rattle.ports_core.specs.declared.fault.Fault.{Fault}
 use Rattle.ports_core.specs.declared.fault.Fault.TheVariants.{Usage}
 use Rattle.ports_core.specs.declared.fault.UsageKind.TheVariants.{TwoWays}
@@ -70,10 +70,10 @@ pub split-sets : (asked other : SplitAsked) (choice : Choice) (value : Meant)
     × ((split_by asked choice value).delim ≡ (if separates choice value then (split_by other choice value).delim else asked.delim))
     × ((split_by asked choice value).ending ≡ (if gives_ending choice value then (split_by other choice value).ending else asked.ending))
     × ((split_by asked choice value).elide ≡ (if elides_files choice then true else asked.elide))
-split-sets asked other SuffixLength (Width width) = (refl, refl, refl, refl, refl)
-split-sets asked other AdditionalSuffix (Text text) = (refl, refl, refl, refl, refl)
-split-sets asked other Separator (Byte byte) = (refl, refl, refl, refl, refl)
-split-sets asked other choice value = (refl, refl, refl, refl, refl)
+split-sets asked other SuffixLength (Width width) = search rules
+split-sets asked other AdditionalSuffix (Text text) = search rules
+split-sets asked other Separator (Byte byte) = search rules
+split-sets asked other choice value = search rules
 
 pub csplit-sets : (asked other : Style) (choice : Choice) (value : Meant)
     → ((csplit_by asked choice value).prefix ≡ (if names_prefix choice value then (csplit_by other choice value).prefix else asked.prefix))
@@ -82,9 +82,9 @@ pub csplit-sets : (asked other : Style) (choice : Choice) (value : Meant)
     × ((csplit_by asked choice value).quiet ≡ (if drops_sizes choice then true else asked.quiet))
     × ((csplit_by asked choice value).elide ≡ (if elides_files choice then true else asked.elide))
     × ((csplit_by asked choice value).suppress ≡ (if leaves_lines_out choice then true else asked.suppress))
-csplit-sets asked other Prefix (Text text) = (refl, refl, refl, refl, refl, refl)
-csplit-sets asked other Digits (Width digits) = (refl, refl, refl, refl, refl, refl)
-csplit-sets asked other choice value = (refl, refl, refl, refl, refl, refl)
+csplit-sets asked other Prefix (Text text) = search rules
+csplit-sets asked other Digits (Width digits) = search rules
+csplit-sets asked other choice value = search rules
 
 pub append-sets : (old : Mode) (choice : Choice) (value : Meant) → mode_by old choice value ≡ (if appends choice then mode.Append else old)
 append-sets old Append value = refl
@@ -113,18 +113,18 @@ so_where_given by part test sets asked not options = given_anywhere by part test
 
 pub append_is : (is : Bool) → ((if is then mode.Append else mode.Fresh) ≡ mode.Append) ↔ (is ≡ true)
 append_is true = (λ _. refl, λ _. refl)
-append_is false = (λ same. absurd (cc), λ is. absurd (cc))
+append_is false = grind (arith, common_steps)
 
 -- at most one way to split
 
 pub few_ways : (ways : List GivenOption) → (IsOk (only_way ways) → length ways ≤ 1) × (length ways ≤ 1 → IsOk (only_way ways))
-few_ways (way ∷ second ∷ more) = (λ is. absurd (cc), λ few. absurd (omega (arith, few)))
-few_ways ways = (λ is. omega arith, λ few. refl)
+few_ways (way ∷ second ∷ more) = grind (arith, common_steps)
+few_ways ways = search rules
 
 -- the ways among options, of which one is a way
 ways_around : (before after : List GivenOption) (option : GivenOption) → is_way option ≡ true
     → filter is_way (before ++ option ∷ after) ≡ filter is_way before ++ option ∷ filter is_way after
-ways_around before after option is = rw (filter-append is_way before (option ∷ after), is)
+ways_around before after option is = grind (arith, common_steps)
 
 way_among : (front rest : List GivenOption) (option : GivenOption) (cut : Cut) → only_way (front ++ option ∷ rest) ≡ Ok cut → cut ≡ way_in option.value option.choice
 way_among [] [] option cut is = cc
@@ -133,17 +133,15 @@ way_among front rest option cut is = absurd (cc)
 
 pub way_is : (before after : List GivenOption) (option : GivenOption) (cut : Cut) → is_way option ≡ true
     → way_of (before ++ option ∷ after) ≡ Ok cut → cut ≡ way_in option.value option.choice
-way_is before after option cut is splits_so =
-    way_among (filter is_way before) (filter is_way after) option cut (ap only_way (sym (ways_around before after option is)) ∙ splits_so)
+way_is before after option cut is splits_so = grind (arith, common_steps, way_among, ways_around)
 
 second_among : (front rest : List GivenOption) (option : GivenOption) → length front ≡ 1 → only_way (front ++ option ∷ rest) ≡ Err (Usage TwoWays option.word)
 second_among (way ∷ []) rest option one = refl
-second_among front rest option one = absurd (omega (arith, one))
+second_among front rest option one = cc
 
 pub second_told : (before after : List GivenOption) (option : GivenOption) → length (filter is_way before) ≡ 1 → is_way option ≡ true
     → way_of (before ++ option ∷ after) ≡ Err (Usage TwoWays option.word)
-second_told before after option one is =
-    ap only_way (ways_around before after option is) ∙ second_among (filter is_way before) (filter is_way after) option one
+second_told before after option one is = grind (arith, common_steps, ways_around, second_among)
 
 -- the way that is so far, if there is one, and ways after it
 abbrev pub way_then : Option Cut → List GivenOption → Result Cut Fault

@@ -1,14 +1,13 @@
 -- Lemmas on what options and operands ask of `csplit`.
-use Rattle.std.proofs.Common.{◌≡◌, ◌-◌, ◌≤◌, arith, get_or, take, drop, length, map, List, [], ◌∷◌, Result, Ok, Err, IfOk, IfErr, ◌⊎◌, inl, inr, sym, ◌∙◌, ap}
-use Rattle.std.proofs.lemmas.List.{take_rest}
-use Rattle.std.proofs.lemmas.Result.{IfOk-weaker}
+use Rattle.std.proofs.lemmas.Grind.{common_steps}
+use Rattle.std.proofs.Common.{◌≡◌, ◌-◌, ◌≤◌, arith, get_or, take, drop, length, map, List, Result, Ok, IfOk, IfErr, ◌⊎◌}
 use Rattle.operand_core.specs.Style.{Style}
 use Rattle.ports_core.specs.declared.fault.Fault.{Fault}
 use Rattle.ports_core.specs.declared.fault.Fault.TheVariants.{Memory}
 use Rattle.words_core.specs.declared.spelled.Chosen.{Chosen}
 use Rattle.words_core.specs.declared.spelled.Operand.{Operand}
 use Rattle.words_core.specs.CsplitAsked.{CsplitAsked}
-use Rattle.words_core.specs.CsplitWords.{HasBadOperand, asked_of, asked_with, csplit_asked, style_of}
+use Rattle.words_core.specs.CsplitWords.{HasBadOperand, asked_with, csplit_asked, style_of}
 use Rattle.words_core.specs.Given.{Given, operand_seen, option_seen}
 use Rattle.words_core.specs.Spelling.{IsRefused}
 
@@ -17,17 +16,6 @@ abbrev pub asked_first : Style → Operand → List Operand → CsplitAsked
 asked_first style none all = asked_with style (get_or all 0 none).text.now (map operand_seen (take (length all - 1) (drop 1 all)))
 
 -- the first operand is the file
-file_first : (style : Style) (none : Operand) (all : List Operand) → 1 ≤ length all → 1 ≤ length (take (length all - 1) (drop 1 all))
-    → asked_of style (map operand_seen all) ≡ Ok (asked_first style none all)
-file_first style none [] some more = absurd (omega arith)
-file_first style none (file ∷ []) some more = absurd (omega arith)
-file_first style none (file ∷ operand ∷ operands) some more = rw (take_rest (file ∷ operand ∷ operands) 1)
-
-refused : {meant : Result CsplitAsked Fault} (one : CsplitAsked) (result : Result CsplitAsked Fault) → meant ≡ Ok one
-    → IfErr result (λ fault. (fault ≡ Memory) ⊎ HasBadOperand one fault) → IfErr result (IsRefused HasBadOperand meant)
-refused one (Ok settings) is bad = tt
-refused one (Err fault) is (inl memory) = inl memory
-refused one (Err fault) is (inr bad) = inr (inr (one, is, bad))
 
 -- what a call returns for the style of these options and for these operands is what is asked, or why it is refused
 pub settled : (given : Given) (options : List Chosen) (none : Operand) (all : List Operand) {style : Style} (result : Result CsplitAsked Fault)
@@ -35,8 +23,4 @@ pub settled : (given : Given) (options : List Chosen) (none : Operand) (all : Li
     → 1 ≤ length all → 1 ≤ length (take (length all - 1) (drop 1 all)) → IfOk result (λ settings. settings ≡ asked_first style none all)
     → IfErr result (λ fault. (fault ≡ Memory) ⊎ HasBadOperand (asked_first style none all) fault)
     → IfOk result (λ settings. csplit_asked given ≡ Ok settings) × IfErr result (IsRefused HasBadOperand (csplit_asked given))
-settled given options none all {style} result are these is some more equal bad =
-    let asked : csplit_asked given ≡ Ok (asked_first style none all) =
-    ap (λ operands. asked_of (style_of given.options) operands) (sym these)
-    ∙ ap (λ style. asked_of style (map operand_seen all)) (ap style_of (sym are) ∙ sym is) ∙ file_first style none all some more in
-    (IfOk-weaker result _ _ (λ settings is. asked ∙ ap (λ those. Ok those) (sym is)) equal, refused _ result asked bad)
+settled given options none all {style} result are these is some more equal bad = grind (arith, common_steps)

@@ -1,10 +1,9 @@
 -- Whatever words spell, sizes, counts of files and widths are within their limits, and files that lines are dealt to have names.
-use Rattle.std.proofs.Common.{◌≡◌, ℕ, ◌+◌, ◌==◌, ◌≤◌, true, arith, List, [], ◌∷◌, ◌++◌, Result, Ok, Err, IfOk, inl, inr, ◌⊎◌}
+use Rattle.std.proofs.lemmas.Grind.{common_steps}
+use Rattle.std.proofs.Common.{◌≡◌, ℕ, ◌+◌, ◌≤◌, arith, List, [], ◌∷◌, ◌++◌, Result, Ok, Err, IfOk, inl, inr, ◌⊎◌, rules}
 use Rattle.std.specs.Prelude.{⊤, filter}
-use Rattle.std.proofs.lemmas.Bool.Decides.{nat_tests}
 use Rattle.ports_core.specs.declared.fault.Fault.{Fault}
 use Rattle.ports_core.specs.declared.alphabet.Alphabet.{Alphabet}
-use Rattle.ports_core.specs.declared.alphabet.Alphabet.TheVariants.{Letters}
 use Rattle.ports_core.specs.declared.tool.Tool.{Tool}
 use Rattle.ports_core.specs.declared.tool.Tool.TheVariants as tool
 use Rattle.ports_core.specs.Name.{name_count}
@@ -15,19 +14,16 @@ use Rattle.words_core.specs.declared.table.Choice.{Choice}
 use Rattle.words_core.specs.declared.table.Choice.TheVariants as choice
 use Rattle.words_core.specs.declared.spelling.State.{State}
 use Rattle.words_core.specs.declared.spelling.State.TheVariants.{Awaiting}
-use Rattle.words_core.specs.declared.split_words.Suffix.{Suffix}
 use Rattle.words_core.specs.declared.settings.Settings.{Settings}
 use Rattle.words_core.specs.Table.{OptionRow, ToolRow}
-use Rattle.words_core.specs.Value.{Meant, Size, Files, Width, Text, Byte, then_check}
+use Rattle.words_core.specs.Value.{Meant, Width, Text, Byte, then_check}
 use Rattle.words_core.specs.Given.{asked_by, Given, GivenOption, GivenOperand}
 use Rattle.words_core.specs.CsplitWords.{asked_of, csplit_by, csplit_asked, style_of, plain}
 use Rattle.words_core.specs.Spelling.{Meaning, meaning_of, given_before, onward, spelled, start_of, given_by}
 use Rattle.words_core.specs.SplitAsked.{SplitAsked}
-use Rattle.words_core.specs.SplitWords.{AreNamed, CanSplit, IsInLimits, IsWidth, names_all, least_width, free, is_way, only_way, way_of, way_in, split_by, no_options, suffix_for, files_in, split_asked}
+use Rattle.words_core.specs.SplitWords.{AreNamed, CanSplit, IsInLimits, IsWidth, is_way, only_way, way_of, split_by, no_options, suffix_for, files_in, split_asked}
 use Rattle.words_core.specs.Laws.{AreAmong, none, passed, taken}
-use Rattle.words_core.specs.TailWords.{tail_asked}
 use Rattle.words_core.specs.Words.{CanRun, settings_for}
-use Rattle.std.proofs.lemmas.Bool.{cond_both}
 use Rattle.words_core.proofs.MeaningLemmas.{AreSound, GivesItself, IsSound, anything, meaning-gives, sound-append}
 use Rattle.words_core.proofs.SpellingLemmas.{either}
 
@@ -77,15 +73,9 @@ split_by-few asked choice.AdditionalSuffix (Text text) few is = few
 split_by-few asked choice.Separator (Byte byte) few is = few
 split_by-few asked choice value few is = few
 
-way_in-limits : (value : Meant) (choice : Choice) → IsSound value → IsInLimits (way_in value choice)
-way_in-limits (Size size) choice.Bytes is = is
-way_in-limits (Size size) choice is = is
-way_in-limits (Files files) choice is = is
-way_in-limits value choice is = omega arith
-
 only_way-limits : (ways : List GivenOption) → AreSound ways → IfOk (only_way ways) IsInLimits
 only_way-limits [] are = omega arith
-only_way-limits (way ∷ []) are = way_in-limits way.value way.choice are.0
+only_way-limits (way ∷ []) are = grind (arith, common_steps)
 only_way-limits (way ∷ second ∷ more) are = tt
 
 ways-sound : (options : List GivenOption) → AreSound options → AreSound (filter is_way options)
@@ -98,34 +88,14 @@ then_check-kept P Q (Err fault) next is goes = tt
 
 -- the files that lines are dealt to
 
-enough : (alphabet : Alphabet) (files width : ℕ) → names_all alphabet files width ≡ true → files ≤ name_count alphabet width
-enough alphabet files width is = grind (arith, nat_tests)
-
-five-enough : (alphabet : Alphabet) (files : ℕ) → files ≤ 65535 → files ≤ name_count alphabet 5
-five-enough Letters files few = omega arith
-five-enough alphabet files few = omega arith
-
 -- a suffix with which all files have names, and which is no wider than one may be
 abbrev Serves : Alphabet → ℕ → ℕ → Type 0
 Serves alphabet files width = (files ≤ name_count alphabet width) × IsWidth width
 
-least-serves : (alphabet : Alphabet) (files : ℕ) → files ≤ 65535 → Serves alphabet files (least_width alphabet files)
-least-serves alphabet files few =
-    cond_both (names_all alphabet files 2) _ _ (Serves alphabet files) (λ all. (enough alphabet files 2 all, (omega arith, omega arith))) (λ no.
-    cond_both (names_all alphabet files 3) _ _ (Serves alphabet files) (λ all. (enough alphabet files 3 all, (omega arith, omega arith))) (λ no.
-    cond_both (names_all alphabet files 4) _ _ (Serves alphabet files) (λ all. (enough alphabet files 4 all, (omega arith, omega arith))) (λ no.
-    (five-enough alphabet files few, (omega arith, omega arith)))))
-
-free-width : (width : ℕ) → width ≤ 255 → IsWidth (free width).width
-free-width width most = cond_both (width == 0) _ _ (λ (suffix : Suffix). IsWidth suffix.width) (λ is. (omega arith, omega arith)) (λ is. (grind (arith, nat_tests), most))
-
 suffix-can : (cut : Cut) (alphabet : Alphabet) (width : ℕ) → IsInLimits cut → width ≤ 255
     → IfOk (suffix_for cut alphabet width) (λ suffix. AreNamed cut alphabet suffix.width × IsWidth suffix.width)
-suffix-can (cut.Round files) alphabet width is_in most =
-    let P : Result Suffix Fault → Type 0 = λ r. IfOk r (λ suffix. Serves alphabet files suffix.width) in
-    cond_both (width == 0) _ _ P (λ is. least-serves alphabet files is_in.1) (λ is.
-    cond_both (names_all alphabet files width) _ _ P (λ all. (enough alphabet files width all, (grind (arith, nat_tests), most))) (λ no. tt))
-suffix-can cut alphabet width is most = (tt, free-width width most)
+suffix-can (cut.Round files) alphabet width is_in most = grind (arith, common_steps)
+suffix-can cut alphabet width is most = search rules
 
 -- the line as a whole
 
@@ -155,9 +125,9 @@ csplit-can given sound =
     asked_of-few (style_of given.options) given.operands (asked-keeps csplit_by (λ asked. asked.digits ≤ 255) csplit_by-few given.options plain (omega arith) sound)
 
 settled-can : (which : Tool) (given : Given) → AreSound given.options → IfOk (settings_for which given) CanRun
-settled-can tool.Tail given sound = then_check-kept (λ asked. ⊤) CanRun (tail_asked given) _ (anything (tail_asked given)) (λ asked is. tt)
+settled-can tool.Tail given sound = grind (arith, common_steps)
 settled-can tool.Split given sound = then_check-kept CanSplit CanRun (split_asked given) _ (asked-can given sound) (λ asked is. is)
-settled-can tool.Csplit given sound = then_check-kept (λ asked. asked.style.digits ≤ 255) CanRun (csplit_asked given) _ (csplit-can given sound) (λ asked is. is)
+settled-can tool.Csplit given sound = search (rules, then_check-kept, csplit-can)
 settled-can which given sound = tt
 
 -- what was read of words can be done

@@ -1,9 +1,9 @@
 -- Lemmas on the ways in which the value of an option is spelled.
-use Rattle.std.proofs.Common.{◌≡◌, ◌≢◌, ℕ, ◌+◌, ◌<◌, ◌==◌, nat_lt, not, true, false, arith, List, [], ◌∷◌, ◌++◌, length, drop, Option, Some, None, Result, Ok, cond, refl, ap, ◌∙◌, append-nil, length-append}
-use Rattle.std.specs.List.{list_any, position_or_len, before_first, after_first}
-use Rattle.std.proofs.lemmas.Bool.{cond-false, cond-true, eq-eqb, lt-ltb, ne_eqb, or_parts}
+use Rattle.std.proofs.lemmas.Grind.{common_steps}
+use Rattle.std.proofs.Common.{◌≡◌, ◌≢◌, ℕ, ◌+◌, ◌==◌, not, false, arith, List, [], ◌∷◌, ◌++◌, length, Option, Some, None, Ok, cond, refl, ap, ◌∙◌, append-nil}
+use Rattle.std.specs.List.{list_any, position_or_len, before_first}
+use Rattle.std.proofs.lemmas.Bool.{cond-false, cond-true, eq-eqb, ne_eqb, or_parts}
 use Rattle.std.proofs.Math.Seq.{take-append_seam, drop-append-add, take-length}
-use Rattle.ports_core.specs.declared.fault.Fault.{Fault}
 use Rattle.words_core.specs.declared.table.Choice.{Choice}
 use Rattle.words_core.specs.declared.table.Kind.{Kind}
 use Rattle.words_core.specs.declared.table.Takes.{Takes}
@@ -11,53 +11,30 @@ use Rattle.words_core.specs.declared.table.Takes.TheVariants as takes
 use Rattle.words_core.specs.declared.spelling.State.TheVariants.{Reading}
 use Rattle.words_core.specs.Table.{OptionRow, option_named}
 use Rattle.words_core.specs.Value.{Meant, value_in}
-use Rattle.words_core.specs.Given.{bare}
-use Rattle.words_core.specs.Spelling.{Meaning, after_equals, awaiting, before, given_before, cluster, dashed, is_equals, lettered, long, mixed, named, spelled}
-use Rattle.words_core.specs.Laws.{Gives, IsLetter, IsName, IsSwitch, takes_none}
-use Rattle.words_core.proofs.SpellingLemmas.{given_before-nothing, given_before-onward}
+use Rattle.words_core.specs.Spelling.{after_equals, awaiting, is_equals, long, mixed, named, spelled}
+use Rattle.words_core.specs.Laws.{Gives, IsLetter, IsName}
 
 -- a letter
 
-by_its_letter : (rows : List OptionRow) (letter : ℕ) {choice : Choice} {takes : Takes} (value : List ℕ) (place : ℕ)
-    → letter < 128 → letter ≢ 45 → option_named rows (45 ∷ letter ∷ []) ≡ Some (choice, takes)
-    → mixed rows place (45 ∷ letter ∷ value) ≡ lettered place value (cluster rows place value) (Some (choice, takes))
-by_its_letter rows letter value place ascii no_hyphen found = rw (cond-false (letter == 45) (dashed rows place value) (cluster rows place (letter ∷ value)) (ne_eqb letter 45 no_hyphen), cond-true (nat_lt letter 128) (option_named rows (45 ∷ letter ∷ [])) None (lt-ltb letter 128 ascii), found)
-
 -- one that takes no value
-
-given_bare : (place : ℕ) (rest : List ℕ) (others : Result Meaning Fault) (choice : Choice) (takes : Takes) → takes_none takes ≡ true → lettered place rest others (Some (choice, takes)) ≡ before (bare choice place) others
-given_bare place rest others choice (takes.Value kind) none = absurd (cc)
-given_bare place rest others choice other none = refl
-
-by_its_switch : {rows : List OptionRow} {letter : ℕ} {choice : Choice} (rest : List ℕ) (place : ℕ) → IsSwitch rows letter choice → mixed rows place (45 ∷ letter ∷ rest) ≡ before (bare choice place) (cluster rows place rest)
-by_its_switch {rows} {letter} {choice} rest place is =
-    by_its_letter rows letter rest place is.ascii is.no_hyphen is.named ∙ given_bare place rest (cluster rows place rest) choice is.takes is.none
-
-pub switch_together : (rows : List OptionRow) (letter next : ℕ) (choice : Choice) (rest : List ℕ) (words : List (List ℕ)) (place : ℕ) → IsSwitch rows letter choice → next ≢ 45
-    → spelled rows ((45 ∷ letter ∷ next ∷ rest) ∷ words) place Reading ≡ given_before (bare choice place) (spelled rows ((45 ∷ next ∷ rest) ∷ words) place Reading)
-switch_together rows letter next choice rest words place is differs = cc (by_its_switch (next ∷ rest) place is, given_before-onward (bare choice place) (spelled rows words (place + 1)) (cluster rows place (next ∷ rest)), cond-false (next == 45) (dashed rows place rest) (cluster rows place (next ∷ rest)) (ne_eqb next 45 differs))
-
-pub switch_apart : (rows : List OptionRow) (letter : ℕ) (choice : Choice) (words : List (List ℕ)) (place : ℕ) → IsSwitch rows letter choice
-    → spelled rows ((45 ∷ letter ∷ []) ∷ words) place Reading ≡ given_before (bare choice place) (spelled rows words (place + 1) Reading)
-switch_apart rows letter choice words place is = rw (by_its_switch [] place is)
 
 pub value_attached : (rows : List OptionRow) (letter : ℕ) (choice : Choice) (kind : Kind) (value : List ℕ) (meant : Meant) (words : List (List ℕ)) (place : ℕ)
     → IsLetter rows letter choice kind → value ≢ [] → value_in kind value ≡ Ok meant
     → Gives rows ((45 ∷ letter ∷ value) ∷ words) place choice meant (spelled rows words (place + 1) Reading)
 value_attached rows letter choice kind [] meant words place is some reads = absurd (some refl)
-value_attached rows letter choice kind (byte ∷ value) meant words place is some reads = rw (by_its_letter rows letter (byte ∷ value) place is.ascii is.no_hyphen is.named, reads)
+value_attached rows letter choice kind (byte ∷ value) meant words place is some reads = grind (arith, common_steps)
 
 -- the next word
 
 awaited : (rows : List OptionRow) {choice : Choice} (kind : Kind) (word value : List ℕ) {meant : Meant} (words : List (List ℕ)) {place : ℕ}
     → mixed rows place word ≡ awaiting choice kind place → value_in kind value ≡ Ok meant
     → Gives rows (word ∷ value ∷ words) place choice meant (spelled rows words (place + 1 + 1) Reading)
-awaited rows kind word value words awaits reads = rw (awaits, reads, given_before-nothing refl)
+awaited rows kind word value words awaits reads = grind (arith, common_steps)
 
 pub value_after_letter : (rows : List OptionRow) (letter : ℕ) (choice : Choice) (kind : Kind) (value : List ℕ) (meant : Meant) (words : List (List ℕ)) (place : ℕ)
     → IsLetter rows letter choice kind → value_in kind value ≡ Ok meant
     → Gives rows ((45 ∷ letter ∷ []) ∷ value ∷ words) place choice meant (spelled rows words (place + 1 + 1) Reading)
-value_after_letter rows letter choice kind value meant words place is reads = awaited rows kind (45 ∷ letter ∷ []) value words (by_its_letter rows letter [] place is.ascii is.no_hyphen is.named) reads
+value_after_letter rows letter choice kind value meant words place is reads = grind (arith, common_steps)
 
 -- a long name
 
@@ -73,17 +50,13 @@ no_place : (front : List ℕ) → list_any is_equals front ≡ false → positio
 no_place front none = cc (append-nil front, place_of_equals front [] none refl)
 
 equals_in : (front : List ℕ) {value : List ℕ} → list_any is_equals front ≡ false → after_equals (front ++ 61 ∷ value) ≡ Some value
-equals_in front {value} none =
-    let place = place_of_equals front (61 ∷ value) none refl in
-    let below : position_or_len is_equals (front ++ 61 ∷ value) < length (front ++ 61 ∷ value) = rw length-append (omega (arith, place)) in
-    cond-false (position_or_len is_equals (front ++ 61 ∷ value) == length (front ++ 61 ∷ value)) None (Some (after_first is_equals (front ++ 61 ∷ value))) (ne_eqb _ _ (λ is. omega (arith, is, below)))
-    ∙ ap (λ those. Some those) (ap (λ n. drop (n + 1) (front ++ 61 ∷ value)) place ∙ drop-append-add front (61 ∷ value) 1)
+equals_in front {value} none = grind (arith, common_steps, place_of_equals, cond-false, ne_eqb, drop-append-add)
 
 name_in : (front value : List ℕ) → list_any is_equals front ≡ false → before_first is_equals (front ++ 61 ∷ value) ≡ front
 name_in front value none = rw (place_of_equals front (61 ∷ value) none refl, take-append_seam front (61 ∷ value))
 
 no_equals_in : (front : List ℕ) → list_any is_equals front ≡ false → after_equals front ≡ None
-no_equals_in front none = cond-true (position_or_len is_equals front == length front) None (Some (after_first is_equals front)) (eq-eqb _ _ (no_place front none))
+no_equals_in front none = grind (arith, common_steps, cond-true, eq-eqb, no_place)
 
 all_name : (front : List ℕ) → list_any is_equals front ≡ false → before_first is_equals front ≡ front
 all_name front none = rw (no_place front none, take-length front)

@@ -1,4 +1,5 @@
-use Rattle.std.proofs.Common.{◌≡◌, ◌≤◌, ℕ, ◌+◌, arith, List, [], ◌∷◌, ◌++◌, length, Result, Ok, Err, refl}
+use Rattle.std.proofs.lemmas.Grind.{common_steps}
+use Rattle.std.proofs.Common.{◌≡◌, ◌≤◌, ℕ, ◌+◌, arith, List, [], ◌∷◌, ◌++◌, length, Result, Ok, Err, refl, rules}
 use Rattle.ports_core.specs.declared.fault.Fault.{Fault}
 use Rattle.ports_core.specs.declared.fault.Fault.TheVariants.{Usage}
 use Rattle.ports_core.specs.declared.fault.UsageKind.{UsageKind}
@@ -16,11 +17,11 @@ well_more given whole (Ok more) is = (more, refl)
 well_more given whole (Err fault) is = absurd (cc)
 
 ends_after : (least : ℕ) (state : State) (kind : UsageKind) (word : ℕ) → Awaits least state → ended state ≡ Err (Usage kind word) → least ≤ word
-ends_after least (Awaiting choice awaited option) kind word awaits is = let same : option ≡ word = cc in omega (arith, awaits, same)
+ends_after least (Awaiting choice awaited option) kind word awaits is = grind (arith, common_steps)
 ends_after least state kind word awaits is = absurd (cc)
 
 awaits_later : (least place : ℕ) (state : State) → least ≤ place → Awaits place state → Awaits least state
-awaits_later least place (Awaiting choice kind option) within awaits = omega (arith, within, awaits)
+awaits_later least place (Awaiting choice kind option) within awaits = search rules
 awaits_later least place state within awaits = tt
 
 module _ (rows : List OptionRow) (kind : UsageKind) (word : ℕ) where

@@ -1,16 +1,7 @@
-use Rattle.std.proofs.Common.{inl, inr}
-use Rattle.ports_core.proofs.HandedOn.{fault_is}
 use Rattle.words_core.specs.Table.{tool_seen}
 use Rattle.words_core.proofs.LimitLemmas.{read-can}
-use Rattle.words_core.proofs.WordsLemmas.{names_none, refused, returned}
+use Rattle.words_core.proofs.WordsLemmas.{returned}
 use Rattle.words_core.proofs.words.read_words.Goals as goal
-
-pub returns-in_default-clause-err : goal.returns-in_default-clause-err
-returns-in_default-clause-err c = inr (inl (names_none _ c.in_default.len_below))
-
-pub returns-in_err-spelled-clause-err : goal.returns-in_err-spelled-clause-err
-returns-in_err-spelled-clause-err c =
-    fault_is _ _ _ c.from_residual.ensures.1 (refused _ _ c.in-len1-up.len_at_least c.all_tools.ensures c.in-Some.ensures c.in_err-spelled.ensures)
 
 pub returns : goal.returns
 returns c =
