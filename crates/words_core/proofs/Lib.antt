@@ -1,4 +1,3 @@
-pub mod AskedLemmas
 pub mod CalledLemmas
 pub mod ChoiceLemmas
 pub mod CsplitLemmas

@@ -6,7 +6,6 @@ use Rattle.ports_core.specs.declared.fault.Fault.{Fault}
 use Rattle.ports_core.specs.declared.alphabet.Alphabet.{Alphabet}
 use Rattle.ports_core.specs.declared.tool.Tool.{Tool}
 use Rattle.ports_core.specs.declared.tool.Tool.TheVariants as tool
-use Rattle.ports_core.specs.Name.{name_count}
 use Rattle.operand_core.specs.Style.{Style}
 use Rattle.seg_core.specs.declared.cut.Cut.{Cut}
 use Rattle.seg_core.specs.declared.cut.Cut.TheVariants as cut
@@ -87,10 +86,6 @@ then_check-kept P Q (Ok value) next is goes = goes value is
 then_check-kept P Q (Err fault) next is goes = tt
 
 -- the files that lines are dealt to
-
--- a suffix with which all files have names, and which is no wider than one may be
-abbrev Serves : Alphabet → ℕ → ℕ → Type 0
-Serves alphabet files width = (files ≤ name_count alphabet width) × IsWidth width
 
 suffix-can : (cut : Cut) (alphabet : Alphabet) (width : ℕ) → IsInLimits cut → width ≤ 255
     → IfOk (suffix_for cut alphabet width) (λ suffix. AreNamed cut alphabet suffix.width × IsWidth suffix.width)
