@@ -130,10 +130,10 @@ failed_one shares share {before} {failed} is one = failed-append shares (share �
 
 pub visited_more : {told_in told : Bool} {ways : Ways} {looks : List Look} {snapshot : Snapshot} {names now : List NameState} {one : NameState} {place : ℕ}
     {printer mid after : PrinterState} {old slots new : List Slot} {watched watched_new : List Watched} {before failed : Bool} → place < length now
-    → Visits told_in told ways snapshot (ways.first + place) (state_at now place) watched mid slots one watched_new after new (Ok failed)
-    → VisitedTo told_in told ways looks snapshot place names printer old mid slots watched now before
+    → Visits told_in told ways snapshot (ways.first + place) (state_at now place).text (state_at now place).standing watched mid slots one.standing watched_new after new (Ok failed)
+    → one.text ≡ (state_at now place).text → VisitedTo told_in told ways looks snapshot place names printer old mid slots watched now before
     → VisitedTo told_in told ways looks snapshot (place + 1) names printer old after new watched_new (set now place one) (before || failed)
-visited_more {told_in} {told} {ways} {looks} {snapshot} {names} {now} {one} {place} {mid} {after} {slots} {new} {watched} {watched_new} {failed} within visits sofar = record {
+visited_more {told_in} {told} {ways} {looks} {snapshot} {names} {now} {one} {place} {mid} {after} {slots} {new} {watched} {watched_new} {failed} within visits same sofar = record {
   fates = sofar.fates ++ visited.fate ∷ [];
   shares = sofar.shares ++ visited.share ∷ [];
   count = length-append sofar.fates (visited.fate ∷ []) ∙ ap (λ n. n + 1) sofar.count ∙ omega arith;
@@ -143,7 +143,7 @@ visited_more {told_in} {told} {ways} {looks} {snapshot} {names} {now} {one} {pla
       ∙ shares_next ways looks look names now sofar.same within ∙ ap (λ n. shares_at_look_from ways looks look ways.first (take n (texts names))) (let next : suc place ≡ place + 1 = omega arith in next);
   is_failed = failed_one sofar.shares visited.share sofar.is_failed visited.is_failed;
   shared = shared_more sofar.shared visited.shared;
-  same = texts_set now no_state one within visits.same ∙ sofar.same;
+  same = texts_set now no_state one within same ∙ sofar.same;
   done = λ all front other below. there all front other below (cases_eq other place);
   rest = λ other above inside. stays looks other (λ at. omega arith) (sofar.rest other (omega arith) (subst (λ n. other < n) (length-set now place one) inside));
 } where
@@ -158,7 +158,7 @@ visited_more {told_in} {told} {ways} {looks} {snapshot} {names} {now} {one} {pla
       → StandsAmong told_in ways (looks ++ record { snapshot = snapshot; fates = all } ∷ []) (set now place one) watched_new other
   there all front other below (inr elsewhere) = stays (looks ++ record { snapshot = snapshot; fates = all } ∷ []) other elsewhere
       (sofar.done all (front_before sofar.fates visited.fate front) other (omega arith))
-  there all front other below (inl at) = rw (at, get_or-set_same now place one no_state within, visits.same) (visited.stands all (fate_there sofar.fates visited.fate front sofar.count))
+  there all front other below (inl at) = rw (at, get_or-set_same now place one no_state within, same) (visited.stands all (fate_there sofar.fates visited.fate front sofar.count))
 
 -- by what a name broke, as it stands
 pub broken_there : (told : Bool) {ways : Ways} {looks : List Look} {place : ℕ} (name : List ℕ) (watched : Watched) (standing : Standing) → Stands told ways looks place name watched standing → BrokeIn ways looks place watched.failed
@@ -178,9 +178,9 @@ opens_failed (name ∷ names) (suc place) zero file = refl
 opens_failed (name ∷ names) (suc place) (suc other) file = opens_failed names place other file
 
 -- a look that was stopped at a name
-pub visited_short : {told_in told : Bool} {ways : Ways} {looks : List Look} {snapshot : Snapshot} {names now : List NameState} {one : NameState} {place : ℕ}
+pub visited_short : {told_in told : Bool} {ways : Ways} {looks : List Look} {snapshot : Snapshot} {names now : List NameState} {standing : Standing} {place : ℕ}
     {printer mid after : PrinterState} {old slots new : List Slot} {watched watched_new : List Watched} {before : Bool} {why : Fault} → place < length now
-    → Visits told_in told ways snapshot (ways.first + place) (state_at now place) watched mid slots one watched_new after new (Err why)
+    → Visits told_in told ways snapshot (ways.first + place) (state_at now place).text (state_at now place).standing watched mid slots standing watched_new after new (Err why)
     → VisitedTo told_in told ways looks snapshot place names printer old mid slots watched now before → length watched_new ≡ ways.first + length names
     → (more : List Share) × Begun told_in ways (texts names) looks snapshot watched_new more × AllShort told printer more old new why
 visited_short {told_in} {told} {ways} {looks} {snapshot} {names} {now} {place} {mid} {slots} {new} {watched} {watched_new} {why} within visits sofar many = (

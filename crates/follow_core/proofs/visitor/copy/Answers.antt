@@ -1,5 +1,5 @@
 use Rattle.std.proofs.Common.{arith, drop, refl, sym, ◌∙◌}
-use Rattle.follow_core.proofs.CallLemmas.{ends_can, broke_after, copy_more, cut_short, due_as, nothing_due}
+use Rattle.follow_core.proofs.CallLemmas.{broke_after, copy_more, cut_short, due_as, nothing_due}
 use Rattle.std.proofs.lemmas.Grind.{common_steps}
 use Rattle.follow_core.proofs.StartLemmas.{contents_same}
 use Rattle.follow_core.proofs.visitor.copy.Goals as goal
@@ -7,7 +7,7 @@ use Rattle.follow_core.proofs.visitor.copy.Goals as goal
 pub loop-at-init : goal.loop-at-init
 loop-at-init g c = record {
   ends = grind (arith, common_steps, due_as, nothing_due);
-  can = c.requires.can;
+  writable = c.requires.writable;
   within = c.requires.within;
   past = omega arith;
   seen = refl;
@@ -22,7 +22,7 @@ loop-at-preserved g c =
     let past = l.invariant.past in record {
       ends = copy_more (drop c.min-room.result l.buffer) past (contents_same c.args.place (sym l.invariant.seen) (sym l.invariant.watched))
           c.in-Ok.ensures.bound c.read_at.ensures.length c.in-Ok.ensures.bytes l.invariant.ends (c.in-Ok-put.ensures.ends g.W.Watch.told);
-      can = ends_can (c.in-Ok-put.ensures.ends g.W.Watch.told) l.invariant.can;
+      writable = c.in-Ok-put.ensures.writable;
       within = grind (arith, common_steps);
       past = omega (arith, past);
       seen = c.read_at.ensures.seen ∙ l.invariant.seen;
