@@ -14,7 +14,7 @@ use Rattle.ports_core.proofs.SlotLemmas.{length-changed_at}
 use Rattle.ports_core.proofs.PartLemmas.{begins_itself, begins_trans}
 use Rattle.watch_core.specs.Edits.{Edit, append, truncate, replace, remove, World, led_to, with_file, edited, edited_by, seen_in, snapshots_from, snapshots_of}
 use Rattle.follow_core.specs.Run.{AreKept, name_text}
-use Rattle.follow_core.specs.Placing.{all_edits, IsUncut, AreSeen, AllSeen, Agree}
+use Rattle.follow_core.specs.Placing.{all_edits, IsUncut, AreSeen, AllSeen}
 use Rattle.follow_core.proofs.RunLemmas.{text_is_gains}
 use Rattle.follow_core.proofs.LookLemmas.{look_leaves}
 use Rattle.watch_core.proofs.WorldLemmas.{append_leads, append_grows}
@@ -222,10 +222,6 @@ from_first : (start : List ℕ → List ℕ) (by_name : Bool) (name : List ℕ) 
 from_first start by_name name {world} groups sound seen None is = refines groups seen world gap (record { sound = sound; leads = λ _. is; matches = tt })
 from_first start by_name name {world} groups sound seen (Some file) is = grind (arith, common_steps, refines)
 
-text_of_singles : (start : List ℕ → List ℕ) (by_name : Bool) (name : List ℕ) (first : List Edit) (groups : List (List Edit)) → AllSeen groups → AreKept (entries_of by_name name (snapshots_of (first ∷ groups)))
+pub text_of_singles : (start : List ℕ → List ℕ) (by_name : Bool) (name : List ℕ) (first : List Edit) (groups : List (List Edit)) → AllSeen groups → AreKept (entries_of by_name name (snapshots_of (first ∷ groups)))
     → name_text start (entries_of by_name name (snapshots_of (first ∷ groups))) ≡ gains_after start [] (entries_of by_name name (snapshots_of (first ∷ singles (all_edits groups))))
 text_of_singles start by_name name first groups seen kept = grind (arith, common_steps, text_is_gains, from_first, sound_all)
-
--- Two placings of looks give the same text.
-pub agree : (start : List ℕ → List ℕ) (by_name : Bool) (name : List ℕ) (first : List Edit) (one other : List (List Edit)) → Agree start by_name name first one other
-agree start by_name name first one other seen_one seen_other same kept_one kept_other = grind (arith, common_steps, text_of_singles)

@@ -20,7 +20,7 @@ use Rattle.follow_core.specs.Printing.{PrinterState, Short, broke as short_broke
 use Rattle.follow_core.specs.inner.Giving.{Ends, IsGiven, Shared, given_share, printer_under, text_under, over_by, stop_in}
 use Rattle.follow_core.specs.declared.visitor.Stop.{Stop}
 use Rattle.follow_core.specs.Share.{IsFront}
-use Rattle.watch_core.specs.Watched.{GaveFrom, Watched, breaks, no_name, Finds, Reopens, is_readable, is_watchable, open_contents, opens, watched_at}
+use Rattle.watch_core.specs.Watched.{GaveFrom, Watched, breaks, no_name, Finds, Reopens, is_watchable, open_contents, opens, watched_at}
 use Rattle.follow_core.specs.declared.visitor.Stop.TheVariants.{Broke, Over}
 use Rattle.std.proofs.lemmas.Bool.{le-leb, false≢true, eqb-true, eq-eqb}
 use Rattle.ports_core.proofs.InputsLemmas.{changed_elsewhere}
@@ -30,7 +30,7 @@ use Rattle.watch_core.proofs.NameLemmas.{watchable_within}
 use Rattle.follow_core.specs.declared.notice.Notice.TheVariants.{Appeared, Inaccessible, Replaced, Truncated}
 use Rattle.follow_core.specs.Notice.{notice_of}
 use Rattle.follow_core.specs.inner.Calls.{Adds, CanGoOn, HasStopped, Keeps, Leads, Follows, change_between, lines_past, said_of}
-use Rattle.watch_core.specs.Snapshot.{Snapshot, latest, no_files}
+use Rattle.watch_core.specs.Snapshot.{Snapshot, latest}
 use Rattle.watch_core.specs.declared.watch.Seen.{Seen}
 use Rattle.follow_core.specs.declared.notice.Notice.{Notice}
 use Rattle.follow_core.specs.Version.{Entry, version, gap, version_in, entries_at_look, entries_led, entries_open, open_after_look}
@@ -193,11 +193,6 @@ broke_first {due} {lines} = record { bytes = []; lines = []; are = λ t. ((due, 
 front_same : {X : Type 0} {given due : List X} → given ≡ due → IsFront given due
 front_same {X} {given} is = ([], sym is ∙ sym (append-nil given))
 
--- or after it
-pub broke_after : {told_in told opened : Bool} {printer after : PrinterState} {name due : List ℕ} {lines : List (List ℕ)} {old new : List Slot} {why : Fault}
-    → Ends told_in told opened printer name due lines old after new None → Ends told_in told opened printer name due lines old after new (Some (Broke why))
-broke_after ends = grind (arith, common_steps)
-
 -- bytes were put under the header that was due, or a beginning of both
 pub puts : {told_in told opened : Bool} {printer after : PrinterState} {name bytes : List ℕ} {old mid new : List Slot} {due : Bool} (over : Option Fault)
     → due ≡ has_header printer.headers printer.last (given_share opened name bytes [])
@@ -263,11 +258,6 @@ ends_can {told} {old = output ∷ error ∷ others} {stop} ends can =
     let (last, said, came) = ends.shared.slots output error others refl in
     use_after told _ _ _ _ _ stop came (can.0, ap is_open (tells_state told ends.lines error last said) ∙ can.1)
 
--- there was no memory for a line
-pub untold : {told_in told : Bool} {printer : PrinterState} {name due : List ℕ} {lines : List (List ℕ)} {slots : List Slot} {why : Fault}
-    → why ≡ fault.Memory → Ends told_in told false printer name due lines slots printer slots (Some (Over why))
-untold {due} {lines} is = rw is (stops_early due lines (puts_none {opened = false} {bytes = []} refl no_memory))
-
 -- a line was told
 pub tells : {told_in told : Bool} {printer : PrinterState} {name line text : List ℕ} {old new : List Slot} → text ≡ line → PrintsOn told text old new
     → Ends told_in told false printer name [] (line ∷ []) old printer new None
@@ -318,12 +308,6 @@ pub contents_led : {told : Bool} {snapshot now : Snapshot} {old new : List Watch
 contents_led {snapshot} {now} {new} {place} {name} seen can reopens is t =
     contents_open now (watched_at new place) ∙ ap (held_at now) (opened_led can reopens is t) ∙ ap (λ (s : Snapshot). held_at s (snapshot.leads name)) seen
 
-pub readable_there : {told : Bool} {snapshot : Snapshot} {old new : List Watched} {place : ℕ} {is_there : Bool} → Reopens told snapshot old new place is_there → is_there ≡ true → IsTrue (is_watchable old place) → IsTrue (is_readable new place)
-readable_there {old} {place} reopens there can = grind (arith, common_steps, opened_there)
-
-pub watchable_there : {told : Bool} {snapshot : Snapshot} {old new : List Watched} {place : ℕ} {is_there : Bool} → Reopens told snapshot old new place is_there → IsTrue (is_watchable old place) → IsTrue (is_watchable new place)
-watchable_there {old} {place} reopens can = grind (arith, common_steps, opened_there)
-
 pub follows_stop : (told by_name : Bool) (led file : Option ℕ) (place : ℕ) (old : List Watched) {mid : List Watched} (new : List Watched) (stop : Stop)
     → mid ≡ changed_at place (opens file) old → Keeps place mid new (Some stop) → Follows told by_name led place old new (Some stop)
 follows_stop told by_name led file place old new (Broke why) opened keeps = (file, keeps.1 ∙ ap (changed_at place (breaks why)) opened, inr keeps.0)
@@ -368,15 +352,7 @@ caught name snapshot (version v) {file} stands long =
       by false = (sym (append-nil _), refl)
 
 module _ {told_in told : Bool} {name : List ℕ} {opened : Option ℕ} {position : ℕ} {printer : PrinterState} {slots : List Slot} where
-  -- a call failed before anything was given
-  pub adds_broke : {entries : List Entry} {led : Option ℕ} {why : Fault}
-      → Adds told_in told name opened position entries led printer slots printer slots (Err (Broke why))
-  adds_broke = record { ends = λ last stands. broke_first; stands = tt }
-
   -- ways out of catching up
-
-  pub adds_none : (snapshot : Snapshot) → opened ≡ None → Adds told_in told name opened position (entries_open snapshot opened) opened printer slots printer slots (Ok position)
-  adds_none snapshot none = rw none (record { ends = λ last stands. nothing_due; stands = λ t last stands. stands })
 
   pub adds_untold : (snapshot : Snapshot) {file len : ℕ} {after : PrinterState} {slots_new : List Slot} {why : Fault} → opened ≡ Some file
       → (told_in ≡ true → len ≡ length (held_at snapshot opened))
@@ -408,7 +384,7 @@ module _ {told_in told : Bool} {name : List ℕ} {opened : Option ℕ} {position
 -- where the name leads
 
 -- nothing is due where nothing changed
-nothing_led : (name : List ℕ) (snapshot : Snapshot) (last : Entry) (led : Option ℕ) {opened : Option ℕ} → opened ≡ file_of last → change_between opened led ≡ None
+pub nothing_led : (name : List ℕ) (snapshot : Snapshot) (last : Entry) (led : Option ℕ) {opened : Option ℕ} → opened ≡ file_of last → change_between opened led ≡ None
     → (gains_later last (entries_led snapshot opened led) ≡ []) × (said_of name last (entries_led snapshot opened led) ≡ [])
     × (last_from last (entries_led snapshot opened led) ≡ last) × (led ≡ opened)
 nothing_led name snapshot gap None here is = rw here (refl, refl, refl, refl)
@@ -419,11 +395,11 @@ nothing_led name snapshot (version v) (Some file) here is =
     let same : (file == v.file) ≡ true = grind (arith, nat_tests) in rw (here, same) (refl, refl, refl, ap Some (eqb-true file v.file same))
 
 -- a name as its file was just opened
-abbrev fresh : Option ℕ → Entry
+abbrev pub fresh : Option ℕ → Entry
 fresh None = gap
 fresh (Some file) = version (record { file = file; contents = [] })
 
-fresh_stands : (file : Option ℕ) → StandsAt (fresh file) file 0
+pub fresh_stands : (file : Option ℕ) → StandsAt (fresh file) file 0
 fresh_stands None = record { file = refl; seen = refl }
 fresh_stands (Some file) = record { file = refl; seen = refl }
 
@@ -447,9 +423,6 @@ change_led name snapshot (version v) (Some file) {change} here is =
     let other : (v.file == file) ≡ false = grind (arith, nat_tests) in
     rw (here, both.0, other) (append-nil _, ap (λ those. notice_of those name ∷ []) both.1, refl)
 
-pub same_led : (opened led : Option ℕ) → change_between opened led ≡ None → opened ≡ led
-same_led opened led none = sym (nothing_led [] no_files (fresh opened) led (fresh_stands opened).file none).3
-
 module _ {told_in told : Bool} {name : List ℕ} {opened : Option ℕ} {position : ℕ} (snapshot : Snapshot) {led : Option ℕ} {printer : PrinterState} {slots : List Slot} where
   -- ways out of following a name
 
@@ -469,7 +442,7 @@ module _ {told_in told : Bool} {name : List ℕ} {opened : Option ℕ} {position
   }
 
   -- it was told, and then all that the file holds was given, or a beginning
-  adds_said : {mid slots_new : List Slot} {after : PrinterState} {due : List ℕ} {more : List (List ℕ)} {change : Notice} {result : Result ℕ Stop}
+  pub adds_said : {mid slots_new : List Slot} {after : PrinterState} {due : List ℕ} {more : List (List ℕ)} {change : Notice} {result : Result ℕ Stop}
       → (told_in ≡ true → change_between opened led ≡ Some change) → Ends told_in told false printer name [] (notice_of change name ∷ []) slots printer mid None
       → (told_in ≡ true → (due ≡ held_at snapshot led) × (more ≡ [])) → Ends told_in told false printer name due more mid after slots_new (stop_in result)
       → IfOk result (λ len. told_in ≡ true → StandsAt (last_from (fresh led) (entries_open snapshot led)) led len)
@@ -479,11 +452,6 @@ module _ {told_in told : Bool} {name : List ℕ} {opened : Option ℕ} {position
         ((dues t).0 ∙ sym gains, ap (λ lines. notice_of change name ∷ lines) (dues t).1 ∙ sym said)) (goes_after line rest);
     stands = IfOk-weaker result _ _ (λ len at t last stands. rw (change_led name snapshot last led stands.file (changed t)).2 (at t)) seen;
   }
-
-  pub adds_unopened : {mid : List Slot} {change : Notice} {why : Fault} → (told_in ≡ true → change_between opened led ≡ Some change)
-      → Ends told_in told false printer name [] (notice_of change name ∷ []) slots printer mid None
-      → Adds told_in told name opened position (entries_led snapshot opened led) led printer slots printer mid (Err (Broke why))
-  adds_unopened changed line = adds_said changed line (λ t. (refl, refl)) broke_first tt
 
   pub adds_opened : {now : Snapshot} {mid slots_new : List Slot} {after : PrinterState} {file : Option ℕ} {change : Notice} {result : Result ℕ Stop}
       → (told_in ≡ true → change_between opened led ≡ Some change) → Ends told_in told false printer name [] (notice_of change name ∷ []) slots printer mid None
@@ -524,18 +492,14 @@ adds_both : {told_in told : Bool} {name : List ℕ} {opened led : Option ℕ} {p
     → Adds told_in told name opened position (entries ++ more) led printer slots after slots_new result
 adds_both {name} {entries} {more} {result} one two = grind (arith, common_steps, due_as, gains-append, said-append, goes_after, IfOk-weaker, last_from-append)
 
-adds_stop : {told_in told : Bool} {name : List ℕ} {opened led file : Option ℕ} {position : ℕ} {entries : List Entry} (more : List Entry) {printer after : PrinterState}
-    {slots slots_new : List Slot} {stop : Stop} → Adds told_in told name opened position entries file printer slots after slots_new (Err stop)
-    → Adds told_in told name opened position (entries ++ more) led printer slots after slots_new (Err stop)
-adds_stop {name} {entries} more one = grind (arith, common_steps, due_as, gains-append, said-append, stops_early)
-
 module _ {told_in told : Bool} {snapshot : Snapshot} {place : ℕ} {name : List ℕ} {position : ℕ} {watched : List Watched} {printer : PrinterState} {slots : List Slot} where
   pub stopped_looks : (by_name : Bool) {watched_new : List Watched} {after : PrinterState} {slots_new : List Slot} {stop : Stop}
       → Adds told_in told name (watched_at watched place).opened position (entries_open snapshot (watched_at watched place).opened) (watched_at watched place).opened printer slots after slots_new (Err stop)
       → Keeps place watched watched_new (Some stop)
       → LooksAgain told_in told by_name snapshot place name position watched printer slots watched_new after slots_new (Err stop)
   stopped_looks by_name {stop} adds keeps = record {
-    adds = rw (← at_look by_name name (watched_at watched place).opened snapshot) (adds_stop _ adds);
+    adds = rw (← at_look by_name name (watched_at watched place).opened snapshot)
+        (record { ends = λ last stands. due_as (λ t. (sym (gains-append last _ _), sym (said-append name last _ _))) (stops_early _ _ (adds.ends last stands)); stands = tt });
     follows = follows_stop told_in by_name (open_after_look by_name name (watched_at watched place).opened snapshot) _ place watched _ stop (sym (opens_same watched place)) keeps;
   }
 

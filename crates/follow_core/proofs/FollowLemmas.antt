@@ -1,5 +1,5 @@
 -- A look at all names: at one after another, one look more, and one that was stopped; and one look after another.
-use Rattle.std.proofs.Common.{◌≡◌, ℕ, zero, suc, ◌<◌, ◌≤◌, ◌+◌, Bool, true, false, ◌||◌, List, [], ◌∷◌, ◌++◌, length, take, set, replicate, get_or, slice_index_or, refl, sym, ◌∙◌, ap, subst, arith, append_assoc, inl, inr, ◌⊎◌, Option, Some, subst₂, Err, not, ◌&&◌, map, Ok, Result, None, is_some, if◌then◌else◌}
+use Rattle.std.proofs.Common.{◌≡◌, ℕ, zero, suc, ◌<◌, ◌≤◌, ◌+◌, Bool, true, false, ◌||◌, List, [], ◌∷◌, ◌++◌, length, take, set, replicate, get_or, slice_index_or, refl, sym, ◌∙◌, ap, subst, arith, append_assoc, inl, inr, ◌⊎◌, Option, Some, subst₂, Err, not, ◌&&◌, map, Ok, Result, None, is_some}
 use Rattle.std.proofs.Math.Bool.{or-false, or-false as or_none, and-false as and_none}
 use Rattle.std.proofs.lemmas.Bool.{cases_eq, cases_lt, and_parts, false≢true, not-true}
 use Rattle.std.proofs.lemmas.List.{append-nil, get_or-map, get_or-set_other, get_or-set_same, length-append, length-map, length-replicate, length-set, length-take-le, take_all, get_or_past, get_or-append-add, get_or_append_left, map-append, take-append-le}
@@ -28,10 +28,8 @@ use Rattle.follow_core.specs.inner.Calls.{HasStopped}
 use Rattle.follow_core.specs.inner.Looks.{AddsSome, Begins, MakesLook, LookedAll}
 use Rattle.follow_core.specs.Version.{open_after}
 use Rattle.watch_core.proofs.NameLemmas.{latest-last}
-use mir.Val.{bool_byte}
-use Rattle.ports_core.proofs.Runs.{as_status}
 use Rattle.follow_core.specs.declared.start.Start.{Start}
-use Rattle.follow_core.specs.Ending.{FollowEndsAs, Made, StoppedIn, looked, seen_first}
+use Rattle.follow_core.specs.Ending.{Made, StoppedIn, seen_first}
 use Rattle.ports_core.specs.declared.fault.Fault.TheVariants as fault
 
 -- A look at one name after another.
@@ -227,10 +225,6 @@ next_ready first names one {place} {watched_new} within ready keeps can other in
   by (inr elsewhere) = subst (λ (n : NameState). CanVisit n (watched_at watched_new (first + other))) (sym (get_or-set_other names place other one no_state elsewhere)) (subst (CanVisit (state_at names other)) (sym (keeps.others (first + other) (λ at. elsewhere (omega (arith, at))))) (ready other (subst (λ n. other < n) (length-set names place one) inside)))
 
 -- A look at all names more, and one that was stopped.
-
--- memory was wanting after all of them
-none_stop : {told : Bool} {printer : PrinterState} {slots : List Slot} → AllShort told printer [] slots slots fault.Memory
-none_stop {told} {slots} = record { slots = λ output error others is. (error, refl, subst (λ those. Short told [] those slots fault.Memory) is no_memory) }
 
 -- names that are looked at
 
@@ -480,7 +474,7 @@ pub makes_none : {told_in told : Bool} {snapshot : Snapshot} {seen seen_new : Li
     → ((number : ℕ) → IsOther old watched number → watched_at watched_new number ≡ watched_at watched number)
     → (old.stage ≡ Over → ⊥) → CanLook old watched slots → why ≡ fault.Memory → seen_new ≡ seen
     → MakesLook told_in told snapshot seen old watched slots seen_new new watched_new slots (Err why)
-makes_none {old} {watched} {slots} unbroken others live can is same = record {
+makes_none {told} {old} {watched} {slots} unbroken others live can is same = record {
   looked = tt;
   stopped = λ ways headers names looks first holds. record {
     shares = holds.shares;
@@ -490,7 +484,7 @@ makes_none {old} {watched} {slots} unbroken others live can is same = record {
     shared = holds.shared;
     more = [];
     begun = nothing (unbroken ways headers names looks first holds);
-    short = rw is none_stop;
+    short = rw is (record { slots = λ output error others at. (error, refl, subst (λ those. Short told [] those slots fault.Memory) at no_memory) });
   };
   seen_is = tt;
   saw = inl same;
@@ -676,11 +670,3 @@ open_holds {told_in} {told} {by_name} {start} {headers} {names} {watched} {slots
   shared = nothing_shared;
   failed = refl;
 })
-
-pub ends_looked : {told_in told : Bool} {ways : Ways} {headers : Bool} {names : List (List ℕ)} {count : ℕ} {shows : ℕ → Snapshot} {first slots : List Slot} {seen : List Snapshot} {watched : List Watched} {follow : FollowState} {failed : Bool} {status : ℕ} → failed ≡ follow.has_failed → status ≡ bool_byte failed
-    → LookedAll told_in told ways headers names count shows first follow seen watched slots → FollowEndsAs told_in told ways headers names count shows first seen watched slots status
-ends_looked {failed} is status_is all =
-    looked all.looks all.holds.shares all.observed (broken_are all.holds) all.made all.within all.over all.holds.are (record {
-      wrote = all.holds.shared.slots;
-      status_is = status_is ∙ as_status failed ∙ ap (λ those. if those then 1 else 0) (is ∙ sym all.holds.failed);
-    })

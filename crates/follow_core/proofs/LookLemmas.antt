@@ -1,8 +1,7 @@
 -- A look at a name: what it gives, from where the looks before left it, what is told of it, and how it stands then.
-use Rattle.std.proofs.lemmas.Grind.{common_steps}
 use Rattle.follow_core.specs.Standing.{BrokeIn, StandsAt, CanVisit, IsFollowed, IsLeft, IsMissed, Stands}
 use Rattle.follow_core.proofs.CallLemmas.{held_at, none_of, gives_nothing, failure_said, wrote_after, wrote_line, keeps_others, opened_there, opens_same, LooksAgain, some_of, nothing_due}
-use Rattle.std.proofs.Common.{◌≡◌, ℕ, ◌==◌, Bool, true, false, List, [], ◌∷◌, ◌++◌, length, Option, Some, None, refl, sym, ◌∙◌, ap, if◌then◌else◌, map, drop, subst, take, inl, inr, ◌⊎◌, append_assoc, ◌&&◌, eqb-true, Result, Ok, Err, ◌<◌, IsTrue, IfOk, subst₂, is_none, is_some, IfErr, arith}
+use Rattle.std.proofs.Common.{◌≡◌, ℕ, ◌==◌, Bool, true, false, List, [], ◌∷◌, ◌++◌, length, Option, Some, None, refl, sym, ◌∙◌, ap, if◌then◌else◌, map, drop, subst, take, inl, inr, ◌⊎◌, append_assoc, ◌&&◌, eqb-true, Result, Ok, Err, ◌<◌, IsTrue, IfOk, subst₂, is_none, is_some, IfErr}
 use Rattle.std.proofs.lemmas.List.{append-nil, map-append}
 use Rattle.watch_core.specs.Snapshot.{Snapshot}
 use Rattle.follow_core.specs.Version.{Entry, gap, version_in, entries_at_look, entries_led, entries_later, entries_of, entries_open, open_after, open_after_later, open_after_look, version}
@@ -585,19 +584,6 @@ later_gave {told_in} {ways} {snapshot} {place} {name} {position} {old} {new} {re
   fails (Err (Broke why)) follows = elim follows.2 [ inl opening ↦ inl (opening.0, opening.1, refl) | inr read ↦ inr read ]
   fails (Err (Over why)) follows = tt
 
-pub later_through : {told_in told : Bool} {ways : Ways} {snapshot : Snapshot} {place : ℕ} {name : List ℕ} {position : ℕ} {old new : List Watched}
-    {printer after : PrinterState} {slots slots_new : List Slot} {len : ℕ} → (watched_at old place).name ≡ name → IsTrue (is_watchable old place)
-    → LooksAgain told_in told ways.by_name snapshot place name position old printer slots new after slots_new (Ok len)
-    → Visits told_in told ways snapshot place name (Followed position) old printer slots (Followed len) new after slots_new (Ok false)
-later_through named can again = gave_through named can again.follows (later_gave again)
-
-pub later_fails : {told_in told : Bool} {ways : Ways} {snapshot : Snapshot} {place : ℕ} {name : List ℕ} {position : ℕ} {old new : List Watched}
-    {printer after : PrinterState} {slots mid slots_new : List Slot} {stop : Stop} {now : Standing} {result : Result Bool Fault} → IsTrue (is_watchable old place)
-    → LooksAgain told_in told ways.by_name snapshot place name position old printer slots new after mid (Err stop)
-    → TellsStop told name mid now slots_new stop result
-    → Visits told_in told ways snapshot place name (Followed position) old printer slots now new after slots_new result
-later_fails {stop} can again tells = gave_fails stop can again.follows (later_gave again) tells
-
 -- a name that is looked at no more
 
 -- where no file is open, and names aren't followed, nothing is due
@@ -635,7 +621,7 @@ still_left {ways} (before ∷ looks) look {place} {name} {watched} fine left = r
   ];
 }
 
-left_visited : {told_in told : Bool} {ways : Ways} {snapshot : Snapshot} {place : ℕ} {name : List ℕ} {printer : PrinterState} {slots : List Slot} {watched : Watched}
+pub left_visited : {told_in told : Bool} {ways : Ways} {snapshot : Snapshot} {place : ℕ} {name : List ℕ} {printer : PrinterState} {slots : List Slot} {watched : Watched}
     (looks : List Look) → IsLeft told_in ways looks place name watched → Visited told_in told ways looks snapshot place name printer slots printer slots watched Left false
 left_visited {snapshot} {place} {name} looks left = elim left.why [
   | inl dropped ↦ record {
@@ -649,7 +635,3 @@ left_visited {snapshot} {place} {name} looks left = elim left.why [
   | inr missed ↦ let looked = looked_whole (left_due looks left.begun missed) {place = place} (rw left.begun nothing_due) in
       looked_visited missed.kept looked (λ fates at. still_left looks (seeing snapshot fates) (at ∙ came_through place looked.fate None looked.fault) left)
 ]
-
-pub visit_left : {told_in told : Bool} {ways : Ways} {snapshot : Snapshot} {place : ℕ} {name : List ℕ} {watched : List Watched} {printer : PrinterState} {slots : List Slot}
-    → Visits told_in told ways snapshot place name Left watched printer slots Left watched printer slots (Ok false)
-visit_left = grind (arith, common_steps, left_visited)

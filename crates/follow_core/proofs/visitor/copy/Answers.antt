@@ -1,5 +1,5 @@
-use Rattle.std.proofs.Common.{arith, drop, refl, sym, ◌∙◌}
-use Rattle.follow_core.proofs.CallLemmas.{broke_after, copy_more, cut_short, due_as, nothing_due}
+use Rattle.std.proofs.Common.{arith, drop, refl, sym, ◌∙◌, ◌-◌}
+use Rattle.follow_core.proofs.CallLemmas.{copy_more, cut_short, due_as, nothing_due}
 use Rattle.std.proofs.lemmas.Grind.{common_steps}
 use Rattle.follow_core.proofs.StartLemmas.{contents_same}
 use Rattle.follow_core.proofs.visitor.copy.Goals as goal
@@ -32,7 +32,7 @@ loop-at-preserved g c =
     }
 
 pub returns-in-Err-clause-ends : goal.returns-in-Err-clause-ends
-returns-in-Err-clause-ends g c = cut_short _ (broke_after c.loop-at.invariant.ends)
+returns-in-Err-clause-ends g c = let l = c.loop-at in let ends = l.invariant.ends in cut_short (l.at - c.args.from) (grind (arith, common_steps))
 
 pub returns-in-Err-put-clause-ends : goal.returns-in-Err-put-clause-ends
 returns-in-Err-put-clause-ends g c =

@@ -1,5 +1,7 @@
+use Rattle.std.proofs.lemmas.Grind.{common_steps}
+use Rattle.std.proofs.Common.{arith}
+use Rattle.follow_core.proofs.LookLemmas.{left_visited}
 use Rattle.follow_core.specs.Look.{ways_of}
-use Rattle.follow_core.proofs.LookLemmas.{visit_left}
 use Rattle.follow_core.proofs.name.Name.visit.Goals as goal
 
 pub returns-in-New-clause-visits : goal.returns-in-New-clause-visits
@@ -11,4 +13,4 @@ returns-in-Followed-clause-visits g c first =
     rw (← c.self.view_is, c.in-Followed.is, ← c.as_str-text-in-Followed.ensures.value) (c.again.ensures.visits first ways.start)
 
 pub returns-in-Left-clause-visits : goal.returns-in-Left-clause-visits
-returns-in-Left-clause-visits g c first = rw (← c.self.view_is, c.in-Left.is) visit_left
+returns-in-Left-clause-visits g c first = rw (← c.self.view_is, c.in-Left.is) (grind (arith, common_steps, left_visited))

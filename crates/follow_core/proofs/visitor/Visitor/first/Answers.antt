@@ -1,8 +1,9 @@
-use Rattle.std.proofs.Common.{◌≡◌, ◌∙◌, ap, refl, None, [], if◌then◌else◌}
+use Rattle.std.proofs.lemmas.Grind.{common_steps}
+use Rattle.std.proofs.Common.{◌≡◌, ◌∙◌, ap, refl, None, [], if◌then◌else◌, arith}
 use Rattle.watch_core.specs.Snapshot.{latest}
 use Rattle.follow_core.specs.declared.name.Standing.TheVariants.{Followed, Left}
 use Rattle.follow_core.specs.declared.visitor.Stop.TheVariants.{Over}
-use Rattle.follow_core.proofs.CallLemmas.{contents_led, ends_can, follows_from, follows_stop, readable_there, goes_after, stops_early}
+use Rattle.follow_core.proofs.CallLemmas.{contents_led, ends_can, follows_from, follows_stop, goes_after, stops_early, opened_there}
 use Rattle.follow_core.proofs.LookLemmas.{first_gave, first_missing, first_unopened, gave_fails, gave_through}
 use Rattle.follow_core.proofs.visitor.Visitor.first.Goals as goal
 use Rattle.follow_core.proofs.visitor.Visitor.first.Goals.{then-by_name, else-by_name}
@@ -25,7 +26,7 @@ returns-in-Err-put-clause-visits g c first = gave_fails (Over c.in-Err-put.fault
     (refl, refl)
 
 pub write_start-requires-clause-readable : goal.write_start-requires-clause-readable
-write_start-requires-clause-readable g c = readable_there c.in-Ok-true.ensures.ok c.in-Ok-true.field-0-test c.requires.watchable
+write_start-requires-clause-readable g c = grind (arith, common_steps, opened_there)
 
 pub write_start-requires-clause-can : goal.write_start-requires-clause-can
 write_start-requires-clause-can g c = ends_can (c.in_default.ensures.ends g.W.Watch.told) c.requires.can
