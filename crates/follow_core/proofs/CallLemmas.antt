@@ -2,7 +2,7 @@
 use Rattle.std.proofs.lemmas.Grind.{common_steps}
 use Rattle.std.proofs.Common.{subst₂, ◌≡◌, ℕ, Bool, List, [], ◌∷◌, ◌++◌, inl, inr, ◌∙◌, ap, subst, ◌+◌, ◌<◌, length, take, true, false, not, if◌then◌else◌, Some, None, Option, refl, sym, arith, append_assoc, length-append, ◌-◌, ◌≤◌, drop, bytes_eq, is_none, option_map, suc, nat_lt, Result, Ok, Err, ◌==◌, zero, nat_le, IsTrue, map, IfOk, is_some}
 use Rattle.ports_core.specs.Slot.{Slot, with_written, with_broken, told_of, is_open, changed_at}
-use Rattle.ports_core.specs.Message.{Prints, Says, PrintsOn}
+use Rattle.ports_core.specs.Message.{Says, PrintsOn}
 use Rattle.ports_core.specs.declared.tool.Tool.TheVariants.{Tail}
 use Rattle.ports_core.proofs.MessageLemmas.{printed_open}
 use Rattle.follow_core.specs.Sharing.{CameTo, WroteBy, CanPrint}
@@ -43,10 +43,6 @@ use Rattle.follow_core.proofs.RunLemmas.{later-append as gains-append, last_from
 use Rattle.ports_core.specs.declared.fault.Fault.TheVariants as fault
 
 -- lines that following says, one after another
-
--- a line that was printed
-pub said_by : {told : Bool} {line said : List ℕ} {old new : Slot} → said ≡ line → Prints told said old new → Tells told line old new
-said_by {said} is printed = record { said = said; is = inl is; printed = printed }
 
 -- the message of a failure that was said
 pub failure_said : {told : Bool} {line : List ℕ} {old new : Slot} → IsFailure line → Says told Tail line old new → Tells told line old new
@@ -131,15 +127,6 @@ wrote_after told text more lines further {old} new over same also first second =
 pub gives_nothing : {told : Bool} {printer : PrinterState} {name : List ℕ} {slots : List Slot}
     → Shared told printer (given_share false name [] []) slots printer slots None
 gives_nothing {told} {printer} = grind (arith, common_steps)
-
--- a line alone
-pub gives_line : {told : Bool} {printer : PrinterState} {name line text : List ℕ} {old new : List Slot} → text ≡ line → PrintsOn told text old new
-    → Shared told printer (given_share false name [] (line ∷ [])) old printer new None
-gives_line {printer} same prints = record {
-  printer_is = λ none. rw (and-false printer.headers) refl;
-  slots = rw (and-false printer.headers)
-      (wrote_line (λ output error others are. let said = prints output error others are in (said.0, said_by same said.1, said.2)));
-}
 
 shared_after : {told opened : Bool} {printer mid after : PrinterState} {name first second : List ℕ} {lines more : List (List ℕ)} {old now new : List Slot}
     {over : Option Fault} → Shared told printer (given_share opened name first lines) old mid now None
@@ -261,7 +248,16 @@ ends_can {told} {old = output ∷ error ∷ others} {stop} ends can =
 -- a line was told
 pub tells : {told_in told : Bool} {printer : PrinterState} {name line text : List ℕ} {old new : List Slot} → text ≡ line → PrintsOn told text old new
     → Ends told_in told false printer name [] (line ∷ []) old printer new None
-tells {line} is prints = record { bytes = []; lines = line ∷ []; are = λ t. (refl, refl); shared = gives_line is prints }
+tells {printer} {line} is prints = record {
+  bytes = [];
+  lines = line ∷ [];
+  are = λ t. (refl, refl);
+  shared = record {
+    printer_is = λ none. rw (and-false printer.headers) refl;
+    slots = rw (and-false printer.headers) (wrote_line (λ output error others are. let said = prints output error others are in
+        (said.0, record { said = _; is = inl is; printed = said.1 }, said.2)));
+  };
+}
 
 pub opens_same : (names : List Watched) (place : ℕ) → changed_at place (opens (watched_at names place).opened) names ≡ names
 opens_same [] place = refl

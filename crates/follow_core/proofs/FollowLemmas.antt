@@ -54,13 +54,6 @@ all_both {printer} {shares} {more} all rest = record {
 
 -- one share more, or a beginning of it
 
-pub shared_more : {told : Bool} {printer mid after : PrinterState} {shares : List Share} {share : Share} {old now new : List Slot}
-    → AllShared told printer shares old mid now → Shared told mid share now after new None → AllShared told printer (shares ++ share ∷ []) old after new
-shared_more {told} {now} {new} all one = all_both all (record {
-  printer_is = one.printer_is refl;
-  slots = subst₂ (λ text lines. Wrote told text lines now new) (sym (append-nil _)) (sym (append-nil _)) one.slots;
-})
-
 pub shared_short : {told : Bool} {printer mid after : PrinterState} {shares : List Share} {share : Share} {old now new : List Slot} {why : Fault}
     → AllShared told printer shares old mid now → Shared told mid share now after new (Some why) → AllShort told printer (shares ++ share ∷ []) old new why
 shared_short {printer} {mid} {shares} {share} {new} {why} all one = record {
@@ -123,15 +116,12 @@ shares_next ways looks look names now {place} same within =
     ∙ sym (shares_one ways looks look ways.first (take place (texts names)) (get_or (texts names) place []))
     ∙ ap (shares_at_look_from ways looks look ways.first) (sym (take-suc (texts names) place [] below))
 
-failed_one : (shares : List Share) (share : Share) {before failed : Bool} → any_failed shares ≡ before → share.has_failed ≡ failed → any_failed (shares ++ share ∷ []) ≡ (before || failed)
-failed_one shares share {before} {failed} is one = failed-append shares (share ∷ []) ∙ ap (λ first. first || (share.has_failed || false)) is ∙ ap (λ last. before || (last || false)) one ∙ ap (λ last. before || last) (or-false failed)
-
 pub visited_more : {told_in told : Bool} {ways : Ways} {looks : List Look} {snapshot : Snapshot} {names now : List NameState} {one : NameState} {place : ℕ}
     {printer mid after : PrinterState} {old slots new : List Slot} {watched watched_new : List Watched} {before failed : Bool} → place < length now
     → Visits told_in told ways snapshot (ways.first + place) (state_at now place).text (state_at now place).standing watched mid slots one.standing watched_new after new (Ok failed)
     → one.text ≡ (state_at now place).text → VisitedTo told_in told ways looks snapshot place names printer old mid slots watched now before
     → VisitedTo told_in told ways looks snapshot (place + 1) names printer old after new watched_new (set now place one) (before || failed)
-visited_more {told_in} {told} {ways} {looks} {snapshot} {names} {now} {one} {place} {mid} {after} {slots} {new} {watched} {watched_new} {failed} within visits same sofar = record {
+visited_more {told_in} {told} {ways} {looks} {snapshot} {names} {now} {one} {place} {mid} {after} {slots} {new} {watched} {watched_new} {before} {failed} within visits same sofar = record {
   fates = sofar.fates ++ visited.fate ∷ [];
   shares = sofar.shares ++ visited.share ∷ [];
   count = length-append sofar.fates (visited.fate ∷ []) ∙ ap (λ n. n + 1) sofar.count ∙ omega arith;
@@ -139,8 +129,12 @@ visited_more {told_in} {told} {ways} {looks} {snapshot} {names} {now} {one} {pla
       ap (λ those. those ++ visited.share ∷ []) (sofar.are t all (front_before sofar.fates visited.fate front))
       ∙ ap (λ share. shares_at_look_from ways looks look ways.first (take place (texts names)) ++ share ∷ []) (visited.is_share t all (fate_there sofar.fates visited.fate front sofar.count))
       ∙ shares_next ways looks look names now sofar.same within ∙ ap (λ n. shares_at_look_from ways looks look ways.first (take n (texts names))) (let next : suc place ≡ place + 1 = omega arith in next);
-  is_failed = failed_one sofar.shares visited.share sofar.is_failed visited.is_failed;
-  shared = shared_more sofar.shared visited.shared;
+  is_failed = failed-append sofar.shares (visited.share ∷ []) ∙ ap (λ first. first || (visited.share.has_failed || false)) sofar.is_failed
+      ∙ ap (λ last. before || (last || false)) visited.is_failed ∙ ap (λ last. before || last) (or-false failed);
+  shared = all_both sofar.shared (record {
+    printer_is = visited.shared.printer_is refl;
+    slots = subst₂ (λ text lines. Wrote told text lines slots new) (sym (append-nil _)) (sym (append-nil _)) visited.shared.slots;
+  });
   same = texts_set now no_state one within same ∙ sofar.same;
   done = λ all front other below. there all front other below (cases_eq other place);
   rest = λ other above inside. stays looks other (λ at. omega arith) (sofar.rest other (omega arith) (subst (λ n. other < n) (length-set now place one) inside));
@@ -371,11 +365,6 @@ added_begins {old} {mid} {watched} {watched_mid} is = record {
   holds = λ told ways headers names looks first slots holds. held_added is holds;
 }
 
--- names of others, in the look after that
-not_own : {number : ℕ} (follow : FollowState) (watched : List Watched) → follow.stage ≡ Looking → IsOther follow watched number
-    → (place : ℕ) → place < length follow.names → number ≡ follow.first + place → ⊥
-not_own {number} follow watched looking other = subst (λ stage. IsOther (record follow { stage = stage }) watched number) looking other
-
 -- whether a further look can give something
 
 open_there : {ways : Ways} (looks : List Look) {place : ℕ} {name : List ℕ} {watched : Watched} {position : ℕ} → IsFollowed true ways looks place name watched position → (by_name : Bool) → ways.by_name ≡ by_name → (by_name || is_some (open_after ways.by_name name (snapshots looks))) ≡ true
@@ -547,7 +536,7 @@ makes_look {told_in} {told} {shows} {shows_mid} {seen} {seen_mid} {seen_turned} 
 
       others : {those : Result Bool Fault} → Seen those → (number : ℕ) → IsOther old watched number → watched_at watched_new number ≡ watched_at watched number
       others visits number other =
-          let (others, same) = begins.others number other in visits.others number (not_own inside watched_mid begins.stage others) ∙ same
+          let (others, same) = begins.others number other in visits.others number (subst (λ stage. IsOther (record inside { stage = stage }) watched_mid number) begins.stage others) ∙ same
 
       by : (result : Result Bool Fault) → Seen result → MakesLook told_in told snapshot seen old watched slots seen_new
           (record inside { names = names_new; printer = printer }) watched_new slots_new result

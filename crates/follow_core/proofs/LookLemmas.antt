@@ -21,7 +21,7 @@ use Rattle.ports_core.specs.declared.fault.Fault.{Fault}
 use Rattle.ports_core.specs.declared.fault.Fault.TheVariants.{Open, Read}
 use Rattle.follow_core.specs.declared.visitor.Stop.TheVariants.{Broke, Over}
 use Rattle.follow_core.specs.inner.Giving.{Ends, text_under, Shared, given_share, stop_in}
-use Rattle.follow_core.specs.inner.Visits.{Stopped, Visits, TellsStop, Visited}
+use Rattle.follow_core.specs.inner.Visits.{Visits, TellsStop, Visited}
 use Rattle.follow_core.specs.Printing.{PrinterState}
 use Rattle.follow_core.specs.Telling.{IsFailure}
 use Rattle.follow_core.specs.declared.visitor.Stop.{Stop}
@@ -45,16 +45,14 @@ first_some : (snapshot : Snapshot) (led : Option ℕ) (more : List Entry) → So
 first_some snapshot None more = record { first = gap; rest = more; are = refl }
 first_some snapshot (Some file) more = record { first = version_in snapshot file; rest = more; are = refl }
 
-pub some_at : (by_name : Bool) (name : List ℕ) (first : Snapshot) (snaps : List Snapshot) → Some_entries (entries_of by_name name (first ∷ snaps))
-some_at by_name name first snaps = first_some first (first.leads name) _
-
 pub entries_more : (ways : Ways) (name : List ℕ) (before : Look) (looks : List Look) (look : Look) → entries_in ways name ((before ∷ looks) ++ look ∷ []) ≡ entries_in ways name (before ∷ looks) ++ entries_at_look ways.by_name name (open_after ways.by_name name (snapshots (before ∷ looks))) look.snapshot
 entries_more ways name before looks look =
     ap (entries_of ways.by_name name) (map-append (λ (l : Look). l.snapshot) (before ∷ looks) (look ∷ []))
     ∙ entries-append ways.by_name name before.snapshot (snapshots looks) look.snapshot
 
 -- what a look adds to the entries
-pub new_are : (ways : Ways) (name : List ℕ) (looks : List Look) (look : Look) {more : List Entry} → entries_in ways name (looks ++ look ∷ []) ≡ entries_in ways name looks ++ more → new_entries ways name looks look ≡ more
+new_are : (ways : Ways) (name : List ℕ) (looks : List Look) (look : Look) {more : List Entry} → entries_in ways name (looks ++ look ∷ []) ≡ entries_in ways name looks ++ more
+    → new_entries ways name looks look ≡ more
 new_are ways name looks look {more} is = ap (drop (length (entries_in ways name looks))) is ∙ drop_front (entries_in ways name looks) more
 
 -- a look only adds entries
@@ -139,7 +137,7 @@ pub looked_more : (ways : Ways) (name : List ℕ) (before : Look) (looks : List 
     → let entries = entries_at_look ways.by_name name opened look.snapshot in let last = last_of (entries_in ways name (before ∷ looks)) in
     (gain ways name (before ∷ looks) look ≡ gains_later last entries) × (said_at_look ways name (before ∷ looks) look ≡ said_of name last entries)
     × (last_of (entries_in ways name ((before ∷ looks) ++ look ∷ [])) ≡ last_from last entries)
-looked_more ways name before looks look is = adds_so ways.start name _ (some_at ways.by_name name before.snapshot (snapshots looks))
+looked_more ways name before looks look is = adds_so ways.start name _ (first_some before.snapshot (before.snapshot.leads name) _)
     (entries_more ways name before looks look ∙ ap (λ file. entries_in ways name (before ∷ looks) ++ entries_at_look ways.by_name name file look.snapshot) (last_file ways name before looks ∙ sym is))
 
 -- a name that no look broke came through each
@@ -280,62 +278,12 @@ module _ {told_in told : Bool} {ways : Ways} {before : List Look} {snapshot : Sn
     shared = said_after ends.shared (name, inr (ap (λ those. message_of Tail those name) read)) says;
   }
 
-  -- following ended: a beginning was given
-  pub looked_over : {why : Fault} → Ends told_in told (is_first before) printer name due lines_due old after mid (Some (Over why))
-      → Stopped told_in told ways before snapshot name printer old mid why
-  looked_over ends = record {
-    share = given_share (is_first before) name ends.bytes ends.lines;
-    after = after;
-    begins = λ is fates. subst (BeginsShare (given_share (is_first before) name ends.bytes ends.lines)) (due_share dues is fates)
-        (record { name = refl; opened = refl; bytes = (ends.are is).0; messages = (ends.are is).1 });
-    short = ends.shared;
-  }
-
 -- the first look
 
 -- the entries of a name after it
 entries_first : (ways : Ways) {name : List ℕ} (look : Look) {led : Option ℕ} → look.snapshot.leads name ≡ led
     → entries_in ways name (look ∷ []) ≡ entries_led look.snapshot None led
 entries_first ways look is = append-nil _ ∙ ap (entries_led look.snapshot None) is
-
--- it finds nothing where the name leads, or a call that opens fails
-pub meets_nothing : {told_in told : Bool} {ways : Ways} {snapshot : Snapshot} {place : ℕ} {name : List ℕ} {printer : PrinterState} {old new : List Slot}
-    → (told_in ≡ true → snapshot.leads name ≡ None) → SaysOn told Tail (message_of Tail (Open place) name) old new
-    → Looked told_in told ways [] snapshot place name printer old printer new true None
-meets_nothing {ways} {snapshot} {name} leads says = record {
-  fate = sound;
-  share = missing_share name;
-  is_share = λ is fates. sym (rw (ap is_missing (entries_first ways (seeing snapshot fates) (leads is))) refl);
-  fault = refl;
-  failed = refl;
-  shared = said_after gives_nothing (name, inl refl) says;
-}
-
-pub meets_unopened : {told_in told : Bool} {ways : Ways} {snapshot : Snapshot} {place : ℕ} {name : List ℕ} {printer : PrinterState} {old new : List Slot}
-    → SaysOn told Tail (message_of Tail (Open place) name) old new
-    → Looked told_in told ways [] snapshot place name printer old printer new true (Some (Open place))
-meets_unopened {name} says = record {
-  fate = unopened 0 0;
-  share = missing_share name;
-  is_share = λ is fates. refl;
-  fault = refl;
-  failed = refl;
-  shared = said_after gives_nothing (name, inl refl) says;
-}
-
--- what is due of a file that it finds
-pub first_due : {told_in : Bool} {ways : Ways} {snapshot : Snapshot} {name contents : List ℕ} → (told_in ≡ true → (id : ℕ) × (snapshot.leads name ≡ Some id))
-    → (told_in ≡ true → contents ≡ held_at snapshot (snapshot.leads name)) → IsDue told_in ways [] snapshot name (ways.start contents) []
-first_due {ways} {snapshot} {name} found same = record {
-  is = λ is fates.
-      let look = seeing snapshot fates in
-      let (id, leads) = found is in
-      let entries = entries_first ways look leads in (
-        ap is_missing entries,
-        ap ways.start (same is ∙ ap (held_at snapshot) leads) ∙ sym (ap (gains_after ways.start []) entries ∙ append-nil _),
-        sym (ap (λ those. map (λ notice. notice_of notice name) (notices_of those)) entries),
-      );
-}
 
 -- a later look
 
@@ -406,16 +354,6 @@ through_stands looks look {place} old named can kept is at through leads last =
       there = λ t way. ap (λ (w : Watched). is_some w.opened) now ∙ ap is_some (leads t) ∙ (last t).0 way;
     }
 
--- one that broke is looked at no more
-dropped_stands : {told : Bool} {ways : Ways} (looks : List Look) (look : Look) {place : ℕ} {name : List ℕ} (file : Option ℕ) (old : List Watched)
-    {new : List Watched} {fate : Fate} {why : Fault} → IsTrue (is_watchable old place) → is_dropped place looks ≡ false
-    → new ≡ changed_at place (breaks why) (changed_at place (opens file) old) → fate_at place look ≡ fate → failed_by place fate None ≡ Some why
-    → (is_first looks ≡ false → ways.by_name ≡ false → why ≡ Read place) → IsLeft told ways (looks ++ look ∷ []) place name (watched_at new place)
-dropped_stands looks look {place} file old can kept is at fault read = record {
-  begun = begun_more looks look;
-  why = inl (kept_more place looks look kept at fault, broken_more looks look (broken_now place file old is can) fault kept at read);
-}
-
 -- what a look gave, and how the name stands then
 looked_visited : {told_in told : Bool} {ways : Ways} {looks : List Look} {snapshot : Snapshot} {place : ℕ} {name : List ℕ} {printer after : PrinterState}
     {slots slots_new : List Slot} {watched : Watched} {has_failed : Bool} {standing : Standing} {failed : Option Fault} → is_dropped place looks ≡ false
@@ -452,7 +390,10 @@ module _ {told_in told : Bool} {ways : Ways} {snapshot : Snapshot} {place : ℕ}
       → Visits told_in told ways snapshot place name standing old printer slots Left new after slots_new (Ok true)
   drops file why can is gave = visits_by Left (λ w. breaks why (opens file w)) (is ∙ changed_at-again place (opens file) (breaks why) old) tt (λ looks stands.
       let (kept, looked, read) = gave looks stands in
-      looked_visited kept looked (λ fates at. dropped_stands looks (seeing snapshot fates) file old can kept is at looked.fault read))
+      looked_visited kept looked (λ fates at. record {
+        begun = begun_more looks (seeing snapshot fates);
+        why = inl (kept_more place looks _ kept at looked.fault, broken_more looks _ (broken_now place file old is can) looked.fault kept at read);
+      }))
 
   -- it came through; what stopped it is told, or ends following
   pub gave_through : {led : Option ℕ} {len : ℕ} → (watched_at old place).name ≡ name
@@ -474,7 +415,16 @@ module _ {told_in told : Bool} {ways : Ways} {snapshot : Snapshot} {place : ℕ}
       let made = gave looks stands in (made.kept, looked_broke made.is_due made.fails made.ends says, only_read looks made.fails)))
   gave_fails (Over why) can follows gave (tells, same) = rw (tells, same) (record {
     visited = tt;
-    stopped = λ looks stands. let made = gave looks stands in (made.kept, looked_over made.is_due made.ends);
+    stopped = λ looks stands. let made = gave looks stands in (
+      made.kept,
+      record {
+        share = given_share (is_first looks) name made.ends.bytes made.ends.lines;
+        after = after;
+        begins = λ t fates. subst (BeginsShare (given_share (is_first looks) name made.ends.bytes made.ends.lines)) (due_share made.is_due t fates)
+            (record { name = refl; opened = refl; bytes = (made.ends.are t).0; messages = (made.ends.are t).1 });
+        short = made.ends.shared;
+      },
+    );
     ready = tt;
     others = tt;
     halts = follows;
@@ -493,7 +443,14 @@ first_missing {told_in} {told} {ways} {snapshot} {place} {name} {printer} {slots
       nowhere t = sym (reopens.leads t ∙ ap snapshot.leads named) ∙ none_of reopens.file (reopens.found ∙ gone)
 
       looked : Looked told_in told ways [] snapshot place name printer slots printer slots_new true None
-      looked = meets_nothing nowhere says
+      looked = record {
+        fate = sound;
+        share = missing_share name;
+        is_share = λ is fates. sym (rw (ap is_missing (entries_first ways (seeing snapshot fates) (nowhere is))) refl);
+        fault = refl;
+        failed = refl;
+        shared = said_after gives_nothing (name, inl refl) says;
+      }
 
       unbroken : (watched_at new place).failed ≡ None
       unbroken = ap (λ (w : Watched). w.failed) (opened_now place old reopens.names can) ∙ none_there (watched_at old place).failed can
@@ -515,9 +472,20 @@ pub first_unopened : {told_in told : Bool} {ways : Ways} {snapshot : Snapshot} {
     {slots slots_new : List Slot} {old new : List Watched} {why : Fault} {now : Standing} {result : Result Bool Fault} → IsTrue (is_watchable old place)
     → why ≡ Open place → new ≡ changed_at place (breaks why) old → TellsStop told name slots now slots_new (Broke why) result
     → Visits told_in told ways snapshot place name New old printer slots now new printer slots_new result
-first_unopened {place} {old} {why} can is broken (tells, left, says) =
+first_unopened {place} {name} {old} {why} can is broken (tells, left, says) =
     rw (tells, left) (drops (watched_at old place).opened why can (broken ∙ ap (changed_at place (breaks why)) (sym (opens_same old place)))
-    (λ looks fresh. rw (fresh.0, is) (refl, meets_unopened (rw is at says), λ late. absurd (false≢true (sym late)))))
+    (λ looks fresh. rw (fresh.0, is) (
+      refl,
+      record {
+        fate = unopened 0 0;
+        share = missing_share name;
+        is_share = λ is fates. refl;
+        fault = refl;
+        failed = refl;
+        shared = said_after gives_nothing (name, inl refl) (rw is at says);
+      },
+      λ late. absurd (false≢true (sym late)),
+    )))
 
 -- the file was opened: its start part was given under its header, or a beginning of it
 pub first_gave : {told_in told : Bool} {ways : Ways} {snapshot : Snapshot} {place : ℕ} {name contents : List ℕ} {printer inside after : PrinterState}
@@ -533,7 +501,16 @@ first_gave {told_in} {told} {ways} {snapshot} {place} {name} {contents} {after} 
       kept = refl;
       due = ways.start contents;
       lines = [];
-      is_due = first_due found same;
+      is_due = record {
+        is = λ is fates.
+            let look = seeing snapshot fates in
+            let (id, leads) = found is in
+            let entries = entries_first ways look leads in (
+              ap is_missing entries,
+              ap ways.start (same is ∙ ap (held_at snapshot) leads) ∙ sym (ap (gains_after ways.start []) entries ∙ append-nil _),
+              sym (ap (λ those. map (λ notice. notice_of notice name) (notices_of those)) entries),
+            );
+      };
       ends = ends;
       last = IfOk-weaker result (λ len. told_in ≡ true → len ≡ length contents) _ (λ len is t. (
         λ way. ap is_some (found t).1,
