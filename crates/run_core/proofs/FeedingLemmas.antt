@@ -15,7 +15,7 @@ use Rattle.run_core.specs.declared.feeding.Fed.{Fed}
 use Rattle.run_core.specs.declared.feeding.Fed.TheVariants.{Whole, Enough, Broken}
 use Rattle.ports_core.specs.Inputs.{empty, KeepsOthers, OfContent}
 use Rattle.run_core.specs.Feeding.{is_enough, Stops, HasAll, to_end, enough, call_of, feeds, closes, FedAs, whole, had_enough, broke_off, judged, stopped, IsUnread, Uses}
-use Rattle.run_core.specs.inner.Feeding.{EndsSo, finished, fell_short}
+use Rattle.run_core.specs.inner.RunSteps.{EndsSo, finished, fell_short}
 use Rattle.ports_core.proofs.LoadLemmas.{passed_at}
 use Rattle.ports_core.proofs.InputsLemmas.{HasRead, keeps_others, changed_source}
 use Rattle.ports_core.proofs.SpareLemmas.{none_spare}

@@ -24,7 +24,7 @@ use Rattle.ports_core.specs.Inputs.{BreaksOnly, OfContent, empty, AsksAtMost, la
 use Rattle.run_core.specs.Reading.{IsDone, Leaves, AreUntouched, count_after}
 use Rattle.run_core.specs.RunEnds.{unheaded, heading, calling, step_after, EndsAs, as_defined, stopped as run_stopped, no_room as run_unmade, RunsOver, unopened}
 use Rattle.ports_core.specs.Streams.{streams_with, standard_output, standard_error}
-use Rattle.run_core.specs.inner.RunSteps.{HeaderFails, no_room, broke, TookInput, took, cut_off, input_from, OfSource, KeepsOther, TookAll, all, stopped_at, not_begun, HasStreams, OfName, is_unopened, standard_source}
+use Rattle.run_core.specs.inner.RunSteps.{HeaderFails, no_room, broke, TookInput, took, cut_off, input_from, OfSource, KeepsOther, TookAll, all, stopped_at, not_begun, HasStreams, OfName, is_unopened, standard_source, TakesOne}
 use Rattle.run_core.specs.RunSteps.{Opens, world_of}
 use Rattle.run_core.specs.Task.{Task, Outcome, after_part, header_text, of_content, made_by, no_outcome, joined, of_input, of_inputs, is_missing, are_missing, ends_badly}
 use Rattle.run_core.proofs.ReadingLemmas.{left_of, StayDone, all_done, count_more, done_more, done_with, last_source, missing_done, rest_untouched, still_done}
@@ -33,7 +33,6 @@ use Rattle.ports_core.proofs.MessageLemmas.{says_more, all_said_state, says_afte
 use Rattle.run_core.specs.Input.{Input, World, has_dash, AreFrom, is_dash, input_of, inputs_from, inputs_at, file_input, standard_input, read_before, next_slot}
 use Rattle.std.proofs.lemmas.List.{append-nil, nil_from_length, take_rest}
 use Rattle.std.proofs.lemmas.List.Recursion.{and_push}
-use Rattle.run_core.specs.inner.Reading.{TakesOne}
 use Rattle.ports_core.proofs.InputsLemmas.{fresh_asks}
 use Rattle.ports_core.specs.Source as from
 

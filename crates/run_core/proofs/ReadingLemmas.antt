@@ -13,8 +13,7 @@ use Rattle.run_core.specs.Feeding.{IsUnread, Uses}
 use Rattle.ports_core.specs.Inputs.{BreaksOnly, KeepsOthers, OfContent, AsksAtMost, empty}
 use Rattle.run_core.specs.Input.{Input, World, IsFor, is_dash, input_of, inputs_from, next_slot}
 use Rattle.run_core.specs.Reading.{AreDone, AreUntouched, IsDone, IsUntouched, Leaves, count_after}
-use Rattle.run_core.specs.inner.Reading.{TakesOne}
-use Rattle.run_core.specs.inner.RunSteps.{KeepsOther, OfSource, standard_source}
+use Rattle.run_core.specs.inner.RunSteps.{TakesOne, KeepsOther, OfSource, standard_source}
 use Rattle.ports_core.proofs.SourceLemmas.{readable_within}
 use Rattle.ports_core.proofs.InputsLemmas.{keeps_itself, sound_at}
 

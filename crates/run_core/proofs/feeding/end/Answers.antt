@@ -1,4 +1,4 @@
-use Rattle.run_core.specs.inner.Feeding.{finished}
+use Rattle.run_core.specs.inner.RunSteps.{finished}
 use Rattle.run_core.proofs.FeedingLemmas.{close_short}
 use Rattle.run_core.proofs.feeding.end.Goals as goal
 
