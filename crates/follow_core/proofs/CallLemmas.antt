@@ -17,7 +17,7 @@ use Rattle.ports_core.specs.declared.fault.Fault.{Fault}
 use Rattle.ends_core.proofs.KeptLemmas.{nothing_written, broke_later, written_both}
 use Rattle.follow_core.specs.Followed.{has_header, is_empty, is_last}
 use Rattle.follow_core.specs.Printing.{PrinterState, Short, broke as short_broke, no_room}
-use Rattle.follow_core.specs.inner.Giving.{Ends, IsGiven, Shared, given_share, printer_under, text_under, over_by, stop_in}
+use Rattle.follow_core.specs.inner.Giving.{Ends, IsGiven, Shared, given_share, printer_under, text_under, over_by, stop_in, Adds, CanGoOn, HasStopped, Keeps, Leads, Follows, change_between, lines_past, said_of}
 use Rattle.follow_core.specs.declared.visitor.Stop.{Stop}
 use Rattle.follow_core.specs.Share.{IsFront}
 use Rattle.watch_core.specs.Watched.{GaveFrom, Watched, breaks, no_name, Finds, Reopens, is_watchable, open_contents, opens, watched_at}
@@ -29,7 +29,6 @@ use Rattle.follow_core.specs.inner.Visits.{KeepsOthers}
 use Rattle.watch_core.proofs.NameLemmas.{watchable_within}
 use Rattle.follow_core.specs.declared.notice.Notice.TheVariants.{Appeared, Inaccessible, Replaced, Truncated}
 use Rattle.follow_core.specs.Notice.{notice_of}
-use Rattle.follow_core.specs.inner.Calls.{Adds, CanGoOn, HasStopped, Keeps, Leads, Follows, change_between, lines_past, said_of}
 use Rattle.watch_core.specs.Snapshot.{Snapshot, latest}
 use Rattle.watch_core.specs.declared.watch.Seen.{Seen}
 use Rattle.follow_core.specs.declared.notice.Notice.{Notice}

@@ -9,10 +9,10 @@ use Rattle.follow_core.specs.FollowState.{AllReady, Begun, CanLook, FollowState,
 use Rattle.follow_core.specs.Followed.{any_failed, last_header_from, messages_of, share_text, text_from}
 use Rattle.follow_core.specs.Look.{Fate, Look, Ways, is_dropped, sound, snapshots, ways_of}
 use Rattle.follow_core.specs.Share.{BeginsShare, Share, share_by, share_of, shares_at_look_from, IsFront, shares_of}
-use Rattle.follow_core.specs.inner.Visits.{KeepsOthers, Opened, StandFrom, Stopped, Visited, VisitedTo, Visits, VisitsAll, any_goes_on, goes_on_as}
+use Rattle.follow_core.specs.inner.Visits.{KeepsOthers, Opened, StandFrom, Stopped, Visited, VisitedTo, Visits, VisitsAll, any_goes_on, goes_on_as, AddsSome, Begins, MakesLook, LookedAll}
 use Rattle.follow_core.specs.Printing.{PrinterState, Short}
 use Rattle.follow_core.specs.Sharing.{AllShared, AllShort, Wrote, CanPrint}
-use Rattle.follow_core.specs.inner.Giving.{Shared}
+use Rattle.follow_core.specs.inner.Giving.{Shared, HasStopped}
 use Rattle.follow_core.specs.Standing.{AllStand, BrokeIn, CanVisit, NameState, Stands, StandsAmong, no_state, state_at, texts, AreBroken, IsFollowed}
 use Rattle.follow_core.proofs.CallLemmas.{wrote_after, wrote_none, no_memory}
 use Rattle.ports_core.specs.declared.fault.Fault.{Fault}
@@ -24,8 +24,6 @@ use Rattle.follow_core.proofs.LookLemmas.{broken_sound, unbroken_in, last_file}
 use Rattle.follow_core.proofs.RunLemmas.{failed-append, last-append, messages-append, text-append, shares_more}
 use Rattle.follow_core.specs.declared.follow.Stage.{Stage}
 use Rattle.follow_core.specs.declared.follow.Stage.TheVariants.{Fresh, Looking, Over}
-use Rattle.follow_core.specs.inner.Calls.{HasStopped}
-use Rattle.follow_core.specs.inner.Looks.{AddsSome, Begins, MakesLook, LookedAll}
 use Rattle.follow_core.specs.Version.{open_after}
 use Rattle.watch_core.proofs.NameLemmas.{latest-last}
 use Rattle.follow_core.specs.declared.start.Start.{Start}

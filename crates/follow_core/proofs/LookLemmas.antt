@@ -6,7 +6,7 @@ use Rattle.std.proofs.lemmas.List.{append-nil, map-append}
 use Rattle.watch_core.specs.Snapshot.{Snapshot}
 use Rattle.follow_core.specs.Version.{Entry, gap, version_in, entries_at_look, entries_led, entries_later, entries_of, entries_open, open_after, open_after_later, open_after_look, version}
 use Rattle.follow_core.specs.Gain.{file_of, last_from, last_of, gains_later, gains_after, seen_length}
-use Rattle.follow_core.specs.inner.Calls.{said_of, Keeps, Follows}
+use Rattle.follow_core.specs.inner.Giving.{said_of, Keeps, Follows, Ends, text_under, Shared, given_share, stop_in}
 use Rattle.follow_core.specs.Look.{Fate, Look, Ways, entries_in, failed_by, failed_in, fate_at, is_dropped, snapshots, sound, unopened, unread, is_first}
 use Rattle.std.proofs.Math.Seq.{drop-append_seam as drop_front, take-append_seam}
 use Rattle.follow_core.specs.Run.{AreKept, name_text}
@@ -20,7 +20,6 @@ use Rattle.ports_core.specs.declared.tool.Tool.TheVariants.{Tail}
 use Rattle.ports_core.specs.declared.fault.Fault.{Fault}
 use Rattle.ports_core.specs.declared.fault.Fault.TheVariants.{Open, Read}
 use Rattle.follow_core.specs.declared.visitor.Stop.TheVariants.{Broke, Over}
-use Rattle.follow_core.specs.inner.Giving.{Ends, text_under, Shared, given_share, stop_in}
 use Rattle.follow_core.specs.inner.Visits.{Visits, TellsStop, Visited}
 use Rattle.follow_core.specs.Printing.{PrinterState}
 use Rattle.follow_core.specs.Telling.{IsFailure}

@@ -3,12 +3,10 @@ ghost use Rattle.std.specs.Prelude.{◌≡◌, ◌<◌, ◌≤◌, ◌+◌, ◌^
 ghost use Rattle.watch_core.specs.Snapshot.{latest};
 ghost use Rattle.watch_core.specs.Watched.{added, watched_at};
 ghost use Rattle.follow_core.specs.Sharing.{CanPrint};
-ghost use Rattle.follow_core.specs.inner.Calls.{CanGoOn};
-ghost use Rattle.follow_core.specs.inner.Giving.{over_in};
+ghost use Rattle.follow_core.specs.inner.Giving.{CanGoOn, over_in};
 ghost use Rattle.follow_core.specs.FollowState.{AllReady, new_state};
 ghost use Rattle.follow_core.specs.Look.{Look, ways_of};
-ghost use Rattle.follow_core.specs.inner.Looks.{AddsSome};
-ghost use Rattle.follow_core.specs.inner.Visits.{any_goes_on, goes_on_as, Visits, VisitsAll};
+ghost use Rattle.follow_core.specs.inner.Visits.{AddsSome, any_goes_on, goes_on_as, Visits, VisitsAll};
 ghost use Rattle.follow_core.specs.Standing.{AllStand, CanVisit, NameState, texts};
 
 use crate::start::Start;

@@ -7,9 +7,8 @@ ghost use Rattle.watch_core.specs.Watched.{is_readable, is_watchable, open_conte
 ghost use Rattle.follow_core.specs.declared.name.Standing.TheVariants.{New, Followed};
 ghost use Rattle.follow_core.specs.Notice.{notice_of};
 ghost use Rattle.follow_core.specs.Printing.{PrinterState, fresh_printer};
-ghost use Rattle.follow_core.specs.inner.Calls.{Adds, CanGoOn, Keeps, Leads, change_between, lines_past};
+ghost use Rattle.follow_core.specs.inner.Giving.{Adds, CanGoOn, Keeps, Leads, change_between, lines_past, Ends, over_in, stop_in};
 ghost use Rattle.follow_core.specs.Sharing.{CanPrint};
-ghost use Rattle.follow_core.specs.inner.Giving.{Ends, over_in, stop_in};
 ghost use Rattle.follow_core.specs.Version.{entries_open};
 ghost use Rattle.follow_core.specs.inner.Visits.{TellsStop, Visits};
 ghost use Rattle.follow_core.specs.Look.{ways_of};
