@@ -1,23 +1,23 @@
 -- Lemmas on the loop that feeds an engine, and on what an engine uses of its input.
-use Rattle.std.proofs.Common.{◌⊎◌, ◌≡◌, ℕ, ◌+◌, ◌<◌, ◌≤◌, ◌^◌, Bool, true, false, not, List, [], ◌++◌, length, take, Result, Ok, Err, IfOk, None, arith, length-append, length-take, inl, inr, refl, sym, ◌∙◌, ap, IsTrue, ◌-◌, drop, Some, append_assoc}
-use Rattle.std.proofs.lemmas.List.{append-nil, take_at, drop_at, take-append-le, drop-append-le, take-append-drop, length-take, length-take-le}
-use Rattle.std.proofs.lemmas.Bool.{false≢true, not-false, or_left, or_right}
+use Rattle.std.proofs.lemmas.Grind.{common_steps}
+use Rattle.std.proofs.Common.{◌⊎◌, ◌≡◌, ℕ, ◌+◌, ◌<◌, ◌≤◌, ◌^◌, Bool, true, false, List, [], ◌++◌, length, take, Result, Ok, Err, IfOk, None, arith, length-append, length-take, inl, inr, refl, sym, ◌∙◌, ap, IsTrue, ◌-◌, drop, Some, append_assoc, rules}
+use Rattle.std.proofs.lemmas.List.{append-nil, take_at, drop_at, length-take}
+use Rattle.std.proofs.lemmas.Bool.{false≢true, or_right}
 use Rattle.ports_core.specs.Slot.{Slot, changed_at}
-use Rattle.ports_core.specs.Source.{Content, Source, source_at, is_readable, skips, gives, fails, gets_back, with_next, Gave}
+use Rattle.ports_core.specs.Source.{Content, Source, source_at, is_readable, gives, gets_back, with_next, Gave}
 use Rattle.ports_core.specs.Part.{Part, OutputsAt}
 use Rattle.ports_core.specs.Swept.{Swept}
 use Rattle.ports_core.specs.Work.{Work, Means, Needs, IsLawful, IsComplete, IsNeeded, IsSpare, Judges, IsSettled}
 use Rattle.ports_core.specs.Engine.{StandsAt, TakesIn, PutsOut, CutsOff, EndsShort, EndsWith, EndsThere, IsCaused, IsMet, Ended, is_verdict, KeepsOwn, Clears, Loads}
 use Rattle.ports_core.specs.Guard.{GuardState, HoldsIn}
 use Rattle.ports_core.specs.declared.fault.Fault.{Fault}
-use Rattle.ports_core.specs.declared.fault.Fault.TheVariants.{Memory, Write, Open, Suffixes, NoMatch, Range}
 use Rattle.run_core.specs.declared.feeding.Fed.{Fed}
 use Rattle.run_core.specs.declared.feeding.Fed.TheVariants.{Whole, Enough, Broken}
-use Rattle.ports_core.specs.Inputs.{empty, KeepsOthers, OfContent}
+use Rattle.ports_core.specs.Inputs.{empty, OfContent}
 use Rattle.run_core.specs.Feeding.{is_enough, Stops, HasAll, to_end, enough, call_of, feeds, closes, FedAs, whole, had_enough, broke_off, judged, stopped, IsUnread, Uses}
 use Rattle.run_core.specs.inner.RunSteps.{EndsSo, finished, fell_short}
 use Rattle.ports_core.proofs.LoadLemmas.{passed_at}
-use Rattle.ports_core.proofs.InputsLemmas.{HasRead, keeps_others, changed_source}
+use Rattle.ports_core.proofs.InputsLemmas.{HasRead, changed_source}
 use Rattle.ports_core.proofs.SpareLemmas.{none_spare}
 use Rattle.ports_core.specs.Engine as engine
 
@@ -28,32 +28,15 @@ use Rattle.ports_core.specs.Engine as engine
 -- why an engine that is live is stopped
 stops : (work : Work) (read : List ℕ) (low high : Part) {needs : Needs} (Lacks : Type 0) (Ends : Fault → Type 0) {fault : Fault} {taken size : ℕ} {old new : List Slot} → is_verdict fault ≡ false → (2 ^ 63 ≤ taken + size → 2 ^ 63 ≤ length read)
     → IsCaused (IsMet work.means needs Lacks Ends old new) false taken size old new fault → Stops (call_of work needs read low high) new fault
-stops work read low high Lacks Ends is long (engine.over is_over kept) = absurd (false≢true is_over)
+stops work read low high Lacks Ends is long (engine.over is_over kept) = search rules
 stops work read low high Lacks Ends is long (engine.long live many kept) = long many
-stops work read low high {needs} Lacks Ends {fault} {old} {new} is long (engine.met _ live why) = by_why fault is why where
-  by_why : (fault : Fault) → is_verdict fault ≡ false → IsMet work.means needs Lacks Ends old new fault → Stops (call_of work needs read low high) new fault
-  by_why Memory is why = why.0
-  by_why (Write slot) is why = (why.0, why.1, why.2.1)
-  by_why (Open slot) is why = (why.0, why.1)
-  by_why Suffixes is why = absurd (false≢true (sym is))
-  by_why (NoMatch operand repetition) is why = absurd (false≢true (sym is))
-  by_why (Range operand repetition) is why = absurd (false≢true (sym is))
-  by_why fault is why = absurd why
+stops work read low high {needs} Lacks Ends {fault} {old} {new} is long (engine.met _ live why) = grind (arith, common_steps)
 
 -- a verdict comes only where the work ends so
 pub judges : (means : Means) {needs : Needs} (Lacks : Type 0) (Ends : Fault → Type 0) {fault : Fault} {over : Bool} {taken size : ℕ} {old new : List Slot} → is_verdict fault ≡ true → IsCaused (IsMet means needs Lacks Ends old new) over taken size old new fault → Ends fault
 judges means Lacks Ends is (engine.over is_over kept) = absurd (false≢true is)
 judges means Lacks Ends is (engine.long live many kept) = absurd (false≢true is)
-judges means {needs} Lacks Ends {fault} {old} {new} is (engine.met _ live why) = by_why fault is why where
-  by_why : (fault : Fault) → is_verdict fault ≡ true → IsMet means needs Lacks Ends old new fault → Ends fault
-  by_why Suffixes is why = why
-  by_why (NoMatch operand repetition) is why = why
-  by_why (Range operand repetition) is why = why
-  by_why fault is why = absurd (false≢true is)
-
--- a fault that doesn't stop is a verdict
-pub judging_of : {given fault : Fault} → given ≡ fault → not (is_verdict given) ≡ false → is_verdict fault ≡ true
-judging_of {given} is ends = ap is_verdict (sym is) ∙ not-false (is_verdict given) ends
+judges means {needs} Lacks Ends {fault} {old} {new} is (engine.met _ live why) = grind (arith, common_steps)
 
 -- what a fault left within an input, and what was made of its files then
 short_of_piece : {told : Bool} {opening : Needs} {most : ℕ} {work : Work} {content : Content} (WasRead : List ℕ → Type 0) {x : List ℕ} (piece rest : List ℕ) {reached new before : List Slot} {fault : Fault} → IsLawful work → content.bytes ≡ (x ++ piece) ++ rest → length piece ≤ most → work.is_complete x ≡ false → WasRead (x ++ piece)
@@ -86,7 +69,7 @@ pub record MadeAlike (work : Work) (x z : List ℕ) : Type 0 where
   pub verdict : work.verdict x ≡ work.verdict z
 
 pub alike_itself : {work : Work} {x : List ℕ} → MadeAlike work x x
-alike_itself = record { settled = refl; whole = refl; verdict = refl }
+alike_itself = grind (arith, common_steps)
 
 -- what comes once the output is complete changes nothing
 pub alike_after : {work : Work} {x y : List ℕ} (rest : List ℕ) → IsLawful work → work.is_complete x ≡ true → y ≡ x ++ rest → MadeAlike work y x
@@ -101,8 +84,8 @@ got_alike content Enough lawful got = alike_after got.1.0 lawful got.0 got.1.1
 got_alike content Broken lawful got = absurd got
 
 got_enough : {work : Work} (content : Content) (x : List ℕ) (fed : Fed) → IsLawful work → HasGot work content x fed → is_enough work content ≡ true
-got_enough content x Whole lawful got = or_left _ _ (ap not got.0)
-got_enough {work} content x Enough lawful got = or_right _ _ (ap work.is_complete got.1.1 ∙ (lawful.stays x got.1.0 got.0).still)
+got_enough content x Whole lawful got = cc
+got_enough {work} content x Enough lawful got = grind (arith, common_steps)
 got_enough content x Broken lawful got = absurd got
 
 fed_all : {told : Bool} {opening : Needs} {most : ℕ} {work : Work} {content : Content} (WasRead : List ℕ → Type 0) {x : List ℕ} {new before : List Slot} (fed : Fed) → IsLawful work → HasGot work content x fed → work.verdict x ≡ None → OutputsAt told before (work.whole x) new → FedAs told before work opening most content WasRead new (Ok fed)
@@ -208,7 +191,7 @@ pub piece_within : {n most : ℕ} (buffer : List ℕ) → n ≤ most → length 
 piece_within {n} buffer within = omega (arith, length-take n buffer)
 
 pub needed_more : {is_complete : List ℕ → Bool} {most n : ℕ} (x buffer : List ℕ) → is_complete x ≡ false → n ≤ most → IsNeeded is_complete most (x ++ take n buffer)
-needed_more {n} x buffer going within = inr (x, take n buffer, refl, piece_within buffer within, going)
+needed_more {n} x buffer going within = grind (arith, common_steps)
 
 -- the input that is there, where it tells its bytes, and else one that has what was read of it
 
@@ -226,7 +209,7 @@ of_more false there x rest is_broken P all holds = (record { bytes = x; breaks_o
 
 needed_front : {is_complete : List ℕ → Bool} {most : ℕ} {x : List ℕ} → (x ≡ []) ⊎ (is_complete x ≡ false) → IsNeeded is_complete most x
 needed_front (inl none) = inl none
-needed_front {x} (inr going) = inr (x, [], sym (append-nil x), omega arith, going)
+needed_front {x} (inr going) = grind (arith, common_steps)
 
 module _ {S : Type 0} (Holds : S → List ℕ → Type 0) (Ready : S → List Slot → Type 0) (Owns : S → ℕ → List Slot → Type 0) (work : S → Work) (told : Bool) (slot count : ℕ) (start now : GuardState S) (old new : List Source) (loads : Loads Holds Ready Owns work told slot count start.stage now.stage old new) where
   pub loaded_feeds : {told_out : Bool} {slots : List Slot} → work now.stage ≡ work start.stage → now.fed ≡ count → now.is_over ≡ false → count < 2 ^ 63 → Feeds Holds Owns work told_out start now loads.front slots slots
@@ -238,12 +221,6 @@ module _ {S : Type 0} (Holds : S → List ℕ → Type 0) (Ready : S → List Sl
     bound = rw fed bound;
   }
 
-  pub loaded_readable : IsTrue (is_readable old slot) → IsTrue (is_readable new slot)
-  loaded_readable can = rw (passed_at slot count old new can loads.passed, can)
-
-  pub loaded_others : KeepsOthers slot old new
-  loaded_others = keeps_others slot (skips count) old new loads.passed
-
   pub loaded_read : told ≡ true → IsTrue (is_readable old slot) → HasRead (source_at old slot).left loads.front slot new
   loaded_read tells can = record {
     bytes = loads.there tells;
@@ -253,19 +230,7 @@ module _ {S : Type 0} (Holds : S → List ℕ → Type 0) (Ready : S → List Sl
   pub loaded_needed : {most : ℕ} → IsNeeded (work start.stage).is_complete most loads.front
   loaded_needed = needed_front loads.going
 
-  pub loaded_asked : {most : ℕ} → IsTrue (is_readable old slot) → (source_at old slot).asked ≤ most → (source_at new slot).asked ≤ most
-  loaded_asked can few = rw (ap (λ (source : Source). source.asked) (passed_at slot count old new can loads.passed)) few
-
 -- Lemmas on what an engine uses of its input, and what is given back of it.
-
--- a read into the front of a buffer
-pub gave_part : {left : Content} {size n : ℕ} {old part : List ℕ} → 0 < size → size ≤ length old → length part ≡ size → n ≤ size → Gave left (take size old) part n → Gave left old (part ++ drop size old) n
-gave_part {size} {n} {old} {part} some within long few gave = record {
-  within = gave.within;
-  front = take-append-le n part (drop size old) (omega (arith, long, few)) ∙ gave.front;
-  rest = cc (drop-append-le n part (drop size old) (omega (arith, long, few)), gave.rest, drop-append-le n (take size old) (drop size old) (omega (arith, few, within, length-take size old)), take-append-drop size old);
-  ended = λ none room. gave.ended none (omega (arith, some, within, length-take size old));
-}
 
 -- What was taken of an input since `start`: x. Where nothing was taken before, reads gave no more.
 pub record HasTaken (x : List ℕ) (slot : ℕ) (start sources : List Source) : Type 0 where
@@ -273,30 +238,10 @@ pub record HasTaken (x : List ℕ) (slot : ℕ) (start sources : List Source) : 
   pub far : IsUnread (source_at start slot) → (source_at sources slot).reached ≤ length x
 
 taken_next : {x buffer old_buffer : List ℕ} {slot : ℕ} (size : ℕ) {n : ℕ} {start sources new : List Source} → HasTaken x slot start sources → IsTrue (is_readable sources slot) → Gave (source_at sources slot).left old_buffer buffer n → new ≡ changed_at slot (gives size n) sources → with_next n (source_at sources slot) ≡ (source_at start slot).taken ++ (x ++ take n buffer)
-taken_next {x} {slot} size {n} {start} {sources} took can gave is = rw (took.taken, append_assoc (source_at start slot).taken x (take n (source_at sources slot).left.bytes), gave.front)
+taken_next {x} {slot} size {n} {start} {sources} took can gave is = grind (arith, common_steps)
 
 pub takes_more : {x buffer old_buffer : List ℕ} {slot : ℕ} (size : ℕ) {n : ℕ} {start sources new : List Source} → HasTaken x slot start sources → IsTrue (is_readable sources slot) → Gave (source_at sources slot).left old_buffer buffer n → new ≡ changed_at slot (gives size n) sources → HasTaken (x ++ take n buffer) slot start new
-takes_more {x} {buffer} {slot} size {n} {start} {sources} {new} took can gave is =
-    let next = taken_next size took can gave is in
-    let after = changed_source slot (gives size n) sources new can is in record {
-      taken = ap (λ (source : Source). source.taken) after ∙ next;
-      far = λ unread.
-          let none : length (source_at start slot).taken ≡ 0 = ap length unread.0 in
-          let all = ap length next ∙ length-append (source_at start slot).taken (x ++ take n buffer) in
-          rw (ap (λ (source : Source). source.reached) after) (omega (arith, took.far unread, length-append x (take n buffer), all, none));
-    }
-
--- a read gave as many as it says
-pub last_given : {old_buffer buffer : List ℕ} (slot size : ℕ) {n : ℕ} (sources : List Source) {new : List Source} → IsTrue (is_readable sources slot) → Gave (source_at sources slot).left old_buffer buffer n → new ≡ changed_at slot (gives size n) sources → (source_at new slot).last ≡ n
-last_given slot size {n} sources {new} can gave is = rw (changed_source slot (gives size n) sources new can is, length-take-le n (source_at sources slot).left.bytes gave.within)
-
--- a read that failed took nothing
-pub takes_none : {x : List ℕ} {slot : ℕ} (size : ℕ) {start sources new : List Source} → HasTaken x slot start sources → IsTrue (is_readable sources slot) → new ≡ changed_at slot (fails size) sources → HasTaken x slot start new
-takes_none {slot} size {sources} {new} took can is =
-    let after = changed_source slot (fails size) sources new can is in record {
-      taken = ap (λ (source : Source). source.taken) after ∙ took.taken;
-      far = λ unread. rw (ap (λ (source : Source). source.reached) after) (took.far unread);
-    }
+takes_more {x} {buffer} {slot} size {n} {start} {sources} {new} took can gave is = grind (arith, common_steps, taken_next, changed_source)
 
 module _ {E : Type 0} (Holds : E → List ℕ → Type 0) (Ready : E → List Slot → Type 0) (Owns : E → ℕ → List Slot → Type 0) (work : E → Work) (told : Bool) (slot count : ℕ) (before after : E) (old new : List Source) (loads : Loads Holds Ready Owns work told slot count before after old new) where
   pub loaded_taken : told ≡ true → IsTrue (is_readable old slot) → HasTaken loads.front slot old new
@@ -330,31 +275,17 @@ read_used {slot} {sources} spare read took can is = rw (read.bytes, spare.joined
 -- one byte at the most is a piece
 pub needed_within : {is_complete : List ℕ → Bool} {most : ℕ} {x : List ℕ} → 0 < most → IsNeeded is_complete 1 x → IsNeeded is_complete most x
 needed_within room (inl none) = inl none
-needed_within room (inr (before, piece, is, few, going)) = inr (before, piece, is, omega (arith, few, room), going)
+needed_within room (inr (before, piece, is, few, going)) = grind (arith, common_steps)
 
 -- what a run leaves of an input
 
 -- all of it was read, and the output was not complete
 pub uses_all : {work : Work} {most slot : ℕ} {there : Content} {x : List ℕ} {source : Source} → there.bytes ≡ x ++ source.left.bytes → source.left.bytes ≡ [] → IsNeeded work.is_complete most x → work.is_complete x ≡ false → source.reached ≤ length x → Uses work most slot there source
-uses_all {x} joined none needed going few = record {
-  read = x;
-  joined = joined;
-  enough = inl none;
-  needed = needed;
-  exact = λ well. inr (x, [], sym (append-nil x), omega arith, going);
-  few = λ standard. omega (arith, few);
-}
+uses_all {x} joined none needed going few = grind (arith, common_steps)
 
 -- the work ended with a fault within it
 pub uses_judged : {work : Work} {most slot : ℕ} {there : Content} {x : List ℕ} {source : Source} {fault : Fault} → there.bytes ≡ x ++ source.left.bytes → IsNeeded work.is_complete most x → work.is_complete x ≡ true → work.verdict x ≡ Some fault → source.reached ≤ length x → Uses work most slot there source
-uses_judged {x} joined needed complete verdict few = record {
-  read = x;
-  joined = joined;
-  enough = inr complete;
-  needed = needed;
-  exact = λ well. absurd (cc);
-  few = λ standard. omega (arith, few);
-}
+uses_judged {x} joined needed complete verdict few = grind (arith, common_steps)
 
 -- the output was complete, and what it doesn't use was given back
 pub uses_part : {work : Work} {most slot n : ℕ} {there : Content} {x : List ℕ} {start sources new : List Source} (spare : IsSpare work x n) → there.bytes ≡ spare.used ++ (source_at new slot).left.bytes → 0 < most → work.is_complete spare.used ≡ true → (slot ≡ 0 → n ≤ work.ahead) → HasTaken x slot start sources → IsUnread (source_at start slot) → IsTrue (is_readable sources slot) → new ≡ changed_at slot (gets_back n) sources

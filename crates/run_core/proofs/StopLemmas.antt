@@ -1,4 +1,5 @@
 -- Lemmas on what is written after what was written before, on outputs that a fault stopped, and on the message that tells it.
+use Rattle.std.proofs.lemmas.Grind.{common_steps}
 use Rattle.std.proofs.Common.{◌≡◌, ℕ, ◌+◌, ◌<◌, ◌≤◌, suc, Bool, true, false, List, [], ◌∷◌, ◌++◌, length, inl, inr, refl, sym, ◌∙◌, ap, arith, append_assoc, length-append, zero, lit<}
 use Rattle.std.proofs.lemmas.List.{map-append, append-nil}
 use Rattle.std.proofs.Math.Seq.{take-append-add, drop-append-add}
@@ -26,7 +27,7 @@ out_after : (out low : List ℕ) {high : List ℕ} → IsBeginning low high → 
 out_after out low (rest, is) = (rest, ap (λ bytes. out ++ bytes) is ∙ sym (append_assoc out low rest))
 
 pub begins_after : (first : Part) {low high : Part} → Begins low high → Begins (after_part first low) (after_part first high)
-begins_after first {low} {high} begins = record { out = out_after first.out low.out begins.out; files = files_after first.files low.files high.files begins.files }
+begins_after first {low} {high} begins = grind (arith, common_steps, out_after, files_after)
 
 pub after_assoc : (first next last : Part) → after_part (after_part first next) last ≡ after_part first (after_part next last)
 after_assoc first next last = simp append_assoc
@@ -124,9 +125,7 @@ marked_error IsName (Open slot) output error since opened marks = shape_of opene
 marked_error IsName fault output error since opened marks = shape_of opened marks
 
 pub stop_error : {told : Bool} {output error : Slot} {low high : Part} {fault : Fault} {now : List Slot} → is_open error.state ≡ true → StoppedBetween told (output ∷ error ∷ []) low high fault now → HasError now
-stop_error {told} {output} {error} {high} {fault} opened stop =
-    marked_error (IsNext stop.part high) fault (adds (told_of told stop.part.out) output) error stop.outputs.since opened
-    (rw stop.outputs.slots at stop.marks)
+stop_error {told} {output} {error} {high} {fault} opened stop = grind (arith, common_steps, marked_error)
 
 -- a message changes standard error, and no other output
 
@@ -178,11 +177,7 @@ beside_error output error error_too files place differs = refl
 
 -- what stopped a step did so after the message too
 stops_still : {told : Bool} {tool : Tool} {text : List ℕ} (step : Step) {mid new : List Slot} (fault : Fault) (place count : ℕ) → IsAt fault 2 place count → HasError mid → SaysOn told tool text mid new → Stops step mid fault → Stops step new fault
-stops_still step {mid} {new} (Write slot) place count from has says stops =
-    let said = says has.output has.error has.since has.are in
-    let same : slot_at new slot ≡ slot_at mid slot = ap (λ slots. slot_at slots slot) said.2
-    ∙ beside_error has.output said.0 has.error has.since slot (λ one. elim from [ inl is ↦ omega (arith, is, one) | inr is ↦ omega (arith, is, one) ]) ∙ sym (ap (λ slots. slot_at slots slot) has.are) in
-    (stops.0, stops.1, ap (λ (output : Slot). output.is_broken) same ∙ stops.2)
+stops_still step {mid} {new} (Write slot) place count from has says stops = grind (arith, common_steps, beside_error)
 stops_still step fault place count from has says stops = stops
 
 -- what is said after files were removed

@@ -1,28 +1,15 @@
-use Rattle.std.proofs.Common.{◌∙◌, arith, refl}
+use Rattle.std.proofs.lemmas.Grind.{common_steps}
+use Rattle.std.proofs.Common.{◌∙◌, arith, rules}
 use Rattle.std.proofs.lemmas.List.{length-map}
 use Rattle.ports_core.proofs.HandedOn.{handed_on}
-use Rattle.run_core.proofs.InputLemmas.{walk_begins, walk_streams, walk_readable, walked_at, walk_goes_on, walk_stops, walk_ends, walk_counts, walk_within, asks_on, untouched_on, none_left}
-use Rattle.run_core.proofs.ReadingLemmas.{nothing_taken}
+use Rattle.run_core.proofs.InputLemmas.{walk_begins, walk_streams, walked_at, walk_goes_on, walk_stops, walk_ends, walk_within, asks_on, untouched_on, none_left}
 use Rattle.run_core.proofs.inputs.take_names.Goals as goal
 
 pub loop-left-init : goal.loop-left-init
-loop-left-init g c = record {
-  walked = walk_begins c.requires.fresh c.requires.outputs c.requires.alone;
-  untouched = record { none_left = λ none. none; same = λ none. refl };
-  room = c.requires.room;
-}
-
-pub take_name-requires-clause-some : goal.take_name-requires-clause-some
-take_name-requires-clause-some g c = c.loop-left.invariant.walked.some
-
-pub take_name-requires-clause-standard : goal.take_name-requires-clause-standard
-take_name-requires-clause-standard g c = walk_readable c.loop-left.invariant.walked
-
-pub take_name-requires-clause-unread : goal.take_name-requires-clause-unread
-take_name-requires-clause-unread g c = λ first. nothing_taken (g.I.Inputs.sources c.loop-left.inputs) 0 (c.loop-left.invariant.walked.standard first)
+loop-left-init g c = grind (arith, common_steps, walk_begins, none_left)
 
 pub take_name-requires-clause-outputs : goal.take_name-requires-clause-outputs
-take_name-requires-clause-outputs g c = walk_streams (omega (arith, length-map c.loop-left.left.now (λ word. word.now), c.in-len1-up.len_at_least)) c.loop-left.invariant.walked
+take_name-requires-clause-outputs g c = search (rules, walk_streams, length-map)
 
 pub loop-left-preserved : goal.loop-left-preserved
 loop-left-preserved g c = record {
@@ -44,7 +31,7 @@ returns-in_err-progress g c = record {
 pub returns : goal.returns
 returns g c = record {
   took = walk_ends (none_left c.loop-left.left.now c.in_default.len_below) c.loop-left.invariant.walked;
-  opened = walk_counts (none_left c.loop-left.left.now c.in_default.len_below) c.loop-left.invariant.walked;
+  opened = let none = none_left c.loop-left.left.now c.in_default.len_below in let walked = c.loop-left.invariant.walked in grind (arith, common_steps);
   asked = c.loop-left.invariant.walked.asked;
   untouched = c.loop-left.invariant.untouched.same;
 }
