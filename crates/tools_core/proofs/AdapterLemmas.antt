@@ -26,7 +26,7 @@ use Rattle.words_core.specs.EndsAsked.{EndsAsked}
 use Rattle.words_core.specs.SplitAsked.{SplitAsked}
 use Rattle.tools_core.specs.Tasks.{plan_of, is_minus, is_plus, head_task, tail_task}
 use Rattle.std.proofs.lemmas.Bool.{false≢true}
-use Rattle.ports_core.specs.Swept.{HasNoFiles, Swept}
+use Rattle.ports_core.specs.Swept.{Swept}
 use Rattle.csplit_core.specs.Csplit.{csplit_work}
 use Rattle.operand_core.specs.Style.{Style}
 use Rattle.csplit_core.specs.Writer.{Breaks}
@@ -100,18 +100,12 @@ pub split_stops : (plan : Plan) (old : List Slot) {new : List Slot} {fault : Fau
 split_stops plan old (inl is) = rw is (refl, refl, refl)
 split_stops plan old (inr (slot, is, rose)) = rw is (refl, (refl, refl), refl)
 
-csplit_halts : (style : Style) (operands : List Operand) (old new : List Slot) (fault : Fault) → Breaks style old new fault
+pub csplit_halts : (style : Style) (operands : List Operand) (old new : List Slot) (fault : Fault) → Breaks style old new fault
     → (is_verdict fault ≡ false) × Stops (call_of (csplit_work style operands) (record { memory = true; files = true }) [] nothing ((csplit_work style operands).settled [])) new fault
 csplit_halts style operands old new Memory breaks = (refl, refl)
 csplit_halts style operands old new (Write slot) breaks = (refl, (λ first. ap not (breaks.0 first), λ none. absurd (false≢true (sym none)), breaks.1.1))
 csplit_halts style operands old new (Open slot) breaks = (refl, (refl, refl))
 csplit_halts style operands old new fault breaks = absurd breaks
-
-pub csplit_stops : (style : Style) (operands : List Operand) (old new : List Slot) (fault : Fault) → Breaks style old new fault → HasNoFiles (length old) new
-    → (is_verdict fault ≡ false)
-    × Stops (call_of (csplit_work style operands) (record { memory = true; files = true }) [] nothing ((csplit_work style operands).settled [])) new fault
-    × Swept (csplit_work style operands).clears (length old) new new
-csplit_stops style operands old new fault breaks none = let (unjudged, stops) = csplit_halts style operands old new fault breaks in (unjudged, stops, swept_none (not style.keep) (length old) new none)
 
 pub whatever : {E : Type 0} (P : E → Type 0) (result : Result E Fault) → ((e : E) → P e) → IfOk result P
 whatever P (Ok e) all = all e

@@ -185,9 +185,6 @@ lawful_grows law = record { settled = settled_whole law; closed = closed_whole l
 
 -- where lines are dealt, and all files have names
 
-dealt_count : (delim : ℕ) (elide : Bool) (n : ℕ) (x : List ℕ) → length (map (share Closed) (dealt_files delim elide n x)) ≡ opened_by delim elide n x
-dealt_count delim elide n x = length-map (dealt_files delim elide n x) (share Closed) ∙ ap length (dealt_files_are delim elide n x) ∙ length-map-range_with_len (share_of delim n x) 0 (opened_by delim elide n x)
-
 named_up_to : (names : Naming) (count : ℕ) {n : ℕ} → count ≤ n → n ≤ name_count names.alphabet names.width → are_named names count ≡ true
 named_up_to names zero few all = refl
 named_up_to names (suc last) few all = or_right names.auto _ (grind (arith, nat_tests))
@@ -196,7 +193,8 @@ dealt_closed : (delim : ℕ) {n : ℕ} (elide : Bool) (names : Naming) {bytes : 
     → (x : List ℕ) → HasAll (split_work (round_plan delim n elide names)) (ending bytes) x → Begins (whole_by (round_plan delim n elide names) x) (whole_by (round_plan delim n elide names) bytes)
 dealt_closed delim elide names all x (to_end ends is) = rw (← is) (part_begins_itself _)
 dealt_closed delim {n} elide names all x (enough rest is complete) =
-    let named = ap (are_named names) (dealt_count delim elide n x) ∙ named_up_to names (opened_by delim elide n x) (opened_by-most delim elide n x) all in
+    let named = ap (are_named names) (length-map (dealt_files delim elide n x) (share Closed) ∙ ap length (dealt_files_are delim elide n x)
+    ∙ length-map-range_with_len (share_of delim n x) 0 (opened_by delim elide n x)) ∙ named_up_to names (opened_by delim elide n x) (opened_by-most delim elide n x) all in
     absurd (false≢true (sym (ap not named) ∙ complete))
 
 pub split_grows : (delim : ℕ) (cut : Cut) (elide : Bool) (names : Naming) {bytes : List ℕ} → AreNamed cut names.alphabet names.width → IsGrowing (split_work (plan_by delim cut elide names)) bytes

@@ -131,14 +131,6 @@ wrote_all ways name before (look ∷ looks) last kept well =
       kept = rw (fine.0, rest.kept);
     }
 
--- all of the looks
-pub record IsText (ways : Ways) (name : List ℕ) (looks : List Look) (text : List ℕ) : Type 0 where
-  pub is : text ≡ name_text ways.start (entries_in ways name looks)
-  pub kept : is_dropped ways.first looks ≡ false
-
-pub is_text : (ways : Ways) (name : List ℕ) (looks : List Look) → any_failed (shares_from ways (name ∷ []) [] looks) ≡ false → AreKept (entries_in ways name looks) → IsText ways name looks (text_from false None (shares_from ways (name ∷ []) [] looks))
-is_text ways name looks well all = let wrote = wrote_all ways name [] looks None refl well in record { is = wrote.is ∙ looks_give_text ways name looks all; kept = wrote.kept }
-
 -- a file that is open could always have more, so no look is the last that can give something
 alive_by : (dropped by_name : Bool) {opened : Option ℕ} {file : ℕ} → dropped ≡ false → opened ≡ Some file → ((not dropped && (by_name || is_some opened)) || false) ≡ true
 alive_by true by_name kept is = absurd (false≢true (sym kept))
@@ -158,7 +150,7 @@ all_made ways shows {count} looks grows saw kept few full = elim (cases_lt (leng
 ]
 
 -- the looks that were made, and what was written
-record WroteText (ways : Ways) (name : List ℕ) (shows : ℕ → Snapshot) (count : ℕ) (seen : List Snapshot) (new : List Slot) : Type 0 where
+pub record WroteText (ways : Ways) (name : List ℕ) (shows : ℕ → Snapshot) (count : ℕ) (seen : List Snapshot) (new : List Slot) : Type 0 where
   pub looks : List Look
   pub count_is : length looks ≡ length seen
   pub seen_is : seen ≡ snapshots looks
@@ -175,21 +167,21 @@ wrote_text ways name shows count seen watched new keeps_bytes (looked looks shar
     let well : any_failed (shares_of ways (name ∷ []) looks) ≡ false = ap any_failed (sym shares_are) ∙ unfailed (any_failed shares) leaves.status_is in
     let count_is : length looks ≡ length seen = sym (ap length seen_is ∙ length-map looks (λ (look : Look). look.snapshot)) in
     let all_kept = keeps_bytes (seen_is ∙ made.saw ∙ ap (seen_first shows) count_is) in
-    let text = is_text ways name looks well (rw seen_is at all_kept) in
+    let all = wrote_all ways name [] looks None refl well in
     let (error, tells, slots) = leaves.wrote standard_output standard_error [] refl in record {
       looks = looks;
       count_is = count_is;
       seen_is = seen_is;
       saw = made.saw;
-      kept = text.kept;
+      kept = all.kept;
       few = few;
       full = full;
-      is = rw (slots, shares_are, text.is, seen_is);
+      is = rw (slots, shares_are, all.is, looks_give_text ways name looks (rw seen_is at all_kept), seen_is);
     }
 wrote_text ways name shows count seen watched new keeps_bytes (stopped mid why stop says failed) = absurd (omega (arith, failed))
 wrote_text ways name shows count seen watched new keeps_bytes (no_room unseen unwatched says failed) = absurd (omega (arith, failed))
 
-follows_text : {run : FollowRun} {options : EndsAsked} {followed : Followed} {name : List ℕ} → Follows run options followed → IsBare options → options.names ≡ name ∷ [] → (run.seen ≡ seen_first run.shows (length run.seen) → AreKept (entries_of (is_name followed) name run.seen))
+pub follows_text : {run : FollowRun} {options : EndsAsked} {followed : Followed} {name : List ℕ} → Follows run options followed → IsBare options → options.names ≡ name ∷ [] → (run.seen ≡ seen_first run.shows (length run.seen) → AreKept (entries_of (is_name followed) name run.seen))
     → WroteText (ways_of 0 (is_name followed) (start_of options)) name run.shows run.count run.seen run.outputs
 follows_text {run} {options} {followed} {name} follows bare named keeps_bytes =
     let ways = ways_of 0 (is_name followed) (start_of options) in
@@ -197,10 +189,6 @@ follows_text {run} {options} {followed} {name} follows bare named keeps_bytes =
     let one = subst (λ names. FollowEndsAs true true ways (has_headers options.headers options.names) names run.count run.shows streams run.seen run.watched run.outputs run.status) named ends in
     let headless = subst (λ headers. FollowEndsAs true true ways headers (name ∷ []) run.count run.shows streams run.seen run.watched run.outputs run.status) bare one in
     wrote_text ways name run.shows run.count run.seen run.watched run.outputs keeps_bytes (subst (FollowEndsAs true true ways false (name ∷ []) run.count run.shows streams run.seen run.watched run.outputs) follows.well headless)
-
-pub tells_text : (run : FollowRun) (options : EndsAsked) (followed : Followed) (name : List ℕ) → Follows run options followed → IsBare options → options.names ≡ name ∷ [] → AreKept (entries_of (is_name followed) name run.seen)
-    → (slot_at run.outputs 0).written ≡ name_text (tail_of options.delim options.unit (is_plus options.count.sign) options.count.amount) (entries_of (is_name followed) name run.seen)
-tells_text run options followed name follows bare named kept = (follows_text follows bare named (λ saw. kept)).is
 
 pub tells_all : (run : FollowRun) (options : EndsAsked) (followed : Followed) (name came : List ℕ) (file n : ℕ) → Follows run options followed → IsBare options → options.names ≡ name ∷ [] → run.count ≡ n + 1 → OnlyGrows (length run.seen) run.shows name file
     → (run.shows n).holds file ≡ (run.shows 0).holds file ++ came

@@ -1,5 +1,5 @@
 -- How a run ends, by its words.
-use Rattle.std.proofs.Common.{◌≡◌, ℕ, List, [], ◌∷◌, Option, Some, None, option_map, Result, Ok, Err, refl, sym, ◌∙◌, ap, ◌≤◌, Bool, true, false, length, map, Bor, inl, inr, codes, arith, if◌then◌else◌}
+use Rattle.std.proofs.Common.{◌≡◌, ℕ, List, [], ◌∷◌, Option, Some, None, option_map, Result, Ok, Err, refl, sym, ◌∙◌, ap, Bool, true, false, length, map, Bor, inl, inr, codes, arith}
 use Rattle.ports_core.specs.declared.fault.Fault.{Fault}
 use Rattle.ports_core.specs.declared.tool.Tool.{Tool}
 use Rattle.words_core.specs.declared.settings.Settings.{Settings}
@@ -11,21 +11,20 @@ use Rattle.words_core.specs.SplitWords.{split_asked}
 use Rattle.words_core.specs.Value.{then_check}
 use Rattle.words_core.specs.TailWords.{tail_asked}
 use Rattle.words_core.specs.Table.{ToolRow, row_named, tools}
-use Rattle.words_core.specs.Words.{settings_for, settings_of, tool_settings, CanRun, HasBadOperands, follows, looks}
-use Rattle.tools_core.specs.Outcome.{speaker, or_cutters, CsplitEndsAs, DoesAsked, RefusesFor, RunEnds, RunEndsAt, TeeEndsAs, names_at, names_read}
-use Rattle.tools_core.specs.Tasks.{tool_of, csplit_task, names_of, has_headers}
+use Rattle.words_core.specs.Words.{settings_for, settings_of, tool_settings, CanRun, HasBadOperands, looks}
+use Rattle.tools_core.specs.Outcome.{speaker, or_cutters, RefusesFor, RunEndsAt, TeeEndsAs, names_at}
+use Rattle.tools_core.specs.Tasks.{tool_of}
 use Rattle.words_core.proofs.LimitLemmas.{read-can}
 use Rattle.std.proofs.lemmas.Bool.{false≢true}
-use Rattle.ports_core.specs.Slot.{Slot, changed_at, slot_at, streams}
+use Rattle.ports_core.specs.Slot.{Slot, changed_at, slot_at}
 use Rattle.ports_core.specs.Source.{Content, Source, source_at, IsFresh}
 use Rattle.ports_core.specs.Text.{message_of}
 use Rattle.ports_core.specs.Message.{SaysAll}
 use Rattle.ports_core.specs.declared.fault.Fault.TheVariants.{Memory, Usage}
 use Rattle.ports_core.specs.declared.slot.Mode.{Mode}
-use Rattle.ports_core.specs.Inputs.{BreaksOnly, KeepsOthers, OfContent, empty}
-use Rattle.run_core.specs.Input.{Input, World, Finds, standard_input}
-use Rattle.run_core.specs.Reading.{count_after}
-use Rattle.run_core.specs.RunEnds.{EndsAs, no_room, RunsOver}
+use Rattle.ports_core.specs.Inputs.{BreaksOnly, OfContent, empty}
+use Rattle.run_core.specs.Input.{Finds, standard_input}
+use Rattle.run_core.specs.RunEnds.{no_room, RunsOver}
 use Rattle.ports_core.specs.Streams.{standard_error}
 use Rattle.run_core.specs.RunSteps.{world_of}
 use Rattle.run_core.proofs.InputLemmas.{none_touched}
@@ -35,17 +34,14 @@ use Rattle.tee_core.specs.Run.{IsUnread, all_copied, EndsAs as TeeCopies}
 use Rattle.words_core.specs.EndsAsked.{EndsAsked}
 use Rattle.words_core.specs.CsplitAsked.{CsplitAsked}
 use Rattle.words_core.specs.TeeAsked.{TeeAsked}
-use Rattle.operand_core.specs.Reading.{Asks, no_memory}
-use Rattle.operand_core.specs.declared.operand.Operand.{Operand}
+use Rattle.operand_core.specs.Reading.{no_memory}
 use Rattle.words_core.specs.declared.settings.Headers.{Headers}
 use Rattle.ports_core.specs.declared.fault.UsageKind.TheVariants.{BadFollow}
 use Rattle.watch_core.specs.Snapshot.{Snapshot}
 use Rattle.watch_core.specs.Watched.{Watched}
-use Rattle.follow_core.specs.declared.start.Start.{Start}
-use Rattle.follow_core.specs.Ending.{FollowEndsAs, no_room as no_room_yet}
-use Rattle.follow_core.specs.Look.{ways_of}
+use Rattle.follow_core.specs.Ending.{no_room as no_room_yet}
 use Rattle.words_core.specs.declared.value.Followed.{Followed}
-use Rattle.tools_core.specs.Following.{FollowingEnds, FollowingEndsAt, FollowsAs, FollowsTail, is_name, start_of}
+use Rattle.tools_core.specs.Following.{FollowingEnds, FollowingEndsAt, FollowsTail}
 use Rattle.tools_core.specs.Program.{ProgramEnds, ProgramEndsAt, looks_at}
 use Rattle.ports_core.specs.declared.tool.Tool.TheVariants as tool
 use Rattle.tee_core.specs.Run as copies
@@ -100,20 +96,6 @@ can_run (name ∷ words) is = can_tool words (row_named tools name) is
 
 -- Lemmas on how a run ends, by its words.
 
-pub tool_runs : {told_in : Bool} (told : Bool) {world : World} (words : List (List ℕ)) {settings : Settings} (old sources : List Source) (new : List Slot) (status : ℕ) → settings_of words ≡ Ok settings
-    → RunsOver told_in world (names_of settings) (λ found. DoesAsked told_in told settings found sources new status)
-    → RunsOver told_in world (names_read words) (λ found. RunEnds told_in told words found old sources new status)
-tool_runs told words old sources new status is (found, finds, does) = rw is (found, finds, inl does)
-
-pub for_settings : {told_in : Bool} (told : Bool) {world : World} {settings same : Settings} (sources : List Source) (new : List Slot) (status : ℕ) → settings ≡ same
-    → RunsOver told_in world (names_of same) (λ found. DoesAsked told_in told same found sources new status)
-    → RunsOver told_in world (names_of settings) (λ found. DoesAsked told_in told settings found sources new status)
-for_settings told sources new status is runs = rw is runs
-
--- the same for an equal list of names
-pub runs_names : {told_in : Bool} {world : World} {names same : List (List ℕ)} (P : List Input → Type 0) → names ≡ same → RunsOver told_in world names P → RunsOver told_in world same P
-runs_names P is runs = rw (← is) runs
-
 -- the names that a run reads are those of its settings
 pub ends_names : {asked : EndsAsked} {unit : Counted} {count : Count} {headers : Headers} {delim : ℕ} {items now : List (Bor (List ℕ))} → now ≡ items → record { unit = unit; count = count; headers = headers; delim = delim; names = map (λ (name : Bor (List ℕ)). name.now) items } ≡ asked
     → map (λ (name : Bor (List ℕ)). name.now) now ≡ asked.names
@@ -142,10 +124,6 @@ tee_runs {told} {mode} {names} old mode_is names_is (content, there, (ends, brea
     whole = λ t well. rw (mode_is, names_is) at (whole t well ∙ ap (λ (those : Content). all_copied told mode names those.bytes) (sym (there t)));
   },
 )
-
--- it opens no input
-pub tee_counts : {old new : List Source} → IsFresh old → KeepsOthers 0 old new → length new ≤ 1
-tee_counts fresh keeps = omega (arith, keeps.count, ap length fresh.only)
 
 -- words that weren't read for want of memory, where they ask for this
 
@@ -200,13 +178,6 @@ module _ (told_in told : Bool) (words : List (List ℕ)) (laid : ℕ → List �
   refused_or_memory {fault} (inr (inr (settings, is, bad))) refuses = rw is (operands_refused settings fault bad refuses)
   refused_or_memory (inl is) refuses = unread_for (settings_of words) refl (rw is at refuses)
 
--- `csplit` cuts at the operands that were read
-pub csplit_runs : {told_in told : Bool} {world : World} {asked : CsplitAsked} {input : List ℕ} {operands : List Operand} {sources : List Source} {new : List Slot} {status : ℕ} → input ≡ asked.input → Asks asked.operands operands
-    → RunsOver told_in world (input ∷ []) (λ found. EndsAs told_in told (csplit_task asked operands) found sources new status)
-    → RunsOver told_in world (asked.input ∷ []) (λ found. CsplitEndsAs told_in told asked found sources new status)
-csplit_runs {operands} is asks (found, finds, ends) =
-    (found, rw is at finds, record { operands = operands; asks = asks; ends = ends })
-
 pub asked_or_none : (words : List (List ℕ)) {settings : Settings} {fault : Fault} → settings_of words ≡ Ok settings → settings_of words ≡ Err fault → ⊥
 asked_or_none words {settings} {fault} asks refuses = both (sym asks ∙ refuses) where
   both : Ok settings ≡ Err fault → ⊥
@@ -214,19 +185,7 @@ asked_or_none words {settings} {fault} asks refuses = both (sym asks ∙ refuses
 
 -- how many inputs there can be, by the names
 
-pub counts_by : {count : ℕ} (words : List (List ℕ)) {settings : Settings} → settings_of words ≡ Ok settings → count ≤ count_after 1 (names_of settings) → count ≤ count_after 1 (names_read words)
-counts_by words is few = rw is few
-
-pub counts_for : {count : ℕ} {settings same : Settings} {names : List (List ℕ)} → settings ≡ same → names ≡ names_of same → count ≤ count_after 1 names → count ≤ count_after 1 (names_of settings)
-counts_for is named few = rw (is, ← named) few
-
 -- Lemmas on how a run that follows ends, by its words.
-
--- what is followed is what the settings ask for
-pub follows_as : {told_in told : Bool} (asked : EndsAsked) (followed : Followed) {by_name : Bool} {start : Start} {headers : Bool} {names : List (List ℕ)} {looks : ℕ} {shows : ℕ → Snapshot} {first : List Slot} {seen : List Snapshot} {watched : List Watched} {new : List Slot} {status : ℕ}
-    → by_name ≡ is_name followed → start ≡ start_of asked → headers ≡ has_headers asked.headers asked.names → names ≡ asked.names → first ≡ streams
-    → FollowEndsAs told_in told (ways_of 0 by_name start) headers names looks shows first seen watched new status → FollowsAs told_in told asked followed looks shows seen watched new status
-follows_as asked followed name_is start_is headers_are names_are first_is ends = rw (name_is, start_is, headers_are, names_are, first_is) at ends
 
 module _ (told_in told : Bool) (words : List (List ℕ)) (looks : ℕ) (shows : ℕ → Snapshot) (seen : List Snapshot) (watched : List Watched) (new : List Slot) (status : ℕ) (unseen : seen ≡ []) (unwatched : watched ≡ []) where
   -- words that weren't read for want of memory
@@ -255,18 +214,6 @@ module _ (told_in told : Bool) (words : List (List ℕ)) (looks : ℕ) (shows : 
   refused_words (inl is) refuses = unread_files (settings_of words) refl (rw is at refuses)
 
 -- Which of both runs the words ask for.
-
--- what the words ask for was followed
-pub program_follows : (told_in told_watched told : Bool) (words : List (List ℕ)) {settings : Settings} (laid : ℕ → List ℕ → Option Content) (sources : List Source) (shows : ℕ → Snapshot) (seen : List Snapshot) (watched : List Watched) (new : List Slot) (status : ℕ) → settings_of words ≡ Ok settings → follows settings ≡ true
-    → FollowingEndsAt told_watched told words (looks settings) shows seen watched new status (Ok settings) → ProgramEnds told_in told_watched told words laid sources sources shows seen watched new status
-program_follows told_in told_watched told words {settings} laid sources shows seen watched new status is asked ends =
-    rw (ap looks_at is ∙ ap (λ b. if b then Some (looks settings) else None) asked) (refl, rw is ends)
-
--- their tool ran over its inputs
-pub program_runs : {told_in : Bool} (told_watched told : Bool) (words : List (List ℕ)) {settings : Settings} {laid : ℕ → List ℕ → Option Content} (sources sources_new : List Source) (shows : ℕ → Snapshot) {seen : List Snapshot} {watched : List Watched} (new : List Slot) (status : ℕ) → settings_of words ≡ Ok settings → follows settings ≡ false → seen ≡ [] → watched ≡ []
-    → RunsOver told_in (world_of laid sources) (names_of settings) (λ found. DoesAsked told_in told settings found sources_new new status) → ProgramEnds told_in told_watched told words laid sources sources_new shows seen watched new status
-program_runs told_watched told words {settings} sources sources_new shows new status is asked unseen unwatched does =
-    rw (ap looks_at is ∙ ap (λ b. if b then Some (looks settings) else None) asked) (unseen, unwatched, tool_runs told words sources sources_new new status is does)
 
 -- what words leave that are refused, whichever run they ask for
 pub program_refuses : (told_in told_watched : Bool) {told : Bool} (words : List (List ℕ)) (laid : ℕ → List ℕ → Option Content) {sources : List Source} (shows : ℕ → Snapshot) {seen : List Snapshot} {watched : List Watched} {fault : Fault} {new : List Slot} {status : ℕ} → IsFresh sources → seen ≡ [] → watched ≡ [] → IsRefused HasBadOperands (settings_of words) fault → RefusesFor told words fault new status

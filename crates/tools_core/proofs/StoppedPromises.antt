@@ -93,9 +93,6 @@ streams_sound : (place : ℕ) (error : Slot) → (place ≡ 1 → ⊥) → (slot
 streams_sound (suc zero) error differs = absurd (differs refl)
 streams_sound place error differs = refl
 
-still_sound : {A : Type 0} {before after : List Slot} (place : ℕ) → after ≡ before → (slot_at before place).is_broken ≡ false → (slot_at after place).is_broken ≡ true → A
-still_sound place same sound broken = absurd (false≢true (sym sound ∙ sym (ap (λ slots. (slot_at slots place).is_broken) same) ∙ broken))
-
 stop_early : {which : Tool} {clears : Bool} {run : Run} {asked : Settings} (fault : Fault) (name : List ℕ) {error : Slot} → StopsRun run asked name fault → SaysAll true which (message_of which fault name ∷ []) standard_error error → run.outputs ≡ streams_with error → run.status ≡ 1
     → IsStop which clears run asked
 stop_early fault name {error} stops says slots is = record {
@@ -104,7 +101,8 @@ stop_early fault name {error} stops says slots is = record {
   name = name;
   stops = stops;
   line = rw slots ([], [], record { are = a_message fault name; said = says });
-  broke = λ place differs broken. still_sound place slots (streams_sound place error differs) broken;
+  broke = λ place differs broken.
+      absurd (false≢true (sym (streams_sound place error differs) ∙ sym (ap (λ those. (slot_at those place).is_broken) slots) ∙ broken));
 }
 
 -- Of a run over inputs: the output that the fault marked is the one that its line names.

@@ -130,12 +130,9 @@ tee_says {pieces} {names} {first} {broke} {error} fault place left rest says dif
 abbrev SomeBroke : List Slot → Type 0
 SomeBroke files = (at : ℕ) × ((slot_at files at).is_broken ≡ true)
 
-next_broke : {file : Slot} (files : List Slot) → SomeBroke files → SomeBroke (file ∷ files)
-next_broke files (at, broken) = (suc at, broken)
-
 files_broke : {mode : Mode} {pieces names : List (List ℕ)} {broke : List (Option ℕ)} {files : List Slot} → FilesLeft true mode pieces names broke files → are_sound broke ≡ false → SomeBroke files
 files_broke tee.no_file sound = absurd (cc)
-files_broke (tee.one_file name names _ broke _ files tee.file_whole rest) sound = next_broke files (files_broke rest sound)
+files_broke (tee.one_file name names _ broke _ files tee.file_whole rest) sound = let (at, broken) = files_broke rest sound in (suc at, broken)
 files_broke (tee.one_file name names _ broke _ files left rest) sound = (0, refl)
 
 pub unsound_broke : {mode : Mode} {pieces names : List (List ℕ)} {first : Option ℕ} {broke : List (Option ℕ)} {output error : Slot} {files : List Slot} → OutputLeft true pieces first output → FilesLeft true mode pieces names broke files → are_sound (first ∷ broke) ≡ false
