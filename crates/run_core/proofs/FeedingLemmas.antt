@@ -1,7 +1,7 @@
 -- Lemmas on the loop that feeds an engine, and on what an engine uses of its input.
 use Rattle.std.proofs.lemmas.Grind.{common_steps}
 use Rattle.std.proofs.Common.{◌⊎◌, ◌≡◌, ℕ, ◌+◌, ◌<◌, ◌≤◌, ◌^◌, Bool, true, false, List, [], ◌++◌, length, take, Result, Ok, Err, IfOk, None, arith, length-append, length-take, inl, inr, refl, sym, ◌∙◌, ap, IsTrue, ◌-◌, drop, Some, append_assoc, rules}
-use Rattle.std.proofs.lemmas.List.{append-nil, take_at, drop_at, length-take}
+use Rattle.std.proofs.lemmas.List.{append-nil, drop_at, length-take}
 use Rattle.std.proofs.lemmas.Bool.{false≢true, or_right}
 use Rattle.ports_core.specs.Slot.{Slot, changed_at}
 use Rattle.ports_core.specs.Source.{Content, Source, source_at, is_readable, gives, gets_back, with_next, Gave}
@@ -16,9 +16,7 @@ use Rattle.run_core.specs.declared.feeding.Fed.TheVariants.{Whole, Enough, Broke
 use Rattle.ports_core.specs.Inputs.{empty, OfContent}
 use Rattle.run_core.specs.Feeding.{is_enough, Stops, HasAll, to_end, enough, call_of, feeds, closes, FedAs, whole, had_enough, broke_off, judged, stopped, IsUnread, Uses}
 use Rattle.run_core.specs.inner.RunSteps.{EndsSo, finished, fell_short}
-use Rattle.ports_core.proofs.LoadLemmas.{passed_at}
 use Rattle.ports_core.proofs.InputsLemmas.{HasRead, changed_source}
-use Rattle.ports_core.proofs.SpareLemmas.{none_spare}
 use Rattle.ports_core.specs.Engine as engine
 
 -- Lemmas on the loop that feeds an engine.
@@ -205,30 +203,11 @@ pub of_more : (told : Bool) (there : Content) (x rest : List ℕ) (is_broken : B
 of_more true there x rest is_broken P all holds = (there, λ t. refl, (holds there (λ t. refl) rest (all refl), λ untold. absurd (false≢true (sym untold))))
 of_more false there x rest is_broken P all holds = (record { bytes = x; breaks_off = false }, λ t. absurd (false≢true t), (holds _ (λ t. absurd (false≢true t)) [] (sym (append-nil x)), λ untold breaks. absurd (false≢true breaks)))
 
--- Lemmas on an engine that took in a front of its input without a read: the loop that feeds it goes on from there.
+-- an engine that took in a front of its input without a read: the loop that feeds it goes on from there
 
-needed_front : {is_complete : List ℕ → Bool} {most : ℕ} {x : List ℕ} → (x ≡ []) ⊎ (is_complete x ≡ false) → IsNeeded is_complete most x
+pub needed_front : {is_complete : List ℕ → Bool} {most : ℕ} {x : List ℕ} → (x ≡ []) ⊎ (is_complete x ≡ false) → IsNeeded is_complete most x
 needed_front (inl none) = inl none
 needed_front {x} (inr going) = grind (arith, common_steps)
-
-module _ {S : Type 0} (Holds : S → List ℕ → Type 0) (Ready : S → List Slot → Type 0) (Owns : S → ℕ → List Slot → Type 0) (work : S → Work) (told : Bool) (slot count : ℕ) (start now : GuardState S) (old new : List Source) (loads : Loads Holds Ready Owns work told slot count start.stage now.stage old new) where
-  pub loaded_feeds : {told_out : Bool} {slots : List Slot} → work now.stage ≡ work start.stage → now.fed ≡ count → now.is_over ≡ false → count < 2 ^ 63 → Feeds Holds Owns work told_out start now loads.front slots slots
-  loaded_feeds {slots} same fed live bound = record {
-    same = same;
-    holds = record { live = live; count = fed ∙ loads.long; within = loads.holds };
-    owns = λ first own. loads.owns first slots own;
-    outputs = λ before own at. rw same (rw loads.idle at);
-    bound = rw fed bound;
-  }
-
-  pub loaded_read : told ≡ true → IsTrue (is_readable old slot) → HasRead (source_at old slot).left loads.front slot new
-  loaded_read tells can = record {
-    bytes = loads.there tells;
-    breaks_off = rw (passed_at slot count old new can loads.passed);
-  }
-
-  pub loaded_needed : {most : ℕ} → IsNeeded (work start.stage).is_complete most loads.front
-  loaded_needed = needed_front loads.going
 
 -- Lemmas on what an engine uses of its input, and what is given back of it.
 
@@ -243,21 +222,6 @@ taken_next {x} {slot} size {n} {start} {sources} took can gave is = grind (arith
 pub takes_more : {x buffer old_buffer : List ℕ} {slot : ℕ} (size : ℕ) {n : ℕ} {start sources new : List Source} → HasTaken x slot start sources → IsTrue (is_readable sources slot) → Gave (source_at sources slot).left old_buffer buffer n → new ≡ changed_at slot (gives size n) sources → HasTaken (x ++ take n buffer) slot start new
 takes_more {x} {buffer} {slot} size {n} {start} {sources} {new} took can gave is = grind (arith, common_steps, taken_next, changed_source)
 
-module _ {E : Type 0} (Holds : E → List ℕ → Type 0) (Ready : E → List Slot → Type 0) (Owns : E → ℕ → List Slot → Type 0) (work : E → Work) (told : Bool) (slot count : ℕ) (before after : E) (old new : List Source) (loads : Loads Holds Ready Owns work told slot count before after old new) where
-  pub loaded_taken : told ≡ true → IsTrue (is_readable old slot) → HasTaken loads.front slot old new
-  loaded_taken tells can =
-      let passed = passed_at slot count old new can loads.passed in record {
-        taken = rw (passed, loads.there tells, loads.long, take_at loads.front (source_at new slot).left.bytes (length loads.front) refl);
-        far = λ unread. omega (arith, ap (λ (source : Source). source.reached) passed, unread.1);
-      }
-
-  -- of what is taken in without a read all is used
-  pub loaded_few : IsLawful (work before) → (n : ℕ) → IsSpare (work before) loads.front n → n ≤ (work before).ahead
-  loaded_few lawful n spare = elim loads.going [
-    | inl none ↦ omega (arith, ap length none, ap length spare.joined ∙ length-append spare.used spare.rest, spare.long)
-    | inr going ↦ omega (arith, none_spare (work before) loads.front n lawful going spare)
-  ]
-
 -- what is spare was given back
 
 back_at : {taken : List ℕ} (start used : List ℕ) {rest : List ℕ} {n : ℕ} → taken ≡ start ++ (used ++ rest) → length rest ≡ n → drop (length taken - n) taken ≡ rest
@@ -266,11 +230,14 @@ back_at {taken} start used {rest} {n} is long =
     let at : length taken - n ≡ length (start ++ used) = omega (arith, ap length all ∙ length-append (start ++ used) rest, long) in
     ap (λ k. drop k taken) at ∙ ap (drop (length (start ++ used))) all ∙ drop_at (start ++ used) rest (length (start ++ used)) refl
 
-pub left_after : {work : Work} {x : List ℕ} {slot n : ℕ} {start sources new : List Source} (spare : IsSpare work x n) → HasTaken x slot start sources → IsTrue (is_readable sources slot) → new ≡ changed_at slot (gets_back n) sources → (source_at new slot).left.bytes ≡ spare.rest ++ (source_at sources slot).left.bytes
-left_after {slot} {n} {start} {sources} {new} spare took can is = rw (changed_source slot (gets_back n) sources new can is, back_at (source_at start slot).taken spare.used (took.taken ∙ ap (λ those. (source_at start slot).taken ++ those) spare.joined) spare.long)
-
 pub read_used : {work : Work} {content : Content} {x : List ℕ} {slot n : ℕ} {start sources new : List Source} (spare : IsSpare work x n) → HasRead content x slot sources → HasTaken x slot start sources → IsTrue (is_readable sources slot) → new ≡ changed_at slot (gets_back n) sources → content.bytes ≡ spare.used ++ (source_at new slot).left.bytes
-read_used {slot} {sources} spare read took can is = rw (read.bytes, spare.joined, append_assoc spare.used spare.rest (source_at sources slot).left.bytes, left_after spare took can is)
+read_used {slot} {n} {start} {sources} {new} spare read took can is = rw (
+  read.bytes,
+  spare.joined,
+  append_assoc spare.used spare.rest (source_at sources slot).left.bytes,
+  changed_source slot (gets_back n) sources new can is,
+  back_at (source_at start slot).taken spare.used (took.taken ∙ ap (λ those. (source_at start slot).taken ++ those) spare.joined) spare.long,
+)
 
 -- one byte at the most is a piece
 pub needed_within : {is_complete : List ℕ → Bool} {most : ℕ} {x : List ℕ} → 0 < most → IsNeeded is_complete 1 x → IsNeeded is_complete most x

@@ -1,40 +1,141 @@
--- Lemmas on one input of a run, on the inputs for names, one after another, and on how a run ends.
+-- Lemmas on what a run leaves of its inputs, on one input, on the inputs for names, one after another, and on how a run ends.
 use Rattle.std.proofs.lemmas.Grind.{common_steps}
-use Rattle.std.proofs.Common.{◌⊎◌, arith, inl, inr, ◌≡◌, ℕ, ◌<◌, ◌≤◌, Bool, true, false, not, ◌||◌, IsTrue, List, [], ◌∷◌, length, take, Option, Some, None, Result, Ok, Err, refl, sym, ◌∙◌, ap, subst, if◌then◌else◌, ◌++◌, lit≤, codes, ◌-◌, drop, map, get_or, Bor, append_assoc, lit<, rules}
-use Rattle.std.proofs.lemmas.Bool.{false≢true, or_left, or_right, false_from_ne_true, or_parts}
+use Rattle.std.proofs.Common.{◌≡◌, ℕ, ◌+◌, ◌<◌, ◌≤◌, zero, suc, Bool, true, false, ◌||◌, IsTrue, if◌then◌else◌, List, [], ◌∷◌, ◌++◌, length, Option, Some, None, IfSome, arith, inl, inr, refl, ◌⊎◌, not, take, Result, Ok, Err, sym, ◌∙◌, ap, subst, lit≤, codes, ◌-◌, drop, map, get_or, Bor, append_assoc, lit<, rules}
+use Rattle.std.proofs.lemmas.Bool.{false≢true, or_parts, or_left, or_right, false_from_ne_true}
+use Rattle.ports_core.specs.Source.{Content, Source, no_source, source_at, source_of, is_readable, missing, Opens, OpensNothing, IsFresh, Opens as OpensFile}
+use Rattle.ports_core.specs.Source as from
+use Rattle.ports_core.specs.declared.fault.Fault.{Fault}
+use Rattle.ports_core.specs.Work.{Work, Needs}
+use Rattle.run_core.specs.Feeding.{Uses, is_enough, FedAs, whole, had_enough, broke_off, judged, stopped}
+use Rattle.ports_core.specs.Inputs.{BreaksOnly, KeepsOthers, OfContent, AsksAtMost, empty, largest_piece}
+use Rattle.run_core.specs.Input.{Input, World, IsFor, is_dash, input_of, inputs_from, next_slot, has_dash, AreFrom, inputs_at, file_input, standard_input, read_before}
+use Rattle.run_core.specs.Reading.{AreDone, AreUntouched, IsDone, IsUntouched, Leaves, count_after}
+use Rattle.run_core.specs.inner.RunSteps.{TakesOne, OfSource, HeaderFails, no_room, broke, TookInput, took, cut_off, input_from, TookAll, all, stopped_at, not_begun, HasStreams, OfName, is_unopened, standard_source}
+use Rattle.ports_core.proofs.InputsLemmas.{sound_at, fresh_asks}
 use Rattle.std.proofs.Math.Bool.{and-false, and-true, or-false, or-true, or_assoc}
 use Rattle.ports_core.specs.Slot.{Slot, adds, is_open, slot_at, is_writable, told_of, with_written, streams}
-use Rattle.ports_core.specs.Source.{Content, Source, source_at, source_of, missing, is_readable, IsFresh, Opens as OpensFile, OpensNothing}
 use Rattle.ports_core.specs.Part.{Part, only_out, OutputsAt}
 use Rattle.ports_core.specs.Swept.{Swept}
-use Rattle.ports_core.specs.Work.{Work, Needs}
 use Rattle.ports_core.specs.Engine.{is_verdict}
 use Rattle.ports_core.specs.Text.{message_of}
 use Rattle.ports_core.specs.Message.{SaysOn, SaysAll, output_named}
-use Rattle.ports_core.specs.declared.fault.Fault.{Fault}
-use Rattle.ports_core.specs.declared.fault.Fault.TheVariants.{Memory, Write, Read, Open}
+use Rattle.ports_core.specs.declared.fault.Fault.TheVariants.{Memory, Write, Read}
 use Rattle.ports_core.proofs.PartLemmas.{out_more, out_cut, part_begins_itself, stopped_here, broken_at, nothing_out}
 use Rattle.ports_core.proofs.WriteLemmas.{writable-written}
 use Rattle.ports_core.proofs.SlotLemmas.{length-changed_at}
 use Rattle.run_core.specs.declared.inputs.Progress.{Progress}
 use Rattle.run_core.specs.declared.feeding.Fed.{Fed}
 use Rattle.run_core.specs.declared.feeding.Fed.TheVariants.{Whole, Enough, Broken}
-use Rattle.run_core.specs.Feeding.{is_enough, FedAs, whole, had_enough, broke_off, judged, stopped}
-use Rattle.ports_core.specs.Inputs.{empty, AsksAtMost, largest_piece}
-use Rattle.run_core.specs.Reading.{IsDone, Leaves, AreUntouched, count_after}
 use Rattle.run_core.specs.RunEnds.{unheaded, heading, calling, step_after, EndsAs, as_defined, stopped as run_stopped, no_room as run_unmade, RunsOver, unopened}
 use Rattle.ports_core.specs.Streams.{streams_with, standard_output, standard_error}
-use Rattle.run_core.specs.inner.RunSteps.{HeaderFails, no_room, broke, TookInput, took, cut_off, input_from, OfSource, TookAll, all, stopped_at, not_begun, HasStreams, OfName, is_unopened, standard_source, TakesOne}
 use Rattle.run_core.specs.RunSteps.{world_of}
 use Rattle.run_core.specs.Task.{Task, Outcome, after_part, header_text, of_content, made_by, no_outcome, joined, of_input, of_inputs, is_missing, are_missing}
-use Rattle.run_core.proofs.ReadingLemmas.{StayDone, all_done, count_more, done_more, done_with, last_source, missing_done, rest_untouched, still_done}
 use Rattle.run_core.proofs.StopLemmas.{after_assoc, out_on, at_after, stop_after, none_to_sweep, nothing_after, swept_from, said_swept, error_open, stop_error, stop_swept, said_at}
 use Rattle.ports_core.proofs.MessageLemmas.{says_more, all_said_state, says_after}
-use Rattle.run_core.specs.Input.{Input, World, has_dash, AreFrom, is_dash, input_of, inputs_from, inputs_at, file_input, standard_input, read_before, next_slot}
 use Rattle.std.proofs.lemmas.List.{append-nil, nil_from_length}
 use Rattle.std.proofs.lemmas.List.Recursion.{and_push}
-use Rattle.ports_core.proofs.InputsLemmas.{fresh_asks}
-use Rattle.ports_core.specs.Source as from
+
+-- one input more
+
+pub last_source : (sources : List Source) {source : Source} → source_at (sources ++ source ∷ []) (length sources) ≡ source
+last_source sources {source} = grind (arith, common_steps)
+
+-- how many bytes reads asked for
+
+-- what is left of the input of a source
+
+-- an input of which nothing was read
+pub unread_source : (told : Bool) (source : Option ℕ) (sources : List Source) (Q : Content → Type 0) → IfSome source (λ slot. IsTrue (is_readable sources slot))
+    → ((content : Content) → Leaves told content source sources [] → Q content) → OfSource told source sources Q
+unread_source told None sources Q can holds = holds empty tt
+unread_source true (Some slot) sources Q can holds = ((source_at sources slot).left, λ t. refl, holds (source_at sources slot).left (sound_at sources slot can, λ t. refl))
+unread_source false (Some slot) sources Q can holds = (empty, λ t. absurd (false≢true t), holds empty (sound_at sources slot can, λ t. absurd (false≢true t)))
+
+-- an input that could be read is still there
+pub still_within : {source : Option ℕ} {slot : ℕ} {old new : List Source} → source ≡ Some slot → IfSome source (λ slot. IsTrue (is_readable old slot)) → KeepsOthers slot old new → slot < length new
+still_within {slot} {old} is can keeps = grind (arith, common_steps)
+
+-- an input that was fed to an engine, unless a fault stopped it
+pub left_of : {told : Bool} {work : Work} {most slot : ℕ} {there : Content} (sources : List Source) (P : Content → Type 0) {stops : Bool} → slot < length sources → (told ≡ true → stops ≡ false → Uses work most slot there (source_at sources slot))
+    → OfContent told there (λ content. P content × BreaksOnly told content (source_at sources slot)) → OfContent told there (λ content. P content × (stops ≡ false → IsDone told work most (Some slot) (Some content) sources))
+left_of sources P within uses (content, is, holds) = grind (arith, common_steps)
+
+-- how many names there can be
+
+pub count_more : (count : ℕ) (names : List (List ℕ)) → count ≤ count_after count names
+count_more count [] = omega arith
+count_more count (name ∷ names) = let rest : next_slot count name ≤ count_after (next_slot count name) names = count_more (next_slot count name) names in at_least (is_dash name) (count_after (next_slot count name) names) rest where
+  at_least : (dash : Bool) (most : ℕ) → (if dash then count else count + 1) ≤ most → count ≤ most
+  at_least true most less = less
+  at_least false most less = omega (arith, less)
+
+-- what taking a name leaves
+
+takes_none : {most : ℕ} {was_read : Bool} {name : List ℕ} {old new : List Source} → new ≡ old → TakesOne most was_read name old new
+takes_none {most} {name} {old} same = grind (arith, common_steps)
+
+pub takes_file : {told : Bool} {laid : ℕ → List ℕ → Option Content} {most : ℕ} {was_read : Bool} {name : List ℕ} {old mid new : List Source} {slot : ℕ} → is_dash name ≡ false → 0 < length old → Opens told laid old mid name slot → KeepsOthers slot mid new → (AsksAtMost most mid → AsksAtMost most new)
+    → TakesOne most was_read name old new
+takes_file differs some opens keeps asked = grind (arith, common_steps)
+
+pub takes_missing : {told : Bool} {laid : ℕ → List ℕ → Option Content} {most : ℕ} {was_read : Bool} {name : List ℕ} {old new : List Source} {fault : Fault} → is_dash name ≡ false → 0 < length old → OpensNothing told laid old new name fault → TakesOne most was_read name old new
+takes_missing {old} {new} differs some (from.broke at number lies is) = grind (arith, common_steps)
+takes_missing differs some (from.no_room is) = takes_none is
+
+-- a file that could not be opened is not open
+pub missing_done : (told : Bool) (work : Work) (most : ℕ) (old : List Source) {new : List Source} → new ≡ old ++ missing ∷ [] → IsDone told work most (Some (length old)) None new
+missing_done told work most old is = grind (arith, common_steps)
+
+-- the inputs that were done stay so
+
+abbrev pub StaysDone : Bool → Work → ℕ → Bool → Option ℕ → Option Content → List Source → Type 0
+StaysDone told work most was_read None content sources = Unit {0}
+StaysDone told work most was_read (Some slot) content sources = (slot ≡ 0 → was_read ≡ true) × IsDone told work most (Some slot) content sources
+
+abbrev pub StayDone : Bool → Work → ℕ → Bool → List Input → List Source → Type 0
+StayDone told work most was_read [] sources = Unit {0}
+StayDone told work most was_read (input ∷ inputs) sources = StaysDone told work most was_read input.slot input.content sources × StayDone told work most was_read inputs sources
+
+still_done_at : (told : Bool) (work : Work) (most : ℕ) {room : ℕ} {was_read now_read : Bool} {name : List ℕ} (slot : Option ℕ) (content : Option Content) {old new : List Source} → (was_read ≡ true → now_read ≡ true) → TakesOne room was_read name old new
+    → StaysDone told work most was_read slot content old → StaysDone told work most now_read slot content new
+still_done_at told work most None content reads takes done = tt
+still_done_at told work most {was_read} (Some zero) content {old} {new} reads takes done = grind (arith, common_steps)
+still_done_at told work most (Some (suc slot)) content {old} {new} reads takes done = grind (arith, common_steps)
+
+pub still_done : (told : Bool) (work : Work) (most : ℕ) {room : ℕ} {was_read now_read : Bool} {name : List ℕ} (inputs : List Input) {old new : List Source} → (was_read ≡ true → now_read ≡ true) → TakesOne room was_read name old new
+    → StayDone told work most was_read inputs old → StayDone told work most now_read inputs new
+still_done told work most [] reads takes done = tt
+still_done told work most (input ∷ inputs) reads takes done =
+    (still_done_at told work most input.slot input.content reads takes done.0, still_done told work most inputs reads takes done.1)
+
+pub done_more : (told : Bool) (work : Work) (most : ℕ) (was_read : Bool) (inputs : List Input) (input : Input) (sources : List Source) → StayDone told work most was_read inputs sources → StaysDone told work most was_read input.slot input.content sources
+    → StayDone told work most was_read (inputs ++ input ∷ []) sources
+done_more told work most was_read [] input sources done one = (one, tt)
+done_more told work most was_read (first ∷ inputs) input sources done one = (done.0, done_more told work most was_read inputs input sources done.1 one)
+
+done_at : (told : Bool) (work : Work) (most : ℕ) (was_read : Bool) (slot : Option ℕ) (content : Option Content) (sources : List Source) → StaysDone told work most was_read slot content sources → IsDone told work most slot content sources
+done_at told work most was_read None content sources done = tt
+done_at told work most was_read (Some slot) content sources done = done.1
+
+pub all_done : (told : Bool) (work : Work) (most : ℕ) (was_read : Bool) (inputs : List Input) (sources : List Source) → StayDone told work most was_read inputs sources → AreDone told work most inputs sources
+all_done told work most was_read [] sources done = tt
+all_done told work most was_read (input ∷ inputs) sources done = (done_at told work most was_read input.slot input.content sources done.0, all_done told work most was_read inputs sources done.1)
+
+pub done_with : (told : Bool) (work : Work) (most : ℕ) (was_read : Bool) {count : ℕ} (name : List ℕ) {input : Input} (sources : List Source) → IsFor was_read count name input → 0 < count
+    → IsDone told work most input.slot input.content sources → StaysDone told work most (was_read || is_dash name) input.slot input.content sources
+done_with told work most was_read name sources (world, is) some done = grind (arith, common_steps)
+
+-- the inputs after the place where a run was stopped were not touched
+
+pub rest_untouched : (world : World) (was_read : Bool) (slot : ℕ) (names : List (List ℕ)) (sources : List Source) → (was_read ≡ false → source_at sources 0 ≡ source_of world.standard) → length sources ≤ slot
+    → AreUntouched (inputs_from world was_read slot names) sources
+rest_untouched world was_read slot [] sources unread few = tt
+rest_untouched world was_read slot (name ∷ names) sources unread few =
+    (by_name was_read (is_dash name) unread, rest_untouched world (was_read || is_dash name) (next_slot slot name) names sources (λ none. unread (or_parts was_read (is_dash name) none).0) (let more : slot ≤ next_slot slot name = count_more slot (name ∷ []) in omega (arith, few, more))) where
+      by_name : (was dash : Bool) → (was ≡ false → source_at sources 0 ≡ source_of world.standard) → (let input = input_of world was slot name dash in IsUntouched input.slot input.content sources)
+      by_name true true at_first = tt
+      by_name false true at_first = inr (world.standard, refl, at_first refl)
+      by_name was false at_first = inl few
 
 -- Lemmas on one input of a run.
 
@@ -217,14 +318,6 @@ took_opened {was_read} {laid} {name} {old} {slot} {sources} differs opened_it (c
     ∙ ap Some (sym (there t ∙ ap (λ (source : Source). source.left) (ap (λ those. source_at those slot) opened_it.sources ∙ ap (source_at (old ++ source_of opened_it.content ∷ [])) opened_it.number ∙ last_source old))))
     (rw (ap (λ (b : Bool). was_read || b) differs ∙ or-false was_read) (rw opened_it.number at one))
 
-took_missing : {told_in told : Bool} {task : Task} {most : ℕ} {is_first failed was_read : Bool} (name : List ℕ) (sources : List Source) {after : List Source} (slot : ℕ) {so_far : Part} {error : Slot} {old new : List Slot} → is_dash name ≡ false → after ≡ sources ++ missing ∷ [] → OutputsAt told (streams_with error) so_far old
-    → SaysOn told task.tool (message_of task.tool (Open slot) name) old new
-    → TookInput told_in told task most (file_input name (length sources) None) (of_input task is_first (file_input name (length sources) None)) is_first failed (was_read || is_dash name) so_far error (length old) after new (Ok (record { was_read = was_read; is_first = is_first; failed = true }))
-took_missing {told_in} {told} {task} {most} {is_first} {was_read} name sources slot {new} differs are at says =
-    let said = said_at at says in
-    took (record { was_read = was_read; is_first = is_first; failed = true }) said.0 new (simp (differs, or-false, and-true, or-true)) (missing_done told_in task.work most sources are)
-    (said.0, said.1, refl) (subst (λ part. OutputsAt told (streams_with said.0) part new) (sym nothing_after) said.2) refl
-
 -- standard input, for the operand `-`
 pub took_standard : {told_in told : Bool} {task : Task} {most : ℕ} {is_first failed : Bool} (was_read : Bool) {source : Option ℕ} (laid : ℕ → List ℕ → Option Content) (name : List ℕ) (old : List Source) {sources : List Source} {so_far : Part} {error : Slot} {first : ℕ} {new : List Slot} {result : Result Progress Fault} → source ≡ standard_source was_read → is_dash name ≡ true
     → OfSource told_in source old (λ content. TookInput told_in told task most (input_from (codes "standard input") source content) (of_content task is_first (codes "standard input") (Some content)) is_first failed true so_far error first sources new result)
@@ -239,9 +332,11 @@ took_standard {told_in} {told} {task} {most} {is_first} {failed} was_read laid n
 pub of_missing : {told_in told : Bool} {task : Task} {most : ℕ} {is_first failed was_read : Bool} {laid : ℕ → List ℕ → Option Content} {name : List ℕ} {sources after : List Source} {fault : Fault} {so_far : Part} {error : Slot} {old new : List Slot} → is_dash name ≡ false → OpensNothing told_in laid sources after name fault → is_unopened fault ≡ true → OutputsAt told (streams_with error) so_far old
     → SaysOn told task.tool (message_of task.tool fault name) old new → OfName told_in (world_of laid sources) was_read (length sources) name
     (λ input. TookInput told_in told task most input (of_input task is_first input) is_first failed (was_read || is_dash name) so_far error (length old) after new (Ok (record { was_read = was_read; is_first = is_first; failed = true })))
-of_missing {was_read} {laid} {name} {sources} differs (from.broke slot number lies are) cannot at says =
+of_missing {told_in} {told} {task} {most} {is_first} {was_read} {laid} {name} {sources} {new} differs (from.broke slot number lies are) cannot at says =
     of_file (world_of laid sources) was_read _ differs (λ t. ap (λ n. laid n name) (sym number) ∙ lies t)
-    (took_missing name sources slot differs are at says)
+    (let said = said_at at says in
+    took (record { was_read = was_read; is_first = is_first; failed = true }) said.0 new (simp (differs, or-false, and-true, or-true)) (missing_done told_in task.work most sources are)
+    (said.0, said.1, refl) (subst (λ part. OutputsAt told (streams_with said.0) part new) (sym nothing_after) said.2) refl)
 of_missing differs (from.no_room are) cannot at says = search rules
 
 -- there was no room for it

@@ -1,13 +1,13 @@
-use Rattle.std.proofs.lemmas.List.{length-take-le}
+use Rattle.std.proofs.lemmas.List.{length-take-le, take_at}
 use Rattle.ports_core.proofs.LoadLemmas.{passed_at}
-use Rattle.std.proofs.Common.{◌&&◌, not, inl, inr, ◌≡◌, ◌≤◌, drop, length, ◌++◌, ◌∙◌, [], true, false, sym, ap, refl, take, arith, append_assoc, append-nil}
+use Rattle.std.proofs.Common.{◌&&◌, not, inl, inr, ◌≡◌, ◌≤◌, drop, length, ◌++◌, ◌∙◌, [], true, false, sym, ap, refl, take, arith, append_assoc, append-nil, length-append}
 use Rattle.std.proofs.lemmas.Bool.{false≢true, not-false}
 use Rattle.ports_core.specs.Source.{gets_back, Source}
 use Rattle.ports_core.specs.Work.{Work, IsSettled}
 use Rattle.ports_core.specs.Engine.{EndsWith, is_verdict}
-use Rattle.ports_core.proofs.SpareLemmas.{complete_used, spare_within}
+use Rattle.ports_core.proofs.SpareLemmas.{complete_used, spare_within, none_spare}
 use Rattle.run_core.specs.Feeding.{enough, to_end}
-use Rattle.run_core.proofs.FeedingLemmas.{of_more, of_read, alike_after, alike_itself, judges, broken_off, goes_on, stopped_feeding, ended, needed_more, piece_within, ends_sound, loaded_feeds, loaded_read, loaded_needed, loaded_few, loaded_taken, needed_within, read_used, takes_more, uses_all, uses_judged, uses_part}
+use Rattle.run_core.proofs.FeedingLemmas.{of_more, of_read, alike_after, alike_itself, judges, broken_off, goes_on, stopped_feeding, ended, needed_more, piece_within, ends_sound, needed_within, read_used, takes_more, uses_all, uses_judged, uses_part, needed_front}
 use Rattle.ports_core.proofs.InputsLemmas.{changed_source, sound_at, read_none_more, keeps_again, keeps_others, read_broken, still_readable, read_more, read_failed, read_to_end, asked_again, asked_at_end, broken_now}
 use Rattle.run_core.proofs.feeding.feed_input.Goals as goal
 
@@ -15,20 +15,32 @@ use Rattle.run_core.proofs.feeding.feed_input.Goals as goal
 
 pub pieces-init : goal.pieces-init
 pieces-init g c =
-    let start = c.args.engine.now in
-    let now = c.load.new.self in
-    let loads = c.load.ensures.loads in record {
+    let loads = c.load.ensures.loads in
+    let passed = passed_at _ _ _ _ c.requires.input loads.passed in record {
       fed = loads.front;
-      feeds = loaded_feeds _ _ _ _ _ _ _ start now _ _ loads c.load.ensures.same c.load.ensures.fed c.load.ensures.live c.load.ensures.bound;
-      readable = rw (passed_at _ _ _ _ c.requires.input loads.passed, c.requires.input);
+      feeds = record {
+        same = c.load.ensures.same;
+        holds = record { live = c.load.ensures.live; count = c.load.ensures.fed ∙ loads.long; within = loads.holds };
+        owns = λ first own. loads.owns first _ own;
+        outputs = λ before own at. rw c.load.ensures.same (rw loads.idle at);
+        bound = rw c.load.ensures.fed c.load.ensures.bound;
+      };
+      readable = rw (passed, c.requires.input);
       others = keeps_others _ _ _ _ loads.passed;
-      read = λ told. loaded_read _ _ _ _ _ _ _ start now _ _ loads told c.requires.input;
-      took = λ told. loaded_taken _ _ _ _ _ _ _ start.stage now.stage _ _ loads told c.requires.input;
-      last = λ told. loaded_needed _ _ _ _ _ _ _ start now _ _ loads;
-      few = λ standard. loaded_few _ _ _ _ _ _ _ start.stage now.stage _ _ loads (g.met.S.Stage.lawful _);
+      read = λ told. record { bytes = loads.there told; breaks_off = rw passed };
+      took = λ told. record {
+        taken = rw (passed, loads.there told, loads.long, take_at loads.front _ (length loads.front) refl);
+        far = λ unread. omega (arith, ap (λ (source : Source). source.reached) passed, unread.1);
+      };
+      last = λ told. needed_front loads.going;
+      -- of what is taken in without a read all is used
+      few = λ standard n spare. elim loads.going [
+        | inl none ↦ omega (arith, ap length none, ap length spare.joined ∙ length-append spare.used spare.rest, spare.long)
+        | inr going ↦ omega (arith, none_spare _ loads.front n (g.met.S.Stage.lawful _) going spare)
+      ];
       room = c.load.auto.buffer;
-      needed = loaded_needed _ _ _ _ _ _ _ start now _ _ loads;
-      asked = λ within. rw (ap (λ (source : Source). source.asked) (passed_at _ _ _ _ c.requires.input loads.passed)) within;
+      needed = needed_front loads.going;
+      asked = λ within. rw (ap (λ (source : Source). source.asked) passed) within;
       laid = c.load.ensures.laid;
       ready = loads.ready _ c.requires.output;
     }

@@ -1,7 +1,7 @@
 use Rattle.std.proofs.Common.{not, ◌∙◌, ap, sym}
 use Rattle.std.proofs.lemmas.Bool.{false≢true}
 use Rattle.ports_core.proofs.HandedOn.{handed_on}
-use Rattle.run_core.proofs.ReadingLemmas.{unread_source, still_within, left_of}
+use Rattle.run_core.proofs.InputLemmas.{unread_source, still_within, left_of}
 use Rattle.run_core.specs.Feeding.{opens, stopped}
 use Rattle.run_core.proofs.inputs.feed_source.Goals as goal
 

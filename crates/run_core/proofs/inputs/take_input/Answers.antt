@@ -1,7 +1,6 @@
 use Rattle.std.proofs.Common.{not, ap, inl, inr, sym, refl, rules}
 use Rattle.ports_core.proofs.HandedOn.{handed_on}
-use Rattle.run_core.proofs.InputLemmas.{of_source_too, from_source, part_two, headed, headed_count, stopped_in_header, took_well, took_broken, took_verdict, took_stopped, fed_open}
-use Rattle.run_core.proofs.ReadingLemmas.{unread_source}
+use Rattle.run_core.proofs.InputLemmas.{of_source_too, from_source, part_two, headed, headed_count, stopped_in_header, took_well, took_broken, took_verdict, took_stopped, fed_open, unread_source}
 use Rattle.run_core.proofs.inputs.take_input.Goals as goal
 
 pub returns-in_err-put_header-clause-took : goal.returns-in_err-put_header-clause-took

@@ -1,7 +1,6 @@
 use Rattle.std.proofs.Common.{◌∙◌, sym, arith}
 use Rattle.std.proofs.lemmas.Grind.{common_steps}
-use Rattle.run_core.proofs.InputLemmas.{of_missing, of_no_room, took_opened, took_standard}
-use Rattle.run_core.proofs.ReadingLemmas.{takes_file, takes_missing}
+use Rattle.run_core.proofs.InputLemmas.{of_missing, of_no_room, took_opened, took_standard, takes_file, takes_missing}
 use Rattle.run_core.proofs.inputs.take_name.Goals as goal
 
 -- the name is `-`
