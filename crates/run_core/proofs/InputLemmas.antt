@@ -415,11 +415,11 @@ walk_begins {told} {names} {laid} {sources} {slots} fresh are alone =
     }
 
 -- where names are left, no file was removed
-slots_at : {told_in told : Bool} {task : Task} {world : World} {names left : List (List ℕ)} {progress : Progress} {laid : ℕ → List ℕ → Option Content} {sources : List Source} {slots : List Slot} → 1 ≤ length left
+pub slots_at : {told_in told : Bool} {task : Task} {world : World} {names left : List (List ℕ)} {progress : Progress} {laid : ℕ → List ℕ → Option Content} {sources : List Source} {slots : List Slot} → 1 ≤ length left
     → (walked : Walked told_in told task world names left progress laid sources slots) → OutputsAt told (streams_with walked.error) walked.made.part slots
 slots_at {slots} some walked = grind (arith, common_steps)
 
-walked_error : {told_in : Bool} (told : Bool) {task : Task} {world : World} {names left : List (List ℕ)} {progress : Progress} {laid : ℕ → List ℕ → Option Content} {sources : List Source} {slots : List Slot}
+pub walked_error : {told_in : Bool} (told : Bool) {task : Task} {world : World} {names left : List (List ℕ)} {progress : Progress} {laid : ℕ → List ℕ → Option Content} {sources : List Source} {slots : List Slot}
     → (walked : Walked told_in told task world names left progress laid sources slots) → is_open walked.error.state ≡ true
 walked_error told {task} walked = ap is_open (all_said_state told task.tool walked.made.messages standard_error walked.error walked.says)
 
@@ -446,83 +446,73 @@ Takes told_in told task most progress laid sources new_sources name so_far error
     OfName told_in (world_of laid sources) progress.was_read (length sources) name
     (λ input. TookInput told_in told task most input (of_input task progress.is_first input) progress.is_first progress.failed (progress.was_read || is_dash name) so_far error (length slots) new_sources new result)
 
--- no read asked for more
-pub asks_on : {most : ℕ} {was_read : Bool} {name : List ℕ} {sources new_sources : List Source} → most ≡ largest_piece → TakesOne most was_read name sources new_sources → AsksAtMost largest_piece sources → AsksAtMost largest_piece new_sources
-asks_on at_most leaves = search rules
-
 -- one more name was taken
-pub walk_goes_on : {told_in told : Bool} {task : Task} {most : ℕ} {world : World} {names : List (List ℕ)} {name : List ℕ} {left : List (List ℕ)} {progress next : Progress} {laid new_laid : ℕ → List ℕ → Option Content} {sources new_sources : List Source} {slots new : List Slot}
-    → most ≡ largest_piece → Walked told_in told task world names (name ∷ left) progress laid sources slots
-    → ((so_far : Part) (error : Slot) → is_open error.state ≡ true → OutputsAt told (streams_with error) so_far slots → Takes told_in told task most progress laid sources new_sources name so_far error slots new (Ok next))
-    → TakesOne most progress.was_read name sources new_sources → length new_sources ≡ next_slot (length sources) name → new_laid ≡ laid
+pub walk_goes_on : {told_in told : Bool} {task : Task} {world : World} {names : List (List ℕ)} {name : List ℕ} {left : List (List ℕ)} {progress next : Progress} {laid new_laid : ℕ → List ℕ → Option Content} {sources new_sources : List Source} {slots new : List Slot}
+    → (walked : Walked told_in told task world names (name ∷ left) progress laid sources slots)
+    → TakesOne largest_piece progress.was_read name sources new_sources → length new_sources ≡ next_slot (length sources) name → new_laid ≡ laid
+    → Takes told_in told task largest_piece progress laid sources new_sources name walked.made.part walked.error slots new (Ok next)
     → Walked told_in told task world names left next new_laid new_sources new
-walk_goes_on {told_in} {told} {task} {world} {names} {name} {left} {progress} {next} {laid} {new_laid} {sources} {new_sources} {slots} {new} at_most walked takes leaves opened_it same =
-    goes_with (rw at_most at (takes walked.made.part walked.error (walked_error told walked) (slots_at (omega arith) walked))) where
-      goes_with : Takes told_in told task largest_piece progress laid sources new_sources name walked.made.part walked.error slots new (Ok next) → Walked told_in told task world names left next new_laid new_sources new
-      goes_with (input, is_for, there, took _ after reached is is_done says at swept) =
-          let one = of_input task progress.is_first input in
-          let was : next.was_read ≡ (progress.was_read || is_dash name) = ap (λ (p : Progress). p.was_read) is in
-          let unswept : walked.made.sweeps ≡ false = walked.unswept (omega arith) in
-          let sweeps_one : (walked.made.sweeps || one.sweeps) ≡ one.sweeps = ap (λ (b : Bool). b || one.sweeps) unswept in
-          let only : one.sweeps ≡ true → (left ≡ []) × (length slots ≡ 2) = λ sweeps. taken_alone slots walked.alone (sweeps_clears task progress.is_first input.name input.content sweeps) in
-          record {
-            done = walked.done ++ input ∷ [];
-            made = joined walked.made one;
-            error = after;
-            reached = reached;
-            at = at;
-            swept = rw sweeps_one (swept_from one.sweeps reached new (λ sweeps. (only sweeps).1) swept);
-            says = says_after told task.tool walked.made.messages one.messages standard_error walked.error after walked.says says;
-            failed = rw (is, walked.failed);
-            alone = λ clears. inl (taken_alone slots walked.alone clears).0;
-            unswept = λ some. sweeps_one ∙ false_from_ne_true one.sweeps (λ sweeps. omega (arith, some, ap length (only sweeps).0));
-            first = rw (is, walked.first, and_push are_missing (λ (one : Input). is_missing one.content) refl (λ one inputs. refl) walked.done input);
-            rest_made = λ rest. ap (of_inputs task true) (append_assoc walked.done (input ∷ []) rest) ∙ walked.rest_made (input ∷ rest)
-                ∙ (simp (append_assoc, or_assoc))
-                ∙ ap (λ (b : Bool). joined (joined walked.made one) (of_inputs task b rest)) (sym (ap (λ (p : Progress). p.is_first) is));
-            rest_are = λ rest are_rest. rw (append_assoc walked.done (input ∷ []) rest) (walked.rest_are (input ∷ rest) (is_for, rw was at (rw opened_it at are_rest)));
-            rest_there = λ t. append_assoc walked.done (input ∷ []) (inputs_from world next.was_read (length new_sources) left)
-                ∙ ap (λ (first : Input). walked.done ++ first ∷ inputs_from world next.was_read (length new_sources) left) (there t ∙ same_input progress.was_read (length sources) name (is_dash name) sources walked.laid_same walked.standard)
-                ∙ ap (λ n. walked.done ++ input_of world progress.was_read (length sources) name (is_dash name) ∷ inputs_from world next.was_read n left) opened_it
-                ∙ ap (λ (b : Bool). walked.done ++ input_of world progress.was_read (length sources) name (is_dash name) ∷ inputs_from world b (next_slot (length sources) name) left) was
-                ∙ walked.rest_there t;
-            laid_same = same ∙ walked.laid_same;
-            standard = λ unread. let both = or_parts progress.was_read (is_dash name) (sym was ∙ unread) in leaves.unasked both.1 ∙ walked.standard both.0;
-            some = omega (arith, walked.some, leaves.grown);
-            known = rw was (done_more told_in task.work largest_piece (progress.was_read || is_dash name) walked.done input new_sources
-                (still_done told_in task.work largest_piece walked.done (λ had. ap (λ (b : Bool). b || is_dash name) had) leaves walked.known)
-                (done_with told_in task.work largest_piece progress.was_read name new_sources is_for walked.some is_done));
-            asked = asks_on at_most leaves walked.asked;
-            count = rw (opened_it, walked.count);
-          }
+walk_goes_on {told_in} {told} {task} {world} {names} {name} {left} {progress} {next} {laid} {new_laid} {sources} {new_sources} {slots} {new} walked leaves opened_it same (input, is_for, there, took _ after reached is is_done says at swept) =
+    let one = of_input task progress.is_first input in
+    let was : next.was_read ≡ (progress.was_read || is_dash name) = ap (λ (p : Progress). p.was_read) is in
+    let unswept : walked.made.sweeps ≡ false = walked.unswept (omega arith) in
+    let sweeps_one : (walked.made.sweeps || one.sweeps) ≡ one.sweeps = ap (λ (b : Bool). b || one.sweeps) unswept in
+    let only : one.sweeps ≡ true → (left ≡ []) × (length slots ≡ 2) = λ sweeps. taken_alone slots walked.alone (sweeps_clears task progress.is_first input.name input.content sweeps) in
+    record {
+      done = walked.done ++ input ∷ [];
+      made = joined walked.made one;
+      error = after;
+      reached = reached;
+      at = at;
+      swept = rw sweeps_one (swept_from one.sweeps reached new (λ sweeps. (only sweeps).1) swept);
+      says = says_after told task.tool walked.made.messages one.messages standard_error walked.error after walked.says says;
+      failed = rw (is, walked.failed);
+      alone = λ clears. inl (taken_alone slots walked.alone clears).0;
+      unswept = λ some. sweeps_one ∙ false_from_ne_true one.sweeps (λ sweeps. omega (arith, some, ap length (only sweeps).0));
+      first = rw (is, walked.first, and_push are_missing (λ (one : Input). is_missing one.content) refl (λ one inputs. refl) walked.done input);
+      rest_made = λ rest. ap (of_inputs task true) (append_assoc walked.done (input ∷ []) rest) ∙ walked.rest_made (input ∷ rest)
+          ∙ (simp (append_assoc, or_assoc))
+          ∙ ap (λ (b : Bool). joined (joined walked.made one) (of_inputs task b rest)) (sym (ap (λ (p : Progress). p.is_first) is));
+      rest_are = λ rest are_rest. rw (append_assoc walked.done (input ∷ []) rest) (walked.rest_are (input ∷ rest) (is_for, rw was at (rw opened_it at are_rest)));
+      rest_there = λ t. append_assoc walked.done (input ∷ []) (inputs_from world next.was_read (length new_sources) left)
+          ∙ ap (λ (first : Input). walked.done ++ first ∷ inputs_from world next.was_read (length new_sources) left) (there t ∙ same_input progress.was_read (length sources) name (is_dash name) sources walked.laid_same walked.standard)
+          ∙ ap (λ n. walked.done ++ input_of world progress.was_read (length sources) name (is_dash name) ∷ inputs_from world next.was_read n left) opened_it
+          ∙ ap (λ (b : Bool). walked.done ++ input_of world progress.was_read (length sources) name (is_dash name) ∷ inputs_from world b (next_slot (length sources) name) left) was
+          ∙ walked.rest_there t;
+      laid_same = same ∙ walked.laid_same;
+      standard = λ unread. let both = or_parts progress.was_read (is_dash name) (sym was ∙ unread) in leaves.unasked both.1 ∙ walked.standard both.0;
+      some = omega (arith, walked.some, leaves.grown);
+      known = rw was (done_more told_in task.work largest_piece (progress.was_read || is_dash name) walked.done input new_sources
+          (still_done told_in task.work largest_piece walked.done (λ had. ap (λ (b : Bool). b || is_dash name) had) leaves walked.known)
+          (done_with told_in task.work largest_piece progress.was_read name new_sources is_for walked.some is_done));
+      asked = leaves.asked walked.asked;
+      count = rw (opened_it, walked.count);
+    }
 
 -- a fault stopped the run at a name
-pub walk_stops : {told_in : Bool} (told : Bool) {task : Task} {most : ℕ} {world : World} {names : List (List ℕ)} {name : List ℕ} {left : List (List ℕ)} {progress : Progress} {laid : ℕ → List ℕ → Option Content} {sources new_sources : List Source} {slots new : List Slot} (fault : Fault)
-    → most ≡ largest_piece → Walked told_in told task world names (name ∷ left) progress laid sources slots
-    → ((so_far : Part) (error : Slot) → is_open error.state ≡ true → OutputsAt told (streams_with error) so_far slots → Takes told_in told task most progress laid sources new_sources name so_far error slots new (Err fault))
-    → TakesOne most progress.was_read name sources new_sources
+pub walk_stops : {told_in : Bool} (told : Bool) {task : Task} {world : World} {names : List (List ℕ)} {name : List ℕ} {left : List (List ℕ)} {progress : Progress} {laid : ℕ → List ℕ → Option Content} {sources new_sources : List Source} {slots new : List Slot} (fault : Fault)
+    → (walked : Walked told_in told task world names (name ∷ left) progress laid sources slots)
+    → TakesOne largest_piece progress.was_read name sources new_sources
+    → Takes told_in told task largest_piece progress laid sources new_sources name walked.made.part walked.error slots new (Err fault)
     → RunsOver told_in world names (λ found. TookAll told_in told task found new_sources new (Err fault))
-walk_stops {told_in} told {task} {world} {names} {name} {left} {progress} {laid} {sources} {new_sources} {slots} {new} fault at_most walked takes leaves =
-    stops_with (rw at_most at (takes walked.made.part walked.error (walked_error told walked) (slots_at (omega arith) walked))) where
-      stops_with : Takes told_in told task largest_piece progress laid sources new_sources name walked.made.part walked.error slots new (Err fault) → RunsOver told_in world names (λ found. TookAll told_in told task found new_sources new (Err fault))
-      stops_with (input, is_for, there, cut_off _ step reached is_step stops stop swept) =
-          let rest = inputs_from world (progress.was_read || is_dash name) (next_slot (length sources) name) left in
-          let before : made_by task walked.done ≡ walked.made
-          = ap (of_inputs task true) (sym (append-nil walked.done)) ∙ walked.rest_made [] ∙ joined_nothing in (
-            walked.done ++ input ∷ rest,
-            record {
-              are = walked.rest_are (input ∷ rest) (is_for, are_from world (progress.was_read || is_dash name) (next_slot (length sources) name) left);
-              there = λ t. ap (λ (first : Input). walked.done ++ first ∷ rest) (there t ∙ same_input progress.was_read (length sources) name (is_dash name) sources walked.laid_same walked.standard) ∙ walked.rest_there t;
-            },
-            stopped_at fault walked.done input rest walked.error step reached refl
-                (all_done told_in task.work largest_piece (progress.was_read || is_dash name) walked.done new_sources
-                (still_done told_in task.work largest_piece walked.done (λ had. ap (λ (b : Bool). b || is_dash name) had) leaves walked.known))
-                (rest_untouched world (progress.was_read || is_dash name) (next_slot (length sources) name) left new_sources
-                (λ unread. let both = or_parts progress.was_read (is_dash name) unread in leaves.unasked both.1 ∙ walked.standard both.0) leaves.within)
-                (rw before (rw walked.first at is_step))
-                stops (rw before walked.says) stop
-                (swept_from task.work.clears reached new (λ clears. (taken_alone slots walked.alone clears).1) swept),
-          )
+walk_stops {told_in} told {task} {world} {names} {name} {left} {progress} {laid} {sources} {new_sources} {slots} {new} fault walked leaves (input, is_for, there, cut_off _ step reached is_step stops stop swept) =
+    let rest = inputs_from world (progress.was_read || is_dash name) (next_slot (length sources) name) left in
+    let before : made_by task walked.done ≡ walked.made
+    = ap (of_inputs task true) (sym (append-nil walked.done)) ∙ walked.rest_made [] ∙ joined_nothing in (
+      walked.done ++ input ∷ rest,
+      record {
+        are = walked.rest_are (input ∷ rest) (is_for, are_from world (progress.was_read || is_dash name) (next_slot (length sources) name) left);
+        there = λ t. ap (λ (first : Input). walked.done ++ first ∷ rest) (there t ∙ same_input progress.was_read (length sources) name (is_dash name) sources walked.laid_same walked.standard) ∙ walked.rest_there t;
+      },
+      stopped_at fault walked.done input rest walked.error step reached refl
+          (all_done told_in task.work largest_piece (progress.was_read || is_dash name) walked.done new_sources
+          (still_done told_in task.work largest_piece walked.done (λ had. ap (λ (b : Bool). b || is_dash name) had) leaves walked.known))
+          (rest_untouched world (progress.was_read || is_dash name) (next_slot (length sources) name) left new_sources
+          (λ unread. let both = or_parts progress.was_read (is_dash name) unread in leaves.unasked both.1 ∙ walked.standard both.0) leaves.within)
+          (rw before (rw walked.first at is_step))
+          stops (rw before walked.says) stop
+          (swept_from task.work.clears reached new (λ clears. (taken_alone slots walked.alone clears).1) swept),
+    )
 
 pub walk_within : {told_in : Bool} (told : Bool) {task : Task} {most : ℕ} {world : World} {names : List (List ℕ)} {name : List ℕ} {left : List (List ℕ)} {progress : Progress} {laid : ℕ → List ℕ → Option Content} {sources new_sources : List Source} {slots : List Slot}
     → Walked told_in told task world names (name ∷ left) progress laid sources slots → TakesOne most progress.was_read name sources new_sources → length new_sources ≤ count_after 1 names
