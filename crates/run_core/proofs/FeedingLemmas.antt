@@ -14,7 +14,7 @@ use Rattle.ports_core.specs.declared.fault.Fault.{Fault}
 use Rattle.run_core.specs.declared.feeding.Fed.{Fed}
 use Rattle.run_core.specs.declared.feeding.Fed.TheVariants.{Whole, Enough, Broken}
 use Rattle.ports_core.specs.Inputs.{empty, OfContent}
-use Rattle.run_core.specs.Feeding.{is_enough, Stops, HasAll, to_end, enough, call_of, feeds, closes, FedAs, whole, had_enough, broke_off, judged, stopped, IsUnread, Uses}
+use Rattle.run_core.specs.Feeding.{is_enough, Stops, HasAll, to_end, enough, call_of, feeds, closes, FedAs, whole, had_enough, judged, stopped, IsUnread, Uses}
 use Rattle.run_core.specs.inner.RunSteps.{EndsSo, finished, fell_short}
 use Rattle.ports_core.proofs.InputsLemmas.{HasRead, changed_source}
 use Rattle.ports_core.specs.Engine as engine
@@ -113,9 +113,6 @@ module _ {S : Type 0} (Holds : S → List ℕ → Type 0) (Owns : S → ℕ → 
     pub outputs : (before : List Slot) → Owns start.stage (length before) old → OutputsAt told before ((work start.stage).settled []) old → OutputsAt told before ((work now.stage).settled x) slots
     pub bound : now.fed < 2 ^ 63
 
-  pub begins : (told : Bool) {start : GuardState S} {old : List Slot} → HoldsIn Holds start [] → start.fed < 2 ^ 63 → Feeds told start start [] old old
-  begins told holds bound = record { same = refl; holds = holds; owns = λ first own. own; outputs = λ before own at. at; bound = bound }
-
   -- the engine and its outputs stand at what it was fed
   pub stands : (told : Bool) {start now : GuardState S} {x : List ℕ} {old mid before : List Slot} → Feeds told start now x old mid → Owns start.stage (length before) old → OutputsAt told before ((work start.stage).settled []) old → StandsAt Holds Owns now.stage told before x ((work now.stage).settled x) mid
   stands told {before} so_far own at = record { holds = so_far.holds.within; owns = so_far.owns (length before) own; outputs = so_far.outputs before own at }
@@ -156,32 +153,16 @@ module _ {S : Type 0} (Holds : S → List ℕ → Type 0) (Owns : S → ℕ → 
       (λ judging. judges (work now.stage).means (Unit {0}) (EndsThere Holds work now.stage) judging caused x so_far.holds.within)
       kept (λ unjudged. cleared unjudged (length before) (so_far.owns (length before) own)))
 
-  -- the loop ended where the input broke off
-  pub broken_off : (told : Bool) {opening : Needs} {most : ℕ} {start now : GuardState S} {content : Content} (WasRead : List ℕ → Type 0) {x : List ℕ} {old slots new before : List Slot} → Feeds told start now x old slots → Owns start.stage (length before) old → OutputsAt told before ((work start.stage).settled []) old → content.bytes ≡ x → content.breaks_off ≡ true → (work now.stage).is_complete x ≡ false
-      → Clears Owns work now.stage slots new → FedAs told before (work start.stage) opening most content WasRead new (Ok Broken)
-  broken_off told {now} WasRead {slots} {before} so_far own at all breaks going cleared =
-      rw (← so_far.same) (broke_off breaks (ap (work now.stage).is_complete all ∙ going) slots
-      (rw all (so_far.outputs before own at))
-      (cleared (length before) (so_far.owns (length before) own)))
-
   -- an input without bytes: the engine is closed at once
   pub closed_at_start : (laws : (s : S) → IsLawful (work s)) (told : Bool) {opening : Needs} {most : ℕ} {start : GuardState S} {old new before : List Slot} {fed : Fed} {result : Result Fed Fault} → HoldsIn Holds start [] → start.fed < 2 ^ 63 → Owns start.stage (length before) old → OutputsAt told before ((work start.stage).settled []) old → HasGot (work start.stage) empty [] fed
       → EndsSo Holds Owns work told start fed old new result → FedAs told before (work start.stage) opening most empty (λ read. Unit {0}) new result
-  closed_at_start laws told {fed} holds bound own at got ends =
-      ended laws told (λ read. Unit {0}) (begins told holds bound) own at got (got_all fed got) (alike_itself) (inl refl) tt ends
+  closed_at_start laws told {start} {fed} holds bound own at got ends =
+      ended laws told {start = start} (λ read. Unit {0}) (record { same = refl; holds = holds; owns = λ first own. own; outputs = λ before own at. at; bound = bound }) own at got (got_all fed got) (alike_itself) (inl refl) tt ends
 
   -- an input that ended, or was enough, didn't break off
   pub ends_sound : (told : Bool) {engine : GuardState S} {fed : Fed} {old new : List Slot} {result : Result Fed Fault} (P : Type 0) → (fed ≡ Whole) ⊎ (fed ≡ Enough) → EndsSo Holds Owns work told engine fed old new result → IfOk result (λ found. found ≡ Broken → P)
   ends_sound told P sound (finished finishes) = λ is. absurd (elim sound [ inl one ↦ cc | inr other ↦ cc ])
   ends_sound told P sound (fell_short fault reached short caused kept cleared) = tt
-
-  -- how a close ended, where what it gave up is known
-  pub close_short : (told : Bool) {engine : GuardState S} (mid : GuardState S) {fed : Fed} {old reached new : List Slot} {fault : Fault} → EndsShort Holds Owns work engine.stage told old reached fault
-      → IsCaused (IsMet (work engine.stage).means (work engine.stage).means.closing (Unit {0}) (EndsThere Holds work engine.stage) old reached) engine.is_over engine.fed 0 old reached fault
-      → work mid.stage ≡ work engine.stage → (is_verdict fault ≡ false → KeepsOwn Owns engine.stage mid.stage old reached) → (is_verdict fault ≡ true → new ≡ reached) → (is_verdict fault ≡ false → Clears Owns work mid.stage reached new)
-      → EndsSo Holds Owns work told engine fed old new (Err fault)
-  close_short told mid {reached} {fault} short caused same owned kept cleared =
-      fell_short fault reached short caused kept (λ unjudged first own. rw same at (cleared unjudged first (owned unjudged first own)))
 
 -- what was read was needed
 

@@ -514,10 +514,6 @@ walk_stops {told_in} told {task} {world} {names} {name} {left} {progress} {laid}
           (swept_from task.work.clears reached new (λ clears. (taken_alone slots walked.alone clears).1) swept),
     )
 
-pub walk_within : {told_in : Bool} (told : Bool) {task : Task} {most : ℕ} {world : World} {names : List (List ℕ)} {name : List ℕ} {left : List (List ℕ)} {progress : Progress} {laid : ℕ → List ℕ → Option Content} {sources new_sources : List Source} {slots : List Slot}
-    → Walked told_in told task world names (name ∷ left) progress laid sources slots → TakesOne most progress.was_read name sources new_sources → length new_sources ≤ count_after 1 names
-walk_within told {name} {left} {sources} {new_sources} walked leaves = grind (arith, common_steps, count_more)
-
 -- all names were taken
 pub walk_ends : {told_in told : Bool} {task : Task} {world : World} {names left : List (List ℕ)} {progress : Progress} {laid : ℕ → List ℕ → Option Content} {sources : List Source} {slots : List Slot} → left ≡ []
     → Walked told_in told task world names left progress laid sources slots

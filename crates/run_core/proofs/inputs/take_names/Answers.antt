@@ -2,7 +2,7 @@ use Rattle.std.proofs.lemmas.Grind.{common_steps}
 use Rattle.std.proofs.Common.{◌∙◌, arith, rules}
 use Rattle.std.proofs.lemmas.List.{length-map}
 use Rattle.ports_core.proofs.HandedOn.{handed_on}
-use Rattle.run_core.proofs.InputLemmas.{walk_begins, walk_streams, walked_at, walk_goes_on, walk_stops, walk_ends, walk_within, untouched_on, none_left, walked_error, slots_at}
+use Rattle.run_core.proofs.InputLemmas.{walk_begins, walk_streams, walked_at, walk_goes_on, walk_stops, walk_ends, untouched_on, none_left, walked_error, slots_at, count_more}
 use Rattle.run_core.proofs.inputs.take_names.Goals as goal
 
 pub loop-left-init : goal.loop-left-init
@@ -26,7 +26,7 @@ returns-in_err-progress g c =
     let takes = c.in_err-progress.ensures.took walked.made.part walked.error (walked_error _ walked) (slots_at (omega arith) walked) in
     let leaves = rw c.loop-left.invariant.room at c.take_name.ensures.takes in record {
       took = rw (handed_on _ _ c.from_residual.ensures.1) (walk_stops _ c.in_err-progress.field-0.0 walked leaves (rw c.loop-left.invariant.room at takes));
-      opened = walk_within _ walked leaves;
+      opened = grind (arith, common_steps, count_more);
       asked = leaves.asked walked.asked;
       untouched = (untouched_on _ c.loop-left.left.now (g.I.Inputs.sources c.take_name.new.inputs) c.in-len1-up.len_at_least c.loop-left.invariant.untouched c.take_name.ensures.takes.unasked).same;
     }
