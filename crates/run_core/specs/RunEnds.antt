@@ -16,10 +16,6 @@ use Rattle.run_core.specs.Input.{Input, World, Finds}
 use Rattle.run_core.specs.Reading.{AreDone, AreUntouched, Leaves}
 use Rattle.run_core.specs.Task.{Task, made_by, after_part, header_text, are_missing, status_of}
 
--- memory, and no files
-abbrev pub needs_memory : Needs
-needs_memory = record { memory = true; files = false }
-
 -- a step after what was written before it
 abbrev pub step_after : Part → Step → Step
 step_after first step = record step { low = after_part first step.low; high = after_part first step.high }
@@ -31,7 +27,7 @@ memory_step so_far = record {
   high = so_far;
   output = false;
   files = false;
-  needs = needs_memory;
+  needs = record { memory = true; files = false };
   read = [];
 }
 
