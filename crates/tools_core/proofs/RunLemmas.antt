@@ -1,15 +1,14 @@
 -- How a run ends, by its words.
-use Rattle.std.proofs.Common.{◌≡◌, ℕ, List, [], ◌∷◌, Option, Some, None, option_map, Result, Ok, Err, refl, sym, ◌∙◌, ap, Bool, true, false, length, map, Bor, inl, inr, codes, arith}
+use Rattle.std.proofs.lemmas.Grind.{common_steps}
+use Rattle.std.proofs.Common.{◌≡◌, ℕ, List, [], ◌∷◌, Option, Some, None, option_map, Result, Ok, Err, refl, sym, ◌∙◌, ap, Bool, true, false, length, map, Bor, inl, inr, codes, arith, rules}
 use Rattle.ports_core.specs.declared.fault.Fault.{Fault}
 use Rattle.ports_core.specs.declared.tool.Tool.{Tool}
 use Rattle.words_core.specs.declared.settings.Settings.{Settings}
-use Rattle.words_core.specs.declared.settings.Settings.TheVariants.{Tail, Split, Csplit, Tee}
-use Rattle.words_core.specs.CsplitWords.{csplit_asked, HasBadOperand}
+use Rattle.words_core.specs.declared.settings.Settings.TheVariants.{Tail, Csplit, Tee}
+use Rattle.words_core.specs.CsplitWords.{HasBadOperand}
 use Rattle.words_core.specs.Given.{Given}
 use Rattle.words_core.specs.Spelling.{given_by, IsRefused}
-use Rattle.words_core.specs.SplitWords.{split_asked}
 use Rattle.words_core.specs.Value.{then_check}
-use Rattle.words_core.specs.TailWords.{tail_asked}
 use Rattle.words_core.specs.Table.{ToolRow, row_named, tools}
 use Rattle.words_core.specs.Words.{settings_for, settings_of, tool_settings, CanRun, HasBadOperands, looks}
 use Rattle.tools_core.specs.Outcome.{speaker, or_cutters, RefusesFor, RunEndsAt, TeeEndsAs, names_at}
@@ -49,27 +48,8 @@ use Rattle.operand_core.specs.declared.operand_fault.OperandFaultKind.TheVariant
 
 -- The tool that runs is the one that the words name.
 
-tool_in : Result Settings Fault → Tool
-tool_in (Ok settings) = tool_of settings
-tool_in (Err fault) = tool.Cutters
-
--- what is asked of a tool that may find more wrong with it
-by_check : {A : Type 0} {which : Tool} (make : A → Settings) → ((asked : A) → tool_of (make asked) ≡ which) → (asked : Result A Fault) (settings : Settings) → then_check asked (λ those. Ok (make those)) ≡ Ok settings → which ≡ tool_of settings
-unfolding tool_in
-by_check make same (Ok asked) settings is = sym (same asked) ∙ ap tool_in is
-by_check make same (Err fault) settings is = absurd (cc)
-
-by_tool : (which : Tool) (given : Given) (settings : Settings) → settings_for which given ≡ Ok settings → which ≡ tool_of settings
-unfolding tool_in
-by_tool tool.Head given settings is = ap tool_in is
-by_tool tool.Tail given settings is = by_check (λ asked. Tail asked) (λ asked. refl) (tail_asked given) settings is
-by_tool tool.Split given settings is = by_check (λ asked. Split asked) (λ asked. refl) (split_asked given) settings is
-by_tool tool.Csplit given settings is = by_check (λ asked. Csplit asked) (λ asked. refl) (csplit_asked given) settings is
-by_tool tool.Tee given settings is = ap tool_in is
-by_tool tool.Cutters given settings is = absurd (cc)
-
 by_given : {which : Tool} (given : Result Given Fault) {settings : Settings} → then_check given (settings_for which) ≡ Ok settings → which ≡ tool_of settings
-by_given {which} (Ok given) {settings} is = by_tool which given settings is
+by_given {which} (Ok given) {settings} is = search rules
 by_given (Err fault) is = absurd (cc)
 
 named : (row : Option ToolRow) (words : List (List ℕ)) (settings : Settings) → tool_settings words row ≡ Ok settings → or_cutters (option_map (λ row. row.tool) row) ≡ tool_of settings
@@ -129,8 +109,7 @@ tee_runs {told} {mode} {names} old mode_is names_is (content, there, (ends, brea
 
 -- an input that wasn't read, whether it tells its bytes or not
 unread_source : (told : Bool) {sources : List Source} → IsFresh sources → OfContent told (source_at sources 0).left (λ content. IsUnread told content (source_at sources 0) × BreaksOnly told content (source_at sources 0))
-unread_source true {sources} fresh =
-    let is = ap (λ those. source_at those 0) fresh.only in ((source_at sources 0).left, λ t. refl, ((fresh.standard, is, λ t. sym (ap (λ (source : Source). source.left) is)), λ untold. absurd (false≢true (sym untold))))
+unread_source true {sources} fresh = grind (arith, common_steps)
 unread_source false fresh = (empty, λ t. absurd (false≢true t), ((fresh.standard, ap (λ those. source_at those 0) fresh.only, λ t. absurd (false≢true t)), λ untold breaks. absurd (false≢true breaks)))
 
 -- want of memory is one of the faults of operands
@@ -177,11 +156,6 @@ module _ (told_in told : Bool) (words : List (List ℕ)) (laid : ℕ → List �
   refused_or_memory (inr (inl is)) refuses = rw is ([], record { are = refl; there = λ t. refl }, (refl, refuses))
   refused_or_memory {fault} (inr (inr (settings, is, bad))) refuses = rw is (operands_refused settings fault bad refuses)
   refused_or_memory (inl is) refuses = unread_for (settings_of words) refl (rw is at refuses)
-
-pub asked_or_none : (words : List (List ℕ)) {settings : Settings} {fault : Fault} → settings_of words ≡ Ok settings → settings_of words ≡ Err fault → ⊥
-asked_or_none words {settings} {fault} asks refuses = both (sym asks ∙ refuses) where
-  both : Ok settings ≡ Err fault → ⊥
-  both is = cc
 
 -- how many inputs there can be, by the names
 

@@ -1,4 +1,4 @@
-use Rattle.std.proofs.Common.{Bor, ℕ, List, map, ◌∙◌, ◌∷◌, [], sym, ap, length, ◌≤◌, arith}
+use Rattle.std.proofs.Common.{Bor, ℕ, List, map, ◌∙◌, ◌∷◌, [], sym, ap}
 use Rattle.run_core.specs.Input.{has_dash}
 use Rattle.words_core.specs.CsplitAsked.{CsplitAsked}
 use Rattle.words_core.specs.SplitAsked.{SplitAsked}
@@ -48,8 +48,3 @@ pub returns-in-Tee-clause-ends : goal.returns-in-Tee-clause-ends
 returns-in-Tee-clause-ends g c =
     rw c.in-Tee.is (tee_runs (g.I.Inputs.sources c.args.inputs.now) (ap (λ (those : TeeAsked). those.mode) c.settings-in-Tee.view_is)
     (ap (map (λ (name : Bor (List ℕ)). name.now)) c.deref-in-Tee.ensures.value ∙ ap (λ (those : TeeAsked). those.names) c.settings-in-Tee.view_is) c.run_tee.ensures.ends c.run_tee.ensures.whole)
-
-pub returns-in-Tee-clause-opened : goal.returns-in-Tee-clause-opened
-returns-in-Tee-clause-opened g c =
-    let few : length (g.I.Inputs.sources c.run_tee.new.inputs) ≤ 1 = omega (arith, c.run_tee.ensures.others.count, ap length c.requires.inputs.only) in
-    rw c.in-Tee.is few
