@@ -1,5 +1,5 @@
 -- A look at all names: at one after another, one look more, and one that was stopped; and one look after another.
-use Rattle.std.proofs.Common.{◌≡◌, ℕ, zero, suc, ◌<◌, ◌≤◌, ◌+◌, Bool, true, false, ◌||◌, List, [], ◌∷◌, ◌++◌, length, take, set, replicate, get_or, slice_index_or, refl, sym, ◌∙◌, ap, subst, arith, append_assoc, inl, inr, ◌⊎◌, Option, Some, subst₂, Err, not, ◌&&◌, map, Ok, Result, None, is_some}
+use Rattle.std.proofs.Common.{◌≡◌, ℕ, zero, suc, ◌<◌, ◌≤◌, ◌+◌, Bool, true, false, ◌||◌, List, [], ◌∷◌, ◌++◌, length, take, set, replicate, get_or, slice_index_or, refl, sym, ◌∙◌, ap, subst, arith, append_assoc, inl, inr, ◌⊎◌, Option, Some, subst₂, Err, not, ◌&&◌, map, Ok, Result, None, is_some, rules}
 use Rattle.std.proofs.Math.Bool.{or-false, or-false as or_none, and-false as and_none}
 use Rattle.std.proofs.lemmas.Bool.{cases_eq, cases_lt, and_parts, false≢true, not-true}
 use Rattle.std.proofs.lemmas.List.{append-nil, get_or-map, get_or-set_other, get_or-set_same, length-append, length-map, length-replicate, length-set, length-take-le, take_all, get_or_past, get_or-append-add, get_or_append_left, map-append, take-append-le}
@@ -39,8 +39,7 @@ nothing_shared {told} {slots} = record { printer_is = refl; slots = wrote_none t
 
 text_all : (printer : PrinterState) {mid : PrinterState} (shares more : List Share) → mid ≡ record printer { last = last_header_from printer.headers printer.last shares }
     → text_from printer.headers printer.last shares ++ text_from mid.headers mid.last more ≡ text_from printer.headers printer.last (shares ++ more)
-text_all printer shares more is =
-    ap (λ (p : PrinterState). text_from printer.headers printer.last shares ++ text_from p.headers p.last more) is ∙ sym (text-append printer.headers printer.last shares more)
+text_all printer shares more is = search (rules, text-append)
 
 pub all_both : {told : Bool} {printer mid after : PrinterState} {shares more : List Share} {old now new : List Slot} → AllShared told printer shares old mid now
     → AllShared told mid more now after new → AllShared told printer (shares ++ more) old after new
@@ -92,7 +91,7 @@ front_before : (fates : List Fate) (fate : Fate) {all : List Fate} → IsFront (
 front_before fates fate (rest, is) = (fate ∷ rest, is ∙ append_assoc fates (fate ∷ []) rest)
 
 text_there : (names now : List NameState) {place : ℕ} → texts now ≡ texts names → place < length now → get_or (texts names) place [] ≡ (state_at now place).text
-text_there names now {place} same within = ap (λ those. get_or those place []) (sym same) ∙ get_or-map (λ (n : NameState). n.text) now place no_state [] within
+text_there names now {place} same within = search (rules, get_or-map)
 
 pub texts_set : (names : List NameState) {place : ℕ} (default one : NameState) → place < length names → one.text ≡ (get_or names place default).text → texts (set names place one) ≡ texts names
 texts_set names {place} default one within same = map-set_same (λ (n : NameState). n.text) names place one default same
@@ -348,12 +347,7 @@ held_added {told_in} {told} {ways} {headers} {names} {looks} {first} {old} {watc
 
 -- a name that others added is before them
 other_added : {old mid : FollowState} {watched watched_mid : List Watched} → IsAdded old mid watched watched_mid → (number : ℕ) → IsOther old watched number → IsOther mid watched_mid number × (watched_at watched_mid number ≡ watched_at watched number)
-other_added {old} {watched} {watched_mid} is number other = (
-  subst (λ (f : FollowState). IsOther f watched_mid number) (sym is.mid_is) (λ place within at. let first_is = is.first_is (omega (arith, within)) in absurd (omega (arith, below, first_is, at))),
-  ap (λ those. watched_at those number) is.watched_is ∙ get_or_append_left watched (map added (texts old.names)) no_name number below,
-) where
-  below : number < length watched
-  below = subst (λ stage. IsOther (record old { stage = stage }) watched number) is.fresh other
+other_added {old} {watched} {watched_mid} is number other = search (rules, get_or_append_left)
 
 pub added_begins : {told_in : Bool} {old mid : FollowState} {watched watched_mid : List Watched} → IsAdded old mid watched watched_mid → Begins told_in old watched mid watched_mid
 added_begins {old} {mid} {watched} {watched_mid} is = record {
@@ -375,11 +369,7 @@ goes_on_there : (ways : Ways) (looks : List Look) (place : ℕ) (name : List ℕ
 goes_on_there ways looks place name watched New stands = sym (ap (λ those. goes_on_at ways those place name) stands.0 ∙ or_none ways.by_name)
 goes_on_there ways looks place name watched (Followed position) stands =
     sym (ap (λ dropped. not dropped && (ways.by_name || is_some (open_after ways.by_name name (snapshots looks)))) stands.kept ∙ open_there looks stands ways.by_name refl)
-goes_on_there ways looks place name watched Left stands = elim stands.why [
-  | inl dropped ↦ sym (ap (λ those. not those && (ways.by_name || is_some (open_after ways.by_name name (snapshots looks)))) dropped.0)
-  | inr missed ↦ sym (ap (λ by_name. not (is_dropped place looks) && (by_name || is_some (open_after ways.by_name name (snapshots looks)))) missed.way
-      ∙ ap (λ file. not (is_dropped place looks) && is_some file) (missed.unopened refl) ∙ and_none (not (is_dropped place looks)))
-]
+goes_on_there ways looks place name watched Left stands = search (rules, and_none)
 
 alive_from : (ways : Ways) (looks : List Look) (from : ℕ) (names : List NameState) → ((place : ℕ) → place < length names → goes_on_as ways.by_name (state_at names place).standing ≡ goes_on_at ways looks (from + place) (state_at names place).text) → any_goes_on ways.by_name names ≡ is_alive_from ways looks from (texts names)
 alive_from ways looks from [] all = refl
@@ -394,18 +384,10 @@ new_there {names} {place} within new =
     ∙ ap (λ (n : NameState). n.standing) (get_or-map new_state (texts names) place [] no_state inside)
 
 fresh_alive : (ways : Ways) {looks : List Look} {names : List NameState} → looks ≡ [] → names ≡ map new_state (texts names) → (place : ℕ) → place < length names → goes_on_as ways.by_name (state_at names place).standing ≡ goes_on_at ways looks (ways.first + place) (state_at names place).text
-fresh_alive ways {names} none new place within =
-    subst (λ (those : List Look). goes_on_as ways.by_name (state_at names place).standing ≡ goes_on_at ways those (ways.first + place) (state_at names place).text) (sym none)
-    (ap (goes_on_as ways.by_name) (new_there within new) ∙ sym (or_none ways.by_name))
+fresh_alive ways {names} none new place within = search (rules, new_there, or_none)
 
 pub alive_is : {told : Bool} {ways : Ways} {headers : Bool} {names : List (List ℕ)} {looks : List Look} {first slots : List Slot} {follow : FollowState} {watched : List Watched} → Holds true told ways headers names looks first follow watched slots → any_goes_on follow.by_name follow.names ≡ is_alive ways names looks
-alive_is {ways} {looks} {follow} {watched} holds =
-    ap (λ (way : Ways). any_goes_on way.by_name follow.names) (sym holds.asked) ∙ alive_from ways looks ways.first follow.names (stage follow.stage holds.stand)
-    ∙ ap (λ those. is_alive ways those looks) holds.same where
-      stage : (stage : Stage) → StandsIn true ways looks follow.names watched stage → (place : ℕ) → place < length follow.names → goes_on_as ways.by_name (state_at follow.names place).standing ≡ goes_on_at ways looks (ways.first + place) (state_at follow.names place).text
-      stage Fresh stand = fresh_alive ways stand.0 stand.1
-      stage Looking stand = λ place within. goes_on_there ways looks (ways.first + place) (state_at follow.names place).text (watched_at watched (ways.first + place)) (state_at follow.names place).standing (stand.0 place within)
-      stage Over stand = absurd stand
+alive_is {ways} {looks} {follow} {watched} holds = search (rules, alive_from, fresh_alive, goes_on_there)
 
 -- why a look was stopped
 

@@ -1,10 +1,10 @@
 -- A look at a name: what it gives, from where the looks before left it, what is told of it, and how it stands then.
 use Rattle.follow_core.specs.Standing.{BrokeIn, StandsAt, CanVisit, IsFollowed, IsLeft, IsMissed, Stands}
 use Rattle.follow_core.proofs.CallLemmas.{held_at, none_of, gives_nothing, failure_said, wrote_after, wrote_line, keeps_others, opened_there, opens_same, LooksAgain, some_of, nothing_due}
-use Rattle.std.proofs.Common.{◌≡◌, ℕ, ◌==◌, Bool, true, false, List, [], ◌∷◌, ◌++◌, length, Option, Some, None, refl, sym, ◌∙◌, ap, if◌then◌else◌, map, drop, subst, take, inl, inr, ◌⊎◌, append_assoc, ◌&&◌, eqb-true, Result, Ok, Err, ◌<◌, IsTrue, IfOk, subst₂, is_none, is_some, IfErr}
+use Rattle.std.proofs.Common.{◌≡◌, ℕ, ◌==◌, Bool, true, false, List, [], ◌∷◌, ◌++◌, length, Option, Some, None, refl, sym, ◌∙◌, ap, if◌then◌else◌, map, drop, subst, take, inl, inr, ◌⊎◌, append_assoc, ◌&&◌, eqb-true, Result, Ok, Err, ◌<◌, IsTrue, IfOk, subst₂, is_none, is_some, IfErr, rules}
 use Rattle.std.proofs.lemmas.List.{append-nil, map-append}
 use Rattle.watch_core.specs.Snapshot.{Snapshot}
-use Rattle.follow_core.specs.Version.{Entry, gap, version_in, entries_at_look, entries_led, entries_later, entries_of, entries_open, open_after, open_after_later, open_after_look, version}
+use Rattle.follow_core.specs.Version.{Entry, gap, version_in, entries_at_look, entries_led, entries_later, entries_open, open_after, open_after_later, open_after_look, version}
 use Rattle.follow_core.specs.Gain.{file_of, last_from, last_of, gains_later, gains_after, seen_length}
 use Rattle.follow_core.specs.inner.Giving.{said_of, Keeps, Follows, Ends, text_under, Shared, given_share, stop_in}
 use Rattle.follow_core.specs.Look.{Fate, Look, Ways, entries_in, failed_by, failed_in, fate_at, is_dropped, snapshots, sound, unopened, unread, is_first}
@@ -45,9 +45,7 @@ first_some snapshot None more = record { first = gap; rest = more; are = refl }
 first_some snapshot (Some file) more = record { first = version_in snapshot file; rest = more; are = refl }
 
 pub entries_more : (ways : Ways) (name : List ℕ) (before : Look) (looks : List Look) (look : Look) → entries_in ways name ((before ∷ looks) ++ look ∷ []) ≡ entries_in ways name (before ∷ looks) ++ entries_at_look ways.by_name name (open_after ways.by_name name (snapshots (before ∷ looks))) look.snapshot
-entries_more ways name before looks look =
-    ap (entries_of ways.by_name name) (map-append (λ (l : Look). l.snapshot) (before ∷ looks) (look ∷ []))
-    ∙ entries-append ways.by_name name before.snapshot (snapshots looks) look.snapshot
+entries_more ways name before looks look = search (rules, map-append, entries-append)
 
 -- what a look adds to the entries
 new_are : (ways : Ways) (name : List ℕ) (looks : List Look) (look : Look) {more : List Entry} → entries_in ways name (looks ++ look ∷ []) ≡ entries_in ways name looks ++ more
@@ -63,9 +61,7 @@ entries_go_on ways name (before ∷ looks) look =
 
 -- so the text goes on by what a look gives, where a file that is appended to keeps its bytes
 pub look_goes_on : (ways : Ways) (name : List ℕ) (looks : List Look) (look : Look) → AreKept (entries_in ways name (looks ++ look ∷ [])) → name_text ways.start (entries_in ways name (looks ++ look ∷ [])) ≡ name_text ways.start (entries_in ways name looks) ++ gain ways name looks look
-look_goes_on ways name looks look kept =
-    let more = entries_go_on ways name looks look in
-    ap (name_text ways.start) more ∙ text_goes_on ways.start (entries_in ways name looks) (new_entries ways name looks look) (subst AreKept more kept)
+look_goes_on ways name looks look kept = search (rules, entries_go_on, text_goes_on)
 
 gains_are : (ways : Ways) (name : List ℕ) (before looks : List Look) → gains_after ways.start [] (entries_in ways name before) ++ gains_from ways name before looks ≡ gains_after ways.start [] (entries_in ways name (before ++ looks))
 gains_are ways name before [] = append-nil _ ∙ ap (λ those. gains_after ways.start [] (entries_in ways name those)) (sym (append-nil before))
@@ -115,10 +111,7 @@ later_file by_name name {opened} last (snapshot ∷ snaps) is =
 
 -- the open file is that of the last entry
 pub last_file : (ways : Ways) (name : List ℕ) (before : Look) (looks : List Look) → open_after ways.by_name name (snapshots (before ∷ looks)) ≡ file_of (last_of (entries_in ways name (before ∷ looks)))
-last_file ways name before looks = by (before.snapshot.leads name) where
-  by : (led : Option ℕ) → open_after_later ways.by_name name led (snapshots looks) ≡ file_of (last_of (entries_led before.snapshot None led ++ entries_later ways.by_name name led (snapshots looks)))
-  by None = later_file ways.by_name name gap (snapshots looks) refl
-  by (Some file) = later_file ways.by_name name (version_in before.snapshot file) (snapshots looks) refl
+last_file ways name before looks = search (rules, later_file)
 
 -- one look more: what further entries add to a name, are told of it, and the last of them
 adds_so : (start : List ℕ → List ℕ) (name : List ℕ) (more : List Entry) {entries all : List Entry} → Some_entries entries → all ≡ entries ++ more
@@ -160,7 +153,7 @@ failed_sound place (first ∷ looks) look fine = ap (failed_by place (fate_at pl
 
 failed_first : (place : ℕ) (looks : List Look) → failed_in place looks ≡ None → failed_in place (take 1 looks) ≡ None
 failed_first place [] kept = refl
-failed_first place (look ∷ looks) kept = ap (λ those. failed_by place those None) (came_through place (fate_at place look) (failed_in place looks) kept)
+failed_first place (look ∷ looks) kept = search (rules, came_through)
 
 -- a name that is not dropped is not broken
 pub unbroken_in : {ways : Ways} {looks : List Look} {place : ℕ} {failed : Option Fault} → failed ≡ None → is_dropped place looks ≡ false → BrokeIn ways looks place failed

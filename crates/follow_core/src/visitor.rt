@@ -407,20 +407,16 @@ fn tell<O: Outs>(alloc: Global, found: Notice, name: &str, outs: &mut O) -> Resu
 fn change_of(opened: Option<u128>, found: Option<Seen>) -> Option<Notice>
     ensures { result ≡ change_between opened (option_map (λ file. file.id) found) }
 {
-    match found {
-        Some(file) => match opened {
-            Some(id) => {
-                if file.id == id {
-                    None
-                } else {
-                    Some(Notice::Replaced)
-                }
+    match (opened, found) {
+        (None, None) => None,
+        (Some(_), None) => Some(Notice::Inaccessible),
+        (None, Some(_)) => Some(Notice::Appeared),
+        (Some(id), Some(file)) => {
+            if file.id == id {
+                None
+            } else {
+                Some(Notice::Replaced)
             }
-            None => Some(Notice::Appeared),
-        },
-        None => match opened {
-            Some(_) => Some(Notice::Inaccessible),
-            None => None,
-        },
+        }
     }
 }

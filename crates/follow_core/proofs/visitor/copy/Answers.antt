@@ -1,20 +1,11 @@
-use Rattle.std.proofs.Common.{arith, drop, refl, sym, ◌∙◌, ◌-◌}
+use Rattle.std.proofs.Common.{arith, drop, sym, ◌∙◌, ◌-◌}
 use Rattle.follow_core.proofs.CallLemmas.{copy_more, cut_short, due_as, nothing_due}
 use Rattle.std.proofs.lemmas.Grind.{common_steps}
 use Rattle.follow_core.proofs.StartLemmas.{contents_same}
 use Rattle.follow_core.proofs.visitor.copy.Goals as goal
 
 pub loop-at-init : goal.loop-at-init
-loop-at-init g c = record {
-  ends = grind (arith, common_steps, due_as, nothing_due);
-  writable = c.requires.writable;
-  within = c.requires.within;
-  past = omega arith;
-  seen = refl;
-  watched = refl;
-  shows = refl;
-  room = c.requires.room;
-}
+loop-at-init g c = grind (arith, common_steps, common_steps, due_as, nothing_due)
 
 pub loop-at-preserved : goal.loop-at-preserved
 loop-at-preserved g c =

@@ -7,7 +7,7 @@ use Rattle.follow_core.proofs.StartLemmas.{contents_same}
 use Rattle.follow_core.proofs.visitor.Visitor.catch_up.Goals as goal
 
 pub returns-in_default-clause-adds : goal.returns-in_default-clause-adds
-returns-in_default-clause-adds g c = rw (sym c.open_id.ensures ∙ c.in_default.is) (record { ends = λ last stands. nothing_due; stands = λ t last stands. stands })
+returns-in_default-clause-adds g c = grind (arith, common_steps, nothing_due)
 
 pub returns-in-Err-begin_at-clause-adds : goal.returns-in-Err-begin_at-clause-adds
 returns-in-Err-begin_at-clause-adds g c =

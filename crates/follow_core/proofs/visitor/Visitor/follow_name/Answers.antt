@@ -31,9 +31,7 @@ returns-in-Err-reopen-clause-leads g c = record {
 }
 
 pub catch_up-requires-clause-watchable : goal.catch_up-requires-clause-watchable
-catch_up-requires-clause-watchable g c =
-    let reopens = reopens_as c.look.ensures.seen c.in-Ok.ensures.same c.in_default-reopen.ensures.ok in
-    grind (arith, common_steps, opened_there)
+catch_up-requires-clause-watchable g c = grind (arith, common_steps, reopens_as, common_steps, opened_there)
 
 pub returns-clause-leads : goal.returns-clause-leads
 returns-clause-leads g c =
