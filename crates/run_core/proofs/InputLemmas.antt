@@ -40,8 +40,6 @@ use Rattle.std.proofs.lemmas.List.Recursion.{and_push}
 pub last_source : (sources : List Source) {source : Source} → source_at (sources ++ source ∷ []) (length sources) ≡ source
 last_source sources {source} = grind (arith, common_steps)
 
--- how many bytes reads asked for
-
 -- what is left of the input of a source
 
 -- an input of which nothing was read
@@ -247,8 +245,6 @@ fed_open WasRead opened at (had_enough complete well there) = cc
 fed_open {work} {new} WasRead opened at (broke_off breaks going reached there swept) = grind (arith, common_steps)
 fed_open {work} {new} WasRead opened at (judged fault is enough judges reached there swept) = grind (arith, common_steps)
 fed_open {work} {new} WasRead opened at (stopped fault is call is_call read reached why stop swept) = grind (arith, common_steps)
-
--- no input but that of the source was touched
 
 -- Lemmas on how a run ends.
 

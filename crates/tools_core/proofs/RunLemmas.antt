@@ -157,8 +157,6 @@ module _ (told_in told : Bool) (words : List (List ℕ)) (laid : ℕ → List �
   refused_or_memory {fault} (inr (inr (settings, is, bad))) refuses = rw is (operands_refused settings fault bad refuses)
   refused_or_memory (inl is) refuses = unread_for (settings_of words) refl (rw is at refuses)
 
--- how many inputs there can be, by the names
-
 -- Lemmas on how a run that follows ends, by its words.
 
 module _ (told_in told : Bool) (words : List (List ℕ)) (looks : ℕ) (shows : ℕ → Snapshot) (seen : List Snapshot) (watched : List Watched) (new : List Slot) (status : ℕ) (unseen : seen ≡ []) (unwatched : watched ≡ []) where

@@ -45,8 +45,6 @@ pieces-init g c =
       ready = loads.ready _ c.requires.output;
     }
 
--- a read
-
 -- where the read broke off
 
 pub returns-in-Err : goal.returns-in-Err

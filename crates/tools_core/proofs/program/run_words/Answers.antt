@@ -9,8 +9,6 @@ use Rattle.tools_core.proofs.program.run_words.Goals as goal
 pub returns-then-follows-clause-opened : goal.returns-then-follows-clause-opened
 returns-then-follows-clause-opened g c = fresh_counts (names_read (map (λ word. word.now) c.args.words.now)) c.requires.inputs
 
--- a tool runs over its inputs
-
 -- words that are refused
 
 pub returns-clause-ends : goal.returns-clause-ends
