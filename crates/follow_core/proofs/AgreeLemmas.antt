@@ -1,7 +1,7 @@
 -- That looks don't matter.
 use Rattle.std.proofs.lemmas.Grind.{common_steps}
 use Rattle.std.proofs.Math.Seq.{drop-append_seam as drop_front}
-use Rattle.std.proofs.Common.{◌≡◌, ℕ, ◌+◌, nat_le, Bool, true, false, ◌&&◌, List, [], ◌∷◌, ◌++◌, length, drop, Some, refl, sym, ◌∙◌, ap, arith, append_assoc, length-append, if◌then◌else◌, ◌⊎◌, inl, inr, ◌<◌, take, Option, None, subst, bytes_eq}
+use Rattle.std.proofs.Common.{◌≡◌, ℕ, Bool, true, false, List, [], ◌∷◌, ◌++◌, length, Some, refl, sym, ◌∙◌, ap, arith, length-append, if◌then◌else◌, ◌⊎◌, inl, inr, ◌<◌, take, Option, None, subst, bytes_eq, rules}
 use Rattle.std.proofs.lemmas.List.{append-nil, get_or_append_left}
 use Rattle.std.proofs.lemmas.Bool.{eq-eqb, le-leb, false≢true}
 use Rattle.ports_core.specs.Part.{IsBeginning}
@@ -14,7 +14,7 @@ use Rattle.ports_core.proofs.SlotLemmas.{length-changed_at}
 use Rattle.ports_core.proofs.PartLemmas.{begins_itself, begins_trans}
 use Rattle.watch_core.specs.Edits.{Edit, append, truncate, replace, remove, World, led_to, with_file, edited, edited_by, seen_in, snapshots_from, snapshots_of}
 use Rattle.follow_core.specs.Run.{AreKept, name_text}
-use Rattle.follow_core.specs.Placing.{all_edits, IsUncut, AreSeen, AllSeen, Agree}
+use Rattle.follow_core.specs.Placing.{all_edits, IsUncut, AreSeen, AllSeen}
 use Rattle.follow_core.proofs.RunLemmas.{text_is_gains}
 use Rattle.follow_core.proofs.LookLemmas.{look_leaves}
 use Rattle.watch_core.proofs.WorldLemmas.{append_leads, append_grows}
@@ -23,35 +23,25 @@ use Rattle.watch_core.proofs.WorldLemmas.{append_leads, append_grows}
 
 -- what an appended file adds
 pub grown : (file : ℕ) (front : List ℕ) {rest whole : List ℕ} → whole ≡ front ++ rest → gain_between (version (record { file = file; contents = front })) (version (record { file = file; contents = whole })) ≡ rest
-grown file front {rest} is = rw is (
-    ap (λ test. if test && nat_le (length front) (length (front ++ rest)) then drop (length front) (front ++ rest) else front ++ rest) (eq-eqb file file refl)
-    ∙ ap (λ test. if test then drop (length front) (front ++ rest) else front ++ rest) (le-leb (length front) (length (front ++ rest)) (let a : length (front ++ rest) ≡ length front + length rest = length-append front rest in omega arith))
-    ∙ drop_front front rest)
+grown file front {rest} is = grind (arith, common_steps, eq-eqb, le-leb, drop_front)
 
 -- A version that stands inside a run adds nothing of its own.
 pub inside : (file : ℕ) (first : List ℕ) {middle last : List ℕ} → IsBeginning first middle → IsBeginning middle last
     → gain_between (version (record { file = file; contents = first })) (version (record { file = file; contents = middle })) ++ gain_between (version (record { file = file; contents = middle })) (version (record { file = file; contents = last }))
     ≡ gain_between (version (record { file = file; contents = first })) (version (record { file = file; contents = last }))
-inside file first {middle} {last} (some, is) (more, is_more) =
-    ap (λ x. x ++ gain_between (version (record { file = file; contents = middle })) (version (record { file = file; contents = last }))) (grown file first is)
-    ∙ ap (λ x. some ++ x) (grown file middle is_more)
-    ∙ sym (grown file first (is_more ∙ ap (λ x. x ++ more) is ∙ append_assoc first some more))
+inside file first {middle} {last} (some, is) (more, is_more) = grind (arith, common_steps, grown)
 
 pub led_same : (snapshot : Snapshot) (file : ℕ) → entries_led snapshot (Some file) (Some file) ≡ []
-led_same snapshot file = ap (λ test. if test then [] else version_in snapshot file ∷ []) (eq-eqb file file refl)
+led_same snapshot file = search rules
 
 -- a look after no edit gives nothing
 still : {v : Version} (snapshot : Snapshot) (entries : List Entry) → snapshot.holds v.file ≡ v.contents → gains_later (version v) (version_in snapshot v.file ∷ entries) ≡ gains_later (version v) entries
-still {v} snapshot entries same =
-    ap (λ contents. gains_later (version v) (version (record { file = v.file; contents = contents }) ∷ entries)) same
-    ∙ ap (λ x. x ++ gains_later (version v) entries) (grown v.file v.contents (sym (append-nil v.contents)))
+still {v} snapshot entries same = grind (arith, common_steps, grown, append-nil)
 
 through : {v : Version} (extra next : Snapshot) (entries : List Entry) → (extra.holds v.file ≡ v.contents) ⊎ (IsBeginning v.contents (extra.holds v.file) × IsBeginning (extra.holds v.file) (next.holds v.file))
     → gains_later (version v) (version_in extra v.file ∷ version_in next v.file ∷ entries) ≡ gains_later (version v) (version_in next v.file ∷ entries)
 through {v} extra next entries (inl same) = still extra (version_in next v.file ∷ entries) same
-through {v} extra next entries (inr (first, more)) =
-    sym (append_assoc (gain_between (version v) (version_in extra v.file)) (gain_between (version_in extra v.file) (version_in next v.file)) (gains_later (version_in next v.file) entries))
-    ∙ ap (λ x. x ++ gains_later (version_in next v.file) entries) (inside v.file v.contents first more)
+through {v} extra next entries (inr (first, more)) = grind (arith, common_steps, inside)
 
 -- A look more gives the same text: where the open file is as it was at the look before, or was only appended to since and is only
 -- appended to until the next, and a name that is followed leads where it led.
@@ -61,10 +51,7 @@ pub one_look_more : (by_name : Bool) {name : List ℕ} (last : Entry) (extra nex
     → gains_later last (entries_later by_name name (file_of last) (extra ∷ next ∷ later)) ≡ gains_later last (entries_later by_name name (file_of last) (next ∷ later))
 one_look_more true gap extra next later leads grows = rw (leads refl) refl
 one_look_more false gap extra next later leads grows = refl
-one_look_more true {name} (version v) extra next later leads grows =
-    ap (λ led. gains_later (version v) ((version_in extra v.file ∷ entries_led extra (Some v.file) led) ++ entries_later true name led (next ∷ later))) (leads refl)
-    ∙ ap (λ entries. gains_later (version v) ((version_in extra v.file ∷ entries) ++ entries_later true name (Some v.file) (next ∷ later))) (led_same extra v.file)
-    ∙ through extra next (entries_led next (Some v.file) (next.leads name) ++ entries_later true name (next.leads name) later) (grows v refl)
+one_look_more true {name} (version v) extra next later leads grows = grind (arith, common_steps, led_same, through)
 one_look_more false {name} (version v) extra next later leads grows = through extra next (entries_later false name (Some v.file) later) (grows v refl)
 
 -- two placings of looks agree
@@ -76,10 +63,7 @@ record Sound (world : World) : Type 0 where
 
 sound_changes : {world : World} (file : Option ℕ) (change : List ℕ → List ℕ) → Sound world → Sound (with_file file change world)
 sound_changes None change sound = sound
-sound_changes {world} (Some file) change sound = record {
-  known = λ name other is. subst (λ n. other < n) (sym (length-changed_at file change world.files)) (sound.known name other is);
-  one = sound.one;
-}
+sound_changes {world} (Some file) change sound = grind (arith, common_steps, length-changed_at)
 
 sound_replace : {world : World} {name : List ℕ} (bytes : List ℕ) → Sound world → Sound (edited (replace name bytes) world)
 sound_replace {world} {name} bytes sound = record { known = λ a file is. knows a file (bytes_eq name a) is; one = λ a b file is also. ones a b file (bytes_eq name a) (bytes_eq name b) refl refl is also } where
@@ -123,12 +107,8 @@ one_append world other bytes file = elim (append_grows world other bytes file) [
 -- a file that a name leads to keeps its bytes, where the name is not cut
 uncut : (world : World) (name : List ℕ) (file : ℕ) (edits : List Edit) → Sound world → led_to world.links name ≡ Some file → IsUncut name edits → AreSeen edits → IsBeginning ((seen_in world).holds file) ((seen_in (edited_by edits world)).holds file)
 uncut world name file [] sound leads no_cut seen = begins_itself _
-uncut world name file (truncate other n ∷ []) sound leads no_cut seen = by (led_to world.links other) refl where
-  by : (led : Option ℕ) → led_to world.links other ≡ led → IsBeginning ((seen_in world).holds file) ((seen_in (with_file led (λ held. take n held) world)).holds file)
-  by None is = begins_itself _
-  by (Some place) is = subst (λ held. IsBeginning ((seen_in world).holds file) held) (sym (changed_elsewhere [] place file _ world.files (λ same. false≢true (sym no_cut.0 ∙ (bytes_eq-Decides name other).1 (sound.one name other file leads (is ∙ ap Some (sym same))))))) (begins_itself _)
-uncut world name file (replace other bytes ∷ []) sound leads no_cut seen =
-    subst (λ held. IsBeginning ((seen_in world).holds file) held) (sym (get_or_append_left world.files (bytes ∷ []) [] file (sound.known name file leads))) (begins_itself _)
+uncut world name file (truncate other n ∷ []) sound leads no_cut seen = search (rules, begins_itself, changed_elsewhere, false≢true, bytes_eq-Decides)
+uncut world name file (replace other bytes ∷ []) sound leads no_cut seen = grind (arith, common_steps, get_or_append_left, begins_itself)
 uncut world name file (remove other ∷ []) sound leads no_cut seen = begins_itself _
 uncut world name file (append other bytes ∷ []) sound leads no_cut seen = one_append world other bytes file
 uncut world name file (append other bytes ∷ next ∷ edits) sound leads no_cut seen =
@@ -170,14 +150,7 @@ matches_now true name (version v) snapshot = by (snapshot.leads name) where
   by (Some file) = some file (is_file file (Some v.file))
 
 stays_now : {by_name : Bool} {name : List ℕ} (last : Entry) {world : World} → Sound world → Stays by_name name world (last_seen by_name name last (seen_in world))
-stays_now {by_name} {name} last {world} sound = record {
-  sound = sound;
-  leads = λ is. by by_name is;
-  matches = matches_now by_name name last (seen_in world);
-} where
-  by : (way : Bool) → way ≡ true → led_to world.links name ≡ file_of (last_seen way name last (seen_in world))
-  by true is = (look_leaves true name (file_of last) (seen_in world) last).file
-  by false is = absurd (false≢true is)
+stays_now {by_name} {name} last {world} sound = grind (arith, common_steps, matches_now, look_leaves, false≢true)
 
 same_first : (by_name : Bool) (name : List ℕ) (last : Entry) (snapshot : Snapshot) (looks others : List Snapshot) → gained by_name name (last_seen by_name name last snapshot) looks ≡ gained by_name name (last_seen by_name name last snapshot) others → gained by_name name last (snapshot ∷ looks) ≡ gained by_name name last (snapshot ∷ others)
 same_first by_name name last snapshot looks others same = grind (arith, common_steps)
@@ -222,10 +195,6 @@ from_first : (start : List ℕ → List ℕ) (by_name : Bool) (name : List ℕ) 
 from_first start by_name name {world} groups sound seen None is = refines groups seen world gap (record { sound = sound; leads = λ _. is; matches = tt })
 from_first start by_name name {world} groups sound seen (Some file) is = grind (arith, common_steps, refines)
 
-text_of_singles : (start : List ℕ → List ℕ) (by_name : Bool) (name : List ℕ) (first : List Edit) (groups : List (List Edit)) → AllSeen groups → AreKept (entries_of by_name name (snapshots_of (first ∷ groups)))
+pub text_of_singles : (start : List ℕ → List ℕ) (by_name : Bool) (name : List ℕ) (first : List Edit) (groups : List (List Edit)) → AllSeen groups → AreKept (entries_of by_name name (snapshots_of (first ∷ groups)))
     → name_text start (entries_of by_name name (snapshots_of (first ∷ groups))) ≡ gains_after start [] (entries_of by_name name (snapshots_of (first ∷ singles (all_edits groups))))
 text_of_singles start by_name name first groups seen kept = grind (arith, common_steps, text_is_gains, from_first, sound_all)
-
--- Two placings of looks give the same text.
-pub agree : (start : List ℕ → List ℕ) (by_name : Bool) (name : List ℕ) (first : List Edit) (one other : List (List Edit)) → Agree start by_name name first one other
-agree start by_name name first one other seen_one seen_other same kept_one kept_other = grind (arith, common_steps, text_of_singles)

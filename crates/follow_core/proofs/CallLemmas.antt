@@ -1,8 +1,8 @@
 -- What a call on a name gives, by what the calls in it give: bytes under headers, and lines; the open file, and where the name leads.
 use Rattle.std.proofs.lemmas.Grind.{common_steps}
-use Rattle.std.proofs.Common.{subst₂, ◌≡◌, ℕ, Bool, List, [], ◌∷◌, ◌++◌, inl, inr, ◌∙◌, ap, subst, ◌+◌, ◌<◌, length, take, true, false, not, if◌then◌else◌, Some, None, Option, refl, sym, arith, append_assoc, length-append, ◌-◌, ◌≤◌, drop, bytes_eq, is_none, option_map, suc, nat_lt, Result, Ok, Err, ◌==◌, zero, nat_le, IsTrue, map, IfOk, is_some}
+use Rattle.std.proofs.Common.{subst₂, ◌≡◌, ℕ, Bool, List, [], ◌∷◌, ◌++◌, inl, inr, ◌∙◌, ap, subst, ◌+◌, ◌<◌, length, take, true, false, not, if◌then◌else◌, Some, None, Option, refl, sym, arith, append_assoc, length-append, ◌-◌, ◌≤◌, drop, bytes_eq, is_none, option_map, suc, nat_lt, Result, Ok, Err, ◌==◌, zero, nat_le, IsTrue, map, IfOk, is_some, rules}
 use Rattle.ports_core.specs.Slot.{Slot, with_written, with_broken, told_of, is_open, changed_at}
-use Rattle.ports_core.specs.Message.{Prints, Says, PrintsOn}
+use Rattle.ports_core.specs.Message.{Says, PrintsOn}
 use Rattle.ports_core.specs.declared.tool.Tool.TheVariants.{Tail}
 use Rattle.ports_core.proofs.MessageLemmas.{printed_open}
 use Rattle.follow_core.specs.Sharing.{CameTo, WroteBy, CanPrint}
@@ -10,17 +10,16 @@ use Rattle.follow_core.specs.Telling.{IsFailure, Tells, TellsAll}
 use Rattle.std.proofs.lemmas.List.{append-nil, take-append-le, take-append-drop, drop-drop as drop_drop, map-append}
 use Rattle.std.proofs.Math.Seq.{take-append-add, take-add}
 use Rattle.std.proofs.Math.Bool.{and-false}
-use Rattle.std.proofs.lemmas.Slice.Eq.{bytes_eq-Decides}
 use Rattle.ports_core.specs.Write.{BrokeAfter}
 use Rattle.ports_core.specs.Text.{header_of}
 use Rattle.ports_core.specs.declared.fault.Fault.{Fault}
 use Rattle.ends_core.proofs.KeptLemmas.{nothing_written, broke_later, written_both}
 use Rattle.follow_core.specs.Followed.{has_header, is_empty, is_last}
 use Rattle.follow_core.specs.Printing.{PrinterState, Short, broke as short_broke, no_room}
-use Rattle.follow_core.specs.inner.Giving.{Ends, IsGiven, Shared, given_share, printer_under, text_under, over_by, stop_in}
+use Rattle.follow_core.specs.inner.Giving.{Ends, IsGiven, Shared, given_share, printer_under, text_under, over_by, stop_in, Adds, CanGoOn, Keeps, Leads, Follows, change_between, lines_past, said_of}
 use Rattle.follow_core.specs.declared.visitor.Stop.{Stop}
 use Rattle.follow_core.specs.Share.{IsFront}
-use Rattle.watch_core.specs.Watched.{GaveFrom, Watched, breaks, no_name, Finds, Reopens, is_readable, is_watchable, open_contents, opens, watched_at}
+use Rattle.watch_core.specs.Watched.{GaveFrom, Watched, breaks, no_name, Finds, Reopens, is_watchable, open_contents, opens, watched_at}
 use Rattle.follow_core.specs.declared.visitor.Stop.TheVariants.{Broke, Over}
 use Rattle.std.proofs.lemmas.Bool.{le-leb, false≢true, eqb-true, eq-eqb}
 use Rattle.ports_core.proofs.InputsLemmas.{changed_elsewhere}
@@ -29,8 +28,7 @@ use Rattle.follow_core.specs.inner.Visits.{KeepsOthers}
 use Rattle.watch_core.proofs.NameLemmas.{watchable_within}
 use Rattle.follow_core.specs.declared.notice.Notice.TheVariants.{Appeared, Inaccessible, Replaced, Truncated}
 use Rattle.follow_core.specs.Notice.{notice_of}
-use Rattle.follow_core.specs.inner.Calls.{Adds, CanGoOn, HasStopped, Keeps, Leads, Follows, change_between, lines_past, said_of}
-use Rattle.watch_core.specs.Snapshot.{Snapshot, latest, no_files}
+use Rattle.watch_core.specs.Snapshot.{Snapshot, latest}
 use Rattle.watch_core.specs.declared.watch.Seen.{Seen}
 use Rattle.follow_core.specs.declared.notice.Notice.{Notice}
 use Rattle.follow_core.specs.Version.{Entry, version, gap, version_in, entries_at_look, entries_led, entries_open, open_after_look}
@@ -44,20 +42,16 @@ use Rattle.ports_core.specs.declared.fault.Fault.TheVariants as fault
 
 -- lines that following says, one after another
 
--- a line that was printed
-pub said_by : {told : Bool} {line said : List ℕ} {old new : Slot} → said ≡ line → Prints told said old new → Tells told line old new
-said_by {said} is printed = record { said = said; is = inl is; printed = printed }
-
 -- the message of a failure that was said
 pub failure_said : {told : Bool} {line : List ℕ} {old new : Slot} → IsFailure line → Says told Tail line old new → Tells told line old new
 failure_said failure says = record { said = says.said; is = elim says.is [ inl same ↦ inl same | inr memory ↦ inr (failure, memory) ]; printed = says.printed }
 
 pub tells_state : (told : Bool) (lines : List (List ℕ)) (old new : Slot) → TellsAll told lines old new → new.state ≡ old.state
-tells_state told [] old new is = ap (λ slot. slot.state) is
+tells_state told [] old new is = cc
 tells_state told (line ∷ lines) old new tells = tells_state told lines tells.0 new tells.2 ∙ printed_open told tells.1.said old tells.0 tells.1.printed
 
 pub tells_after : (told : Bool) (lines more : List (List ℕ)) (old mid new : Slot) → TellsAll told lines old mid → TellsAll told more mid new → TellsAll told (lines ++ more) old new
-tells_after told [] more old mid new so_far tells = subst (λ slot. TellsAll told more slot new) so_far tells
+tells_after told [] more old mid new so_far tells = grind (arith, common_steps)
 tells_after told (first ∷ lines) more old mid new so_far tells = (so_far.0, so_far.1, tells_after told lines more so_far.0 mid new so_far.2 tells)
 
 -- what is printed under headers
@@ -76,7 +70,7 @@ pub short_later : {told : Bool} (first : List ℕ) {text : List ℕ} {old mid ne
 short_later {told} first {text} {old} {mid} {new} {n} one cut = short_broke (length first + n) (subst (λ rest. BrokeAfter told old new 0 (first ++ rest) (length first + n)) (append-nil text) (broke_later told old mid new first text [] n one cut))
 
 pub itself : (name : List ℕ) → bytes_eq name name ≡ true
-itself name = (bytes_eq-Decides name name).1 refl
+itself name = search rules
 
 -- bytes in two pieces are bytes in one, whether the first was given as the file was opened
 in_two : (printer : PrinterState) (opened : Bool) (name first second : List ℕ) (lines more all : List (List ℕ))
@@ -112,13 +106,13 @@ text_after told first second old new (Some why) one short = short_after first on
 -- what standard output and standard error get
 
 pub wrote_none : (told : Bool) {slots : List Slot} → WroteBy told [] [] slots slots None
-wrote_none told = grind (arith, common_steps)
+wrote_none told = search rules
 
 wrote_text : (told : Bool) (text : List ℕ) {old : List Slot} (new : List Slot) (over : Option Fault) → CameTo told text old new over → WroteBy told text [] old new over
-wrote_text told text new over came = λ output error others is. (error, refl, subst (λ those. CameTo told text those new over) is came)
+wrote_text told text new over came = grind (arith, common_steps)
 
 pub wrote_line : {told : Bool} {line : List ℕ} {old new : List Slot} → ((output error : Slot) (others : List Slot) → old ≡ output ∷ error ∷ others → (after : Slot) × Tells told line error after × (new ≡ output ∷ after ∷ others)) → WroteBy told [] (line ∷ []) old new None
-wrote_line {told} tells = grind (arith, common_steps)
+wrote_line {told} tells = search rules
 
 -- a text and lines after others, or a beginning of them, as one text and its lines
 pub wrote_after : (told : Bool) (text more : List ℕ) {both : List ℕ} (lines further : List (List ℕ)) {all : List (List ℕ)} {old mid : List Slot} (new : List Slot)
@@ -130,16 +124,7 @@ wrote_after told text more lines further {old} new over same also first second =
 
 pub gives_nothing : {told : Bool} {printer : PrinterState} {name : List ℕ} {slots : List Slot}
     → Shared told printer (given_share false name [] []) slots printer slots None
-gives_nothing {told} {printer} = grind (arith, common_steps)
-
--- a line alone
-pub gives_line : {told : Bool} {printer : PrinterState} {name line text : List ℕ} {old new : List Slot} → text ≡ line → PrintsOn told text old new
-    → Shared told printer (given_share false name [] (line ∷ [])) old printer new None
-gives_line {printer} same prints = record {
-  printer_is = λ none. rw (and-false printer.headers) refl;
-  slots = rw (and-false printer.headers)
-      (wrote_line (λ output error others are. let said = prints output error others are in (said.0, said_by same said.1, said.2)));
-}
+gives_nothing {told} {printer} = search rules
 
 shared_after : {told opened : Bool} {printer mid after : PrinterState} {name first second : List ℕ} {lines more : List (List ℕ)} {old now new : List Slot}
     {over : Option Fault} → Shared told printer (given_share opened name first lines) old mid now None
@@ -162,7 +147,7 @@ given_after {done} given due (Some stop) same (rest, is) = (rest, (λ i. sym sam
 pub due_as : {told_in told opened : Bool} {printer after : PrinterState} {name due other : List ℕ} {lines more : List (List ℕ)} {old new : List Slot}
     {stop : Option Stop} → (told_in ≡ true → (due ≡ other) × (lines ≡ more)) → Ends told_in told opened printer name due lines old after new stop
     → Ends told_in told opened printer name other more old after new stop
-due_as {stop} same ends = grind (arith, common_steps)
+due_as {stop} same ends = search rules
 
 -- what stops the first of two steps stops both
 pub stops_early : {told_in told opened : Bool} {printer after : PrinterState} {name due : List ℕ} (more : List ℕ) {lines_due : List (List ℕ)}
@@ -191,23 +176,14 @@ pub broke_first : {told_in told : Bool} {printer : PrinterState} {name due : Lis
 broke_first {due} {lines} = record { bytes = []; lines = []; are = λ t. ((due, refl), (lines, refl)); shared = gives_nothing }
 
 front_same : {X : Type 0} {given due : List X} → given ≡ due → IsFront given due
-front_same {X} {given} is = ([], sym is ∙ sym (append-nil given))
-
--- or after it
-pub broke_after : {told_in told opened : Bool} {printer after : PrinterState} {name due : List ℕ} {lines : List (List ℕ)} {old new : List Slot} {why : Fault}
-    → Ends told_in told opened printer name due lines old after new None → Ends told_in told opened printer name due lines old after new (Some (Broke why))
-broke_after ends = grind (arith, common_steps)
+front_same {X} {given} is = search rules
 
 -- bytes were put under the header that was due, or a beginning of both
 pub puts : {told_in told opened : Bool} {printer after : PrinterState} {name bytes : List ℕ} {old mid new : List Slot} {due : Bool} (over : Option Fault)
     → due ≡ has_header printer.headers printer.last (given_share opened name bytes [])
     → mid ≡ with_written 0 (told_of told (if due then header_of name (is_none printer.last) else [])) old → CameTo told bytes mid new over
     → after ≡ record printer { last = if due then Some name else printer.last } → Ends told_in told opened printer name bytes [] old after new (option_map Over over)
-puts {told_in} {told} {opened} {printer} {after} {name} {bytes} {old} {new} over is header came shown = by over (text_after told _ bytes old new over (rw is at header) came) where
-  by : (over : Option Fault) → CameTo told (text_under printer (given_share opened name bytes [])) old new over
-      → Ends told_in told opened printer name bytes [] old after new (option_map Over over)
-  by None came = record { bytes = bytes; lines = []; are = λ t. (refl, refl); shared = record { printer_is = λ none. rw is at shown; slots = wrote_text told _ new None came } }
-  by (Some why) came = record { bytes = bytes; lines = []; are = λ t. (front_same refl, front_same refl); shared = record { printer_is = λ none. rw is at shown; slots = wrote_text told _ new (Some why) came } }
+puts {told_in} {told} {opened} {printer} {after} {name} {bytes} {old} {new} over is header came shown = search (rules, text_after, wrote_text, front_same)
 
 -- the header was not
 pub puts_none : {told_in told opened : Bool} {printer after : PrinterState} {name bytes : List ℕ} {old new : List Slot} {due : Bool} {why : Fault}
@@ -250,28 +226,32 @@ cut_short {all} n ends = due_as (λ t. (take-append-drop n all, refl)) (stops_ea
 
 use_after : (told : Bool) (text : List ℕ) (output error : Slot) (others new : List Slot) (stop : Option Stop)
     → CameTo told text (output ∷ error ∷ others) new (over_by stop) → CanPrint (output ∷ error ∷ others) → CanGoOn stop new
-use_after told text output error others new None is can = subst CanPrint (sym is) can
-use_after told text output error others new (Some (Broke why)) is can = subst CanPrint (sym is) can
-use_after told text output error others new (Some (Over why)) (short_broke n part) can = subst (HasStopped (fault.Write 0)) (sym part.slots) (inr (refl, refl), can.1)
-use_after told text output error others new (Some (Over why)) (no_room n within is) can = subst (HasStopped fault.Memory) (sym is) (inl refl, can.1)
+use_after told text output error others new None is can = search rules
+use_after told text output error others new (Some (Broke why)) is can = search rules
+use_after told text output error others new (Some (Over why)) (short_broke n part) can = grind (arith, common_steps)
+use_after told text output error others new (Some (Over why)) (no_room n within is) can = grind (arith, common_steps)
 
 pub ends_can : {told_in told opened : Bool} {printer after : PrinterState} {name due : List ℕ} {lines : List (List ℕ)} {old new : List Slot}
     {stop : Option Stop} → Ends told_in told opened printer name due lines old after new stop → CanPrint old → CanGoOn stop new
-ends_can {old = []} ends can = absurd (false≢true can.0)
-ends_can {old = output ∷ []} ends can = absurd (false≢true can.1)
+ends_can {old = []} ends can = search rules
+ends_can {old = output ∷ []} ends can = search rules
 ends_can {told} {old = output ∷ error ∷ others} {stop} ends can =
     let (last, said, came) = ends.shared.slots output error others refl in
     use_after told _ _ _ _ _ stop came (can.0, ap is_open (tells_state told ends.lines error last said) ∙ can.1)
 
--- there was no memory for a line
-pub untold : {told_in told : Bool} {printer : PrinterState} {name due : List ℕ} {lines : List (List ℕ)} {slots : List Slot} {why : Fault}
-    → why ≡ fault.Memory → Ends told_in told false printer name due lines slots printer slots (Some (Over why))
-untold {due} {lines} is = rw is (stops_early due lines (puts_none {opened = false} {bytes = []} refl no_memory))
-
 -- a line was told
 pub tells : {told_in told : Bool} {printer : PrinterState} {name line text : List ℕ} {old new : List Slot} → text ≡ line → PrintsOn told text old new
     → Ends told_in told false printer name [] (line ∷ []) old printer new None
-tells {line} is prints = record { bytes = []; lines = line ∷ []; are = λ t. (refl, refl); shared = gives_line is prints }
+tells {printer} {line} is prints = record {
+  bytes = [];
+  lines = line ∷ [];
+  are = λ t. (refl, refl);
+  shared = record {
+    printer_is = λ none. rw (and-false printer.headers) refl;
+    slots = rw (and-false printer.headers) (wrote_line (λ output error others are. let said = prints output error others are in
+        (said.0, record { said = _; is = inl is; printed = said.1 }, said.2)));
+  };
+}
 
 pub opens_same : (names : List Watched) (place : ℕ) → changed_at place (opens (watched_at names place).opened) names ≡ names
 opens_same [] place = refl
@@ -287,7 +267,7 @@ pub keeps_others : {place : ℕ} (change : Watched → Watched) {old new : List 
 keeps_others {place} change {old} is = grind (arith, common_steps, length-changed_at, changed_elsewhere)
 
 pub reopens_as : {told : Bool} {seen seen_old : List Snapshot} {now old new : List Watched} {place : ℕ} {is_there : Bool} → seen ≡ seen_old → now ≡ old → Reopens told (latest seen) now new place is_there → Reopens told (latest seen_old) old new place is_there
-reopens_as {told} {seen} {old} {new} {place} {is_there} s w reopens = grind (arith, common_steps)
+reopens_as {told} {seen} {old} {new} {place} {is_there} s w reopens = search rules
 
 pub some_of : (file : Option ℕ) → is_some file ≡ true → (id : ℕ) × (file ≡ Some id)
 some_of None some = absurd (false≢true some)
@@ -295,7 +275,7 @@ some_of (Some id) some = (id, refl)
 
 pub none_of : {X : Type 0} (x : Option X) → is_some x ≡ false → x ≡ None
 none_of None is = refl
-none_of (Some x) is = absurd (false≢true (sym is))
+none_of (Some x) is = cc
 
 -- what a name's file holds
 abbrev pub held_at : Snapshot → Option ℕ → List ℕ
@@ -303,7 +283,7 @@ held_at snapshot None = []
 held_at snapshot (Some file) = snapshot.holds file
 
 pub contents_open : (snapshot : Snapshot) (watched : Watched) → open_contents snapshot watched ≡ held_at snapshot watched.opened
-contents_open snapshot watched = grind (arith, common_steps)
+contents_open snapshot watched = cc
 
 -- the file that was opened is that to which the name leads
 pub opened_led : {told : Bool} {snapshot : Snapshot} {old new : List Watched} {place : ℕ} {name : List ℕ} {is_there : Bool} → IsTrue (is_watchable old place)
@@ -318,22 +298,16 @@ pub contents_led : {told : Bool} {snapshot now : Snapshot} {old new : List Watch
 contents_led {snapshot} {now} {new} {place} {name} seen can reopens is t =
     contents_open now (watched_at new place) ∙ ap (held_at now) (opened_led can reopens is t) ∙ ap (λ (s : Snapshot). held_at s (snapshot.leads name)) seen
 
-pub readable_there : {told : Bool} {snapshot : Snapshot} {old new : List Watched} {place : ℕ} {is_there : Bool} → Reopens told snapshot old new place is_there → is_there ≡ true → IsTrue (is_watchable old place) → IsTrue (is_readable new place)
-readable_there {old} {place} reopens there can = grind (arith, common_steps, opened_there)
-
-pub watchable_there : {told : Bool} {snapshot : Snapshot} {old new : List Watched} {place : ℕ} {is_there : Bool} → Reopens told snapshot old new place is_there → IsTrue (is_watchable old place) → IsTrue (is_watchable new place)
-watchable_there {old} {place} reopens can = grind (arith, common_steps, opened_there)
-
 pub follows_stop : (told by_name : Bool) (led file : Option ℕ) (place : ℕ) (old : List Watched) {mid : List Watched} (new : List Watched) (stop : Stop)
     → mid ≡ changed_at place (opens file) old → Keeps place mid new (Some stop) → Follows told by_name led place old new (Some stop)
-follows_stop told by_name led file place old new (Broke why) opened keeps = (file, keeps.1 ∙ ap (changed_at place (breaks why)) opened, inr keeps.0)
+follows_stop told by_name led file place old new (Broke why) opened keeps = grind (arith, common_steps)
 follows_stop told by_name led file place old new (Over why) opened keeps = (file, keeps ∙ opened)
 
 -- calls that follow one another on the watch: a file was opened, and then a call on it kept the names, or broke this one
 pub follows_from : {told : Bool} (by_name : Bool) {led file : Option ℕ} (place : ℕ) (old : List Watched) {mid : List Watched} (new : List Watched) (stop : Option Stop)
     → mid ≡ changed_at place (opens file) old → (told ≡ true → file ≡ led) → Keeps place mid new stop → Follows told by_name led place old new stop
-follows_from by_name {file} place old new None opened leads keeps = (file, keeps ∙ opened, leads)
-follows_from {told} by_name {led} {file} place old new (Some stop) opened leads keeps = follows_stop told by_name led file place old new stop opened keeps
+follows_from by_name {file} place old new None opened leads keeps = search rules
+follows_from {told} by_name {led} {file} place old new (Some stop) opened leads keeps = grind (arith, common_steps)
 
 -- a call that looks or opens failed, and the open file is as it was
 pub follows_broken : (told : Bool) (led : Option ℕ) {place : ℕ} {old now new : List Watched} {why : Fault} → now ≡ old → why ≡ fault.Open place
@@ -344,7 +318,7 @@ follows_broken told led {place} {old} {why} same is broken =
 -- what was found to have changed is what changed
 pub change_seen : {told : Bool} (snapshot : Snapshot) {old now : List Watched} (place : ℕ) {name : List ℕ} {found : Option Seen} {id : Option ℕ} {result : Option Notice} → result ≡ change_between id (option_map (λ (file : Seen). file.id) found) → id ≡ (watched_at now place).opened → now ≡ old
     → (watched_at old place).name ≡ name → (told ≡ true → Finds snapshot (watched_at old place).name found) → told ≡ true → change_between (watched_at old place).opened (snapshot.leads name) ≡ result
-change_seen snapshot {old} place {name} {found} {id} is opened same named finds t = grind (arith, common_steps)
+change_seen snapshot {old} place {name} {found} {id} is opened same named finds t = search rules
 
 -- what came to the open file
 
@@ -368,15 +342,7 @@ caught name snapshot (version v) {file} stands long =
       by false = (sym (append-nil _), refl)
 
 module _ {told_in told : Bool} {name : List ℕ} {opened : Option ℕ} {position : ℕ} {printer : PrinterState} {slots : List Slot} where
-  -- a call failed before anything was given
-  pub adds_broke : {entries : List Entry} {led : Option ℕ} {why : Fault}
-      → Adds told_in told name opened position entries led printer slots printer slots (Err (Broke why))
-  adds_broke = record { ends = λ last stands. broke_first; stands = tt }
-
   -- ways out of catching up
-
-  pub adds_none : (snapshot : Snapshot) → opened ≡ None → Adds told_in told name opened position (entries_open snapshot opened) opened printer slots printer slots (Ok position)
-  adds_none snapshot none = rw none (record { ends = λ last stands. nothing_due; stands = λ t last stands. stands })
 
   pub adds_untold : (snapshot : Snapshot) {file len : ℕ} {after : PrinterState} {slots_new : List Slot} {why : Fault} → opened ≡ Some file
       → (told_in ≡ true → len ≡ length (held_at snapshot opened))
@@ -408,7 +374,7 @@ module _ {told_in told : Bool} {name : List ℕ} {opened : Option ℕ} {position
 -- where the name leads
 
 -- nothing is due where nothing changed
-nothing_led : (name : List ℕ) (snapshot : Snapshot) (last : Entry) (led : Option ℕ) {opened : Option ℕ} → opened ≡ file_of last → change_between opened led ≡ None
+pub nothing_led : (name : List ℕ) (snapshot : Snapshot) (last : Entry) (led : Option ℕ) {opened : Option ℕ} → opened ≡ file_of last → change_between opened led ≡ None
     → (gains_later last (entries_led snapshot opened led) ≡ []) × (said_of name last (entries_led snapshot opened led) ≡ [])
     × (last_from last (entries_led snapshot opened led) ≡ last) × (led ≡ opened)
 nothing_led name snapshot gap None here is = rw here (refl, refl, refl, refl)
@@ -419,13 +385,13 @@ nothing_led name snapshot (version v) (Some file) here is =
     let same : (file == v.file) ≡ true = grind (arith, nat_tests) in rw (here, same) (refl, refl, refl, ap Some (eqb-true file v.file same))
 
 -- a name as its file was just opened
-abbrev fresh : Option ℕ → Entry
+abbrev pub fresh : Option ℕ → Entry
 fresh None = gap
 fresh (Some file) = version (record { file = file; contents = [] })
 
-fresh_stands : (file : Option ℕ) → StandsAt (fresh file) file 0
-fresh_stands None = record { file = refl; seen = refl }
-fresh_stands (Some file) = record { file = refl; seen = refl }
+pub fresh_stands : (file : Option ℕ) → StandsAt (fresh file) file 0
+fresh_stands None = search rules
+fresh_stands (Some file) = search rules
 
 -- all of it is due
 fresh_dues : (name : List ℕ) (snapshot : Snapshot) (file : Option ℕ)
@@ -447,9 +413,6 @@ change_led name snapshot (version v) (Some file) {change} here is =
     let other : (v.file == file) ≡ false = grind (arith, nat_tests) in
     rw (here, both.0, other) (append-nil _, ap (λ those. notice_of those name ∷ []) both.1, refl)
 
-pub same_led : (opened led : Option ℕ) → change_between opened led ≡ None → opened ≡ led
-same_led opened led none = sym (nothing_led [] no_files (fresh opened) led (fresh_stands opened).file none).3
-
 module _ {told_in told : Bool} {name : List ℕ} {opened : Option ℕ} {position : ℕ} (snapshot : Snapshot) {led : Option ℕ} {printer : PrinterState} {slots : List Slot} where
   -- ways out of following a name
 
@@ -469,7 +432,7 @@ module _ {told_in told : Bool} {name : List ℕ} {opened : Option ℕ} {position
   }
 
   -- it was told, and then all that the file holds was given, or a beginning
-  adds_said : {mid slots_new : List Slot} {after : PrinterState} {due : List ℕ} {more : List (List ℕ)} {change : Notice} {result : Result ℕ Stop}
+  pub adds_said : {mid slots_new : List Slot} {after : PrinterState} {due : List ℕ} {more : List (List ℕ)} {change : Notice} {result : Result ℕ Stop}
       → (told_in ≡ true → change_between opened led ≡ Some change) → Ends told_in told false printer name [] (notice_of change name ∷ []) slots printer mid None
       → (told_in ≡ true → (due ≡ held_at snapshot led) × (more ≡ [])) → Ends told_in told false printer name due more mid after slots_new (stop_in result)
       → IfOk result (λ len. told_in ≡ true → StandsAt (last_from (fresh led) (entries_open snapshot led)) led len)
@@ -479,11 +442,6 @@ module _ {told_in told : Bool} {name : List ℕ} {opened : Option ℕ} {position
         ((dues t).0 ∙ sym gains, ap (λ lines. notice_of change name ∷ lines) (dues t).1 ∙ sym said)) (goes_after line rest);
     stands = IfOk-weaker result _ _ (λ len at t last stands. rw (change_led name snapshot last led stands.file (changed t)).2 (at t)) seen;
   }
-
-  pub adds_unopened : {mid : List Slot} {change : Notice} {why : Fault} → (told_in ≡ true → change_between opened led ≡ Some change)
-      → Ends told_in told false printer name [] (notice_of change name ∷ []) slots printer mid None
-      → Adds told_in told name opened position (entries_led snapshot opened led) led printer slots printer mid (Err (Broke why))
-  adds_unopened changed line = adds_said changed line (λ t. (refl, refl)) broke_first tt
 
   pub adds_opened : {now : Snapshot} {mid slots_new : List Slot} {after : PrinterState} {file : Option ℕ} {change : Notice} {result : Result ℕ Stop}
       → (told_in ≡ true → change_between opened led ≡ Some change) → Ends told_in told false printer name [] (notice_of change name ∷ []) slots printer mid None
@@ -501,7 +459,7 @@ at_look : (by_name : Bool) (name : List ℕ) (opened : Option ℕ) (snapshot : S
     → entries_open snapshot opened ++ entries_led snapshot opened (open_after_look by_name name opened snapshot) ≡ entries_at_look by_name name opened snapshot
 at_look true name opened snapshot = refl
 at_look false name None snapshot = refl
-at_look false name (Some file) snapshot = rw (eq-eqb file file refl) refl
+at_look false name (Some file) snapshot = search rules
 
 -- before it is told what failed
 pub record LooksAgain (told_in told by_name : Bool) (snapshot : Snapshot) (place : ℕ) (name : List ℕ) (position : ℕ) (watched : List Watched)
@@ -512,7 +470,7 @@ pub record LooksAgain (told_in told by_name : Bool) (snapshot : Snapshot) (place
 
 unchanged : (file : Option ℕ) → change_between file file ≡ None
 unchanged None = refl
-unchanged (Some file) = rw (eq-eqb file file refl) refl
+unchanged (Some file) = search rules
 
 said-append : (name : List ℕ) (last : Entry) (entries more : List Entry) → said_of name last (entries ++ more) ≡ said_of name last entries ++ said_of name (last_from last entries) more
 said-append name last entries more = grind (arith, common_steps, notices-append, map-append)
@@ -524,18 +482,14 @@ adds_both : {told_in told : Bool} {name : List ℕ} {opened led : Option ℕ} {p
     → Adds told_in told name opened position (entries ++ more) led printer slots after slots_new result
 adds_both {name} {entries} {more} {result} one two = grind (arith, common_steps, due_as, gains-append, said-append, goes_after, IfOk-weaker, last_from-append)
 
-adds_stop : {told_in told : Bool} {name : List ℕ} {opened led file : Option ℕ} {position : ℕ} {entries : List Entry} (more : List Entry) {printer after : PrinterState}
-    {slots slots_new : List Slot} {stop : Stop} → Adds told_in told name opened position entries file printer slots after slots_new (Err stop)
-    → Adds told_in told name opened position (entries ++ more) led printer slots after slots_new (Err stop)
-adds_stop {name} {entries} more one = grind (arith, common_steps, due_as, gains-append, said-append, stops_early)
-
 module _ {told_in told : Bool} {snapshot : Snapshot} {place : ℕ} {name : List ℕ} {position : ℕ} {watched : List Watched} {printer : PrinterState} {slots : List Slot} where
   pub stopped_looks : (by_name : Bool) {watched_new : List Watched} {after : PrinterState} {slots_new : List Slot} {stop : Stop}
       → Adds told_in told name (watched_at watched place).opened position (entries_open snapshot (watched_at watched place).opened) (watched_at watched place).opened printer slots after slots_new (Err stop)
       → Keeps place watched watched_new (Some stop)
       → LooksAgain told_in told by_name snapshot place name position watched printer slots watched_new after slots_new (Err stop)
   stopped_looks by_name {stop} adds keeps = record {
-    adds = rw (← at_look by_name name (watched_at watched place).opened snapshot) (adds_stop _ adds);
+    adds = rw (← at_look by_name name (watched_at watched place).opened snapshot)
+        (record { ends = λ last stands. due_as (λ t. (sym (gains-append last _ _), sym (said-append name last _ _))) (stops_early _ _ (adds.ends last stands)); stands = tt });
     follows = follows_stop told_in by_name (open_after_look by_name name (watched_at watched place).opened snapshot) _ place watched _ stop (sym (opens_same watched place)) keeps;
   }
 

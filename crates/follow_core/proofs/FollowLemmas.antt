@@ -1,5 +1,5 @@
 -- A look at all names: at one after another, one look more, and one that was stopped; and one look after another.
-use Rattle.std.proofs.Common.{◌≡◌, ℕ, zero, suc, ◌<◌, ◌≤◌, ◌+◌, Bool, true, false, ◌||◌, List, [], ◌∷◌, ◌++◌, length, take, set, replicate, get_or, slice_index_or, refl, sym, ◌∙◌, ap, subst, arith, append_assoc, inl, inr, ◌⊎◌, Option, Some, subst₂, Err, not, ◌&&◌, map, Ok, Result, None, is_some, if◌then◌else◌}
+use Rattle.std.proofs.Common.{◌≡◌, ℕ, zero, suc, ◌<◌, ◌≤◌, ◌+◌, Bool, true, false, ◌||◌, List, [], ◌∷◌, ◌++◌, length, take, set, replicate, get_or, slice_index_or, refl, sym, ◌∙◌, ap, subst, arith, append_assoc, inl, inr, ◌⊎◌, Option, Some, subst₂, Err, not, ◌&&◌, map, Ok, Result, None, is_some, rules}
 use Rattle.std.proofs.Math.Bool.{or-false, or-false as or_none, and-false as and_none}
 use Rattle.std.proofs.lemmas.Bool.{cases_eq, cases_lt, and_parts, false≢true, not-true}
 use Rattle.std.proofs.lemmas.List.{append-nil, get_or-map, get_or-set_other, get_or-set_same, length-append, length-map, length-replicate, length-set, length-take-le, take_all, get_or_past, get_or-append-add, get_or_append_left, map-append, take-append-le}
@@ -9,10 +9,10 @@ use Rattle.follow_core.specs.FollowState.{AllReady, Begun, CanLook, FollowState,
 use Rattle.follow_core.specs.Followed.{any_failed, last_header_from, messages_of, share_text, text_from}
 use Rattle.follow_core.specs.Look.{Fate, Look, Ways, is_dropped, sound, snapshots, ways_of}
 use Rattle.follow_core.specs.Share.{BeginsShare, Share, share_by, share_of, shares_at_look_from, IsFront, shares_of}
-use Rattle.follow_core.specs.inner.Visits.{KeepsOthers, Opened, StandFrom, Stopped, Visited, VisitedTo, Visits, VisitsAll, any_goes_on, goes_on_as}
+use Rattle.follow_core.specs.inner.Visits.{KeepsOthers, Opened, StandFrom, Stopped, Visited, VisitedTo, Visits, VisitsAll, any_goes_on, goes_on_as, AddsSome, Begins, MakesLook, LookedAll}
 use Rattle.follow_core.specs.Printing.{PrinterState, Short}
 use Rattle.follow_core.specs.Sharing.{AllShared, AllShort, Wrote, CanPrint}
-use Rattle.follow_core.specs.inner.Giving.{Shared}
+use Rattle.follow_core.specs.inner.Giving.{Shared, HasStopped}
 use Rattle.follow_core.specs.Standing.{AllStand, BrokeIn, CanVisit, NameState, Stands, StandsAmong, no_state, state_at, texts, AreBroken, IsFollowed}
 use Rattle.follow_core.proofs.CallLemmas.{wrote_after, wrote_none, no_memory}
 use Rattle.ports_core.specs.declared.fault.Fault.{Fault}
@@ -24,14 +24,10 @@ use Rattle.follow_core.proofs.LookLemmas.{broken_sound, unbroken_in, last_file}
 use Rattle.follow_core.proofs.RunLemmas.{failed-append, last-append, messages-append, text-append, shares_more}
 use Rattle.follow_core.specs.declared.follow.Stage.{Stage}
 use Rattle.follow_core.specs.declared.follow.Stage.TheVariants.{Fresh, Looking, Over}
-use Rattle.follow_core.specs.inner.Calls.{HasStopped}
-use Rattle.follow_core.specs.inner.Looks.{AddsSome, Begins, MakesLook, LookedAll}
 use Rattle.follow_core.specs.Version.{open_after}
 use Rattle.watch_core.proofs.NameLemmas.{latest-last}
-use mir.Val.{bool_byte}
-use Rattle.ports_core.proofs.Runs.{as_status}
 use Rattle.follow_core.specs.declared.start.Start.{Start}
-use Rattle.follow_core.specs.Ending.{FollowEndsAs, Made, StoppedIn, looked, seen_first}
+use Rattle.follow_core.specs.Ending.{Made, StoppedIn, seen_first}
 use Rattle.ports_core.specs.declared.fault.Fault.TheVariants as fault
 
 -- A look at one name after another.
@@ -43,8 +39,7 @@ nothing_shared {told} {slots} = record { printer_is = refl; slots = wrote_none t
 
 text_all : (printer : PrinterState) {mid : PrinterState} (shares more : List Share) → mid ≡ record printer { last = last_header_from printer.headers printer.last shares }
     → text_from printer.headers printer.last shares ++ text_from mid.headers mid.last more ≡ text_from printer.headers printer.last (shares ++ more)
-text_all printer shares more is =
-    ap (λ (p : PrinterState). text_from printer.headers printer.last shares ++ text_from p.headers p.last more) is ∙ sym (text-append printer.headers printer.last shares more)
+text_all printer shares more is = search (rules, text-append)
 
 pub all_both : {told : Bool} {printer mid after : PrinterState} {shares more : List Share} {old now new : List Slot} → AllShared told printer shares old mid now
     → AllShared told mid more now after new → AllShared told printer (shares ++ more) old after new
@@ -55,13 +50,6 @@ all_both {printer} {shares} {more} all rest = record {
 }
 
 -- one share more, or a beginning of it
-
-pub shared_more : {told : Bool} {printer mid after : PrinterState} {shares : List Share} {share : Share} {old now new : List Slot}
-    → AllShared told printer shares old mid now → Shared told mid share now after new None → AllShared told printer (shares ++ share ∷ []) old after new
-shared_more {told} {now} {new} all one = all_both all (record {
-  printer_is = one.printer_is refl;
-  slots = subst₂ (λ text lines. Wrote told text lines now new) (sym (append-nil _)) (sym (append-nil _)) one.slots;
-})
 
 pub shared_short : {told : Bool} {printer mid after : PrinterState} {shares : List Share} {share : Share} {old now new : List Slot} {why : Fault}
     → AllShared told printer shares old mid now → Shared told mid share now after new (Some why) → AllShort told printer (shares ++ share ∷ []) old new why
@@ -103,7 +91,7 @@ front_before : (fates : List Fate) (fate : Fate) {all : List Fate} → IsFront (
 front_before fates fate (rest, is) = (fate ∷ rest, is ∙ append_assoc fates (fate ∷ []) rest)
 
 text_there : (names now : List NameState) {place : ℕ} → texts now ≡ texts names → place < length now → get_or (texts names) place [] ≡ (state_at now place).text
-text_there names now {place} same within = ap (λ those. get_or those place []) (sym same) ∙ get_or-map (λ (n : NameState). n.text) now place no_state [] within
+text_there names now {place} same within = search (rules, get_or-map)
 
 pub texts_set : (names : List NameState) {place : ℕ} (default one : NameState) → place < length names → one.text ≡ (get_or names place default).text → texts (set names place one) ≡ texts names
 texts_set names {place} default one within same = map-set_same (λ (n : NameState). n.text) names place one default same
@@ -125,15 +113,12 @@ shares_next ways looks look names now {place} same within =
     ∙ sym (shares_one ways looks look ways.first (take place (texts names)) (get_or (texts names) place []))
     ∙ ap (shares_at_look_from ways looks look ways.first) (sym (take-suc (texts names) place [] below))
 
-failed_one : (shares : List Share) (share : Share) {before failed : Bool} → any_failed shares ≡ before → share.has_failed ≡ failed → any_failed (shares ++ share ∷ []) ≡ (before || failed)
-failed_one shares share {before} {failed} is one = failed-append shares (share ∷ []) ∙ ap (λ first. first || (share.has_failed || false)) is ∙ ap (λ last. before || (last || false)) one ∙ ap (λ last. before || last) (or-false failed)
-
 pub visited_more : {told_in told : Bool} {ways : Ways} {looks : List Look} {snapshot : Snapshot} {names now : List NameState} {one : NameState} {place : ℕ}
     {printer mid after : PrinterState} {old slots new : List Slot} {watched watched_new : List Watched} {before failed : Bool} → place < length now
-    → Visits told_in told ways snapshot (ways.first + place) (state_at now place) watched mid slots one watched_new after new (Ok failed)
-    → VisitedTo told_in told ways looks snapshot place names printer old mid slots watched now before
+    → Visits told_in told ways snapshot (ways.first + place) (state_at now place).text (state_at now place).standing watched mid slots one.standing watched_new after new (Ok failed)
+    → one.text ≡ (state_at now place).text → VisitedTo told_in told ways looks snapshot place names printer old mid slots watched now before
     → VisitedTo told_in told ways looks snapshot (place + 1) names printer old after new watched_new (set now place one) (before || failed)
-visited_more {told_in} {told} {ways} {looks} {snapshot} {names} {now} {one} {place} {mid} {after} {slots} {new} {watched} {watched_new} {failed} within visits sofar = record {
+visited_more {told_in} {told} {ways} {looks} {snapshot} {names} {now} {one} {place} {mid} {after} {slots} {new} {watched} {watched_new} {before} {failed} within visits same sofar = record {
   fates = sofar.fates ++ visited.fate ∷ [];
   shares = sofar.shares ++ visited.share ∷ [];
   count = length-append sofar.fates (visited.fate ∷ []) ∙ ap (λ n. n + 1) sofar.count ∙ omega arith;
@@ -141,9 +126,13 @@ visited_more {told_in} {told} {ways} {looks} {snapshot} {names} {now} {one} {pla
       ap (λ those. those ++ visited.share ∷ []) (sofar.are t all (front_before sofar.fates visited.fate front))
       ∙ ap (λ share. shares_at_look_from ways looks look ways.first (take place (texts names)) ++ share ∷ []) (visited.is_share t all (fate_there sofar.fates visited.fate front sofar.count))
       ∙ shares_next ways looks look names now sofar.same within ∙ ap (λ n. shares_at_look_from ways looks look ways.first (take n (texts names))) (let next : suc place ≡ place + 1 = omega arith in next);
-  is_failed = failed_one sofar.shares visited.share sofar.is_failed visited.is_failed;
-  shared = shared_more sofar.shared visited.shared;
-  same = texts_set now no_state one within visits.same ∙ sofar.same;
+  is_failed = failed-append sofar.shares (visited.share ∷ []) ∙ ap (λ first. first || (visited.share.has_failed || false)) sofar.is_failed
+      ∙ ap (λ last. before || (last || false)) visited.is_failed ∙ ap (λ last. before || last) (or-false failed);
+  shared = all_both sofar.shared (record {
+    printer_is = visited.shared.printer_is refl;
+    slots = subst₂ (λ text lines. Wrote told text lines slots new) (sym (append-nil _)) (sym (append-nil _)) visited.shared.slots;
+  });
+  same = texts_set now no_state one within same ∙ sofar.same;
   done = λ all front other below. there all front other below (cases_eq other place);
   rest = λ other above inside. stays looks other (λ at. omega arith) (sofar.rest other (omega arith) (subst (λ n. other < n) (length-set now place one) inside));
 } where
@@ -158,7 +147,7 @@ visited_more {told_in} {told} {ways} {looks} {snapshot} {names} {now} {one} {pla
       → StandsAmong told_in ways (looks ++ record { snapshot = snapshot; fates = all } ∷ []) (set now place one) watched_new other
   there all front other below (inr elsewhere) = stays (looks ++ record { snapshot = snapshot; fates = all } ∷ []) other elsewhere
       (sofar.done all (front_before sofar.fates visited.fate front) other (omega arith))
-  there all front other below (inl at) = rw (at, get_or-set_same now place one no_state within, visits.same) (visited.stands all (fate_there sofar.fates visited.fate front sofar.count))
+  there all front other below (inl at) = rw (at, get_or-set_same now place one no_state within, same) (visited.stands all (fate_there sofar.fates visited.fate front sofar.count))
 
 -- by what a name broke, as it stands
 pub broken_there : (told : Bool) {ways : Ways} {looks : List Look} {place : ℕ} (name : List ℕ) (watched : Watched) (standing : Standing) → Stands told ways looks place name watched standing → BrokeIn ways looks place watched.failed
@@ -178,9 +167,9 @@ opens_failed (name ∷ names) (suc place) zero file = refl
 opens_failed (name ∷ names) (suc place) (suc other) file = opens_failed names place other file
 
 -- a look that was stopped at a name
-pub visited_short : {told_in told : Bool} {ways : Ways} {looks : List Look} {snapshot : Snapshot} {names now : List NameState} {one : NameState} {place : ℕ}
+pub visited_short : {told_in told : Bool} {ways : Ways} {looks : List Look} {snapshot : Snapshot} {names now : List NameState} {standing : Standing} {place : ℕ}
     {printer mid after : PrinterState} {old slots new : List Slot} {watched watched_new : List Watched} {before : Bool} {why : Fault} → place < length now
-    → Visits told_in told ways snapshot (ways.first + place) (state_at now place) watched mid slots one watched_new after new (Err why)
+    → Visits told_in told ways snapshot (ways.first + place) (state_at now place).text (state_at now place).standing watched mid slots standing watched_new after new (Err why)
     → VisitedTo told_in told ways looks snapshot place names printer old mid slots watched now before → length watched_new ≡ ways.first + length names
     → (more : List Share) × Begun told_in ways (texts names) looks snapshot watched_new more × AllShort told printer more old new why
 visited_short {told_in} {told} {ways} {looks} {snapshot} {names} {now} {place} {mid} {slots} {new} {watched} {watched_new} {why} within visits sofar many = (
@@ -227,10 +216,6 @@ next_ready first names one {place} {watched_new} within ready keeps can other in
   by (inr elsewhere) = subst (λ (n : NameState). CanVisit n (watched_at watched_new (first + other))) (sym (get_or-set_other names place other one no_state elsewhere)) (subst (CanVisit (state_at names other)) (sym (keeps.others (first + other) (λ at. elsewhere (omega (arith, at))))) (ready other (subst (λ n. other < n) (length-set names place one) inside)))
 
 -- A look at all names more, and one that was stopped.
-
--- memory was wanting after all of them
-none_stop : {told : Bool} {printer : PrinterState} {slots : List Slot} → AllShort told printer [] slots slots fault.Memory
-none_stop {told} {slots} = record { slots = λ output error others is. (error, refl, subst (λ those. Short told [] those slots fault.Memory) is no_memory) }
 
 -- names that are looked at
 
@@ -362,12 +347,7 @@ held_added {told_in} {told} {ways} {headers} {names} {looks} {first} {old} {watc
 
 -- a name that others added is before them
 other_added : {old mid : FollowState} {watched watched_mid : List Watched} → IsAdded old mid watched watched_mid → (number : ℕ) → IsOther old watched number → IsOther mid watched_mid number × (watched_at watched_mid number ≡ watched_at watched number)
-other_added {old} {watched} {watched_mid} is number other = (
-  subst (λ (f : FollowState). IsOther f watched_mid number) (sym is.mid_is) (λ place within at. let first_is = is.first_is (omega (arith, within)) in absurd (omega (arith, below, first_is, at))),
-  ap (λ those. watched_at those number) is.watched_is ∙ get_or_append_left watched (map added (texts old.names)) no_name number below,
-) where
-  below : number < length watched
-  below = subst (λ stage. IsOther (record old { stage = stage }) watched number) is.fresh other
+other_added {old} {watched} {watched_mid} is number other = search (rules, get_or_append_left)
 
 pub added_begins : {told_in : Bool} {old mid : FollowState} {watched watched_mid : List Watched} → IsAdded old mid watched watched_mid → Begins told_in old watched mid watched_mid
 added_begins {old} {mid} {watched} {watched_mid} is = record {
@@ -376,11 +356,6 @@ added_begins {old} {mid} {watched} {watched_mid} is = record {
   others = other_added is;
   holds = λ told ways headers names looks first slots holds. held_added is holds;
 }
-
--- names of others, in the look after that
-not_own : {number : ℕ} (follow : FollowState) (watched : List Watched) → follow.stage ≡ Looking → IsOther follow watched number
-    → (place : ℕ) → place < length follow.names → number ≡ follow.first + place → ⊥
-not_own {number} follow watched looking other = subst (λ stage. IsOther (record follow { stage = stage }) watched number) looking other
 
 -- whether a further look can give something
 
@@ -394,11 +369,7 @@ goes_on_there : (ways : Ways) (looks : List Look) (place : ℕ) (name : List ℕ
 goes_on_there ways looks place name watched New stands = sym (ap (λ those. goes_on_at ways those place name) stands.0 ∙ or_none ways.by_name)
 goes_on_there ways looks place name watched (Followed position) stands =
     sym (ap (λ dropped. not dropped && (ways.by_name || is_some (open_after ways.by_name name (snapshots looks)))) stands.kept ∙ open_there looks stands ways.by_name refl)
-goes_on_there ways looks place name watched Left stands = elim stands.why [
-  | inl dropped ↦ sym (ap (λ those. not those && (ways.by_name || is_some (open_after ways.by_name name (snapshots looks)))) dropped.0)
-  | inr missed ↦ sym (ap (λ by_name. not (is_dropped place looks) && (by_name || is_some (open_after ways.by_name name (snapshots looks)))) missed.way
-      ∙ ap (λ file. not (is_dropped place looks) && is_some file) (missed.unopened refl) ∙ and_none (not (is_dropped place looks)))
-]
+goes_on_there ways looks place name watched Left stands = search (rules, and_none)
 
 alive_from : (ways : Ways) (looks : List Look) (from : ℕ) (names : List NameState) → ((place : ℕ) → place < length names → goes_on_as ways.by_name (state_at names place).standing ≡ goes_on_at ways looks (from + place) (state_at names place).text) → any_goes_on ways.by_name names ≡ is_alive_from ways looks from (texts names)
 alive_from ways looks from [] all = refl
@@ -413,18 +384,10 @@ new_there {names} {place} within new =
     ∙ ap (λ (n : NameState). n.standing) (get_or-map new_state (texts names) place [] no_state inside)
 
 fresh_alive : (ways : Ways) {looks : List Look} {names : List NameState} → looks ≡ [] → names ≡ map new_state (texts names) → (place : ℕ) → place < length names → goes_on_as ways.by_name (state_at names place).standing ≡ goes_on_at ways looks (ways.first + place) (state_at names place).text
-fresh_alive ways {names} none new place within =
-    subst (λ (those : List Look). goes_on_as ways.by_name (state_at names place).standing ≡ goes_on_at ways those (ways.first + place) (state_at names place).text) (sym none)
-    (ap (goes_on_as ways.by_name) (new_there within new) ∙ sym (or_none ways.by_name))
+fresh_alive ways {names} none new place within = search (rules, new_there, or_none)
 
 pub alive_is : {told : Bool} {ways : Ways} {headers : Bool} {names : List (List ℕ)} {looks : List Look} {first slots : List Slot} {follow : FollowState} {watched : List Watched} → Holds true told ways headers names looks first follow watched slots → any_goes_on follow.by_name follow.names ≡ is_alive ways names looks
-alive_is {ways} {looks} {follow} {watched} holds =
-    ap (λ (way : Ways). any_goes_on way.by_name follow.names) (sym holds.asked) ∙ alive_from ways looks ways.first follow.names (stage follow.stage holds.stand)
-    ∙ ap (λ those. is_alive ways those looks) holds.same where
-      stage : (stage : Stage) → StandsIn true ways looks follow.names watched stage → (place : ℕ) → place < length follow.names → goes_on_as ways.by_name (state_at follow.names place).standing ≡ goes_on_at ways looks (ways.first + place) (state_at follow.names place).text
-      stage Fresh stand = fresh_alive ways stand.0 stand.1
-      stage Looking stand = λ place within. goes_on_there ways looks (ways.first + place) (state_at follow.names place).text (watched_at watched (ways.first + place)) (state_at follow.names place).standing (stand.0 place within)
-      stage Over stand = absurd stand
+alive_is {ways} {looks} {follow} {watched} holds = search (rules, alive_from, fresh_alive, goes_on_there)
 
 -- why a look was stopped
 
@@ -480,7 +443,7 @@ pub makes_none : {told_in told : Bool} {snapshot : Snapshot} {seen seen_new : Li
     → ((number : ℕ) → IsOther old watched number → watched_at watched_new number ≡ watched_at watched number)
     → (old.stage ≡ Over → ⊥) → CanLook old watched slots → why ≡ fault.Memory → seen_new ≡ seen
     → MakesLook told_in told snapshot seen old watched slots seen_new new watched_new slots (Err why)
-makes_none {old} {watched} {slots} unbroken others live can is same = record {
+makes_none {told} {old} {watched} {slots} unbroken others live can is same = record {
   looked = tt;
   stopped = λ ways headers names looks first holds. record {
     shares = holds.shares;
@@ -490,7 +453,7 @@ makes_none {old} {watched} {slots} unbroken others live can is same = record {
     shared = holds.shared;
     more = [];
     begun = nothing (unbroken ways headers names looks first holds);
-    short = rw is none_stop;
+    short = rw is (record { slots = λ output error others at. (error, refl, subst (λ those. Short told [] those slots fault.Memory) at no_memory) });
   };
   seen_is = tt;
   saw = inl same;
@@ -553,7 +516,7 @@ makes_look {told_in} {told} {shows} {shows_mid} {seen} {seen_mid} {seen_turned} 
 
       others : {those : Result Bool Fault} → Seen those → (number : ℕ) → IsOther old watched number → watched_at watched_new number ≡ watched_at watched number
       others visits number other =
-          let (others, same) = begins.others number other in visits.others number (not_own inside watched_mid begins.stage others) ∙ same
+          let (others, same) = begins.others number other in visits.others number (subst (λ stage. IsOther (record inside { stage = stage }) watched_mid number) begins.stage others) ∙ same
 
       by : (result : Result Bool Fault) → Seen result → MakesLook told_in told snapshot seen old watched slots seen_new
           (record inside { names = names_new; printer = printer }) watched_new slots_new result
@@ -676,11 +639,3 @@ open_holds {told_in} {told} {by_name} {start} {headers} {names} {watched} {slots
   shared = nothing_shared;
   failed = refl;
 })
-
-pub ends_looked : {told_in told : Bool} {ways : Ways} {headers : Bool} {names : List (List ℕ)} {count : ℕ} {shows : ℕ → Snapshot} {first slots : List Slot} {seen : List Snapshot} {watched : List Watched} {follow : FollowState} {failed : Bool} {status : ℕ} → failed ≡ follow.has_failed → status ≡ bool_byte failed
-    → LookedAll told_in told ways headers names count shows first follow seen watched slots → FollowEndsAs told_in told ways headers names count shows first seen watched slots status
-ends_looked {failed} is status_is all =
-    looked all.looks all.holds.shares all.observed (broken_are all.holds) all.made all.within all.over all.holds.are (record {
-      wrote = all.holds.shared.slots;
-      status_is = status_is ∙ as_status failed ∙ ap (λ those. if those then 1 else 0) (is ∙ sym all.holds.failed);
-    })

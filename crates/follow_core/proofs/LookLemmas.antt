@@ -1,13 +1,12 @@
 -- A look at a name: what it gives, from where the looks before left it, what is told of it, and how it stands then.
-use Rattle.std.proofs.lemmas.Grind.{common_steps}
-use Rattle.follow_core.specs.Standing.{BrokeIn, StandsAt, CanVisit, IsFollowed, IsLeft, IsMissed, NameState, Stands}
+use Rattle.follow_core.specs.Standing.{BrokeIn, StandsAt, CanVisit, IsFollowed, IsLeft, IsMissed, Stands}
 use Rattle.follow_core.proofs.CallLemmas.{held_at, none_of, gives_nothing, failure_said, wrote_after, wrote_line, keeps_others, opened_there, opens_same, LooksAgain, some_of, nothing_due}
-use Rattle.std.proofs.Common.{◌≡◌, ℕ, ◌==◌, Bool, true, false, List, [], ◌∷◌, ◌++◌, length, Option, Some, None, refl, sym, ◌∙◌, ap, if◌then◌else◌, map, drop, subst, take, inl, inr, ◌⊎◌, append_assoc, ◌&&◌, eqb-true, Result, Ok, Err, ◌<◌, IsTrue, IfOk, subst₂, is_none, is_some, IfErr, arith}
+use Rattle.std.proofs.Common.{◌≡◌, ℕ, ◌==◌, Bool, true, false, List, [], ◌∷◌, ◌++◌, length, Option, Some, None, refl, sym, ◌∙◌, ap, if◌then◌else◌, map, drop, subst, take, inl, inr, ◌⊎◌, append_assoc, ◌&&◌, eqb-true, Result, Ok, Err, ◌<◌, IsTrue, IfOk, subst₂, is_none, is_some, IfErr, rules}
 use Rattle.std.proofs.lemmas.List.{append-nil, map-append}
 use Rattle.watch_core.specs.Snapshot.{Snapshot}
-use Rattle.follow_core.specs.Version.{Entry, gap, version_in, entries_at_look, entries_led, entries_later, entries_of, entries_open, open_after, open_after_later, open_after_look, version}
+use Rattle.follow_core.specs.Version.{Entry, gap, version_in, entries_at_look, entries_led, entries_later, entries_open, open_after, open_after_later, open_after_look, version}
 use Rattle.follow_core.specs.Gain.{file_of, last_from, last_of, gains_later, gains_after, seen_length}
-use Rattle.follow_core.specs.inner.Calls.{said_of, Keeps, Follows}
+use Rattle.follow_core.specs.inner.Giving.{said_of, Keeps, Follows, Ends, text_under, Shared, given_share, stop_in}
 use Rattle.follow_core.specs.Look.{Fate, Look, Ways, entries_in, failed_by, failed_in, fate_at, is_dropped, snapshots, sound, unopened, unread, is_first}
 use Rattle.std.proofs.Math.Seq.{drop-append_seam as drop_front, take-append_seam}
 use Rattle.follow_core.specs.Run.{AreKept, name_text}
@@ -21,12 +20,9 @@ use Rattle.ports_core.specs.declared.tool.Tool.TheVariants.{Tail}
 use Rattle.ports_core.specs.declared.fault.Fault.{Fault}
 use Rattle.ports_core.specs.declared.fault.Fault.TheVariants.{Open, Read}
 use Rattle.follow_core.specs.declared.visitor.Stop.TheVariants.{Broke, Over}
-use Rattle.follow_core.specs.declared.visitor.Came.TheVariants.{Through, Dropped, Missing}
-use Rattle.follow_core.specs.inner.Giving.{Ends, text_under, Shared, given_share, stop_in}
-use Rattle.follow_core.specs.inner.Visits.{Stopped, has_failed, failed_then, standing_then, Visits, TellsStop, standing_after, Looks, Visited}
+use Rattle.follow_core.specs.inner.Visits.{Visits, TellsStop, Visited}
 use Rattle.follow_core.specs.Printing.{PrinterState}
 use Rattle.follow_core.specs.Telling.{IsFailure}
-use Rattle.follow_core.specs.declared.visitor.Came.{Came}
 use Rattle.follow_core.specs.declared.visitor.Stop.{Stop}
 use Rattle.std.proofs.lemmas.Bool.{false≢true}
 use Rattle.watch_core.proofs.NameLemmas.{watchable_within}
@@ -48,16 +44,12 @@ first_some : (snapshot : Snapshot) (led : Option ℕ) (more : List Entry) → So
 first_some snapshot None more = record { first = gap; rest = more; are = refl }
 first_some snapshot (Some file) more = record { first = version_in snapshot file; rest = more; are = refl }
 
-pub some_at : (by_name : Bool) (name : List ℕ) (first : Snapshot) (snaps : List Snapshot) → Some_entries (entries_of by_name name (first ∷ snaps))
-some_at by_name name first snaps = first_some first (first.leads name) _
-
 pub entries_more : (ways : Ways) (name : List ℕ) (before : Look) (looks : List Look) (look : Look) → entries_in ways name ((before ∷ looks) ++ look ∷ []) ≡ entries_in ways name (before ∷ looks) ++ entries_at_look ways.by_name name (open_after ways.by_name name (snapshots (before ∷ looks))) look.snapshot
-entries_more ways name before looks look =
-    ap (entries_of ways.by_name name) (map-append (λ (l : Look). l.snapshot) (before ∷ looks) (look ∷ []))
-    ∙ entries-append ways.by_name name before.snapshot (snapshots looks) look.snapshot
+entries_more ways name before looks look = search (rules, map-append, entries-append)
 
 -- what a look adds to the entries
-pub new_are : (ways : Ways) (name : List ℕ) (looks : List Look) (look : Look) {more : List Entry} → entries_in ways name (looks ++ look ∷ []) ≡ entries_in ways name looks ++ more → new_entries ways name looks look ≡ more
+new_are : (ways : Ways) (name : List ℕ) (looks : List Look) (look : Look) {more : List Entry} → entries_in ways name (looks ++ look ∷ []) ≡ entries_in ways name looks ++ more
+    → new_entries ways name looks look ≡ more
 new_are ways name looks look {more} is = ap (drop (length (entries_in ways name looks))) is ∙ drop_front (entries_in ways name looks) more
 
 -- a look only adds entries
@@ -69,9 +61,7 @@ entries_go_on ways name (before ∷ looks) look =
 
 -- so the text goes on by what a look gives, where a file that is appended to keeps its bytes
 pub look_goes_on : (ways : Ways) (name : List ℕ) (looks : List Look) (look : Look) → AreKept (entries_in ways name (looks ++ look ∷ [])) → name_text ways.start (entries_in ways name (looks ++ look ∷ [])) ≡ name_text ways.start (entries_in ways name looks) ++ gain ways name looks look
-look_goes_on ways name looks look kept =
-    let more = entries_go_on ways name looks look in
-    ap (name_text ways.start) more ∙ text_goes_on ways.start (entries_in ways name looks) (new_entries ways name looks look) (subst AreKept more kept)
+look_goes_on ways name looks look kept = search (rules, entries_go_on, text_goes_on)
 
 gains_are : (ways : Ways) (name : List ℕ) (before looks : List Look) → gains_after ways.start [] (entries_in ways name before) ++ gains_from ways name before looks ≡ gains_after ways.start [] (entries_in ways name (before ++ looks))
 gains_are ways name before [] = append-nil _ ∙ ap (λ those. gains_after ways.start [] (entries_in ways name those)) (sym (append-nil before))
@@ -121,10 +111,7 @@ later_file by_name name {opened} last (snapshot ∷ snaps) is =
 
 -- the open file is that of the last entry
 pub last_file : (ways : Ways) (name : List ℕ) (before : Look) (looks : List Look) → open_after ways.by_name name (snapshots (before ∷ looks)) ≡ file_of (last_of (entries_in ways name (before ∷ looks)))
-last_file ways name before looks = by (before.snapshot.leads name) where
-  by : (led : Option ℕ) → open_after_later ways.by_name name led (snapshots looks) ≡ file_of (last_of (entries_led before.snapshot None led ++ entries_later ways.by_name name led (snapshots looks)))
-  by None = later_file ways.by_name name gap (snapshots looks) refl
-  by (Some file) = later_file ways.by_name name (version_in before.snapshot file) (snapshots looks) refl
+last_file ways name before looks = search (rules, later_file)
 
 -- one look more: what further entries add to a name, are told of it, and the last of them
 adds_so : (start : List ℕ → List ℕ) (name : List ℕ) (more : List Entry) {entries all : List Entry} → Some_entries entries → all ≡ entries ++ more
@@ -142,7 +129,7 @@ pub looked_more : (ways : Ways) (name : List ℕ) (before : Look) (looks : List 
     → let entries = entries_at_look ways.by_name name opened look.snapshot in let last = last_of (entries_in ways name (before ∷ looks)) in
     (gain ways name (before ∷ looks) look ≡ gains_later last entries) × (said_at_look ways name (before ∷ looks) look ≡ said_of name last entries)
     × (last_of (entries_in ways name ((before ∷ looks) ++ look ∷ [])) ≡ last_from last entries)
-looked_more ways name before looks look is = adds_so ways.start name _ (some_at ways.by_name name before.snapshot (snapshots looks))
+looked_more ways name before looks look is = adds_so ways.start name _ (first_some before.snapshot (before.snapshot.leads name) _)
     (entries_more ways name before looks look ∙ ap (λ file. entries_in ways name (before ∷ looks) ++ entries_at_look ways.by_name name file look.snapshot) (last_file ways name before looks ∙ sym is))
 
 -- a name that no look broke came through each
@@ -166,7 +153,7 @@ failed_sound place (first ∷ looks) look fine = ap (failed_by place (fate_at pl
 
 failed_first : (place : ℕ) (looks : List Look) → failed_in place looks ≡ None → failed_in place (take 1 looks) ≡ None
 failed_first place [] kept = refl
-failed_first place (look ∷ looks) kept = ap (λ those. failed_by place those None) (came_through place (fate_at place look) (failed_in place looks) kept)
+failed_first place (look ∷ looks) kept = search (rules, came_through)
 
 -- a name that is not dropped is not broken
 pub unbroken_in : {ways : Ways} {looks : List Look} {place : ℕ} {failed : Option Fault} → failed ≡ None → is_dropped place looks ≡ false → BrokeIn ways looks place failed
@@ -215,12 +202,12 @@ pub record IsDue (told_in : Bool) (ways : Ways) (before : List Look) (snapshot :
 -- The outputs have what the look gives for the name, by how the name came through it, and by which fault it broke. Where the files
 -- don't tell their bytes, they have something.
 pub record Looked (told_in told : Bool) (ways : Ways) (before : List Look) (snapshot : Snapshot) (place : ℕ) (name : List ℕ) (printer : PrinterState)
-    (old : List Slot) (after : PrinterState) (new : List Slot) (came : Came) (broke_by : Option Fault) : Type 0 where
+    (old : List Slot) (after : PrinterState) (new : List Slot) (has_failed : Bool) (broke_by : Option Fault) : Type 0 where
   pub fate : Fate
   pub share : Share
   pub is_share : told_in ≡ true → (fates : List Fate) → share ≡ share_by ways name before (seeing snapshot fates) fate
   pub fault : failed_by place fate None ≡ broke_by
-  pub failed : share.has_failed ≡ has_failed came
+  pub failed : share.has_failed ≡ has_failed
   pub shared : Shared told printer share old after new None
 
 -- the message of a failure is told after a share
@@ -249,8 +236,8 @@ front_taken {bytes} (rest, is) same = sym (ap (take (length bytes)) (sym same �
 
 module _ {told_in told : Bool} {ways : Ways} {before : List Look} {snapshot : Snapshot} {name due : List ℕ} {lines_due : List (List ℕ)} {printer after : PrinterState} {old mid : List Slot} (dues : IsDue told_in ways before snapshot name due lines_due) where
   -- all that is due was given
-  pub looked_whole : {place len : ℕ} → Ends told_in told (is_first before) printer name due lines_due old after mid None
-      → Looked told_in told ways before snapshot place name printer old after mid (Through len) None
+  pub looked_whole : {place : ℕ} → Ends told_in told (is_first before) printer name due lines_due old after mid None
+      → Looked told_in told ways before snapshot place name printer old after mid false None
   looked_whole ends = record {
     fate = sound;
     share = given_share (is_first before) name ends.bytes ends.lines;
@@ -263,7 +250,7 @@ module _ {told_in told : Bool} {ways : Ways} {before : List Look} {snapshot : Sn
   -- a call failed: a beginning was given, and the message follows
   pub looked_broke : {place : ℕ} {new : List Slot} {why : Fault} → FailsAs place ways.by_name before (Broke why)
       → Ends told_in told (is_first before) printer name due lines_due old after mid (Some (Broke why)) → SaysOn told Tail (message_of Tail why name) mid new
-      → Looked told_in told ways before snapshot place name printer old after new Dropped (Some why)
+      → Looked told_in told ways before snapshot place name printer old after new true (Some why)
   looked_broke {why} (inl (opening, way, later)) ends says = record {
     fate = unopened (length ends.lines) (length ends.bytes);
     share = failed_share (is_first before) name ends.bytes (ends.lines ++ message_of Tail why name ∷ []);
@@ -283,62 +270,12 @@ module _ {told_in told : Bool} {ways : Ways} {before : List Look} {snapshot : Sn
     shared = said_after ends.shared (name, inr (ap (λ those. message_of Tail those name) read)) says;
   }
 
-  -- following ended: a beginning was given
-  pub looked_over : {why : Fault} → Ends told_in told (is_first before) printer name due lines_due old after mid (Some (Over why))
-      → Stopped told_in told ways before snapshot name printer old mid why
-  looked_over ends = record {
-    share = given_share (is_first before) name ends.bytes ends.lines;
-    after = after;
-    begins = λ is fates. subst (BeginsShare (given_share (is_first before) name ends.bytes ends.lines)) (due_share dues is fates)
-        (record { name = refl; opened = refl; bytes = (ends.are is).0; messages = (ends.are is).1 });
-    short = ends.shared;
-  }
-
 -- the first look
 
 -- the entries of a name after it
 entries_first : (ways : Ways) {name : List ℕ} (look : Look) {led : Option ℕ} → look.snapshot.leads name ≡ led
     → entries_in ways name (look ∷ []) ≡ entries_led look.snapshot None led
 entries_first ways look is = append-nil _ ∙ ap (entries_led look.snapshot None) is
-
--- it finds nothing where the name leads, or a call that opens fails
-pub meets_nothing : {told_in told : Bool} {ways : Ways} {snapshot : Snapshot} {place : ℕ} {name : List ℕ} {printer : PrinterState} {old new : List Slot}
-    → (told_in ≡ true → snapshot.leads name ≡ None) → SaysOn told Tail (message_of Tail (Open place) name) old new
-    → Looked told_in told ways [] snapshot place name printer old printer new Missing None
-meets_nothing {ways} {snapshot} {name} leads says = record {
-  fate = sound;
-  share = missing_share name;
-  is_share = λ is fates. sym (rw (ap is_missing (entries_first ways (seeing snapshot fates) (leads is))) refl);
-  fault = refl;
-  failed = refl;
-  shared = said_after gives_nothing (name, inl refl) says;
-}
-
-pub meets_unopened : {told_in told : Bool} {ways : Ways} {snapshot : Snapshot} {place : ℕ} {name : List ℕ} {printer : PrinterState} {old new : List Slot}
-    → SaysOn told Tail (message_of Tail (Open place) name) old new
-    → Looked told_in told ways [] snapshot place name printer old printer new Dropped (Some (Open place))
-meets_unopened {name} says = record {
-  fate = unopened 0 0;
-  share = missing_share name;
-  is_share = λ is fates. refl;
-  fault = refl;
-  failed = refl;
-  shared = said_after gives_nothing (name, inl refl) says;
-}
-
--- what is due of a file that it finds
-pub first_due : {told_in : Bool} {ways : Ways} {snapshot : Snapshot} {name contents : List ℕ} → (told_in ≡ true → (id : ℕ) × (snapshot.leads name ≡ Some id))
-    → (told_in ≡ true → contents ≡ held_at snapshot (snapshot.leads name)) → IsDue told_in ways [] snapshot name (ways.start contents) []
-first_due {ways} {snapshot} {name} found same = record {
-  is = λ is fates.
-      let look = seeing snapshot fates in
-      let (id, leads) = found is in
-      let entries = entries_first ways look leads in (
-        ap is_missing entries,
-        ap ways.start (same is ∙ ap (held_at snapshot) leads) ∙ sym (ap (gains_after ways.start []) entries ∙ append-nil _),
-        sym (ap (λ those. map (λ notice. notice_of notice name) (notices_of those)) entries),
-      );
-}
 
 -- a later look
 
@@ -409,22 +346,12 @@ through_stands looks look {place} old named can kept is at through leads last =
       there = λ t way. ap (λ (w : Watched). is_some w.opened) now ∙ ap is_some (leads t) ∙ (last t).0 way;
     }
 
--- one that broke is looked at no more
-dropped_stands : {told : Bool} {ways : Ways} (looks : List Look) (look : Look) {place : ℕ} {name : List ℕ} (file : Option ℕ) (old : List Watched)
-    {new : List Watched} {fate : Fate} {why : Fault} → IsTrue (is_watchable old place) → is_dropped place looks ≡ false
-    → new ≡ changed_at place (breaks why) (changed_at place (opens file) old) → fate_at place look ≡ fate → failed_by place fate None ≡ Some why
-    → (is_first looks ≡ false → ways.by_name ≡ false → why ≡ Read place) → IsLeft told ways (looks ++ look ∷ []) place name (watched_at new place)
-dropped_stands looks look {place} file old can kept is at fault read = record {
-  begun = begun_more looks look;
-  why = inl (kept_more place looks look kept at fault, broken_more looks look (broken_now place file old is can) fault kept at read);
-}
-
 -- what a look gave, and how the name stands then
 looked_visited : {told_in told : Bool} {ways : Ways} {looks : List Look} {snapshot : Snapshot} {place : ℕ} {name : List ℕ} {printer after : PrinterState}
-    {slots slots_new : List Slot} {watched : Watched} {came : Came} {standing : Standing} {failed : Option Fault} → is_dropped place looks ≡ false
-    → (looked : Looked told_in told ways looks snapshot place name printer slots after slots_new came failed)
+    {slots slots_new : List Slot} {watched : Watched} {has_failed : Bool} {standing : Standing} {failed : Option Fault} → is_dropped place looks ≡ false
+    → (looked : Looked told_in told ways looks snapshot place name printer slots after slots_new has_failed failed)
     → ((fates : List Fate) → fate_at place (seeing snapshot fates) ≡ looked.fate → Stands told_in ways (looks ++ seeing snapshot fates ∷ []) place name watched standing)
-    → Visited told_in told ways looks snapshot place name printer slots after slots_new watched standing (has_failed came)
+    → Visited told_in told ways looks snapshot place name printer slots after slots_new watched standing has_failed
 looked_visited kept looked stands = record {
   fate = looked.fate;
   share = looked.share;
@@ -441,50 +368,58 @@ only_read looks (inl (opening, is, later)) first way = absurd (false≢true (sym
 only_read looks (inr read) first way = read
 
 module _ {told_in told : Bool} {ways : Ways} {snapshot : Snapshot} {place : ℕ} {name : List ℕ} {standing : Standing} {old new : List Watched} {printer after : PrinterState} {slots slots_new : List Slot} where
-  came_looks : (came : Came) (change : Watched → Watched) → new ≡ changed_at place change old
-      → CanVisit (record { text = name; standing = standing_after ways.by_name came }) (watched_at new place)
+  visits_by : (now : Standing) {failed : Bool} (change : Watched → Watched) → new ≡ changed_at place change old
+      → CanVisit (record { text = name; standing = now }) (watched_at new place)
       → ((looks : List Look) → Stands told_in ways looks place name (watched_at old place) standing
-      → Visited told_in told ways looks snapshot place name printer slots after slots_new (watched_at new place) (standing_after ways.by_name came) (has_failed came))
-      → Looks told_in told ways snapshot place name standing old printer slots new after slots_new (Ok came)
-  came_looks came change is ready visited =
-      record { visits = record { visited = visited; stopped = tt; same = refl; ready = ready; others = keeps_others change is; halts = tt } }
+      → Visited told_in told ways looks snapshot place name printer slots after slots_new (watched_at new place) now failed)
+      → Visits told_in told ways snapshot place name standing old printer slots now new after slots_new (Ok failed)
+  visits_by now change is ready visited = record { visited = visited; stopped = tt; ready = ready; others = keeps_others change is; halts = tt }
 
   -- it broke
-  drops_looks : (file : Option ℕ) (why : Fault) → IsTrue (is_watchable old place) → new ≡ changed_at place (breaks why) (changed_at place (opens file) old)
+  drops : (file : Option ℕ) (why : Fault) → IsTrue (is_watchable old place) → new ≡ changed_at place (breaks why) (changed_at place (opens file) old)
       → ((looks : List Look) → Stands told_in ways looks place name (watched_at old place) standing → (is_dropped place looks ≡ false)
-      × Looked told_in told ways looks snapshot place name printer slots after slots_new Dropped (Some why) × (is_first looks ≡ false → ways.by_name ≡ false → why ≡ Read place))
-      → Looks told_in told ways snapshot place name standing old printer slots new after slots_new (Ok Dropped)
-  drops_looks file why can is gave = came_looks Dropped (λ w. breaks why (opens file w)) (is ∙ changed_at-again place (opens file) (breaks why) old) tt (λ looks stands.
+      × Looked told_in told ways looks snapshot place name printer slots after slots_new true (Some why) × (is_first looks ≡ false → ways.by_name ≡ false → why ≡ Read place))
+      → Visits told_in told ways snapshot place name standing old printer slots Left new after slots_new (Ok true)
+  drops file why can is gave = visits_by Left (λ w. breaks why (opens file w)) (is ∙ changed_at-again place (opens file) (breaks why) old) tt (λ looks stands.
       let (kept, looked, read) = gave looks stands in
-      looked_visited kept looked (λ fates at. dropped_stands looks (seeing snapshot fates) file old can kept is at looked.fault read))
+      looked_visited kept looked (λ fates at. record {
+        begun = begun_more looks (seeing snapshot fates);
+        why = inl (kept_more place looks _ kept at looked.fault, broken_more looks _ (broken_now place file old is can) looked.fault kept at read);
+      }))
 
   -- it came through; what stopped it is told, or ends following
   pub gave_through : {led : Option ℕ} {len : ℕ} → (watched_at old place).name ≡ name
       → IsTrue (is_watchable old place) → Follows told_in ways.by_name led place old new None
       → ((looks : List Look) → Stands told_in ways looks place name (watched_at old place) standing
       → Gave told_in told ways looks snapshot place name led printer slots after slots_new (Ok len))
-      → Looks told_in told ways snapshot place name standing old printer slots new after slots_new (Ok (Through len))
+      → Visits told_in told ways snapshot place name standing old printer slots (Followed len) new after slots_new (Ok false)
   gave_through {len} named can (file, is, leads) gave =
-      came_looks (Through len) (opens file) is (rw (opened_now place old is can) (named, none_there (watched_at old place).failed can)) (λ looks stands.
-      let made = gave looks stands in let looked = looked_whole made.is_due {len = len} made.ends in looked_visited made.kept looked
+      visits_by (Followed len) (opens file) is (rw (opened_now place old is can) (named, none_there (watched_at old place).failed can)) (λ looks stands.
+      let made = gave looks stands in let looked = looked_whole made.is_due made.ends in looked_visited made.kept looked
       (λ fates at. through_stands looks (seeing snapshot fates) old named can made.kept is at looked.fault leads (λ t. ((made.last t).0, (made.last t).1 fates))))
 
-  pub gave_fails : {led : Option ℕ} {mid : List Slot} (stop : Stop) {result : Result Came Fault}
+  pub gave_fails : {led : Option ℕ} {mid : List Slot} (stop : Stop) {now : Standing} {result : Result Bool Fault}
       → IsTrue (is_watchable old place) → Follows told_in ways.by_name led place old new (Some stop)
       → ((looks : List Look) → Stands told_in ways looks place name (watched_at old place) standing
-      → Gave told_in told ways looks snapshot place name led printer slots after mid (Err stop)) → TellsStop told name mid slots_new stop result
-      → Looks told_in told ways snapshot place name standing old printer slots new after slots_new result
-  gave_fails (Broke why) can (file, is, those) gave (tells, says) = rw tells (drops_looks file why can is (λ looks stands.
+      → Gave told_in told ways looks snapshot place name led printer slots after mid (Err stop)) → TellsStop told name mid now slots_new stop result
+      → Visits told_in told ways snapshot place name standing old printer slots now new after slots_new result
+  gave_fails (Broke why) can (file, is, those) gave (tells, left, says) = rw (tells, left) (drops file why can is (λ looks stands.
       let made = gave looks stands in (made.kept, looked_broke made.is_due made.fails made.ends says, only_read looks made.fails)))
   gave_fails (Over why) can follows gave (tells, same) = rw (tells, same) (record {
-    visits = record {
-      visited = tt;
-      stopped = λ looks stands. let made = gave looks stands in (made.kept, looked_over made.is_due made.ends);
-      same = refl;
-      ready = tt;
-      others = tt;
-      halts = follows;
-    };
+    visited = tt;
+    stopped = λ looks stands. let made = gave looks stands in (
+      made.kept,
+      record {
+        share = given_share (is_first looks) name made.ends.bytes made.ends.lines;
+        after = after;
+        begins = λ t fates. subst (BeginsShare (given_share (is_first looks) name made.ends.bytes made.ends.lines)) (due_share made.is_due t fates)
+            (record { name = refl; opened = refl; bytes = (made.ends.are t).0; messages = (made.ends.are t).1 });
+        short = made.ends.shared;
+      },
+    );
+    ready = tt;
+    others = tt;
+    halts = follows;
   })
 
 -- ways out of the first look
@@ -492,15 +427,22 @@ module _ {told_in told : Bool} {ways : Ways} {snapshot : Snapshot} {place : ℕ}
 pub first_missing : {told_in told : Bool} {ways : Ways} {snapshot : Snapshot} {place : ℕ} {name : List ℕ} {printer : PrinterState}
     {slots slots_new : List Slot} {old new : List Watched} {is_there : Bool} → Reopens told_in snapshot old new place is_there → is_there ≡ false
     → (watched_at old place).name ≡ name → IsTrue (is_watchable old place) → SaysOn told Tail (message_of Tail (Open place) name) slots slots_new
-    → Looks told_in told ways snapshot place name New old printer slots new printer slots_new (Ok Missing)
+    → Visits told_in told ways snapshot place name New old printer slots (if ways.by_name then Followed 0 else Left) new printer slots_new (Ok true)
 first_missing {told_in} {told} {ways} {snapshot} {place} {name} {printer} {slots} {slots_new} {old} {new} reopens gone named can says =
-    came_looks Missing (opens reopens.file) reopens.names (ready ways.by_name)
+    visits_by _ (opens reopens.file) reopens.names (ready ways.by_name)
     (λ looks fresh. rw fresh.0 (looked_visited refl looked (λ fates at. stands fates at ways.by_name refl))) where
       nowhere : told_in ≡ true → snapshot.leads name ≡ None
       nowhere t = sym (reopens.leads t ∙ ap snapshot.leads named) ∙ none_of reopens.file (reopens.found ∙ gone)
 
-      looked : Looked told_in told ways [] snapshot place name printer slots printer slots_new Missing None
-      looked = meets_nothing nowhere says
+      looked : Looked told_in told ways [] snapshot place name printer slots printer slots_new true None
+      looked = record {
+        fate = sound;
+        share = missing_share name;
+        is_share = λ is fates. sym (rw (ap is_missing (entries_first ways (seeing snapshot fates) (nowhere is))) refl);
+        fault = refl;
+        failed = refl;
+        shared = said_after gives_nothing (name, inl refl) says;
+      }
 
       unbroken : (watched_at new place).failed ≡ None
       unbroken = ap (λ (w : Watched). w.failed) (opened_now place old reopens.names can) ∙ none_there (watched_at old place).failed can
@@ -519,12 +461,23 @@ first_missing {told_in} {told} {ways} {snapshot} {place} {name} {printer} {slots
       stands fates at false way = record { begun = refl; why = inr (record { way = way; unbroken = unbroken; kept = kept_more place [] (seeing snapshot fates) refl at looked.fault; unopened = nowhere }) }
 
 pub first_unopened : {told_in told : Bool} {ways : Ways} {snapshot : Snapshot} {place : ℕ} {name : List ℕ} {printer : PrinterState}
-    {slots slots_new : List Slot} {old new : List Watched} {why : Fault} {result : Result Came Fault} → IsTrue (is_watchable old place) → why ≡ Open place
-    → new ≡ changed_at place (breaks why) old → TellsStop told name slots slots_new (Broke why) result
-    → Looks told_in told ways snapshot place name New old printer slots new printer slots_new result
-first_unopened {place} {old} {why} can is broken (tells, says) =
-    rw tells (drops_looks (watched_at old place).opened why can (broken ∙ ap (changed_at place (breaks why)) (sym (opens_same old place)))
-    (λ looks fresh. rw (fresh.0, is) (refl, meets_unopened (rw is at says), λ late. absurd (false≢true (sym late)))))
+    {slots slots_new : List Slot} {old new : List Watched} {why : Fault} {now : Standing} {result : Result Bool Fault} → IsTrue (is_watchable old place)
+    → why ≡ Open place → new ≡ changed_at place (breaks why) old → TellsStop told name slots now slots_new (Broke why) result
+    → Visits told_in told ways snapshot place name New old printer slots now new printer slots_new result
+first_unopened {place} {name} {old} {why} can is broken (tells, left, says) =
+    rw (tells, left) (drops (watched_at old place).opened why can (broken ∙ ap (changed_at place (breaks why)) (sym (opens_same old place)))
+    (λ looks fresh. rw (fresh.0, is) (
+      refl,
+      record {
+        fate = unopened 0 0;
+        share = missing_share name;
+        is_share = λ is fates. refl;
+        fault = refl;
+        failed = refl;
+        shared = said_after gives_nothing (name, inl refl) (rw is at says);
+      },
+      λ late. absurd (false≢true (sym late)),
+    )))
 
 -- the file was opened: its start part was given under its header, or a beginning of it
 pub first_gave : {told_in told : Bool} {ways : Ways} {snapshot : Snapshot} {place : ℕ} {name contents : List ℕ} {printer inside after : PrinterState}
@@ -540,7 +493,16 @@ first_gave {told_in} {told} {ways} {snapshot} {place} {name} {contents} {after} 
       kept = refl;
       due = ways.start contents;
       lines = [];
-      is_due = first_due found same;
+      is_due = record {
+        is = λ is fates.
+            let look = seeing snapshot fates in
+            let (id, leads) = found is in
+            let entries = entries_first ways look leads in (
+              ap is_missing entries,
+              ap ways.start (same is ∙ ap (held_at snapshot) leads) ∙ sym (ap (gains_after ways.start []) entries ∙ append-nil _),
+              sym (ap (λ those. map (λ notice. notice_of notice name) (notices_of those)) entries),
+            );
+      };
       ends = ends;
       last = IfOk-weaker result (λ len. told_in ≡ true → len ≡ length contents) _ (λ len is t. (
         λ way. ap is_some (found t).1,
@@ -591,30 +553,6 @@ later_gave {told_in} {ways} {snapshot} {place} {name} {position} {old} {new} {re
   fails (Err (Broke why)) follows = elim follows.2 [ inl opening ↦ inl (opening.0, opening.1, refl) | inr read ↦ inr read ]
   fails (Err (Over why)) follows = tt
 
-pub later_through : {told_in told : Bool} {ways : Ways} {snapshot : Snapshot} {place : ℕ} {name : List ℕ} {position : ℕ} {old new : List Watched}
-    {printer after : PrinterState} {slots slots_new : List Slot} {len : ℕ} → (watched_at old place).name ≡ name → IsTrue (is_watchable old place)
-    → LooksAgain told_in told ways.by_name snapshot place name position old printer slots new after slots_new (Ok len)
-    → Looks told_in told ways snapshot place name (Followed position) old printer slots new after slots_new (Ok (Through len))
-later_through named can again = gave_through named can again.follows (later_gave again)
-
-pub later_fails : {told_in told : Bool} {ways : Ways} {snapshot : Snapshot} {place : ℕ} {name : List ℕ} {position : ℕ} {old new : List Watched}
-    {printer after : PrinterState} {slots mid slots_new : List Slot} {stop : Stop} {result : Result Came Fault} → IsTrue (is_watchable old place)
-    → LooksAgain told_in told ways.by_name snapshot place name position old printer slots new after mid (Err stop)
-    → TellsStop told name mid slots_new stop result
-    → Looks told_in told ways snapshot place name (Followed position) old printer slots new after slots_new result
-later_fails {stop} can again tells = gave_fails stop can again.follows (later_gave again) tells
-
--- the name itself, after the look
-pub visit_made : {told_in told : Bool} {ways : Ways} {snapshot : Snapshot} {place : ℕ} {text : List ℕ} {standing : Standing} {old new : NameState}
-    {watched watched_new : List Watched} {printer after : PrinterState} {slots slots_new : List Slot} {result : Result Came Fault} {other : Result Bool Fault}
-    → text ≡ old.text → old.standing ≡ standing → new ≡ record old { standing = standing_then ways.by_name standing result } → failed_then result ≡ other
-    → Looks told_in told ways snapshot place text standing watched printer slots watched_new after slots_new result
-    → Visits told_in told ways snapshot place old watched printer slots new watched_new after slots_new other
-visit_made {told_in} {told} {ways} {snapshot} {place} {standing} {old} {watched} {watched_new} {printer} {after} {slots} {slots_new} {result} same stood state failed looks =
-    subst₂ (λ (n : NameState) r. Visits told_in told ways snapshot place old watched printer slots n watched_new after slots_new r) (sym state) failed
-    (subst₂ (λ t s. Visits told_in told ways snapshot place (record { text = t; standing = s }) watched printer slots
-    (record { text = t; standing = standing_then ways.by_name standing result }) watched_new after slots_new (failed_then result)) same (sym stood) looks.visits)
-
 -- a name that is looked at no more
 
 -- where no file is open, and names aren't followed, nothing is due
@@ -652,7 +590,7 @@ still_left {ways} (before ∷ looks) look {place} {name} {watched} fine left = r
   ];
 }
 
-left_visited : {told_in told : Bool} {ways : Ways} {snapshot : Snapshot} {place : ℕ} {name : List ℕ} {printer : PrinterState} {slots : List Slot} {watched : Watched}
+pub left_visited : {told_in told : Bool} {ways : Ways} {snapshot : Snapshot} {place : ℕ} {name : List ℕ} {printer : PrinterState} {slots : List Slot} {watched : Watched}
     (looks : List Look) → IsLeft told_in ways looks place name watched → Visited told_in told ways looks snapshot place name printer slots printer slots watched Left false
 left_visited {snapshot} {place} {name} looks left = elim left.why [
   | inl dropped ↦ record {
@@ -663,10 +601,6 @@ left_visited {snapshot} {place} {name} looks left = elim left.why [
     shared = gives_nothing;
     stands = λ fates at. still_left looks (seeing snapshot fates) at left;
   }
-  | inr missed ↦ let looked = looked_whole (left_due looks left.begun missed) {place = place} {len = 0} (rw left.begun nothing_due) in
+  | inr missed ↦ let looked = looked_whole (left_due looks left.begun missed) {place = place} (rw left.begun nothing_due) in
       looked_visited missed.kept looked (λ fates at. still_left looks (seeing snapshot fates) (at ∙ came_through place looked.fate None looked.fault) left)
 ]
-
-pub visit_left : {told_in told : Bool} {ways : Ways} {snapshot : Snapshot} {place : ℕ} {name : NameState} {watched : List Watched} {printer : PrinterState} {slots : List Slot} → name.standing ≡ Left → CanVisit name (watched_at watched place)
-    → Visits told_in told ways snapshot place name watched printer slots name watched printer slots (Ok false)
-visit_left left can = grind (arith, common_steps, left_visited)

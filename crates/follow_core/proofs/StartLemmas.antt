@@ -1,6 +1,6 @@
 -- Where the first look begins to write: blocks that are read, and the lines in them.
 use Rattle.std.proofs.lemmas.Grind.{common_steps}
-use Rattle.std.proofs.Common.{◌≡◌, ℕ, ◌+◌, ◌-◌, ◌<◌, ◌≤◌, List, [], ◌++◌, length, take, drop, Bool, true, refl, sym, ◌∙◌, ap, arith, ◌==◌, zero, suc, false, ◌∷◌, length-append, if◌then◌else◌, min}
+use Rattle.std.proofs.Common.{◌≡◌, ℕ, ◌+◌, ◌-◌, ◌<◌, ◌≤◌, List, [], ◌++◌, length, take, drop, Bool, true, refl, sym, ◌∙◌, ap, arith, ◌==◌, zero, suc, false, ◌∷◌, length-append, if◌then◌else◌, min, rules}
 use Rattle.std.proofs.Math.Seq.{take-add, take-append-add}
 use Rattle.std.proofs.lemmas.List.{length-take, length-drop, drop-drop, take-append-drop, take-take, drop_at, drop-append-le, drop-take}
 use Rattle.std.proofs.lemmas.Slice.{take-put_mid}
@@ -21,7 +21,7 @@ use Rattle.seg_core.specs.declared.unit.Unit.TheVariants.{Lines}
 
 -- what an open file holds, where nothing changed
 pub contents_same : {seen seen_old : List Snapshot} {names names_old : List Watched} (place : ℕ) → seen ≡ seen_old → names ≡ names_old → open_contents (latest seen) (watched_at names place) ≡ open_contents (latest seen_old) (watched_at names_old place)
-contents_same {seen_old} {names} place saw same = grind (arith, common_steps)
+contents_same {seen_old} {names} place saw same = cc
 
 -- so much of the block is filled with what the file has from a place on
 pub record Filling (told_in : Bool) (contents : List ℕ) (from filled : ℕ) (old now : List ℕ) (seen_old seen_now : List Snapshot) (watched_old watched_now : List Watched) : Type 0 where
@@ -63,29 +63,25 @@ count_step true byte n lines is = omega arith
 count_step false byte n [] is = omega arith
 count_step false byte n (line ∷ lines) is = is
 
-one_line : (is : Bool) (byte : ℕ) → length (if is then (byte ∷ []) ∷ [] else onto_first byte []) ≡ 1
-one_line true byte = refl
-one_line false byte = refl
-
 -- each delimiter before the last byte ends a line after which another one follows
 lines_and_last : (delim : ℕ) (x : List ℕ) (last : ℕ) → line_count delim (x ++ last ∷ []) ≡ delimiters delim x + 1
-lines_and_last delim [] last = one_line (last == delim) last
+lines_and_last delim [] last = search rules
 lines_and_last delim (byte ∷ x) last = count_step (byte == delim) byte (delimiters delim x) (lines_of delim (x ++ last ∷ [])) (lines_and_last delim x last)
 
 lines_and_one : (delim : ℕ) (x y : List ℕ) → length y ≡ 1 → line_count delim (x ++ y) ≡ delimiters delim x + 1
 lines_and_one delim x [] one = omega (arith, one)
 lines_and_one delim x (last ∷ []) one = lines_and_last delim x last
-lines_and_one delim x (last ∷ next ∷ y) one = absurd (omega (arith, one))
+lines_and_one delim x (last ∷ next ∷ y) one = cc
 
 -- the text without its last byte
 abbrev pub but_one : List ℕ → List ℕ
 but_one x = take (length x - 1) x
 
 one_left : (x : List ℕ) → 0 < length x → length (drop (length x - 1) x) ≡ 1
-one_left x some = let rest = length-drop (length x - 1) x in omega (arith, rest, some)
+one_left x some = grind (arith, common_steps)
 
 but_one_shorter : (x : List ℕ) → 0 < length x → length (but_one x) ≡ length x - 1
-but_one_shorter x some = grind (arith, common_steps)
+but_one_shorter x some = search rules
 
 all_lines : (delim : ℕ) (x : List ℕ) → 0 < length x → line_count delim x ≡ delimiters delim (but_one x) + 1
 all_lines delim x some = ap (line_count delim) (sym (take-append-drop (length x - 1) x)) ∙ lines_and_one delim (but_one x) (drop (length x - 1) x) (one_left x some)
@@ -106,7 +102,7 @@ begins_last {delim} {n} {at} x some begins =
 
 -- a text without as many lines is all of them
 pub few_last : (delim : ℕ) {n : ℕ} (x : List ℕ) → delimiters delim (but_one x) < n → x ≡ last_lines delim n x
-few_last delim {n} [] few = sym (let none : 0 - n ≡ 0 = omega arith in ap (λ k. joined (drop k [])) none)
+few_last delim {n} [] few = grind (arith, common_steps)
 few_last delim {n} (byte ∷ x) few =
     let count = all_lines delim (byte ∷ x) (omega arith) in
     let none : line_count delim (byte ∷ x) - n ≡ 0 = omega (arith, count, few) in

@@ -23,20 +23,16 @@ WroteBy told text lines old new fault = (output error : Slot) (others : List Slo
 abbrev pub Wrote : Bool → List ℕ → List (List ℕ) → List Slot → List Slot → Type 0
 Wrote told text lines old new = WroteBy told text lines old new None
 
--- the lines, and a beginning of the text, before standard output broke or memory was wanting
-abbrev pub WroteShort : Bool → List ℕ → List (List ℕ) → List Slot → List Slot → Fault → Type 0
-WroteShort told text lines old new fault = WroteBy told text lines old new (Some fault)
-
 -- all shares came there, one after another
 pub record AllShared (told : Bool) (printer : PrinterState) (shares : List Share) (old : List Slot)
     (after : PrinterState) (new : List Slot) : Type 0 where
   pub printer_is : after ≡ record printer { last = last_header_from printer.headers printer.last shares }
   pub slots : Wrote told (text_from printer.headers printer.last shares) (messages_of shares) old new
 
--- a beginning of them did
+-- a beginning of them did, before standard output broke or memory was wanting
 pub record AllShort (told : Bool) (printer : PrinterState) (shares : List Share) (old new : List Slot)
     (fault : Fault) : Type 0 where
-  pub slots : WroteShort told (text_from printer.headers printer.last shares) (messages_of shares) old new fault
+  pub slots : WroteBy told (text_from printer.headers printer.last shares) (messages_of shares) old new (Some fault)
 
 -- standard error is open, broken or not
 abbrev pub HasError : List Slot → Type 0

@@ -3,7 +3,7 @@ ghost use Rattle.std.specs.Prelude.{◌≡◌, ◌<◌, ◌≤◌, ◌+◌, ◌^
 ghost use Rattle.ports_core.specs.Slot.{Slot};
 ghost use Rattle.watch_core.specs.Watched.{Watched, watched_at};
 ghost use Rattle.follow_core.specs.Sharing.{HasError};
-ghost use Rattle.follow_core.specs.inner.Looks.{AddsSome, Begins, CanBegin, MakesLook};
+ghost use Rattle.follow_core.specs.inner.Visits.{AddsSome, Begins, CanBegin, MakesLook};
 ghost use Rattle.follow_core.specs.FollowState.{CanLook, FollowState, Holds, IsCause, IsOther, LooksOn, SawOrNot, StopsOn, is_alive, opened_follow};
 ghost use Rattle.follow_core.specs.Look.{Look, Ways};
 ghost use Rattle.follow_core.specs.Standing.{texts};

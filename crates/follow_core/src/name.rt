@@ -3,16 +3,14 @@ ghost use Rattle.std.specs.Prelude.{◌≡◌, ◌<◌, ◌≤◌, ◌+◌, ◌^
 ghost use Rattle.watch_core.specs.Snapshot.{latest};
 ghost use Rattle.watch_core.specs.Watched.{added, watched_at};
 ghost use Rattle.follow_core.specs.Sharing.{CanPrint};
-ghost use Rattle.follow_core.specs.inner.Calls.{CanGoOn};
-ghost use Rattle.follow_core.specs.inner.Giving.{over_in};
+ghost use Rattle.follow_core.specs.inner.Giving.{CanGoOn, over_in};
 ghost use Rattle.follow_core.specs.FollowState.{AllReady, new_state};
 ghost use Rattle.follow_core.specs.Look.{Look, ways_of};
-ghost use Rattle.follow_core.specs.inner.Looks.{AddsSome};
-ghost use Rattle.follow_core.specs.inner.Visits.{has_failed, any_goes_on, goes_on_as, standing_after, Visits, VisitsAll};
+ghost use Rattle.follow_core.specs.inner.Visits.{AddsSome, any_goes_on, goes_on_as, Visits, VisitsAll};
 ghost use Rattle.follow_core.specs.Standing.{AllStand, CanVisit, NameState, texts};
 
 use crate::start::Start;
-use crate::visitor::{Came, Visitor};
+use crate::visitor::Visitor;
 use ports_core::{Fault, Outs};
 use std::alloc::{AllocError, Global};
 use std::marker::Model;
@@ -92,48 +90,22 @@ impl Name {
     ) -> Result<bool, Fault>
         requires ready { CanVisit self.old (watched_at (W.watched watch.old) place) }
         requires can { CanPrint (O.slots outs.old) }
-        ensures visits { (first : ℕ) → Visits W.told O.told (ways_of first by_name start) (latest (W.seen watch.old)) place self.old (W.watched watch.old) visitor.old (O.slots outs.old) self.new (W.watched watch.new) visitor.new (O.slots outs.new) result }
+        ensures visits { (first : ℕ) → Visits W.told O.told (ways_of first by_name start) (latest (W.seen watch.old)) place self.old.text self.old.standing (W.watched watch.old) visitor.old (O.slots outs.old) self.new.standing (W.watched watch.new) visitor.new (O.slots outs.new) result }
+        ensures same { self.new.text ≡ self.old.text }
         ensures can { CanGoOn (over_in result) (O.slots outs.new) }
         ensures seen { W.seen watch.new ≡ W.seen watch.old }
         ensures shows { W.shows watch.new ≡ W.shows watch.old }
     {
         match self.standing {
-            Standing::New => match visitor.first(start, watch, place, self.text(), outs) {
-                Ok(came) => Ok(self.leave(by_name, came)),
-                Err(fault) => Err(fault),
-            },
+            Standing::New => {
+                let (text, standing) = (self.text.as_str(), &mut self.standing);
+                visitor.first(by_name, start, watch, place, text, standing, outs)
+            }
             Standing::Followed(position) => {
-                match visitor.again(by_name, watch, place, self.text(), position, outs) {
-                    Ok(came) => Ok(self.leave(by_name, came)),
-                    Err(fault) => Err(fault),
-                }
+                let (text, standing) = (self.text.as_str(), &mut self.standing);
+                visitor.again(by_name, watch, place, text, position, standing, outs)
             }
             Standing::Left => Ok(false),
-        }
-    }
-
-    /// Keeps how it came through a look, and returns whether it was missing, or a call on it failed.
-    fn leave(&mut self, by_name: bool, came: Came) -> bool
-        ensures state { self.new ≡ record self.old { standing = standing_after by_name came } }
-        ensures failed { result ≡ has_failed came }
-    {
-        match came {
-            Came::Through(len) => {
-                self.standing = Standing::Followed(len);
-                false
-            }
-            Came::Missing => {
-                self.standing = if by_name {
-                    Standing::Followed(0)
-                } else {
-                    Standing::Left
-                };
-                true
-            }
-            Came::Dropped => {
-                self.standing = Standing::Left;
-                true
-            }
         }
     }
 }

@@ -51,6 +51,7 @@ impl Printer {
     ) -> Result<(), Fault>
         requires { IsTrue (is_writable (O.slots outs.old) 0) }
         ensures ends { (told_in : Bool) → Ends told_in O.told opened self.old name.now bytes.now [] (O.slots outs.old) self.new (O.slots outs.new) (over_in result) }
+        ensures writable { OnOk result (IsTrue (is_writable (O.slots outs.new) 0)) }
     {
         if let Err(fault) = self.show(self.is_due(opened, name, bytes), name, outs) {
             return Err(fault);

@@ -3,7 +3,7 @@ ghost use Rattle.std.specs.Prelude.{◌≡◌, ◌∷◌, [], ℕ, Bool, List, m
 ghost use Rattle.ports_core.specs.Slot.{Slot, streams};
 ghost use Rattle.follow_core.specs.Sharing.{HasError};
 ghost use Rattle.follow_core.specs.Ending.{FollowEndsAs, StoppedIn};
-ghost use Rattle.follow_core.specs.inner.Looks.{LookedAll};
+ghost use Rattle.follow_core.specs.inner.Visits.{LookedAll};
 ghost use Rattle.follow_core.specs.FollowState.{CanLook, Holds};
 ghost use Rattle.follow_core.specs.Look.{Ways, ways_of};
 

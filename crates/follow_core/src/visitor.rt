@@ -1,18 +1,19 @@
 //! A look at one name: what came to its file is written, and what changed or failed is told.
 ghost use Rattle.std.specs.Prelude.{◌≡◌, ◌≤◌, ◌<◌, ◌-◌, ◌∷◌, [], ℕ, List, Bool, true, false, length, drop, nat_lt, option_map, if◌then◌else◌, IsTrue, IfOk, IfErr, OnOk, Some};
 ghost use Rattle.ends_core.specs.Ends.{tail_of};
+ghost use Rattle.ports_core.specs.Slot.{is_writable};
 ghost use Rattle.watch_core.specs.Snapshot.{latest};
 ghost use Rattle.watch_core.specs.Watched.{is_readable, is_watchable, open_contents, watched_at};
 ghost use Rattle.follow_core.specs.declared.name.Standing.TheVariants.{New, Followed};
 ghost use Rattle.follow_core.specs.Notice.{notice_of};
 ghost use Rattle.follow_core.specs.Printing.{PrinterState, fresh_printer};
-ghost use Rattle.follow_core.specs.inner.Calls.{Adds, CanGoOn, Keeps, Leads, change_between, lines_past};
+ghost use Rattle.follow_core.specs.inner.Giving.{Adds, CanGoOn, Keeps, Leads, change_between, lines_past, Ends, over_in, stop_in};
 ghost use Rattle.follow_core.specs.Sharing.{CanPrint};
-ghost use Rattle.follow_core.specs.inner.Giving.{Ends, over_in, stop_in};
 ghost use Rattle.follow_core.specs.Version.{entries_open};
-ghost use Rattle.follow_core.specs.inner.Visits.{TellsStop, Looks};
+ghost use Rattle.follow_core.specs.inner.Visits.{TellsStop, Visits};
 ghost use Rattle.follow_core.specs.Look.{ways_of};
 
+use crate::name::Standing;
 use crate::notice::{Notice, notice_line};
 use crate::printer::Printer;
 use crate::start::Start;
@@ -23,16 +24,6 @@ use watch_core::{Seen, Watch};
 
 /// How many bytes are read at once, at the most.
 const PIECE: usize = 65_536;
-
-/// How a name came through a look.
-pub(crate) enum Came {
-    /// No call on it failed. Holds how many bytes of its open file were seen; 0 where none is open.
-    Through(u64),
-    /// It led nowhere at the first look, which was told.
-    Missing,
-    /// A call on it failed, which was told: it is dropped.
-    Dropped,
-}
 
 /// What stops a name, or all of them.
 pub(crate) enum Stop {
@@ -77,23 +68,25 @@ impl Visitor {
 
     /// Looks at a name for the first time: opens the file that it leads to, and writes its header, where headers are written, and the
     /// part of it that the first look writes. Tells where it leads nowhere, or where a call on it fails; a message that can't be written
-    /// is passed over.
+    /// is passed over. Keeps how the name stands then, and returns whether it was missing, or a call on it failed.
     ///
     /// # Errors
     ///
     /// `Write(0)` where standard output broke, `Memory` where there was none for a header.
     pub(crate) fn first<W: Watch, O: Outs>(
         &mut self,
+        by_name: bool,
         start: Start,
         watch: &mut W,
         place: usize,
         name: &str,
+        standing: &mut Standing,
         outs: &mut O,
-    ) -> Result<Came, Fault>
+    ) -> Result<bool, Fault>
         requires watchable { IsTrue (is_watchable (W.watched watch.old) place) }
         requires name { (watched_at (W.watched watch.old) place).name ≡ name.now }
         requires can { CanPrint (O.slots outs.old) }
-        ensures looks { (first : ℕ) (by_name : Bool) → Looks W.told O.told (ways_of first by_name start) (latest (W.seen watch.old)) place name.now New (W.watched watch.old) self.old (O.slots outs.old) (W.watched watch.new) self.new (O.slots outs.new) result }
+        ensures visits { (first : ℕ) → Visits W.told O.told (ways_of first by_name start) (latest (W.seen watch.old)) place name.now New (W.watched watch.old) self.old (O.slots outs.old) standing.new (W.watched watch.new) self.new (O.slots outs.new) result }
         ensures can { CanGoOn (over_in result) (O.slots outs.new) }
         ensures seen { W.seen watch.new ≡ W.seen watch.old }
         ensures shows { W.shows watch.new ≡ W.shows watch.old }
@@ -102,16 +95,24 @@ impl Visitor {
             Ok(true) => {}
             Ok(false) => {
                 say(self.alloc, Tool::Tail, &Fault::Open(place), name, outs);
-                return Ok(Came::Missing);
+                *standing = if by_name {
+                    Standing::Followed(0)
+                } else {
+                    Standing::Left
+                };
+                return Ok(true);
             }
-            Err(fault) => return self.stop(Stop::Broke(fault), name, outs),
+            Err(fault) => return self.stop(Stop::Broke(fault), name, standing, outs),
         }
         if let Err(fault) = self.printer.put(true, name, b"", outs) {
             return Err(fault);
         }
         match self.write_start(start, watch, place, name, outs) {
-            Ok(len) => Ok(Came::Through(len)),
-            Err(stop) => self.stop(stop, name, outs),
+            Ok(len) => {
+                *standing = Standing::Followed(len);
+                Ok(false)
+            }
+            Err(stop) => self.stop(stop, name, standing, outs),
         }
     }
 
@@ -160,7 +161,8 @@ impl Visitor {
     }
 
     /// Looks again at a name of whose open file `position` bytes were seen: writes what came to the file, and follows the name to where
-    /// it leads, if names are followed. Tells where a call on it fails; a message that can't be written is passed over.
+    /// it leads, if names are followed. Tells where a call on it fails; a message that can't be written is passed over. Keeps how the
+    /// name stands then, and returns whether a call on it failed.
     ///
     /// # Errors
     ///
@@ -172,26 +174,31 @@ impl Visitor {
         place: usize,
         name: &str,
         position: u64,
+        standing: &mut Standing,
         outs: &mut O,
-    ) -> Result<Came, Fault>
+    ) -> Result<bool, Fault>
         requires watchable { IsTrue (is_watchable (W.watched watch.old) place) }
         requires name { (watched_at (W.watched watch.old) place).name ≡ name.now }
         requires can { CanPrint (O.slots outs.old) }
-        ensures looks { (first : ℕ) (start : List ℕ → List ℕ) → Looks W.told O.told (record { first = first; by_name = by_name; start = start }) (latest (W.seen watch.old)) place name.now (Followed position) (W.watched watch.old) self.old (O.slots outs.old) (W.watched watch.new) self.new (O.slots outs.new) result }
+        ensures visits { (first : ℕ) (start : List ℕ → List ℕ) → Visits W.told O.told (record { first = first; by_name = by_name; start = start }) (latest (W.seen watch.old)) place name.now (Followed position) (W.watched watch.old) self.old (O.slots outs.old) standing.new (W.watched watch.new) self.new (O.slots outs.new) result }
         ensures can { CanGoOn (over_in result) (O.slots outs.new) }
         ensures seen { W.seen watch.new ≡ W.seen watch.old }
         ensures shows { W.shows watch.new ≡ W.shows watch.old }
     {
         let len = match self.catch_up(watch, place, name, position, outs) {
             Ok(len) => len,
-            Err(stop) => return self.stop(stop, name, outs),
+            Err(stop) => return self.stop(stop, name, standing, outs),
         };
         if !by_name {
-            return Ok(Came::Through(len));
+            *standing = Standing::Followed(len);
+            return Ok(false);
         }
         match self.follow_name(watch, place, name, len, outs) {
-            Ok(now) => Ok(Came::Through(now)),
-            Err(stop) => self.stop(stop, name, outs),
+            Ok(now) => {
+                *standing = Standing::Followed(now);
+                Ok(false)
+            }
+            Err(stop) => self.stop(stop, name, standing, outs),
         }
     }
 
@@ -285,15 +292,22 @@ impl Visitor {
     /// # Errors
     ///
     /// The fault that ends following, which is handed on.
-    fn stop<O: Outs>(&self, stop: Stop, name: &str, outs: &mut O) -> Result<Came, Fault>
+    fn stop<O: Outs>(
+        &self,
+        stop: Stop,
+        name: &str,
+        standing: &mut Standing,
+        outs: &mut O,
+    ) -> Result<bool, Fault>
         requires can { CanGoOn (Some stop) (O.slots outs.old) }
-        ensures tells { TellsStop O.told name.now (O.slots outs.old) (O.slots outs.new) stop result }
+        ensures tells { TellsStop O.told name.now (O.slots outs.old) standing.new (O.slots outs.new) stop result }
         ensures can { CanGoOn (over_in result) (O.slots outs.new) }
     {
         match stop {
             Stop::Broke(fault) => {
                 say(self.alloc, Tool::Tail, &fault, name, outs);
-                Ok(Came::Dropped)
+                *standing = Standing::Left;
+                Ok(true)
             }
             Stop::Over(fault) => Err(fault),
         }
@@ -316,7 +330,7 @@ fn copy<W: Watch, O: Outs>(
     outs: &mut O,
 ) -> Result<u64, Stop>
     requires readable { IsTrue (is_readable (W.watched watch.old) place) }
-    requires can { CanPrint (O.slots outs.old) }
+    requires writable { IsTrue (is_writable (O.slots outs.old) 0) }
     requires within { from ≤ len }
     requires room { 0 < length buffer.old }
     requires whole { W.told ≡ true → len ≡ length (open_contents (latest (W.seen watch.old)) (watched_at (W.watched watch.old) place)) }
@@ -393,20 +407,16 @@ fn tell<O: Outs>(alloc: Global, found: Notice, name: &str, outs: &mut O) -> Resu
 fn change_of(opened: Option<u128>, found: Option<Seen>) -> Option<Notice>
     ensures { result ≡ change_between opened (option_map (λ file. file.id) found) }
 {
-    match found {
-        Some(file) => match opened {
-            Some(id) => {
-                if file.id == id {
-                    None
-                } else {
-                    Some(Notice::Replaced)
-                }
+    match (opened, found) {
+        (None, None) => None,
+        (Some(_), None) => Some(Notice::Inaccessible),
+        (None, Some(_)) => Some(Notice::Appeared),
+        (Some(id), Some(file)) => {
+            if file.id == id {
+                None
+            } else {
+                Some(Notice::Replaced)
             }
-            None => Some(Notice::Appeared),
-        },
-        None => match opened {
-            Some(_) => Some(Notice::Inaccessible),
-            None => None,
-        },
+        }
     }
 }

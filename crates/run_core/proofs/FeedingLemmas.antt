@@ -1,24 +1,22 @@
 -- Lemmas on the loop that feeds an engine, and on what an engine uses of its input.
-use Rattle.std.proofs.Common.{◌⊎◌, ◌≡◌, ℕ, ◌+◌, ◌<◌, ◌≤◌, ◌^◌, Bool, true, false, not, List, [], ◌++◌, length, take, Result, Ok, Err, IfOk, None, arith, length-append, length-take, inl, inr, refl, sym, ◌∙◌, ap, IsTrue, ◌-◌, drop, Some, append_assoc}
-use Rattle.std.proofs.lemmas.List.{append-nil, take_at, drop_at, take-append-le, drop-append-le, take-append-drop, length-take, length-take-le}
-use Rattle.std.proofs.lemmas.Bool.{false≢true, not-false, or_left, or_right}
+use Rattle.std.proofs.lemmas.Grind.{common_steps}
+use Rattle.std.proofs.Common.{◌⊎◌, ◌≡◌, ℕ, ◌+◌, ◌<◌, ◌≤◌, ◌^◌, Bool, true, false, List, [], ◌++◌, length, take, Result, Ok, Err, IfOk, None, arith, length-append, length-take, inl, inr, refl, sym, ◌∙◌, ap, IsTrue, ◌-◌, drop, Some, append_assoc, rules}
+use Rattle.std.proofs.lemmas.List.{append-nil, drop_at, length-take}
+use Rattle.std.proofs.lemmas.Bool.{false≢true, or_right}
 use Rattle.ports_core.specs.Slot.{Slot, changed_at}
-use Rattle.ports_core.specs.Source.{Content, Source, source_at, is_readable, skips, gives, fails, gets_back, with_next, Gave}
+use Rattle.ports_core.specs.Source.{Content, Source, source_at, is_readable, gives, gets_back, with_next, Gave}
 use Rattle.ports_core.specs.Part.{Part, OutputsAt}
 use Rattle.ports_core.specs.Swept.{Swept}
 use Rattle.ports_core.specs.Work.{Work, Means, Needs, IsLawful, IsComplete, IsNeeded, IsSpare, Judges, IsSettled}
 use Rattle.ports_core.specs.Engine.{StandsAt, TakesIn, PutsOut, CutsOff, EndsShort, EndsWith, EndsThere, IsCaused, IsMet, Ended, is_verdict, KeepsOwn, Clears, Loads}
 use Rattle.ports_core.specs.Guard.{GuardState, HoldsIn}
 use Rattle.ports_core.specs.declared.fault.Fault.{Fault}
-use Rattle.ports_core.specs.declared.fault.Fault.TheVariants.{Memory, Write, Open, Suffixes, NoMatch, Range}
 use Rattle.run_core.specs.declared.feeding.Fed.{Fed}
 use Rattle.run_core.specs.declared.feeding.Fed.TheVariants.{Whole, Enough, Broken}
-use Rattle.ports_core.specs.Inputs.{empty, KeepsOthers, OfContent}
-use Rattle.run_core.specs.Feeding.{is_enough, Stops, HasAll, to_end, enough, call_of, feeds, closes, FedAs, whole, had_enough, broke_off, judged, stopped, IsUnread, Uses}
-use Rattle.run_core.specs.inner.Feeding.{EndsSo, finished, fell_short}
-use Rattle.ports_core.proofs.LoadLemmas.{passed_at}
-use Rattle.ports_core.proofs.InputsLemmas.{HasRead, keeps_others, changed_source}
-use Rattle.ports_core.proofs.SpareLemmas.{none_spare}
+use Rattle.ports_core.specs.Inputs.{empty, OfContent}
+use Rattle.run_core.specs.Feeding.{is_enough, Stops, HasAll, to_end, enough, call_of, feeds, closes, FedAs, whole, had_enough, judged, stopped, IsUnread, Uses}
+use Rattle.run_core.specs.inner.RunSteps.{EndsSo, finished, fell_short}
+use Rattle.ports_core.proofs.InputsLemmas.{HasRead, changed_source}
 use Rattle.ports_core.specs.Engine as engine
 
 -- Lemmas on the loop that feeds an engine.
@@ -28,32 +26,15 @@ use Rattle.ports_core.specs.Engine as engine
 -- why an engine that is live is stopped
 stops : (work : Work) (read : List ℕ) (low high : Part) {needs : Needs} (Lacks : Type 0) (Ends : Fault → Type 0) {fault : Fault} {taken size : ℕ} {old new : List Slot} → is_verdict fault ≡ false → (2 ^ 63 ≤ taken + size → 2 ^ 63 ≤ length read)
     → IsCaused (IsMet work.means needs Lacks Ends old new) false taken size old new fault → Stops (call_of work needs read low high) new fault
-stops work read low high Lacks Ends is long (engine.over is_over kept) = absurd (false≢true is_over)
+stops work read low high Lacks Ends is long (engine.over is_over kept) = search rules
 stops work read low high Lacks Ends is long (engine.long live many kept) = long many
-stops work read low high {needs} Lacks Ends {fault} {old} {new} is long (engine.met _ live why) = by_why fault is why where
-  by_why : (fault : Fault) → is_verdict fault ≡ false → IsMet work.means needs Lacks Ends old new fault → Stops (call_of work needs read low high) new fault
-  by_why Memory is why = why.0
-  by_why (Write slot) is why = (why.0, why.1, why.2.1)
-  by_why (Open slot) is why = (why.0, why.1)
-  by_why Suffixes is why = absurd (false≢true (sym is))
-  by_why (NoMatch operand repetition) is why = absurd (false≢true (sym is))
-  by_why (Range operand repetition) is why = absurd (false≢true (sym is))
-  by_why fault is why = absurd why
+stops work read low high {needs} Lacks Ends {fault} {old} {new} is long (engine.met _ live why) = grind (arith, common_steps)
 
 -- a verdict comes only where the work ends so
 pub judges : (means : Means) {needs : Needs} (Lacks : Type 0) (Ends : Fault → Type 0) {fault : Fault} {over : Bool} {taken size : ℕ} {old new : List Slot} → is_verdict fault ≡ true → IsCaused (IsMet means needs Lacks Ends old new) over taken size old new fault → Ends fault
 judges means Lacks Ends is (engine.over is_over kept) = absurd (false≢true is)
 judges means Lacks Ends is (engine.long live many kept) = absurd (false≢true is)
-judges means {needs} Lacks Ends {fault} {old} {new} is (engine.met _ live why) = by_why fault is why where
-  by_why : (fault : Fault) → is_verdict fault ≡ true → IsMet means needs Lacks Ends old new fault → Ends fault
-  by_why Suffixes is why = why
-  by_why (NoMatch operand repetition) is why = why
-  by_why (Range operand repetition) is why = why
-  by_why fault is why = absurd (false≢true is)
-
--- a fault that doesn't stop is a verdict
-pub judging_of : {given fault : Fault} → given ≡ fault → not (is_verdict given) ≡ false → is_verdict fault ≡ true
-judging_of {given} is ends = ap is_verdict (sym is) ∙ not-false (is_verdict given) ends
+judges means {needs} Lacks Ends {fault} {old} {new} is (engine.met _ live why) = grind (arith, common_steps)
 
 -- what a fault left within an input, and what was made of its files then
 short_of_piece : {told : Bool} {opening : Needs} {most : ℕ} {work : Work} {content : Content} (WasRead : List ℕ → Type 0) {x : List ℕ} (piece rest : List ℕ) {reached new before : List Slot} {fault : Fault} → IsLawful work → content.bytes ≡ (x ++ piece) ++ rest → length piece ≤ most → work.is_complete x ≡ false → WasRead (x ++ piece)
@@ -86,7 +67,7 @@ pub record MadeAlike (work : Work) (x z : List ℕ) : Type 0 where
   pub verdict : work.verdict x ≡ work.verdict z
 
 pub alike_itself : {work : Work} {x : List ℕ} → MadeAlike work x x
-alike_itself = record { settled = refl; whole = refl; verdict = refl }
+alike_itself = grind (arith, common_steps)
 
 -- what comes once the output is complete changes nothing
 pub alike_after : {work : Work} {x y : List ℕ} (rest : List ℕ) → IsLawful work → work.is_complete x ≡ true → y ≡ x ++ rest → MadeAlike work y x
@@ -101,8 +82,8 @@ got_alike content Enough lawful got = alike_after got.1.0 lawful got.0 got.1.1
 got_alike content Broken lawful got = absurd got
 
 got_enough : {work : Work} (content : Content) (x : List ℕ) (fed : Fed) → IsLawful work → HasGot work content x fed → is_enough work content ≡ true
-got_enough content x Whole lawful got = or_left _ _ (ap not got.0)
-got_enough {work} content x Enough lawful got = or_right _ _ (ap work.is_complete got.1.1 ∙ (lawful.stays x got.1.0 got.0).still)
+got_enough content x Whole lawful got = cc
+got_enough {work} content x Enough lawful got = grind (arith, common_steps)
 got_enough content x Broken lawful got = absurd got
 
 fed_all : {told : Bool} {opening : Needs} {most : ℕ} {work : Work} {content : Content} (WasRead : List ℕ → Type 0) {x : List ℕ} {new before : List Slot} (fed : Fed) → IsLawful work → HasGot work content x fed → work.verdict x ≡ None → OutputsAt told before (work.whole x) new → FedAs told before work opening most content WasRead new (Ok fed)
@@ -131,9 +112,6 @@ module _ {S : Type 0} (Holds : S → List ℕ → Type 0) (Owns : S → ℕ → 
     pub owns : KeepsOwn Owns start.stage now.stage old slots
     pub outputs : (before : List Slot) → Owns start.stage (length before) old → OutputsAt told before ((work start.stage).settled []) old → OutputsAt told before ((work now.stage).settled x) slots
     pub bound : now.fed < 2 ^ 63
-
-  pub begins : (told : Bool) {start : GuardState S} {old : List Slot} → HoldsIn Holds start [] → start.fed < 2 ^ 63 → Feeds told start start [] old old
-  begins told holds bound = record { same = refl; holds = holds; owns = λ first own. own; outputs = λ before own at. at; bound = bound }
 
   -- the engine and its outputs stand at what it was fed
   pub stands : (told : Bool) {start now : GuardState S} {x : List ℕ} {old mid before : List Slot} → Feeds told start now x old mid → Owns start.stage (length before) old → OutputsAt told before ((work start.stage).settled []) old → StandsAt Holds Owns now.stage told before x ((work now.stage).settled x) mid
@@ -175,32 +153,16 @@ module _ {S : Type 0} (Holds : S → List ℕ → Type 0) (Owns : S → ℕ → 
       (λ judging. judges (work now.stage).means (Unit {0}) (EndsThere Holds work now.stage) judging caused x so_far.holds.within)
       kept (λ unjudged. cleared unjudged (length before) (so_far.owns (length before) own)))
 
-  -- the loop ended where the input broke off
-  pub broken_off : (told : Bool) {opening : Needs} {most : ℕ} {start now : GuardState S} {content : Content} (WasRead : List ℕ → Type 0) {x : List ℕ} {old slots new before : List Slot} → Feeds told start now x old slots → Owns start.stage (length before) old → OutputsAt told before ((work start.stage).settled []) old → content.bytes ≡ x → content.breaks_off ≡ true → (work now.stage).is_complete x ≡ false
-      → Clears Owns work now.stage slots new → FedAs told before (work start.stage) opening most content WasRead new (Ok Broken)
-  broken_off told {now} WasRead {slots} {before} so_far own at all breaks going cleared =
-      rw (← so_far.same) (broke_off breaks (ap (work now.stage).is_complete all ∙ going) slots
-      (rw all (so_far.outputs before own at))
-      (cleared (length before) (so_far.owns (length before) own)))
-
   -- an input without bytes: the engine is closed at once
   pub closed_at_start : (laws : (s : S) → IsLawful (work s)) (told : Bool) {opening : Needs} {most : ℕ} {start : GuardState S} {old new before : List Slot} {fed : Fed} {result : Result Fed Fault} → HoldsIn Holds start [] → start.fed < 2 ^ 63 → Owns start.stage (length before) old → OutputsAt told before ((work start.stage).settled []) old → HasGot (work start.stage) empty [] fed
       → EndsSo Holds Owns work told start fed old new result → FedAs told before (work start.stage) opening most empty (λ read. Unit {0}) new result
-  closed_at_start laws told {fed} holds bound own at got ends =
-      ended laws told (λ read. Unit {0}) (begins told holds bound) own at got (got_all fed got) (alike_itself) (inl refl) tt ends
+  closed_at_start laws told {start} {fed} holds bound own at got ends =
+      ended laws told {start = start} (λ read. Unit {0}) (record { same = refl; holds = holds; owns = λ first own. own; outputs = λ before own at. at; bound = bound }) own at got (got_all fed got) (alike_itself) (inl refl) tt ends
 
   -- an input that ended, or was enough, didn't break off
   pub ends_sound : (told : Bool) {engine : GuardState S} {fed : Fed} {old new : List Slot} {result : Result Fed Fault} (P : Type 0) → (fed ≡ Whole) ⊎ (fed ≡ Enough) → EndsSo Holds Owns work told engine fed old new result → IfOk result (λ found. found ≡ Broken → P)
   ends_sound told P sound (finished finishes) = λ is. absurd (elim sound [ inl one ↦ cc | inr other ↦ cc ])
   ends_sound told P sound (fell_short fault reached short caused kept cleared) = tt
-
-  -- how a close ended, where what it gave up is known
-  pub close_short : (told : Bool) {engine : GuardState S} (mid : GuardState S) {fed : Fed} {old reached new : List Slot} {fault : Fault} → EndsShort Holds Owns work engine.stage told old reached fault
-      → IsCaused (IsMet (work engine.stage).means (work engine.stage).means.closing (Unit {0}) (EndsThere Holds work engine.stage) old reached) engine.is_over engine.fed 0 old reached fault
-      → work mid.stage ≡ work engine.stage → (is_verdict fault ≡ false → KeepsOwn Owns engine.stage mid.stage old reached) → (is_verdict fault ≡ true → new ≡ reached) → (is_verdict fault ≡ false → Clears Owns work mid.stage reached new)
-      → EndsSo Holds Owns work told engine fed old new (Err fault)
-  close_short told mid {reached} {fault} short caused same owned kept cleared =
-      fell_short fault reached short caused kept (λ unjudged first own. rw same at (cleared unjudged first (owned unjudged first own)))
 
 -- what was read was needed
 
@@ -208,7 +170,7 @@ pub piece_within : {n most : ℕ} (buffer : List ℕ) → n ≤ most → length 
 piece_within {n} buffer within = omega (arith, length-take n buffer)
 
 pub needed_more : {is_complete : List ℕ → Bool} {most n : ℕ} (x buffer : List ℕ) → is_complete x ≡ false → n ≤ most → IsNeeded is_complete most (x ++ take n buffer)
-needed_more {n} x buffer going within = inr (x, take n buffer, refl, piece_within buffer within, going)
+needed_more {n} x buffer going within = grind (arith, common_steps)
 
 -- the input that is there, where it tells its bytes, and else one that has what was read of it
 
@@ -222,50 +184,13 @@ pub of_more : (told : Bool) (there : Content) (x rest : List ℕ) (is_broken : B
 of_more true there x rest is_broken P all holds = (there, λ t. refl, (holds there (λ t. refl) rest (all refl), λ untold. absurd (false≢true (sym untold))))
 of_more false there x rest is_broken P all holds = (record { bytes = x; breaks_off = false }, λ t. absurd (false≢true t), (holds _ (λ t. absurd (false≢true t)) [] (sym (append-nil x)), λ untold breaks. absurd (false≢true breaks)))
 
--- Lemmas on an engine that took in a front of its input without a read: the loop that feeds it goes on from there.
+-- an engine that took in a front of its input without a read: the loop that feeds it goes on from there
 
-needed_front : {is_complete : List ℕ → Bool} {most : ℕ} {x : List ℕ} → (x ≡ []) ⊎ (is_complete x ≡ false) → IsNeeded is_complete most x
+pub needed_front : {is_complete : List ℕ → Bool} {most : ℕ} {x : List ℕ} → (x ≡ []) ⊎ (is_complete x ≡ false) → IsNeeded is_complete most x
 needed_front (inl none) = inl none
-needed_front {x} (inr going) = inr (x, [], sym (append-nil x), omega arith, going)
-
-module _ {S : Type 0} (Holds : S → List ℕ → Type 0) (Ready : S → List Slot → Type 0) (Owns : S → ℕ → List Slot → Type 0) (work : S → Work) (told : Bool) (slot count : ℕ) (start now : GuardState S) (old new : List Source) (loads : Loads Holds Ready Owns work told slot count start.stage now.stage old new) where
-  pub loaded_feeds : {told_out : Bool} {slots : List Slot} → work now.stage ≡ work start.stage → now.fed ≡ count → now.is_over ≡ false → count < 2 ^ 63 → Feeds Holds Owns work told_out start now loads.front slots slots
-  loaded_feeds {slots} same fed live bound = record {
-    same = same;
-    holds = record { live = live; count = fed ∙ loads.long; within = loads.holds };
-    owns = λ first own. loads.owns first slots own;
-    outputs = λ before own at. rw same (rw loads.idle at);
-    bound = rw fed bound;
-  }
-
-  pub loaded_readable : IsTrue (is_readable old slot) → IsTrue (is_readable new slot)
-  loaded_readable can = rw (passed_at slot count old new can loads.passed, can)
-
-  pub loaded_others : KeepsOthers slot old new
-  loaded_others = keeps_others slot (skips count) old new loads.passed
-
-  pub loaded_read : told ≡ true → IsTrue (is_readable old slot) → HasRead (source_at old slot).left loads.front slot new
-  loaded_read tells can = record {
-    bytes = loads.there tells;
-    breaks_off = rw (passed_at slot count old new can loads.passed);
-  }
-
-  pub loaded_needed : {most : ℕ} → IsNeeded (work start.stage).is_complete most loads.front
-  loaded_needed = needed_front loads.going
-
-  pub loaded_asked : {most : ℕ} → IsTrue (is_readable old slot) → (source_at old slot).asked ≤ most → (source_at new slot).asked ≤ most
-  loaded_asked can few = rw (ap (λ (source : Source). source.asked) (passed_at slot count old new can loads.passed)) few
+needed_front {x} (inr going) = grind (arith, common_steps)
 
 -- Lemmas on what an engine uses of its input, and what is given back of it.
-
--- a read into the front of a buffer
-pub gave_part : {left : Content} {size n : ℕ} {old part : List ℕ} → 0 < size → size ≤ length old → length part ≡ size → n ≤ size → Gave left (take size old) part n → Gave left old (part ++ drop size old) n
-gave_part {size} {n} {old} {part} some within long few gave = record {
-  within = gave.within;
-  front = take-append-le n part (drop size old) (omega (arith, long, few)) ∙ gave.front;
-  rest = cc (drop-append-le n part (drop size old) (omega (arith, long, few)), gave.rest, drop-append-le n (take size old) (drop size old) (omega (arith, few, within, length-take size old)), take-append-drop size old);
-  ended = λ none room. gave.ended none (omega (arith, some, within, length-take size old));
-}
 
 -- What was taken of an input since `start`: x. Where nothing was taken before, reads gave no more.
 pub record HasTaken (x : List ℕ) (slot : ℕ) (start sources : List Source) : Type 0 where
@@ -273,45 +198,10 @@ pub record HasTaken (x : List ℕ) (slot : ℕ) (start sources : List Source) : 
   pub far : IsUnread (source_at start slot) → (source_at sources slot).reached ≤ length x
 
 taken_next : {x buffer old_buffer : List ℕ} {slot : ℕ} (size : ℕ) {n : ℕ} {start sources new : List Source} → HasTaken x slot start sources → IsTrue (is_readable sources slot) → Gave (source_at sources slot).left old_buffer buffer n → new ≡ changed_at slot (gives size n) sources → with_next n (source_at sources slot) ≡ (source_at start slot).taken ++ (x ++ take n buffer)
-taken_next {x} {slot} size {n} {start} {sources} took can gave is = rw (took.taken, append_assoc (source_at start slot).taken x (take n (source_at sources slot).left.bytes), gave.front)
+taken_next {x} {slot} size {n} {start} {sources} took can gave is = grind (arith, common_steps)
 
 pub takes_more : {x buffer old_buffer : List ℕ} {slot : ℕ} (size : ℕ) {n : ℕ} {start sources new : List Source} → HasTaken x slot start sources → IsTrue (is_readable sources slot) → Gave (source_at sources slot).left old_buffer buffer n → new ≡ changed_at slot (gives size n) sources → HasTaken (x ++ take n buffer) slot start new
-takes_more {x} {buffer} {slot} size {n} {start} {sources} {new} took can gave is =
-    let next = taken_next size took can gave is in
-    let after = changed_source slot (gives size n) sources new can is in record {
-      taken = ap (λ (source : Source). source.taken) after ∙ next;
-      far = λ unread.
-          let none : length (source_at start slot).taken ≡ 0 = ap length unread.0 in
-          let all = ap length next ∙ length-append (source_at start slot).taken (x ++ take n buffer) in
-          rw (ap (λ (source : Source). source.reached) after) (omega (arith, took.far unread, length-append x (take n buffer), all, none));
-    }
-
--- a read gave as many as it says
-pub last_given : {old_buffer buffer : List ℕ} (slot size : ℕ) {n : ℕ} (sources : List Source) {new : List Source} → IsTrue (is_readable sources slot) → Gave (source_at sources slot).left old_buffer buffer n → new ≡ changed_at slot (gives size n) sources → (source_at new slot).last ≡ n
-last_given slot size {n} sources {new} can gave is = rw (changed_source slot (gives size n) sources new can is, length-take-le n (source_at sources slot).left.bytes gave.within)
-
--- a read that failed took nothing
-pub takes_none : {x : List ℕ} {slot : ℕ} (size : ℕ) {start sources new : List Source} → HasTaken x slot start sources → IsTrue (is_readable sources slot) → new ≡ changed_at slot (fails size) sources → HasTaken x slot start new
-takes_none {slot} size {sources} {new} took can is =
-    let after = changed_source slot (fails size) sources new can is in record {
-      taken = ap (λ (source : Source). source.taken) after ∙ took.taken;
-      far = λ unread. rw (ap (λ (source : Source). source.reached) after) (took.far unread);
-    }
-
-module _ {E : Type 0} (Holds : E → List ℕ → Type 0) (Ready : E → List Slot → Type 0) (Owns : E → ℕ → List Slot → Type 0) (work : E → Work) (told : Bool) (slot count : ℕ) (before after : E) (old new : List Source) (loads : Loads Holds Ready Owns work told slot count before after old new) where
-  pub loaded_taken : told ≡ true → IsTrue (is_readable old slot) → HasTaken loads.front slot old new
-  loaded_taken tells can =
-      let passed = passed_at slot count old new can loads.passed in record {
-        taken = rw (passed, loads.there tells, loads.long, take_at loads.front (source_at new slot).left.bytes (length loads.front) refl);
-        far = λ unread. omega (arith, ap (λ (source : Source). source.reached) passed, unread.1);
-      }
-
-  -- of what is taken in without a read all is used
-  pub loaded_few : IsLawful (work before) → (n : ℕ) → IsSpare (work before) loads.front n → n ≤ (work before).ahead
-  loaded_few lawful n spare = elim loads.going [
-    | inl none ↦ omega (arith, ap length none, ap length spare.joined ∙ length-append spare.used spare.rest, spare.long)
-    | inr going ↦ omega (arith, none_spare (work before) loads.front n lawful going spare)
-  ]
+takes_more {x} {buffer} {slot} size {n} {start} {sources} {new} took can gave is = grind (arith, common_steps, taken_next, changed_source)
 
 -- what is spare was given back
 
@@ -321,40 +211,29 @@ back_at {taken} start used {rest} {n} is long =
     let at : length taken - n ≡ length (start ++ used) = omega (arith, ap length all ∙ length-append (start ++ used) rest, long) in
     ap (λ k. drop k taken) at ∙ ap (drop (length (start ++ used))) all ∙ drop_at (start ++ used) rest (length (start ++ used)) refl
 
-pub left_after : {work : Work} {x : List ℕ} {slot n : ℕ} {start sources new : List Source} (spare : IsSpare work x n) → HasTaken x slot start sources → IsTrue (is_readable sources slot) → new ≡ changed_at slot (gets_back n) sources → (source_at new slot).left.bytes ≡ spare.rest ++ (source_at sources slot).left.bytes
-left_after {slot} {n} {start} {sources} {new} spare took can is = rw (changed_source slot (gets_back n) sources new can is, back_at (source_at start slot).taken spare.used (took.taken ∙ ap (λ those. (source_at start slot).taken ++ those) spare.joined) spare.long)
-
 pub read_used : {work : Work} {content : Content} {x : List ℕ} {slot n : ℕ} {start sources new : List Source} (spare : IsSpare work x n) → HasRead content x slot sources → HasTaken x slot start sources → IsTrue (is_readable sources slot) → new ≡ changed_at slot (gets_back n) sources → content.bytes ≡ spare.used ++ (source_at new slot).left.bytes
-read_used {slot} {sources} spare read took can is = rw (read.bytes, spare.joined, append_assoc spare.used spare.rest (source_at sources slot).left.bytes, left_after spare took can is)
+read_used {slot} {n} {start} {sources} {new} spare read took can is = rw (
+  read.bytes,
+  spare.joined,
+  append_assoc spare.used spare.rest (source_at sources slot).left.bytes,
+  changed_source slot (gets_back n) sources new can is,
+  back_at (source_at start slot).taken spare.used (took.taken ∙ ap (λ those. (source_at start slot).taken ++ those) spare.joined) spare.long,
+)
 
 -- one byte at the most is a piece
 pub needed_within : {is_complete : List ℕ → Bool} {most : ℕ} {x : List ℕ} → 0 < most → IsNeeded is_complete 1 x → IsNeeded is_complete most x
 needed_within room (inl none) = inl none
-needed_within room (inr (before, piece, is, few, going)) = inr (before, piece, is, omega (arith, few, room), going)
+needed_within room (inr (before, piece, is, few, going)) = grind (arith, common_steps)
 
 -- what a run leaves of an input
 
 -- all of it was read, and the output was not complete
 pub uses_all : {work : Work} {most slot : ℕ} {there : Content} {x : List ℕ} {source : Source} → there.bytes ≡ x ++ source.left.bytes → source.left.bytes ≡ [] → IsNeeded work.is_complete most x → work.is_complete x ≡ false → source.reached ≤ length x → Uses work most slot there source
-uses_all {x} joined none needed going few = record {
-  read = x;
-  joined = joined;
-  enough = inl none;
-  needed = needed;
-  exact = λ well. inr (x, [], sym (append-nil x), omega arith, going);
-  few = λ standard. omega (arith, few);
-}
+uses_all {x} joined none needed going few = grind (arith, common_steps)
 
 -- the work ended with a fault within it
 pub uses_judged : {work : Work} {most slot : ℕ} {there : Content} {x : List ℕ} {source : Source} {fault : Fault} → there.bytes ≡ x ++ source.left.bytes → IsNeeded work.is_complete most x → work.is_complete x ≡ true → work.verdict x ≡ Some fault → source.reached ≤ length x → Uses work most slot there source
-uses_judged {x} joined needed complete verdict few = record {
-  read = x;
-  joined = joined;
-  enough = inr complete;
-  needed = needed;
-  exact = λ well. absurd (cc);
-  few = λ standard. omega (arith, few);
-}
+uses_judged {x} joined needed complete verdict few = grind (arith, common_steps)
 
 -- the output was complete, and what it doesn't use was given back
 pub uses_part : {work : Work} {most slot n : ℕ} {there : Content} {x : List ℕ} {start sources new : List Source} (spare : IsSpare work x n) → there.bytes ≡ spare.used ++ (source_at new slot).left.bytes → 0 < most → work.is_complete spare.used ≡ true → (slot ≡ 0 → n ≤ work.ahead) → HasTaken x slot start sources → IsUnread (source_at start slot) → IsTrue (is_readable sources slot) → new ≡ changed_at slot (gets_back n) sources

@@ -1,41 +1,139 @@
--- Lemmas on one input of a run, on the inputs for names, one after another, and on how a run ends.
-use Rattle.std.proofs.Common.{◌⊎◌, arith, inl, inr, ◌≡◌, ℕ, ◌<◌, ◌≤◌, Bool, true, false, not, ◌||◌, IsTrue, List, [], ◌∷◌, length, take, Option, Some, None, Result, Ok, Err, refl, sym, ◌∙◌, ap, subst, if◌then◌else◌, ◌++◌, lit≤, codes, ◌-◌, drop, map, get_or, Bor, append_assoc, lit<}
-use Rattle.std.proofs.lemmas.Bool.{false≢true, or_left, or_right, and_parts, false_from_ne_true, or_parts}
+-- Lemmas on what a run leaves of its inputs, on one input, on the inputs for names, one after another, and on how a run ends.
+use Rattle.std.proofs.lemmas.Grind.{common_steps}
+use Rattle.std.proofs.Common.{◌≡◌, ℕ, ◌+◌, ◌<◌, ◌≤◌, zero, suc, Bool, true, false, ◌||◌, IsTrue, if◌then◌else◌, List, [], ◌∷◌, ◌++◌, length, Option, Some, None, IfSome, arith, inl, inr, refl, ◌⊎◌, not, take, Result, Ok, Err, sym, ◌∙◌, ap, subst, lit≤, codes, ◌-◌, drop, map, get_or, Bor, append_assoc, lit<, rules}
+use Rattle.std.proofs.lemmas.Bool.{false≢true, or_parts, or_left, or_right, false_from_ne_true}
+use Rattle.ports_core.specs.Source.{Content, Source, no_source, source_at, source_of, is_readable, missing, Opens, OpensNothing, IsFresh, Opens as OpensFile}
+use Rattle.ports_core.specs.Source as from
+use Rattle.ports_core.specs.declared.fault.Fault.{Fault}
+use Rattle.ports_core.specs.Work.{Work, Needs}
+use Rattle.run_core.specs.Feeding.{Uses, is_enough, FedAs, whole, had_enough, broke_off, judged, stopped}
+use Rattle.ports_core.specs.Inputs.{BreaksOnly, KeepsOthers, OfContent, AsksAtMost, empty, largest_piece}
+use Rattle.run_core.specs.Input.{Input, World, IsFor, is_dash, input_of, inputs_from, next_slot, has_dash, AreFrom, inputs_at, file_input, standard_input, read_before}
+use Rattle.run_core.specs.Reading.{AreDone, AreUntouched, IsDone, IsUntouched, Leaves, count_after}
+use Rattle.run_core.specs.inner.RunSteps.{TakesOne, OfSource, HeaderFails, no_room, broke, TookInput, took, cut_off, input_from, TookAll, all, stopped_at, not_begun, HasStreams, OfName, is_unopened, standard_source}
+use Rattle.ports_core.proofs.InputsLemmas.{sound_at, fresh_asks}
 use Rattle.std.proofs.Math.Bool.{and-false, and-true, or-false, or-true, or_assoc}
 use Rattle.ports_core.specs.Slot.{Slot, adds, is_open, slot_at, is_writable, told_of, with_written, streams}
-use Rattle.ports_core.specs.Source.{Content, Source, source_at, source_of, missing, is_readable, IsFresh, Opens as OpensFile, OpensNothing}
 use Rattle.ports_core.specs.Part.{Part, only_out, OutputsAt}
 use Rattle.ports_core.specs.Swept.{Swept}
-use Rattle.ports_core.specs.Work.{Work, Needs}
-use Rattle.ports_core.specs.Guard.{GuardState}
 use Rattle.ports_core.specs.Engine.{is_verdict}
 use Rattle.ports_core.specs.Text.{message_of}
 use Rattle.ports_core.specs.Message.{SaysOn, SaysAll, output_named}
-use Rattle.ports_core.specs.declared.fault.Fault.{Fault}
-use Rattle.ports_core.specs.declared.fault.Fault.TheVariants.{Memory, Write, Read, Open}
-use Rattle.ports_core.proofs.PartLemmas.{out_more, out_cut, part_begins_itself, stopped_here, broken_at, outputs_count, nothing_out}
+use Rattle.ports_core.specs.declared.fault.Fault.TheVariants.{Memory, Write, Read}
+use Rattle.ports_core.proofs.PartLemmas.{out_more, out_cut, part_begins_itself, stopped_here, broken_at, nothing_out}
 use Rattle.ports_core.proofs.WriteLemmas.{writable-written}
 use Rattle.ports_core.proofs.SlotLemmas.{length-changed_at}
 use Rattle.run_core.specs.declared.inputs.Progress.{Progress}
 use Rattle.run_core.specs.declared.feeding.Fed.{Fed}
 use Rattle.run_core.specs.declared.feeding.Fed.TheVariants.{Whole, Enough, Broken}
-use Rattle.run_core.specs.Feeding.{is_enough, FedAs, whole, had_enough, broke_off, judged, stopped, is_stop, LeavesOf, Uses}
-use Rattle.ports_core.specs.Inputs.{BreaksOnly, OfContent, empty, AsksAtMost, largest_piece}
-use Rattle.run_core.specs.Reading.{IsDone, Leaves, AreUntouched, count_after}
 use Rattle.run_core.specs.RunEnds.{unheaded, heading, calling, step_after, EndsAs, as_defined, stopped as run_stopped, no_room as run_unmade, RunsOver, unopened}
 use Rattle.ports_core.specs.Streams.{streams_with, standard_output, standard_error}
-use Rattle.run_core.specs.inner.RunSteps.{HeaderFails, no_room, broke, TookInput, took, cut_off, input_from, OfSource, KeepsOther, TookAll, all, stopped_at, not_begun, HasStreams, OfName, is_unopened, standard_source}
-use Rattle.run_core.specs.RunSteps.{Opens, world_of}
-use Rattle.run_core.specs.Task.{Task, Outcome, after_part, header_text, of_content, made_by, no_outcome, joined, of_input, of_inputs, is_missing, are_missing, ends_badly}
-use Rattle.run_core.proofs.ReadingLemmas.{left_of, StayDone, all_done, count_more, done_more, done_with, last_source, missing_done, rest_untouched, still_done}
-use Rattle.run_core.proofs.StopLemmas.{after_assoc, out_on, at_after, stop_after, none_to_sweep, nothing_after, swept_from, said_swept, swept_error, error_open, stop_error, stop_swept, said_at}
+use Rattle.run_core.specs.RunSteps.{world_of}
+use Rattle.run_core.specs.Task.{Task, Outcome, after_part, header_text, of_content, made_by, no_outcome, joined, of_input, of_inputs, is_missing, are_missing}
+use Rattle.run_core.proofs.StopLemmas.{after_assoc, out_on, at_after, stop_after, none_to_sweep, nothing_after, swept_from, said_swept, error_open, stop_error, stop_swept, said_at}
 use Rattle.ports_core.proofs.MessageLemmas.{says_more, all_said_state, says_after}
-use Rattle.run_core.specs.Input.{Input, World, has_dash, AreFrom, is_dash, input_of, inputs_from, inputs_at, file_input, standard_input, read_before, next_slot}
-use Rattle.std.proofs.lemmas.List.{append-nil, nil_from_length, take_rest}
+use Rattle.std.proofs.lemmas.List.{append-nil, nil_from_length}
 use Rattle.std.proofs.lemmas.List.Recursion.{and_push}
-use Rattle.run_core.specs.inner.Reading.{TakesOne}
-use Rattle.ports_core.proofs.InputsLemmas.{fresh_asks}
-use Rattle.ports_core.specs.Source as from
+
+-- one input more
+
+pub last_source : (sources : List Source) {source : Source} → source_at (sources ++ source ∷ []) (length sources) ≡ source
+last_source sources {source} = grind (arith, common_steps)
+
+-- what is left of the input of a source
+
+-- an input of which nothing was read
+pub unread_source : (told : Bool) (source : Option ℕ) (sources : List Source) (Q : Content → Type 0) → IfSome source (λ slot. IsTrue (is_readable sources slot))
+    → ((content : Content) → Leaves told content source sources [] → Q content) → OfSource told source sources Q
+unread_source told None sources Q can holds = holds empty tt
+unread_source true (Some slot) sources Q can holds = ((source_at sources slot).left, λ t. refl, holds (source_at sources slot).left (sound_at sources slot can, λ t. refl))
+unread_source false (Some slot) sources Q can holds = (empty, λ t. absurd (false≢true t), holds empty (sound_at sources slot can, λ t. absurd (false≢true t)))
+
+-- an input that could be read is still there
+pub still_within : {source : Option ℕ} {slot : ℕ} {old new : List Source} → source ≡ Some slot → IfSome source (λ slot. IsTrue (is_readable old slot)) → KeepsOthers slot old new → slot < length new
+still_within {slot} {old} is can keeps = grind (arith, common_steps)
+
+-- an input that was fed to an engine, unless a fault stopped it
+pub left_of : {told : Bool} {work : Work} {most slot : ℕ} {there : Content} (sources : List Source) (P : Content → Type 0) {stops : Bool} → slot < length sources → (told ≡ true → stops ≡ false → Uses work most slot there (source_at sources slot))
+    → OfContent told there (λ content. P content × BreaksOnly told content (source_at sources slot)) → OfContent told there (λ content. P content × (stops ≡ false → IsDone told work most (Some slot) (Some content) sources))
+left_of sources P within uses (content, is, holds) = grind (arith, common_steps)
+
+-- how many names there can be
+
+pub count_more : (count : ℕ) (names : List (List ℕ)) → count ≤ count_after count names
+count_more count [] = omega arith
+count_more count (name ∷ names) = let rest : next_slot count name ≤ count_after (next_slot count name) names = count_more (next_slot count name) names in at_least (is_dash name) (count_after (next_slot count name) names) rest where
+  at_least : (dash : Bool) (most : ℕ) → (if dash then count else count + 1) ≤ most → count ≤ most
+  at_least true most less = less
+  at_least false most less = omega (arith, less)
+
+-- what taking a name leaves
+
+takes_none : {most : ℕ} {was_read : Bool} {name : List ℕ} {old new : List Source} → new ≡ old → TakesOne most was_read name old new
+takes_none {most} {name} {old} same = grind (arith, common_steps)
+
+pub takes_file : {told : Bool} {laid : ℕ → List ℕ → Option Content} {most : ℕ} {was_read : Bool} {name : List ℕ} {old mid new : List Source} {slot : ℕ} → is_dash name ≡ false → 0 < length old → Opens told laid old mid name slot → KeepsOthers slot mid new → (AsksAtMost most mid → AsksAtMost most new)
+    → TakesOne most was_read name old new
+takes_file differs some opens keeps asked = grind (arith, common_steps)
+
+pub takes_missing : {told : Bool} {laid : ℕ → List ℕ → Option Content} {most : ℕ} {was_read : Bool} {name : List ℕ} {old new : List Source} {fault : Fault} → is_dash name ≡ false → 0 < length old → OpensNothing told laid old new name fault → TakesOne most was_read name old new
+takes_missing {old} {new} differs some (from.broke at number lies is) = grind (arith, common_steps)
+takes_missing differs some (from.no_room is) = takes_none is
+
+-- a file that could not be opened is not open
+pub missing_done : (told : Bool) (work : Work) (most : ℕ) (old : List Source) {new : List Source} → new ≡ old ++ missing ∷ [] → IsDone told work most (Some (length old)) None new
+missing_done told work most old is = grind (arith, common_steps)
+
+-- the inputs that were done stay so
+
+abbrev pub StaysDone : Bool → Work → ℕ → Bool → Option ℕ → Option Content → List Source → Type 0
+StaysDone told work most was_read None content sources = Unit {0}
+StaysDone told work most was_read (Some slot) content sources = (slot ≡ 0 → was_read ≡ true) × IsDone told work most (Some slot) content sources
+
+abbrev pub StayDone : Bool → Work → ℕ → Bool → List Input → List Source → Type 0
+StayDone told work most was_read [] sources = Unit {0}
+StayDone told work most was_read (input ∷ inputs) sources = StaysDone told work most was_read input.slot input.content sources × StayDone told work most was_read inputs sources
+
+still_done_at : (told : Bool) (work : Work) (most : ℕ) {room : ℕ} {was_read now_read : Bool} {name : List ℕ} (slot : Option ℕ) (content : Option Content) {old new : List Source} → (was_read ≡ true → now_read ≡ true) → TakesOne room was_read name old new
+    → StaysDone told work most was_read slot content old → StaysDone told work most now_read slot content new
+still_done_at told work most None content reads takes done = tt
+still_done_at told work most {was_read} (Some zero) content {old} {new} reads takes done = grind (arith, common_steps)
+still_done_at told work most (Some (suc slot)) content {old} {new} reads takes done = grind (arith, common_steps)
+
+pub still_done : (told : Bool) (work : Work) (most : ℕ) {room : ℕ} {was_read now_read : Bool} {name : List ℕ} (inputs : List Input) {old new : List Source} → (was_read ≡ true → now_read ≡ true) → TakesOne room was_read name old new
+    → StayDone told work most was_read inputs old → StayDone told work most now_read inputs new
+still_done told work most [] reads takes done = tt
+still_done told work most (input ∷ inputs) reads takes done =
+    (still_done_at told work most input.slot input.content reads takes done.0, still_done told work most inputs reads takes done.1)
+
+pub done_more : (told : Bool) (work : Work) (most : ℕ) (was_read : Bool) (inputs : List Input) (input : Input) (sources : List Source) → StayDone told work most was_read inputs sources → StaysDone told work most was_read input.slot input.content sources
+    → StayDone told work most was_read (inputs ++ input ∷ []) sources
+done_more told work most was_read [] input sources done one = (one, tt)
+done_more told work most was_read (first ∷ inputs) input sources done one = (done.0, done_more told work most was_read inputs input sources done.1 one)
+
+done_at : (told : Bool) (work : Work) (most : ℕ) (was_read : Bool) (slot : Option ℕ) (content : Option Content) (sources : List Source) → StaysDone told work most was_read slot content sources → IsDone told work most slot content sources
+done_at told work most was_read None content sources done = tt
+done_at told work most was_read (Some slot) content sources done = done.1
+
+pub all_done : (told : Bool) (work : Work) (most : ℕ) (was_read : Bool) (inputs : List Input) (sources : List Source) → StayDone told work most was_read inputs sources → AreDone told work most inputs sources
+all_done told work most was_read [] sources done = tt
+all_done told work most was_read (input ∷ inputs) sources done = (done_at told work most was_read input.slot input.content sources done.0, all_done told work most was_read inputs sources done.1)
+
+pub done_with : (told : Bool) (work : Work) (most : ℕ) (was_read : Bool) {count : ℕ} (name : List ℕ) {input : Input} (sources : List Source) → IsFor was_read count name input → 0 < count
+    → IsDone told work most input.slot input.content sources → StaysDone told work most (was_read || is_dash name) input.slot input.content sources
+done_with told work most was_read name sources (world, is) some done = grind (arith, common_steps)
+
+-- the inputs after the place where a run was stopped were not touched
+
+pub rest_untouched : (world : World) (was_read : Bool) (slot : ℕ) (names : List (List ℕ)) (sources : List Source) → (was_read ≡ false → source_at sources 0 ≡ source_of world.standard) → length sources ≤ slot
+    → AreUntouched (inputs_from world was_read slot names) sources
+rest_untouched world was_read slot [] sources unread few = tt
+rest_untouched world was_read slot (name ∷ names) sources unread few =
+    (by_name was_read (is_dash name) unread, rest_untouched world (was_read || is_dash name) (next_slot slot name) names sources (λ none. unread (or_parts was_read (is_dash name) none).0) (let more : slot ≤ next_slot slot name = count_more slot (name ∷ []) in omega (arith, few, more))) where
+      by_name : (was dash : Bool) → (was ≡ false → source_at sources 0 ≡ source_of world.standard) → (let input = input_of world was slot name dash in IsUntouched input.slot input.content sources)
+      by_name true true at_first = tt
+      by_name false true at_first = inr (world.standard, refl, at_first refl)
+      by_name was false at_first = inl few
 
 -- Lemmas on one input of a run.
 
@@ -45,10 +143,7 @@ pub part_writable : {told : Bool} {error : Slot} {part : Part} {slots : List Slo
 part_writable at = rw at.slots refl
 
 pub part_two : {told : Bool} {error : Slot} {part : Part} {slots : List Slot} → OutputsAt told (streams_with error) part slots → 2 ≤ length slots
-part_two {told} {error} {part} {slots} at = omega (arith, outputs_count told (streams_with error) part slots at)
-
-pub part_open : {told : Bool} {error : Slot} {part : Part} {slots : List Slot} → is_open error.state ≡ true → OutputsAt told (streams_with error) part slots → is_open (slot_at slots 1).state ≡ true
-part_open opened at = rw (at.slots, opened)
+part_two {told} {error} {part} {slots} at = grind (arith, common_steps)
 
 -- the header was written
 pub headed : {told : Bool} {base : List Slot} {so_far : Part} (text : List ℕ) {old mid : List Slot} → OutputsAt told base so_far old → mid ≡ with_written 0 (told_of told text) old → OutputsAt told base (after_part so_far (only_out text)) mid
@@ -61,17 +156,17 @@ headed_count told text old wrote = ap length wrote ∙ length-changed_at 0 _ old
 
 pub of_source_too : (told : Bool) (source : Option ℕ) (sources : List Source) (A B Q : Content → Type 0) → ((content : Content) → A content → B content → Q content) → OfSource told source sources (λ content. A content × B content) → OfSource told source sources Q
 of_source_too told None sources A B Q more (one, two) = more _ one two
-of_source_too told (Some slot) sources A B Q more (content, there, both) = (content, there, more content both.0 both.1)
+of_source_too told (Some slot) sources A B Q more (content, there, both) = grind (arith, common_steps)
 
 pub from_source : (told : Bool) (source : Option ℕ) (sources : List Source) (A B : Content → Type 0) (Q : Type 0) → ((content : Content) → A content → B content → Q) → OfSource told source sources (λ content. A content × B content) → Q
 from_source told None sources A B Q more (one, two) = more _ one two
-from_source told (Some slot) sources A B Q more (content, there, both) = more content both.0 both.1
+from_source told (Some slot) sources A B Q more (content, there, both) = search rules
 
 -- what is made of an input, by how it ends
 
 made_well : (task : Task) (is_first : Bool) (name : List ℕ) (content : Content) → is_enough task.work content ≡ true → task.work.verdict content.bytes ≡ None
     → of_content task is_first name (Some content) ≡ record { part = after_part (only_out (header_text task.with_header is_first name)) (task.work.whole content.bytes); messages = []; failed = false; sweeps = false }
-made_well task is_first name content enough well = simp (enough, well, and-false)
+made_well task is_first name content enough well = search rules
 
 -- the header could not be written
 
@@ -141,36 +236,15 @@ module _ (told_in told : Bool) (task : Task) (most : ℕ) (is_first failed was_r
 -- standard error is open after an input was fed
 
 pub swept_open : (clears : Bool) (reached new : List Slot) {first : ℕ} → 2 ≤ first → is_open (slot_at reached 1).state ≡ true → Swept clears first reached new → is_open (slot_at new 1).state ≡ true
-swept_open clears reached new past opened swept = rw (swept_error clears reached new past swept, opened)
+swept_open clears reached new past opened swept = grind (arith, common_steps)
 
 pub fed_open : {told : Bool} {work : Work} {opening : Needs} {most : ℕ} {error : Slot} {part : Part} {mid new : List Slot} {content : Content} (WasRead : List ℕ → Type 0) {result : Result Fed Fault} → is_open error.state ≡ true → OutputsAt told (streams_with error) part mid
     → FedAs told mid work opening most content WasRead new result → is_open (slot_at new 1).state ≡ true
-fed_open WasRead opened at (whole sound going well there) = part_open opened (at_after at there)
-fed_open WasRead opened at (had_enough complete well there) = part_open opened (at_after at there)
-fed_open {work} {new} WasRead opened at (broke_off breaks going reached there swept) = swept_open work.clears reached new (part_two at) (part_open opened (at_after at there)) swept
-fed_open {work} {new} WasRead opened at (judged fault is enough judges reached there swept) = swept_open work.clears reached new (part_two at) (part_open opened (at_after at there)) swept
-fed_open {work} {new} WasRead opened at (stopped fault is call is_call read reached why stop swept) = swept_open work.clears reached new (part_two at) (error_open (stop_error opened (stop_after at stop))) swept
-
--- what was fed to the engine that was opened
-pub fed_as : {S : Type 0} (Holds : S → List ℕ → Type 0) (Owns : S → ℕ → List Slot → Type 0) {work : S → Work} (Ready : S → List Slot → Type 0) {asked : Work} (opening : Needs) {told told_in : Bool} {old mid new : List Slot} {engine : GuardState S} {source : Option ℕ} {slot : ℕ} (sources left : List Source) {most : ℕ} {result : Result Fed Fault}
-    → source ≡ Some slot → Opens Holds Owns work Ready asked told old mid engine → slot < length left
-    → ((before : List Slot) (opening : Needs) → Owns engine.stage (length before) mid → OutputsAt told before ((work engine.stage).settled []) mid → OfContent told_in (source_at sources slot).left (λ content. FedAs told before (work engine.stage) opening most content (LeavesOf told_in content (source_at left slot)) new result × BreaksOnly told_in content (source_at left slot)))
-    → (told_in ≡ true → is_stop result ≡ false → Uses (work engine.stage) most slot (source_at sources slot).left (source_at left slot))
-    → OfSource told_in source sources (λ content. FedAs told old asked opening most content (Leaves told_in content source left) new result × (is_stop result ≡ false → IsDone told_in asked most source (Some content) left))
-fed_as Holds Owns Ready opening {old} sources left is had within feeds uses =
-    rw (is, ← had.does) (left_of left _ within uses (feeds old opening had.owns (rw (← had.does) at had.outputs)))
-
-pub fed_none : {S : Type 0} (Holds : S → List ℕ → Type 0) (Owns : S → ℕ → List Slot → Type 0) {work : S → Work} (Ready : S → List Slot → Type 0) {asked : Work} (opening : Needs) {told : Bool} (told_in : Bool) {old mid new : List Slot} {engine : GuardState S} {source : Option ℕ} (sources left : List Source) (most : ℕ) {result : Result Fed Fault}
-    → source ≡ None → Opens Holds Owns work Ready asked told old mid engine
-    → ((before : List Slot) (opening : Needs) (room : ℕ) → Owns engine.stage (length before) mid → OutputsAt told before ((work engine.stage).settled []) mid → FedAs told before (work engine.stage) opening room empty (λ read. Unit {0}) new result)
-    → OfSource told_in source sources (λ content. FedAs told old asked opening most content (Leaves told_in content source left) new result × (is_stop result ≡ false → IsDone told_in asked most source (Some content) left))
-fed_none Holds Owns Ready opening told_in {old} sources left most is had feeds = rw (is, ← had.does) (feeds old opening most had.owns (rw (← had.does) at had.outputs), λ ends. tt)
-
--- no input but that of the source was touched
-
-pub keeps_all : (source : Option ℕ) (sources : List Source) → KeepsOther source sources sources
-keeps_all None sources = refl
-keeps_all (Some slot) sources = record { count = refl; others = λ place differs. refl }
+fed_open WasRead opened at (whole sound going well there) = cc
+fed_open WasRead opened at (had_enough complete well there) = cc
+fed_open {work} {new} WasRead opened at (broke_off breaks going reached there swept) = grind (arith, common_steps)
+fed_open {work} {new} WasRead opened at (judged fault is enough judges reached there swept) = grind (arith, common_steps)
+fed_open {work} {new} WasRead opened at (stopped fault is call is_call read reached why stop swept) = grind (arith, common_steps)
 
 -- Lemmas on how a run ends.
 
@@ -180,9 +254,8 @@ ran_through is (all _ error reached same says at swept done) = as_defined error 
 
 -- standard error is there for the fault that stopped the run
 pub stop_open : {told_in told : Bool} {task : Task} {found : List Input} {sources : List Source} {new : List Slot} {fault : Fault} → TookAll told_in told task found sources new (Err fault) → is_open (slot_at new 1).state ≡ true
-stop_open {told} {task} {new} (stopped_at _ before input after error step reached among done untouched is_step stops says stop swept) =
-    swept_open task.work.clears reached new (lit≤ tt) (error_open (stop_error (ap is_open (all_said_state told task.tool (made_by task before).messages standard_error error says)) stop)) swept
-stop_open (not_begun is untouched none) = ap (λ slots. is_open (slot_at slots 1).state) is
+stop_open {told} {task} {new} (stopped_at _ before input after error step reached among done untouched is_step stops says stop swept) = grind (arith, common_steps, swept_open, error_open, stop_error, all_said_state)
+stop_open (not_begun is untouched none) = grind (arith, common_steps)
 
 -- the run that a fault stopped
 pub ran_into : {told_in told : Bool} {task : Task} {found : List Input} {sources : List Source} {mid new : List Slot} {fault : Fault} → TookAll told_in told task found sources mid (Err fault) → SaysOn told task.tool (message_of task.tool fault (output_named mid fault)) mid new
@@ -200,10 +273,6 @@ ran_into (not_begun at_first untouched none) says =
 -- Lemmas on taking the inputs for names, one after another.
 
 -- a list of words and its front
-
-pub front_and_rest : (none : Bor (List ℕ)) (left : List (Bor (List ℕ))) → 1 ≤ length left → map (λ word. word.now) left ≡ (get_or left 0 none).now ∷ map (λ word. word.now) (take (length left - 1) (drop 1 left))
-front_and_rest none [] some = absurd (omega arith)
-front_and_rest none (word ∷ words) some = rw (take_rest (word ∷ words) 1)
 
 pub none_left : (left : List (Bor (List ℕ))) → length left < 1 → map (λ word. word.now) left ≡ []
 none_left [] none = refl
@@ -245,14 +314,6 @@ took_opened {was_read} {laid} {name} {old} {slot} {sources} differs opened_it (c
     ∙ ap Some (sym (there t ∙ ap (λ (source : Source). source.left) (ap (λ those. source_at those slot) opened_it.sources ∙ ap (source_at (old ++ source_of opened_it.content ∷ [])) opened_it.number ∙ last_source old))))
     (rw (ap (λ (b : Bool). was_read || b) differs ∙ or-false was_read) (rw opened_it.number at one))
 
-took_missing : {told_in told : Bool} {task : Task} {most : ℕ} {is_first failed was_read : Bool} (name : List ℕ) (sources : List Source) {after : List Source} (slot : ℕ) {so_far : Part} {error : Slot} {old new : List Slot} → is_dash name ≡ false → after ≡ sources ++ missing ∷ [] → OutputsAt told (streams_with error) so_far old
-    → SaysOn told task.tool (message_of task.tool (Open slot) name) old new
-    → TookInput told_in told task most (file_input name (length sources) None) (of_input task is_first (file_input name (length sources) None)) is_first failed (was_read || is_dash name) so_far error (length old) after new (Ok (record { was_read = was_read; is_first = is_first; failed = true }))
-took_missing {told_in} {told} {task} {most} {is_first} {was_read} name sources slot {new} differs are at says =
-    let said = said_at at says in
-    took (record { was_read = was_read; is_first = is_first; failed = true }) said.0 new (simp (differs, or-false, and-true, or-true)) (missing_done told_in task.work most sources are)
-    (said.0, said.1, refl) (subst (λ part. OutputsAt told (streams_with said.0) part new) (sym nothing_after) said.2) refl
-
 -- standard input, for the operand `-`
 pub took_standard : {told_in told : Bool} {task : Task} {most : ℕ} {is_first failed : Bool} (was_read : Bool) {source : Option ℕ} (laid : ℕ → List ℕ → Option Content) (name : List ℕ) (old : List Source) {sources : List Source} {so_far : Part} {error : Slot} {first : ℕ} {new : List Slot} {result : Result Progress Fault} → source ≡ standard_source was_read → is_dash name ≡ true
     → OfSource told_in source old (λ content. TookInput told_in told task most (input_from (codes "standard input") source content) (of_content task is_first (codes "standard input") (Some content)) is_first failed true so_far error first sources new result)
@@ -267,15 +328,17 @@ took_standard {told_in} {told} {task} {most} {is_first} {failed} was_read laid n
 pub of_missing : {told_in told : Bool} {task : Task} {most : ℕ} {is_first failed was_read : Bool} {laid : ℕ → List ℕ → Option Content} {name : List ℕ} {sources after : List Source} {fault : Fault} {so_far : Part} {error : Slot} {old new : List Slot} → is_dash name ≡ false → OpensNothing told_in laid sources after name fault → is_unopened fault ≡ true → OutputsAt told (streams_with error) so_far old
     → SaysOn told task.tool (message_of task.tool fault name) old new → OfName told_in (world_of laid sources) was_read (length sources) name
     (λ input. TookInput told_in told task most input (of_input task is_first input) is_first failed (was_read || is_dash name) so_far error (length old) after new (Ok (record { was_read = was_read; is_first = is_first; failed = true })))
-of_missing {was_read} {laid} {name} {sources} differs (from.broke slot number lies are) cannot at says =
+of_missing {told_in} {told} {task} {most} {is_first} {was_read} {laid} {name} {sources} {new} differs (from.broke slot number lies are) cannot at says =
     of_file (world_of laid sources) was_read _ differs (λ t. ap (λ n. laid n name) (sym number) ∙ lies t)
-    (took_missing name sources slot differs are at says)
-of_missing differs (from.no_room are) cannot at says = absurd (false≢true cannot)
+    (let said = said_at at says in
+    took (record { was_read = was_read; is_first = is_first; failed = true }) said.0 new (simp (differs, or-false, and-true, or-true)) (missing_done told_in task.work most sources are)
+    (said.0, said.1, refl) (subst (λ part. OutputsAt told (streams_with said.0) part new) (sym nothing_after) said.2) refl)
+of_missing differs (from.no_room are) cannot at says = search rules
 
 -- there was no room for it
 pub of_no_room : {told_in told : Bool} {task : Task} {most : ℕ} {is_first failed : Bool} (was_read : Bool) {laid : ℕ → List ℕ → Option Content} {name : List ℕ} {sources after : List Source} {fault : Fault} {so_far : Part} {error : Slot} {old : List Slot} → is_dash name ≡ false → OpensNothing told_in laid sources after name fault → is_unopened fault ≡ false → OutputsAt told (streams_with error) so_far old
     → OfName told_in (world_of laid sources) was_read (length sources) name (λ input. TookInput told_in told task most input (of_input task is_first input) is_first failed (was_read || is_dash name) so_far error (length old) after old (Err fault))
-of_no_room was_read differs (from.broke slot number lies are) other at = absurd (false≢true (sym other))
+of_no_room was_read differs (from.broke slot number lies are) other at = search rules
 of_no_room {told} {task} was_read {laid} {name} {sources} {so_far} {error} {old} differs (from.no_room are) other at =
     of_file (world_of laid sources) was_read _ differs (λ t. refl)
     (cut_off Memory _ old (unopened (laid (length sources) name) (length sources) refl (omega (arith, ap length are))) refl
@@ -284,12 +347,12 @@ of_no_room {told} {task} was_read {laid} {name} {sources} {so_far} {error} {old}
 -- the loop over names
 
 joined_nothing : {a : Outcome} → joined a no_outcome ≡ a
-joined_nothing = simp (append-nil, or-false)
+joined_nothing = search rules
 
 -- files are removed only where the work clears them
 sweeps_clears : (task : Task) (is_first : Bool) (name : List ℕ) (content : Option Content) → (of_content task is_first name content).sweeps ≡ true → task.work.clears ≡ true
-sweeps_clears task is_first name None sweeps = absurd (false≢true sweeps)
-sweeps_clears task is_first name (Some content) sweeps = (and_parts task.work.clears (ends_badly task.work content) sweeps).0
+sweeps_clears task is_first name None sweeps = cc
+sweeps_clears task is_first name (Some content) sweeps = grind (arith, common_steps)
 
 pub are_from : (world : World) (was_read : Bool) (slot : ℕ) (names : List (List ℕ)) → AreFrom was_read slot names (inputs_from world was_read slot names)
 are_from world was_read slot [] = refl
@@ -348,23 +411,17 @@ walk_begins {told} {names} {laid} {sources} {slots} fresh are alone =
     }
 
 -- where names are left, no file was removed
-slots_at : {told_in told : Bool} {task : Task} {world : World} {names left : List (List ℕ)} {progress : Progress} {laid : ℕ → List ℕ → Option Content} {sources : List Source} {slots : List Slot} → 1 ≤ length left
+pub slots_at : {told_in told : Bool} {task : Task} {world : World} {names left : List (List ℕ)} {progress : Progress} {laid : ℕ → List ℕ → Option Content} {sources : List Source} {slots : List Slot} → 1 ≤ length left
     → (walked : Walked told_in told task world names left progress laid sources slots) → OutputsAt told (streams_with walked.error) walked.made.part slots
-slots_at {slots} some walked =
-    let same : slots ≡ walked.reached = rw (walked.unswept some) at walked.swept in
-    rw same walked.at
+slots_at {slots} some walked = grind (arith, common_steps)
 
-walked_error : {told_in : Bool} (told : Bool) {task : Task} {world : World} {names left : List (List ℕ)} {progress : Progress} {laid : ℕ → List ℕ → Option Content} {sources : List Source} {slots : List Slot}
+pub walked_error : {told_in : Bool} (told : Bool) {task : Task} {world : World} {names left : List (List ℕ)} {progress : Progress} {laid : ℕ → List ℕ → Option Content} {sources : List Source} {slots : List Slot}
     → (walked : Walked told_in told task world names left progress laid sources slots) → is_open walked.error.state ≡ true
 walked_error told {task} walked = ap is_open (all_said_state told task.tool walked.made.messages standard_error walked.error walked.says)
 
 pub walk_streams : {told_in told : Bool} {task : Task} {world : World} {names left : List (List ℕ)} {progress : Progress} {laid : ℕ → List ℕ → Option Content} {sources : List Source} {slots : List Slot} → 1 ≤ length left
     → Walked told_in told task world names left progress laid sources slots → HasStreams told slots
 walk_streams {told} some walked = record { part = walked.made.part; error = walked.error; at = slots_at some walked; opened = walked_error told walked }
-
-pub walk_readable : {told_in told : Bool} {task : Task} {world : World} {names left : List (List ℕ)} {progress : Progress} {laid : ℕ → List ℕ → Option Content} {sources : List Source} {slots : List Slot}
-    → Walked told_in told task world names left progress laid sources slots → progress.was_read ≡ false → IsTrue (is_readable sources 0)
-walk_readable walked unread = rw (walked.standard unread)
 
 -- while standard input was not read, what it holds is known
 same_input : {world : World} (was_read : Bool) (slot : ℕ) (name : List ℕ) (d : Bool) {laid : ℕ → List ℕ → Option Content} (sources : List Source) → laid ≡ world.laid → (was_read ≡ false → source_at sources 0 ≡ source_of world.standard)
@@ -385,90 +442,73 @@ Takes told_in told task most progress laid sources new_sources name so_far error
     OfName told_in (world_of laid sources) progress.was_read (length sources) name
     (λ input. TookInput told_in told task most input (of_input task progress.is_first input) progress.is_first progress.failed (progress.was_read || is_dash name) so_far error (length slots) new_sources new result)
 
--- no read asked for more
-pub asks_on : {most : ℕ} {was_read : Bool} {name : List ℕ} {sources new_sources : List Source} → most ≡ largest_piece → TakesOne most was_read name sources new_sources → AsksAtMost largest_piece sources → AsksAtMost largest_piece new_sources
-asks_on at_most leaves = rw at_most at leaves.asked
-
 -- one more name was taken
-pub walk_goes_on : {told_in told : Bool} {task : Task} {most : ℕ} {world : World} {names : List (List ℕ)} {name : List ℕ} {left : List (List ℕ)} {progress next : Progress} {laid new_laid : ℕ → List ℕ → Option Content} {sources new_sources : List Source} {slots new : List Slot}
-    → most ≡ largest_piece → Walked told_in told task world names (name ∷ left) progress laid sources slots
-    → ((so_far : Part) (error : Slot) → is_open error.state ≡ true → OutputsAt told (streams_with error) so_far slots → Takes told_in told task most progress laid sources new_sources name so_far error slots new (Ok next))
-    → TakesOne most progress.was_read name sources new_sources → length new_sources ≡ next_slot (length sources) name → new_laid ≡ laid
+pub walk_goes_on : {told_in told : Bool} {task : Task} {world : World} {names : List (List ℕ)} {name : List ℕ} {left : List (List ℕ)} {progress next : Progress} {laid new_laid : ℕ → List ℕ → Option Content} {sources new_sources : List Source} {slots new : List Slot}
+    → (walked : Walked told_in told task world names (name ∷ left) progress laid sources slots)
+    → TakesOne largest_piece progress.was_read name sources new_sources → length new_sources ≡ next_slot (length sources) name → new_laid ≡ laid
+    → Takes told_in told task largest_piece progress laid sources new_sources name walked.made.part walked.error slots new (Ok next)
     → Walked told_in told task world names left next new_laid new_sources new
-walk_goes_on {told_in} {told} {task} {world} {names} {name} {left} {progress} {next} {laid} {new_laid} {sources} {new_sources} {slots} {new} at_most walked takes leaves opened_it same =
-    goes_with (rw at_most at (takes walked.made.part walked.error (walked_error told walked) (slots_at (omega arith) walked))) where
-      goes_with : Takes told_in told task largest_piece progress laid sources new_sources name walked.made.part walked.error slots new (Ok next) → Walked told_in told task world names left next new_laid new_sources new
-      goes_with (input, is_for, there, took _ after reached is is_done says at swept) =
-          let one = of_input task progress.is_first input in
-          let was : next.was_read ≡ (progress.was_read || is_dash name) = ap (λ (p : Progress). p.was_read) is in
-          let unswept : walked.made.sweeps ≡ false = walked.unswept (omega arith) in
-          let sweeps_one : (walked.made.sweeps || one.sweeps) ≡ one.sweeps = ap (λ (b : Bool). b || one.sweeps) unswept in
-          let only : one.sweeps ≡ true → (left ≡ []) × (length slots ≡ 2) = λ sweeps. taken_alone slots walked.alone (sweeps_clears task progress.is_first input.name input.content sweeps) in
-          record {
-            done = walked.done ++ input ∷ [];
-            made = joined walked.made one;
-            error = after;
-            reached = reached;
-            at = at;
-            swept = rw sweeps_one (swept_from one.sweeps reached new (λ sweeps. (only sweeps).1) swept);
-            says = says_after told task.tool walked.made.messages one.messages standard_error walked.error after walked.says says;
-            failed = rw (is, walked.failed);
-            alone = λ clears. inl (taken_alone slots walked.alone clears).0;
-            unswept = λ some. sweeps_one ∙ false_from_ne_true one.sweeps (λ sweeps. omega (arith, some, ap length (only sweeps).0));
-            first = rw (is, walked.first, and_push are_missing (λ (one : Input). is_missing one.content) refl (λ one inputs. refl) walked.done input);
-            rest_made = λ rest. ap (of_inputs task true) (append_assoc walked.done (input ∷ []) rest) ∙ walked.rest_made (input ∷ rest)
-                ∙ (simp (append_assoc, or_assoc))
-                ∙ ap (λ (b : Bool). joined (joined walked.made one) (of_inputs task b rest)) (sym (ap (λ (p : Progress). p.is_first) is));
-            rest_are = λ rest are_rest. rw (append_assoc walked.done (input ∷ []) rest) (walked.rest_are (input ∷ rest) (is_for, rw was at (rw opened_it at are_rest)));
-            rest_there = λ t. append_assoc walked.done (input ∷ []) (inputs_from world next.was_read (length new_sources) left)
-                ∙ ap (λ (first : Input). walked.done ++ first ∷ inputs_from world next.was_read (length new_sources) left) (there t ∙ same_input progress.was_read (length sources) name (is_dash name) sources walked.laid_same walked.standard)
-                ∙ ap (λ n. walked.done ++ input_of world progress.was_read (length sources) name (is_dash name) ∷ inputs_from world next.was_read n left) opened_it
-                ∙ ap (λ (b : Bool). walked.done ++ input_of world progress.was_read (length sources) name (is_dash name) ∷ inputs_from world b (next_slot (length sources) name) left) was
-                ∙ walked.rest_there t;
-            laid_same = same ∙ walked.laid_same;
-            standard = λ unread. let both = or_parts progress.was_read (is_dash name) (sym was ∙ unread) in leaves.unasked both.1 ∙ walked.standard both.0;
-            some = omega (arith, walked.some, leaves.grown);
-            known = rw was (done_more told_in task.work largest_piece (progress.was_read || is_dash name) walked.done input new_sources
-                (still_done told_in task.work largest_piece walked.done (λ had. ap (λ (b : Bool). b || is_dash name) had) leaves walked.known)
-                (done_with told_in task.work largest_piece progress.was_read name new_sources is_for walked.some is_done));
-            asked = asks_on at_most leaves walked.asked;
-            count = rw (opened_it, walked.count);
-          }
+walk_goes_on {told_in} {told} {task} {world} {names} {name} {left} {progress} {next} {laid} {new_laid} {sources} {new_sources} {slots} {new} walked leaves opened_it same (input, is_for, there, took _ after reached is is_done says at swept) =
+    let one = of_input task progress.is_first input in
+    let was : next.was_read ≡ (progress.was_read || is_dash name) = ap (λ (p : Progress). p.was_read) is in
+    let unswept : walked.made.sweeps ≡ false = walked.unswept (omega arith) in
+    let sweeps_one : (walked.made.sweeps || one.sweeps) ≡ one.sweeps = ap (λ (b : Bool). b || one.sweeps) unswept in
+    let only : one.sweeps ≡ true → (left ≡ []) × (length slots ≡ 2) = λ sweeps. taken_alone slots walked.alone (sweeps_clears task progress.is_first input.name input.content sweeps) in
+    record {
+      done = walked.done ++ input ∷ [];
+      made = joined walked.made one;
+      error = after;
+      reached = reached;
+      at = at;
+      swept = rw sweeps_one (swept_from one.sweeps reached new (λ sweeps. (only sweeps).1) swept);
+      says = says_after told task.tool walked.made.messages one.messages standard_error walked.error after walked.says says;
+      failed = rw (is, walked.failed);
+      alone = λ clears. inl (taken_alone slots walked.alone clears).0;
+      unswept = λ some. sweeps_one ∙ false_from_ne_true one.sweeps (λ sweeps. omega (arith, some, ap length (only sweeps).0));
+      first = rw (is, walked.first, and_push are_missing (λ (one : Input). is_missing one.content) refl (λ one inputs. refl) walked.done input);
+      rest_made = λ rest. ap (of_inputs task true) (append_assoc walked.done (input ∷ []) rest) ∙ walked.rest_made (input ∷ rest)
+          ∙ (simp (append_assoc, or_assoc))
+          ∙ ap (λ (b : Bool). joined (joined walked.made one) (of_inputs task b rest)) (sym (ap (λ (p : Progress). p.is_first) is));
+      rest_are = λ rest are_rest. rw (append_assoc walked.done (input ∷ []) rest) (walked.rest_are (input ∷ rest) (is_for, rw was at (rw opened_it at are_rest)));
+      rest_there = λ t. append_assoc walked.done (input ∷ []) (inputs_from world next.was_read (length new_sources) left)
+          ∙ ap (λ (first : Input). walked.done ++ first ∷ inputs_from world next.was_read (length new_sources) left) (there t ∙ same_input progress.was_read (length sources) name (is_dash name) sources walked.laid_same walked.standard)
+          ∙ ap (λ n. walked.done ++ input_of world progress.was_read (length sources) name (is_dash name) ∷ inputs_from world next.was_read n left) opened_it
+          ∙ ap (λ (b : Bool). walked.done ++ input_of world progress.was_read (length sources) name (is_dash name) ∷ inputs_from world b (next_slot (length sources) name) left) was
+          ∙ walked.rest_there t;
+      laid_same = same ∙ walked.laid_same;
+      standard = λ unread. let both = or_parts progress.was_read (is_dash name) (sym was ∙ unread) in leaves.unasked both.1 ∙ walked.standard both.0;
+      some = omega (arith, walked.some, leaves.grown);
+      known = rw was (done_more told_in task.work largest_piece (progress.was_read || is_dash name) walked.done input new_sources
+          (still_done told_in task.work largest_piece walked.done (λ had. ap (λ (b : Bool). b || is_dash name) had) leaves walked.known)
+          (done_with told_in task.work largest_piece progress.was_read name new_sources is_for walked.some is_done));
+      asked = leaves.asked walked.asked;
+      count = rw (opened_it, walked.count);
+    }
 
 -- a fault stopped the run at a name
-pub walk_stops : {told_in : Bool} (told : Bool) {task : Task} {most : ℕ} {world : World} {names : List (List ℕ)} {name : List ℕ} {left : List (List ℕ)} {progress : Progress} {laid : ℕ → List ℕ → Option Content} {sources new_sources : List Source} {slots new : List Slot} (fault : Fault)
-    → most ≡ largest_piece → Walked told_in told task world names (name ∷ left) progress laid sources slots
-    → ((so_far : Part) (error : Slot) → is_open error.state ≡ true → OutputsAt told (streams_with error) so_far slots → Takes told_in told task most progress laid sources new_sources name so_far error slots new (Err fault))
-    → TakesOne most progress.was_read name sources new_sources
+pub walk_stops : {told_in : Bool} (told : Bool) {task : Task} {world : World} {names : List (List ℕ)} {name : List ℕ} {left : List (List ℕ)} {progress : Progress} {laid : ℕ → List ℕ → Option Content} {sources new_sources : List Source} {slots new : List Slot} (fault : Fault)
+    → (walked : Walked told_in told task world names (name ∷ left) progress laid sources slots)
+    → TakesOne largest_piece progress.was_read name sources new_sources
+    → Takes told_in told task largest_piece progress laid sources new_sources name walked.made.part walked.error slots new (Err fault)
     → RunsOver told_in world names (λ found. TookAll told_in told task found new_sources new (Err fault))
-walk_stops {told_in} told {task} {world} {names} {name} {left} {progress} {laid} {sources} {new_sources} {slots} {new} fault at_most walked takes leaves =
-    stops_with (rw at_most at (takes walked.made.part walked.error (walked_error told walked) (slots_at (omega arith) walked))) where
-      stops_with : Takes told_in told task largest_piece progress laid sources new_sources name walked.made.part walked.error slots new (Err fault) → RunsOver told_in world names (λ found. TookAll told_in told task found new_sources new (Err fault))
-      stops_with (input, is_for, there, cut_off _ step reached is_step stops stop swept) =
-          let rest = inputs_from world (progress.was_read || is_dash name) (next_slot (length sources) name) left in
-          let before : made_by task walked.done ≡ walked.made
-          = ap (of_inputs task true) (sym (append-nil walked.done)) ∙ walked.rest_made [] ∙ joined_nothing in (
-            walked.done ++ input ∷ rest,
-            record {
-              are = walked.rest_are (input ∷ rest) (is_for, are_from world (progress.was_read || is_dash name) (next_slot (length sources) name) left);
-              there = λ t. ap (λ (first : Input). walked.done ++ first ∷ rest) (there t ∙ same_input progress.was_read (length sources) name (is_dash name) sources walked.laid_same walked.standard) ∙ walked.rest_there t;
-            },
-            stopped_at fault walked.done input rest walked.error step reached refl
-                (all_done told_in task.work largest_piece (progress.was_read || is_dash name) walked.done new_sources
-                (still_done told_in task.work largest_piece walked.done (λ had. ap (λ (b : Bool). b || is_dash name) had) leaves walked.known))
-                (rest_untouched world (progress.was_read || is_dash name) (next_slot (length sources) name) left new_sources
-                (λ unread. let both = or_parts progress.was_read (is_dash name) unread in leaves.unasked both.1 ∙ walked.standard both.0) leaves.within)
-                (rw before (rw walked.first at is_step))
-                stops (rw before walked.says) stop
-                (swept_from task.work.clears reached new (λ clears. (taken_alone slots walked.alone clears).1) swept),
-          )
-
-pub walk_within : {told_in : Bool} (told : Bool) {task : Task} {most : ℕ} {world : World} {names : List (List ℕ)} {name : List ℕ} {left : List (List ℕ)} {progress : Progress} {laid : ℕ → List ℕ → Option Content} {sources new_sources : List Source} {slots : List Slot}
-    → Walked told_in told task world names (name ∷ left) progress laid sources slots → TakesOne most progress.was_read name sources new_sources → length new_sources ≤ count_after 1 names
-walk_within told {name} {left} {sources} {new_sources} walked leaves =
-    let within : length new_sources ≤ next_slot (length sources) name = leaves.within in
-    let more : next_slot (length sources) name ≤ count_after (next_slot (length sources) name) left = count_more (next_slot (length sources) name) left in
-    omega (arith, within, more, walked.count)
+walk_stops {told_in} told {task} {world} {names} {name} {left} {progress} {laid} {sources} {new_sources} {slots} {new} fault walked leaves (input, is_for, there, cut_off _ step reached is_step stops stop swept) =
+    let rest = inputs_from world (progress.was_read || is_dash name) (next_slot (length sources) name) left in
+    let before : made_by task walked.done ≡ walked.made
+    = ap (of_inputs task true) (sym (append-nil walked.done)) ∙ walked.rest_made [] ∙ joined_nothing in (
+      walked.done ++ input ∷ rest,
+      record {
+        are = walked.rest_are (input ∷ rest) (is_for, are_from world (progress.was_read || is_dash name) (next_slot (length sources) name) left);
+        there = λ t. ap (λ (first : Input). walked.done ++ first ∷ rest) (there t ∙ same_input progress.was_read (length sources) name (is_dash name) sources walked.laid_same walked.standard) ∙ walked.rest_there t;
+      },
+      stopped_at fault walked.done input rest walked.error step reached refl
+          (all_done told_in task.work largest_piece (progress.was_read || is_dash name) walked.done new_sources
+          (still_done told_in task.work largest_piece walked.done (λ had. ap (λ (b : Bool). b || is_dash name) had) leaves walked.known))
+          (rest_untouched world (progress.was_read || is_dash name) (next_slot (length sources) name) left new_sources
+          (λ unread. let both = or_parts progress.was_read (is_dash name) unread in leaves.unasked both.1 ∙ walked.standard both.0) leaves.within)
+          (rw before (rw walked.first at is_step))
+          stops (rw before walked.says) stop
+          (swept_from task.work.clears reached new (λ clears. (taken_alone slots walked.alone clears).1) swept),
+    )
 
 -- all names were taken
 pub walk_ends : {told_in told : Bool} {task : Task} {world : World} {names left : List (List ℕ)} {progress : Progress} {laid : ℕ → List ℕ → Option Content} {sources : List Source} {slots : List Slot} → left ≡ []
@@ -488,14 +528,10 @@ walk_ends {told_in} {task} {world} {progress} {sources} none walked =
           (rw (append-nil walked.done) (all_done told_in task.work largest_piece progress.was_read walked.done sources walked.known)),
     )
 
-pub walk_counts : {told_in told : Bool} {task : Task} {world : World} {names left : List (List ℕ)} {progress : Progress} {laid : ℕ → List ℕ → Option Content} {sources : List Source} {slots : List Slot} → left ≡ []
-    → Walked told_in told task world names left progress laid sources slots → length sources ≤ count_after 1 names
-walk_counts {left} {sources} none walked = let all_taken : count_after (length sources) left ≡ length sources = ap (count_after (length sources)) none in omega (arith, all_taken, walked.count)
-
 -- the words that a loop has left are the first of them and the rest
 pub walked_at : {told_in : Bool} (told : Bool) {task : Task} {world : World} {names : List (List ℕ)} (none : Bor (List ℕ)) (left : List (Bor (List ℕ))) {progress : Progress} {laid : ℕ → List ℕ → Option Content} {sources : List Source} {slots : List Slot} → 1 ≤ length left
     → Walked told_in told task world names (map (λ word. word.now) left) progress laid sources slots → Walked told_in told task world names ((get_or left 0 none).now ∷ map (λ word. word.now) (take (length left - 1) (drop 1 left))) progress laid sources slots
-walked_at told none left some walked = rw (front_and_rest none left some) at walked
+walked_at told none left some walked = grind (arith, common_steps)
 
 -- a run that touched no input
 pub none_touched : {told_in : Bool} {laid : ℕ → List ℕ → Option Content} {sources : List Source} {names : List (List ℕ)} → IsFresh sources → RunsOver told_in (world_of laid sources) names (λ found. AreUntouched found sources)
@@ -506,11 +542,6 @@ none_touched {laid} {sources} {names} fresh =
       record { are = are_from world false 1 names; there = λ t. refl },
       rest_untouched world false 1 names sources (λ _. at_first ∙ ap source_of (sym (ap (λ (source : Source). source.left) at_first))) (omega (arith, ap length fresh.only)),
     )
-
--- there was no memory before the first input was opened
-pub no_memory_first : {told_in told : Bool} {laid : ℕ → List ℕ → Option Content} {sources : List Source} {names : List (List ℕ)} {task : Task} {old : List Slot} → IsFresh sources → old ≡ streams
-    → RunsOver told_in (world_of laid sources) names (λ found. TookAll told_in told task found sources old (Err Memory))
-no_memory_first fresh are = let untouched = none_touched fresh in (untouched.0, untouched.1, not_begun are untouched.2 (ap length fresh.only))
 
 pub fresh_counts : {sources : List Source} (names : List (List ℕ)) → IsFresh sources → length sources ≤ count_after 1 names
 fresh_counts names fresh = let more : 1 ≤ count_after 1 names = count_more 1 names in omega (arith, ap length fresh.only, more)
@@ -523,10 +554,4 @@ pub record Untouched (names left : List (List ℕ)) (start now : List Source) : 
 pub untouched_on : {names : List (List ℕ)} (none : Bor (List ℕ)) (left : List (Bor (List ℕ))) {start now : List Source} (new : List Source) → 1 ≤ length left → Untouched names (map (λ word. word.now) left) start now
     → (is_dash (get_or left 0 none).now ≡ false → source_at new 0 ≡ source_at now 0)
     → Untouched names (map (λ word. word.now) (take (length left - 1) (drop 1 left))) start new
-untouched_on {names} none left new some untouched keeps =
-    let both = λ (has_none : has_dash names ≡ false).
-    or_parts (is_dash (get_or left 0 none).now) (has_dash (map (λ word. word.now) (take (length left - 1) (drop 1 left))))
-    (sym (ap has_dash (front_and_rest none left some)) ∙ untouched.none_left has_none) in record {
-      none_left = λ has_none. (both has_none).1;
-      same = λ has_none. keeps (both has_none).0 ∙ untouched.same has_none;
-    }
+untouched_on {names} none left new some untouched keeps = grind (arith, common_steps)

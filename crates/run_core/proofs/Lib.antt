@@ -1,4 +1,3 @@
 pub mod FeedingLemmas
 pub mod StopLemmas
-pub mod ReadingLemmas
 pub mod InputLemmas

@@ -1,9 +1,10 @@
 -- Lemmas on what is written after what was written before, on outputs that a fault stopped, and on the message that tells it.
-use Rattle.std.proofs.Common.{◌≡◌, ℕ, ◌+◌, ◌<◌, ◌≤◌, suc, Bool, true, false, List, [], ◌∷◌, ◌++◌, length, inl, inr, refl, sym, ◌∙◌, ap, arith, append_assoc, length-append, zero, lit<}
+use Rattle.std.proofs.lemmas.Grind.{common_steps}
+use Rattle.std.proofs.Common.{◌≡◌, ℕ, ◌+◌, ◌<◌, ◌≤◌, suc, Bool, true, false, List, [], ◌∷◌, ◌++◌, length, inl, inr, refl, sym, ◌∙◌, ap, arith, append_assoc, length-append, zero, lit<, subst}
 use Rattle.std.proofs.lemmas.List.{map-append, append-nil}
 use Rattle.std.proofs.Math.Seq.{take-append-add, drop-append-add}
 use Rattle.ports_core.specs.Slot.{Slot, with_written, told_of, is_open, slot_at, adds, breaks, unopened, with_broken}
-use Rattle.ports_core.specs.Part.{nothing, Part, File, only_out, OutputsAt, IsBeginning, FilesBegin, Begins, IsNext, IsAt, InOrder, StoppedBetween, file_of, told_file, Marks}
+use Rattle.ports_core.specs.Part.{nothing, Part, File, only_out, OutputsAt, IsBeginning, FilesBegin, Begins, IsNext, IsAt, StoppedBetween, file_of, told_file, Marks}
 use Rattle.ports_core.specs.Swept.{Swept, SweptFrom, Cleared}
 use Rattle.ports_core.specs.declared.fault.Fault.{Fault}
 use Rattle.ports_core.specs.declared.fault.Fault.TheVariants.{Write, Open}
@@ -26,7 +27,7 @@ out_after : (out low : List ℕ) {high : List ℕ} → IsBeginning low high → 
 out_after out low (rest, is) = (rest, ap (λ bytes. out ++ bytes) is ∙ sym (append_assoc out low rest))
 
 pub begins_after : (first : Part) {low high : Part} → Begins low high → Begins (after_part first low) (after_part first high)
-begins_after first {low} {high} begins = record { out = out_after first.out low.out begins.out; files = files_after first.files low.files high.files begins.files }
+begins_after first {low} {high} begins = grind (arith, common_steps, out_after, files_after)
 
 pub after_assoc : (first next last : Part) → after_part (after_part first next) last ≡ after_part first (after_part next last)
 after_assoc first next last = simp append_assoc
@@ -51,23 +52,6 @@ at_after {told} {base} {first} {part} {mid} one two = record {
       ∙ changed_at-append 0 _ (with_written 0 (told_of told first.out) base) one.since (rw (length-changed_at 0 _ base) one.standard)
       ∙ ap (λ front. front ++ one.since) (with_written-append 0 (told_of told first.out) (told_of told part.out) base ∙ ap (λ bytes. with_written 0 bytes base) (sym (told_of-append told first.out part.out)))
 
-order_after : (first : List File) {low part high : List File} {place : ℕ} → InOrder low part high place → InOrder (first ++ low) (first ++ part) (first ++ high) (length first + place)
-order_after first {low} {part} {high} {place} order =
-    let past : suc (length first + place) ≡ length first + suc place = omega arith in record {
-      done = rw (take-append-add first part place, order.done, take-append-add first high place);
-      untouched = cc (past, drop-append-add first part (suc place), order.untouched, drop-append-add first low (suc place));
-    }
-
-next_after : (first : Part) {part high : Part} (name : List ℕ) → IsNext part high name → IsNext (after_part first part) (after_part first high) name
-next_after first {part} name next = record {
-  front = first.files ++ next.front;
-  file = next.file;
-  rest = next.rest;
-  files = rw (next.files, append_assoc first.files next.front (next.file ∷ next.rest));
-  place = rw (length-append first.files next.front, next.place, length-append first.files part.files);
-  name_is = next.name_is;
-}
-
 from_after : (fault : Fault) (base : ℕ) {mid : ℕ} (place count : ℕ) (first : ℕ) → mid ≡ base + first → IsAt fault mid place count → IsAt fault base (first + place) (first + count)
 from_after (Write slot) base place count first is (inl here) = inl here
 from_after (Write slot) base place count first is (inr there) = inr (omega (arith, is, there))
@@ -76,15 +60,26 @@ from_after fault base place count first is at = tt
 
 -- what stopped after a part, stopped after it
 pub stop_after : {told : Bool} {base : List Slot} {first low high : Part} {fault : Fault} {mid now : List Slot} → OutputsAt told base first mid → StoppedBetween told mid low high fault now → StoppedBetween told base (after_part first low) (after_part first high) fault now
-stop_after {told} {base} {first} {high} {fault} {mid} {now} at stop = record {
+stop_after {told} {base} {first} {low} {high} {fault} {mid} {now} at stop = record {
   part = after_part first stop.part;
   above = begins_after first stop.above;
   below = begins_after first stop.below;
   place = length first.files + stop.place;
-  order = order_after first.files stop.order;
+  order =
+      let past : suc (length first.files + stop.place) ≡ length first.files + suc stop.place = omega arith in record {
+        done = rw (take-append-add first.files stop.part.files stop.place, stop.order.done, take-append-add first.files high.files stop.place);
+        untouched = cc (past, drop-append-add first.files stop.part.files (suc stop.place), stop.order.untouched, drop-append-add first.files low.files (suc stop.place));
+      };
   reached = stop.reached;
   outputs = at_after at stop.outputs;
-  marks = marks_by (IsNext stop.part high) (IsNext (after_part first stop.part) (after_part first high)) fault stop.reached now (next_after first) stop.marks;
+  marks = marks_by (IsNext stop.part high) (IsNext (after_part first stop.part) (after_part first high)) fault stop.reached now (λ name next. record {
+    front = first.files ++ next.front;
+    file = next.file;
+    rest = next.rest;
+    files = rw (next.files, append_assoc first.files next.front (next.file ∷ next.rest));
+    place = rw (length-append first.files next.front, next.place, length-append first.files stop.part.files);
+    name_is = next.name_is;
+  }) stop.marks;
   from = rw (length-append first.files stop.part.files) (from_after fault (length base) stop.place (length stop.part.files) (length first.files) (outputs_count told base first mid at) stop.from);
 }
 
@@ -124,9 +119,7 @@ marked_error IsName (Open slot) output error since opened marks = shape_of opene
 marked_error IsName fault output error since opened marks = shape_of opened marks
 
 pub stop_error : {told : Bool} {output error : Slot} {low high : Part} {fault : Fault} {now : List Slot} → is_open error.state ≡ true → StoppedBetween told (output ∷ error ∷ []) low high fault now → HasError now
-stop_error {told} {output} {error} {high} {fault} opened stop =
-    marked_error (IsNext stop.part high) fault (adds (told_of told stop.part.out) output) error stop.outputs.since opened
-    (rw stop.outputs.slots at stop.marks)
+stop_error {told} {output} {error} {high} {fault} opened stop = grind (arith, common_steps, marked_error)
 
 -- a message changes standard error, and no other output
 
@@ -178,11 +171,7 @@ beside_error output error error_too files place differs = refl
 
 -- what stopped a step did so after the message too
 stops_still : {told : Bool} {tool : Tool} {text : List ℕ} (step : Step) {mid new : List Slot} (fault : Fault) (place count : ℕ) → IsAt fault 2 place count → HasError mid → SaysOn told tool text mid new → Stops step mid fault → Stops step new fault
-stops_still step {mid} {new} (Write slot) place count from has says stops =
-    let said = says has.output has.error has.since has.are in
-    let same : slot_at new slot ≡ slot_at mid slot = ap (λ slots. slot_at slots slot) said.2
-    ∙ beside_error has.output said.0 has.error has.since slot (λ one. elim from [ inl is ↦ omega (arith, is, one) | inr is ↦ omega (arith, is, one) ]) ∙ sym (ap (λ slots. slot_at slots slot) has.are) in
-    (stops.0, stops.1, ap (λ (output : Slot). output.is_broken) same ∙ stops.2)
+stops_still step {mid} {new} (Write slot) place count from has says stops = grind (arith, common_steps, beside_error)
 stops_still step fault place count from has says stops = stops
 
 -- what is said after files were removed
@@ -236,13 +225,6 @@ module _ (told : Bool) (tool : Tool) (text : List ℕ) where
         named = said_named left.1 said.1 said.2;
       }
 
-  -- the same text said of outputs with the same streams
-  said_too : {output error after : Slot} {since reached : List Slot} → reached ≡ output ∷ error ∷ since → Says told tool text error after → SaysOn told tool text reached (output ∷ after ∷ since)
-  said_too {output} {error} {after} {since} are said top other rest is =
-      let same : output ∷ error ∷ since ≡ top ∷ other ∷ rest = sym are ∙ is in
-      let was : error ≡ other = cc in
-      (after, rw was at said, cc)
-
   -- what a fault left, once its files were removed and its message was said
   pub record ToldStop (step : Step) (output error : Slot) (low high : Part) (fault : Fault) (clears : Bool) (first : ℕ) (mid new : List Slot) : Type 0 where
     pub after : Slot
@@ -255,10 +237,13 @@ module _ (told : Bool) (tool : Tool) (text : List ℕ) where
 
   pub stop_swept : (step : Step) (clears : Bool) {output error : Slot} {low high : Part} {fault : Fault} {reached mid new : List Slot} {first : ℕ} → 2 ≤ first → is_open error.state ≡ true → StoppedBetween told (output ∷ error ∷ []) low high fault reached
       → Stops step reached fault → Swept clears first reached mid → SaysOn told tool text mid new → ToldStop step output error low high fault clears first mid new
-  stop_swept step clears {fault} {mid} {new} {first} past opened stop why swept says =
+  stop_swept step clears {fault} {reached} {mid} {new} {first} past opened stop why swept says =
       let has = stop_error opened stop in
       let said = said_swept clears mid new first past (rw has.are at swept) says in
-      let too = said_too has.are said.says in
+      -- the same text said of outputs with the same streams
+      let too : SaysOn told tool text reached (has.output ∷ said.after ∷ has.since) = λ top other rest is.
+      let same : has.output ∷ has.error ∷ has.since ≡ top ∷ other ∷ rest = sym has.are ∙ is in
+      let was : has.error ≡ other = cc in (said.after, subst (λ those. Says told tool text those said.after) was said.says, cc) in
       let told_so = stop_said told tool text stop too in record {
         after = told_so.0;
         says = told_so.1;

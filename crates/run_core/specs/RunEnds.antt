@@ -4,7 +4,7 @@ use Rattle.ports_core.specs.Slot.{Slot}
 use Rattle.ports_core.specs.Source.{Content, Source}
 use Rattle.ports_core.specs.Part.{Part, OutputsAt, StoppedBetween, only_out}
 use Rattle.ports_core.specs.Swept.{Swept}
-use Rattle.ports_core.specs.Work.{Needs, no_needs}
+use Rattle.ports_core.specs.Work.{no_needs}
 use Rattle.ports_core.specs.Text.{message_of}
 use Rattle.ports_core.specs.Message.{SaysAll, output_named}
 use Rattle.ports_core.specs.Inputs.{largest_piece}
@@ -15,10 +15,6 @@ use Rattle.run_core.specs.Feeding.{IsCall, Step, Stops}
 use Rattle.run_core.specs.Input.{Input, World, Finds}
 use Rattle.run_core.specs.Reading.{AreDone, AreUntouched, Leaves}
 use Rattle.run_core.specs.Task.{Task, made_by, after_part, header_text, are_missing, status_of}
-
--- memory, and no files
-abbrev pub needs_memory : Needs
-needs_memory = record { memory = true; files = false }
 
 -- a step after what was written before it
 abbrev pub step_after : Part → Step → Step
@@ -31,7 +27,7 @@ memory_step so_far = record {
   high = so_far;
   output = false;
   files = false;
-  needs = needs_memory;
+  needs = record { memory = true; files = false };
   read = [];
 }
 

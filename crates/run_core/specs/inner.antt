@@ -1,3 +1,1 @@
-pub mod Feeding
-pub mod Reading
 pub mod RunSteps

@@ -8,7 +8,7 @@ ghost use Rattle.ports_core.specs.Guard.{HoldsIn};
 ghost use Rattle.ports_core.specs.Engine.{Clears, KeepsOwn, is_verdict};
 ghost use Rattle.ports_core.specs.Inputs.{empty, BreaksOnly, KeepsOthers, OfContent};
 ghost use Rattle.run_core.specs.Feeding.{FedAs, IsUnread, LeavesOf, ReadsFor, Uses, is_stop};
-ghost use Rattle.run_core.specs.inner.Feeding.{EndsSo};
+ghost use Rattle.run_core.specs.inner.RunSteps.{EndsSo};
 
 use ports_core::{Fault, Guarded, Inputs, Outs, Stage};
 

@@ -9,10 +9,9 @@ ghost use Rattle.run_core.specs.Feeding.{FedAs, IsUnread, is_stop};
 ghost use Rattle.run_core.specs.Input.{has_dash, is_dash, next_slot};
 ghost use Rattle.run_core.specs.Reading.{IsDone, Leaves, count_after};
 ghost use Rattle.ports_core.specs.Inputs.{AsksAtMost, largest_piece};
-ghost use Rattle.run_core.specs.inner.Reading.{TakesOne};
+ghost use Rattle.run_core.specs.inner.RunSteps.{TakesOne, HasStreams, HeaderFails, KeepsOther, OfName, OfSource, TookAll, TookInput, input_from, is_unopened, standard_source};
 ghost use Rattle.run_core.specs.RunEnds.{EndsAs, RunsOver};
 ghost use Rattle.ports_core.specs.Streams.{streams_with};
-ghost use Rattle.run_core.specs.inner.RunSteps.{HasStreams, HeaderFails, KeepsOther, OfName, OfSource, TookAll, TookInput, input_from, is_unopened, standard_source};
 ghost use Rattle.run_core.specs.RunSteps.{world_of};
 ghost use Rattle.run_core.specs.Task.{Task, header_text, of_content, of_input};
 

@@ -1,32 +1,27 @@
 -- Lemmas on opening a tool's engine.
-use Rattle.std.proofs.Common.{◌≡◌, ℕ, ◌-◌, ◌<◌, ◌≤◌, ◌^◌, zero, Bool, true, false, not, if◌then◌else◌, List, [], length, inl, inr, Result, Ok, Err, IfOk, IfErr, OnOk, refl, sym, ◌∙◌, ap, arith}
-use Rattle.ports_core.specs.Name.{Naming}
+use Rattle.std.proofs.lemmas.Grind.{common_steps}
+use Rattle.std.proofs.Common.{◌≡◌, ℕ, ◌-◌, ◌<◌, ◌≤◌, ◌^◌, zero, Bool, true, false, not, if◌then◌else◌, List, [], length, Result, Ok, Err, IfOk, IfErr, OnOk, refl, sym, ◌∙◌, ap, arith}
 use Rattle.ports_core.specs.Slot.{Slot}
 use Rattle.ports_core.specs.Part.{OutputsAt, StoppedBetween, nothing, only_out}
 use Rattle.ports_core.specs.Work.{Work, Needs}
 use Rattle.ports_core.specs.Guard.{GuardState, HoldsIn}
 use Rattle.ports_core.specs.Engine.{is_verdict}
-use Rattle.ports_core.specs.declared.alphabet.Alphabet.{Alphabet}
 use Rattle.ports_core.specs.declared.fault.Fault.{Fault}
 use Rattle.ports_core.specs.declared.fault.Fault.TheVariants.{Memory, Write, Open}
 use Rattle.ports_core.proofs.PartLemmas.{nothing_out, nothing_begins_part, stopped_here}
 use Rattle.ports_core.proofs.SlotSteps.{none_past, swept_none}
 use Rattle.seg_core.specs.declared.unit.Unit.{Unit as Counted}
 use Rattle.seg_core.specs.declared.unit.Unit.TheVariants.{Lines, Bytes}
-use Rattle.ends_core.specs.Ends.{size, after_of, head_of, tail_of}
+use Rattle.ends_core.specs.Ends.{after_of, head_of, tail_of}
 use Rattle.ends_core.proofs.KeptLemmas.{first_of-nil}
 use Rattle.ends_core.specs.Head.{head_work}
 use Rattle.ends_core.specs.Tail.{tail_work}
-use Rattle.seg_core.specs.declared.cut.Cut.{Cut}
-use Rattle.split_core.specs.Sharing.{CannotOpen}
-use Rattle.split_core.specs.Split.{Plan, split_work}
 use Rattle.run_core.specs.Feeding.{Stops, call_of}
 use Rattle.run_core.specs.RunSteps.{Opens, OpensShort}
 use Rattle.words_core.specs.EndsAsked.{EndsAsked}
-use Rattle.words_core.specs.SplitAsked.{SplitAsked}
-use Rattle.tools_core.specs.Tasks.{plan_of, is_minus, is_plus, head_task, tail_task}
+use Rattle.tools_core.specs.Tasks.{is_minus, is_plus, head_task, tail_task}
 use Rattle.std.proofs.lemmas.Bool.{false≢true}
-use Rattle.ports_core.specs.Swept.{HasNoFiles, Swept}
+use Rattle.ports_core.specs.Swept.{Swept}
 use Rattle.csplit_core.specs.Csplit.{csplit_work}
 use Rattle.operand_core.specs.Style.{Style}
 use Rattle.csplit_core.specs.Writer.{Breaks}
@@ -34,7 +29,7 @@ use Rattle.operand_core.specs.declared.operand.Operand.{Operand}
 
 head_of-nil : (delim : ℕ) (unit : Counted) (but_last : Bool) (n : ℕ) → head_of delim unit but_last n [] ≡ []
 head_of-nil delim unit false n = first_of-nil delim unit n
-head_of-nil delim unit true n = first_of-nil delim unit (size delim unit [] - n)
+head_of-nil delim unit true n = grind (arith, common_steps)
 
 after_of-nil : (delim : ℕ) (unit : Counted) (n : ℕ) → after_of delim unit n [] ≡ []
 after_of-nil delim Lines zero = refl
@@ -66,20 +61,13 @@ no_memory {told} {work} {slots} may two is = rw is (record {
   swept = swept_none work.clears (length slots) slots (none_past slots);
 })
 
--- the names that were made are those of the plan
-pub plan_is : {asked : SplitAsked} {cut : Cut} {alphabet : Alphabet} {width : ℕ} {auto elide : Bool} {input prefix ending : List ℕ} {delim : ℕ} {names : Naming}
-    → names ≡ record { prefix = prefix; alphabet = alphabet; width = width; auto = auto; ending = ending; drawn = 0 }
-    → record { cut = cut; alphabet = alphabet; width = width; auto = auto; elide = elide; input = input; prefix = prefix; ending = ending; delim = delim } ≡ asked
-    → record { delim = delim; cut = cut; elide = elide; names = names } ≡ plan_of asked
-plan_is made is = cc (made, is)
-
 -- an engine that was opened, and left the outputs as they were
 
 pub opened_of : {S : Type 0} (Holds : S → List ℕ → Type 0) (Owns : S → ℕ → List Slot → Type 0) (work : S → Work) (Ready : S → List Slot → Type 0) {begun asked : Work} (told : Bool) (old new : List Slot) (result : Result (GuardState S) Fault) → begun ≡ asked → IfOk result (λ e. HoldsIn Holds e [])
     → IfOk result (λ e. work e.stage ≡ begun) → IfOk result (λ e. e.fed < 2 ^ 63) → IfOk result (λ e. Ready e.stage new)
     → IfOk result (λ e. Owns e.stage (length old) new) → OnOk result (OutputsAt told old (begun.settled []) new)
     → IfOk result (Opens Holds Owns work Ready asked told old new)
-opened_of Holds Owns work Ready told old new (Ok e) is fresh does bound ready owns at = rw (← is) (record { fresh = fresh; does = does; bound = bound; ready = ready; owns = owns; outputs = at })
+opened_of Holds Owns work Ready told old new (Ok e) is fresh does bound ready owns at = grind (arith, common_steps)
 opened_of Holds Owns work Ready told old new (Err fault) is fresh does bound ready owns at = tt
 
 -- one that could not be opened
@@ -89,29 +77,14 @@ pub opened_short : {E : Type 0} (told : Bool) {begun asked : Work} {opening : Ne
     → IfErr result (λ fault. (before : List Slot) → OutputsAt told before nothing old → StoppedBetween told before nothing (begun.settled []) fault new)
     → IfErr result Why → IfErr result Left → IfErr result (OpensShort asked opening told old new)
 opened_short told old new (Ok e) Why Left is two stops cut why left = tt
-opened_short told old new (Err fault) Why Left is two stops cut why left = rw (← is) (
-    let (unjudged, halts, swept) = stops fault why left in
-    record { unjudged = unjudged; reached = new; why = halts; stop = cut old (nothing_out told old (some_there old two)); swept = swept })
+opened_short told old new (Err fault) Why Left is two stops cut why left = grind (arith, common_steps, nothing_out, some_there)
 
--- as `split` and `csplit` can't
-pub split_stops : (plan : Plan) (old : List Slot) {new : List Slot} {fault : Fault} → CannotOpen old new fault
-    → (is_verdict fault ≡ false) × Stops (call_of (split_work plan) (record { memory = true; files = true }) [] nothing ((split_work plan).settled [])) new fault
-    × Swept (split_work plan).clears (length old) new new
-split_stops plan old (inl is) = rw is (refl, refl, refl)
-split_stops plan old (inr (slot, is, rose)) = rw is (refl, (refl, refl), refl)
-
-csplit_halts : (style : Style) (operands : List Operand) (old new : List Slot) (fault : Fault) → Breaks style old new fault
+pub csplit_halts : (style : Style) (operands : List Operand) (old new : List Slot) (fault : Fault) → Breaks style old new fault
     → (is_verdict fault ≡ false) × Stops (call_of (csplit_work style operands) (record { memory = true; files = true }) [] nothing ((csplit_work style operands).settled [])) new fault
 csplit_halts style operands old new Memory breaks = (refl, refl)
 csplit_halts style operands old new (Write slot) breaks = (refl, (λ first. ap not (breaks.0 first), λ none. absurd (false≢true (sym none)), breaks.1.1))
 csplit_halts style operands old new (Open slot) breaks = (refl, (refl, refl))
 csplit_halts style operands old new fault breaks = absurd breaks
-
-pub csplit_stops : (style : Style) (operands : List Operand) (old new : List Slot) (fault : Fault) → Breaks style old new fault → HasNoFiles (length old) new
-    → (is_verdict fault ≡ false)
-    × Stops (call_of (csplit_work style operands) (record { memory = true; files = true }) [] nothing ((csplit_work style operands).settled [])) new fault
-    × Swept (csplit_work style operands).clears (length old) new new
-csplit_stops style operands old new fault breaks none = let (unjudged, stops) = csplit_halts style operands old new fault breaks in (unjudged, stops, swept_none (not style.keep) (length old) new none)
 
 pub whatever : {E : Type 0} (P : E → Type 0) (result : Result E Fault) → ((e : E) → P e) → IfOk result P
 whatever P (Ok e) all = all e

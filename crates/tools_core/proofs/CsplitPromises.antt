@@ -1,17 +1,17 @@
 -- What `csplit` leaves of its input.
-use Rattle.std.proofs.Common.{◌≡◌, ℕ, ◌+◌, suc, take, drop, Bool, true, false, eqb, nat_lt, List, [], ◌∷◌, Option, Some, None, refl, ◌∙◌, ◌-◌, ◌<◌, ◌≤◌, not, ◌&&◌, ◌++◌, length, length-drop, map, sym, ap, subst, arith}
-use Rattle.operand_core.specs.declared.operand.Offset.{Offset}
+use Rattle.std.proofs.lemmas.Grind.{common_steps}
+use Rattle.std.proofs.Common.{◌≡◌, ℕ, ◌+◌, suc, drop, Bool, true, false, eqb, List, [], ◌∷◌, Option, Some, None, refl, ◌∙◌, ◌-◌, ◌<◌, ◌≤◌, not, ◌&&◌, ◌++◌, length, map, sym, ap, subst, arith}
 use Rattle.operand_core.specs.declared.operand.Operand.{Operand}
 use Rattle.operand_core.specs.declared.operand.Target.{Target}
 use Rattle.operand_core.specs.declared.operand.Target.TheVariants.{Number, Search}
 use Rattle.operand_core.specs.declared.operand.Times.{Times}
 use Rattle.operand_core.specs.declared.operand.Times.TheVariants.{Count}
 use Rattle.operand_core.specs.Reading.{Aim, line, match, Spelled, Aimed, aims, fails, Words, AreRead, Asks, IsTarget, aim_of, failed, least_after, no_more, times_by, with_operand, words_from, words_of}
-use Rattle.operand_core.specs.Word.{Spelling, number, search, spelling, closed_at, closing, offset_of, repeated, numbered, number_of, searched, braced, before_brace}
+use Rattle.operand_core.specs.Word.{Spelling, number, search, spelling, closed_at, repeated, numbered}
 use Rattle.csplit_core.specs.Operand.{is_kept, Line, has_more}
 use Rattle.tools_core.specs.Promises.{SkipNothing, skips, Run, Does, HasInput, AreNumbered, AreSections, IsSound, contents_of, files_of, in_turn, last_section, left_out, text_at}
 use Rattle.std.proofs.lemmas.Bool.{cond_both, false≢true}
-use Rattle.std.proofs.lemmas.List.{length-map, map-append, drop-drop, take-append-drop, take_all}
+use Rattle.std.proofs.lemmas.List.{length-map, map-append, drop-drop, take-append-drop}
 use Rattle.std.proofs.lemmas.List.Elements.{All-append, All-cons, All-map, All-nil}
 use Rattle.seg_core.specs.Line.{joined, lines_of}
 use Rattle.seg_core.proofs.FirstLines.{joined-append}
@@ -33,10 +33,9 @@ use Rattle.csplit_core.proofs.WholeLemmas.{ends_after_all, none_lost_at_end}
 use Rattle.words_core.specs.CsplitAsked.{CsplitAsked}
 use Rattle.words_core.specs.declared.settings.Settings.TheVariants.{Csplit}
 use Rattle.tools_core.specs.Tasks.{csplit_task}
-use Rattle.tools_core.proofs.NumberLemmas.{numbered_in_order}
-use Rattle.tools_core.proofs.OutcomeLemmas.{numbered_each, slot_of}
+use Rattle.tools_core.proofs.SplitPromises.{numbered_in_order, AreNamed, bytes_written, named_step}
+use Rattle.tools_core.proofs.LeftLemmas.{numbered_each, slot_of}
 use Rattle.tools_core.proofs.PromiseLemmas.{did_one, one_made}
-use Rattle.tools_core.proofs.SplitPromises.{AreNamed, bytes_written, named_step}
 
 -- Where no word of `csplit`'s operands skips a section, each operand keeps its section.
 
@@ -44,13 +43,9 @@ abbrev KeepsSpelling : Spelling → Type 0
 KeepsSpelling (search delimiter text offset) = eqb delimiter 47 ≡ true
 KeepsSpelling spelling = Unit {0}
 
-searched_keeps : (delimiter : ℕ) (text : List ℕ) (offset : Option Offset) → eqb delimiter 47 ≡ true → KeepsSpelling (searched delimiter text offset)
-searched_keeps delimiter text None is = tt
-searched_keeps delimiter text (Some offset) is = is
-
 closed_keeps : (delimiter : ℕ) (text : List ℕ) (place : Option ℕ) → eqb delimiter 47 ≡ true → KeepsSpelling (closed_at delimiter text place)
 closed_keeps delimiter text None is = tt
-closed_keeps delimiter text (Some place) is = searched_keeps delimiter (take place text) (offset_of (drop (suc place) text)) is
+closed_keeps delimiter text (Some place) is = grind (arith, common_steps)
 
 repeated_keeps : (times : Option Times) → KeepsSpelling (repeated times)
 repeated_keeps None = tt
@@ -58,14 +53,11 @@ repeated_keeps (Some times) = tt
 
 numbered_keeps : (n : Option ℕ) → KeepsSpelling (numbered n)
 numbered_keeps None = tt
-numbered_keeps (Some n) = cond_both (eqb n 0) _ _ KeepsSpelling (λ is. tt) (λ some. tt)
+numbered_keeps (Some n) = grind (arith, common_steps)
 
 word_keeps : (word : List ℕ) → skips word ≡ false → KeepsSpelling (spelling word)
 word_keeps [] differs = tt
-word_keeps (byte ∷ text) differs =
-    cond_both (eqb byte 47) _ _ KeepsSpelling (closed_keeps byte text (closing byte false text)) (λ other.
-    cond_both (eqb byte 37) _ _ KeepsSpelling (λ is. absurd (false≢true (sym differs ∙ is))) (λ kept.
-    cond_both (eqb byte 123) _ _ KeepsSpelling (λ is. repeated_keeps (braced (before_brace text))) (λ none. numbered_keeps (number_of (byte ∷ text)))))
+word_keeps (byte ∷ text) differs = grind (arith, common_steps, cond_both, closed_keeps, false≢true, repeated_keeps, numbered_keeps)
 
 -- what operands aim at
 
@@ -78,7 +70,7 @@ KeepsAimed (aims aim) = KeepsAim aim
 KeepsAimed (fails what) = Unit {0}
 
 aimed_keeps : (least : ℕ) (spelled : Spelling) → KeepsSpelling spelled → KeepsAimed (aim_of least spelled)
-aimed_keeps least (number n) keeps = cond_both (nat_lt n least) _ _ KeepsAimed (λ is. tt) (λ is. tt)
+aimed_keeps least (number n) keeps = grind (arith, common_steps)
 aimed_keeps least (search delimiter text offset) keeps = keeps
 aimed_keeps least spelled keeps = tt
 
@@ -143,9 +135,9 @@ record Kept (lines : List Line) (steps : List Step) (ending : Ending) : Type 0 w
 
 runs_keep : {suppress : Bool} {lines : List Line} {state : State} {steps : List Step} {last : State} {ending : Ending} → Runs suppress lines state steps last ending → KeepTargets state.operands → Kept lines steps ending
 runs_keep (is_used_up state none) keep = record { sections = tt; final = refl }
-runs_keep (misses state operand operands is none) keep = record { sections = tt; final = (rw is at keep).0 }
-runs_keep (is_above state operand operands matched cut is at far) keep = record { sections = tt; final = (rw is at keep).0 }
-runs_keep (is_below state operand operands matched cut is at within low) keep = record { sections = tt; final = (rw is at keep).0 }
+runs_keep (misses state operand operands is none) keep = grind (arith, common_steps)
+runs_keep (is_above state operand operands matched cut is at far) keep = grind (arith, common_steps)
+runs_keep (is_below state operand operands matched cut is at within low) keep = grind (arith, common_steps)
 runs_keep (cuts state operand operands matched cut steps last ending is at from within rest) keep =
     let these = rw is at keep in
     let past = runs_keep rest (kept_after (has_more operand.times state.repetition) operand operands these) in
@@ -159,7 +151,7 @@ sections_kept suppress operands lines keep =
 -- The files of sections that are kept are joined their lines.
 
 bytes_then : (one other : List Line) → bytes_of (one ++ other) ≡ bytes_of one ++ bytes_of other
-bytes_then one other = ap joined (map-append (λ (line : Line). line.text) one other) ∙ joined-append (map (λ (line : Line). line.text) one) (map (λ (line : Line). line.text) other)
+bytes_then one other = grind (arith, common_steps, map-append, joined-append)
 
 all_bytes : (lines : List (List ℕ)) → map (λ (line : Line). line.text) (map marked lines) ≡ lines
 all_bytes [] = refl
@@ -172,8 +164,8 @@ written_in files = joined (map (λ (file : Slot). file.written) (map slot_of fil
 left_empty : (elide kept : Bool) (bytes : List ℕ) → kept ≡ true → (kept && not (elide && is_empty bytes)) ≡ false → bytes ≡ []
 left_empty elide kept [] is none = refl
 left_empty elide false (byte ∷ bytes) is none = absurd (false≢true is)
-left_empty true true (byte ∷ bytes) is none = absurd (false≢true (sym none))
-left_empty false true (byte ∷ bytes) is none = absurd (false≢true (sym none))
+left_empty true true (byte ∷ bytes) is none = cc
+left_empty false true (byte ∷ bytes) is none = cc
 
 files_joined : (style : Style) (place : ℕ) (sections : List Section) → AllKept sections → written_in (files_by style place (map contents_in sections)) ≡ bytes_of (lines_in sections)
 files_joined style place [] kept = refl
@@ -267,7 +259,7 @@ all_in_turn {suppress} {lines} (cuts state operand operands matched cut steps' l
 all_in_turn run some = refl
 
 rest_is_all : (lines : List Line) {current : ℕ} → 1 ≤ current → lines_between current (suc (length lines)) lines ≡ drop (current - 1) lines
-rest_is_all lines {current} some = take_all (suc (length lines) - current) (drop (current - 1) lines) (let e : length (drop (current - 1) lines) ≡ length lines - (current - 1) = length-drop (current - 1) lines in omega (arith, e, some))
+rest_is_all lines {current} some = grind (arith, common_steps)
 
 none_missing : (suppress : Bool) (operands : List Operand) {lines : List Line} → is_final (plan suppress operands lines).ending ≡ false → in_turn suppress lines (plan suppress operands lines).steps (last_section lines (plan suppress operands lines)) ≡ lines
 none_missing suppress operands {lines} live =

@@ -1,24 +1,24 @@
 -- What `tail` writes of one file that only grows, where it follows it and meets no fault.
-use Rattle.std.proofs.Common.{◌≡◌, ℕ, ◌+◌, ◌<◌, ◌≤◌, zero, suc, Bool, true, false, List, [], ◌∷◌, ◌++◌, length, drop, Option, Some, None, refl, sym, ◌∙◌, ap, subst, arith, append_assoc, append-nil, ◌&&◌, cond, is_some, not, ◌||◌, inl, inr}
+use Rattle.std.proofs.lemmas.Grind.{common_steps}
+use Rattle.std.proofs.Common.{◌≡◌, ℕ, ◌+◌, ◌<◌, ◌≤◌, zero, suc, Bool, true, false, List, [], ◌∷◌, ◌++◌, length, drop, Option, Some, refl, sym, ◌∙◌, ap, subst, arith, append_assoc, append-nil, ◌&&◌, cond, is_some, not, ◌||◌, inl, inr, rules}
 use Rattle.std.proofs.Math.Seq.{drop-append_seam as drop_front}
 use Rattle.watch_core.specs.Snapshot.{Snapshot}
 use Rattle.follow_core.specs.Ending.{seen_first, FollowEndsAs, looked, no_room, stopped}
 use Rattle.follow_core.specs.Gain.{gains_later}
 use Rattle.follow_core.specs.Run.{AreKept, name_text}
 use Rattle.follow_core.specs.Version.{Entry, entries_led, entries_later, entries_of, open_after, open_after_later, version_in}
-use Rattle.follow_core.proofs.AgreeLemmas.{grown, led_same}
+use Rattle.follow_core.proofs.AgreeLemmas.{grown}
 use Rattle.follow_core.proofs.RunLemmas.{text_is_gains}
 use Rattle.tools_core.specs.Promises.{OnlyGrows, FollowRun, Follows, IsBare}
 use Rattle.std.proofs.lemmas.Bool.{cond_both, or_parts, cases_lt, false≢true}
 use Rattle.follow_core.specs.Followed.{any_failed, text_from}
 use Rattle.follow_core.specs.Look.{Fate, Look, Ways, entries_in, fate_at, is_dropped, is_first, sound, snapshots, ways_of}
 use Rattle.follow_core.specs.Notice.{is_missing}
-use Rattle.follow_core.specs.Share.{Share, gain, gains_from, missing_share, no_share, share_by, share_of, shares_from, shares_of}
+use Rattle.follow_core.specs.Share.{Share, gain, gains_from, missing_share, no_share, share_by, share_of, shares_from}
 use Rattle.follow_core.proofs.LookLemmas.{failed_sound, looks_give_text}
 use Rattle.std.proofs.lemmas.List.{length-map}
 use Rattle.ends_core.specs.Ends.{tail_of}
 use Rattle.ports_core.specs.Slot.{Slot, slot_at, streams}
-use Rattle.ports_core.specs.Streams.{standard_error, standard_output}
 use Rattle.watch_core.specs.Watched.{Watched}
 use Rattle.follow_core.specs.FollowState.{is_alive}
 use Rattle.words_core.specs.EndsAsked.{EndsAsked}
@@ -35,7 +35,7 @@ looks_from shows start zero = []
 looks_from shows start (suc n) = shows start ∷ looks_from shows (suc start) n
 
 one_more : (shows : ℕ → Snapshot) {start : ℕ} (n : ℕ) → looks_from shows start n ++ shows (start + n) ∷ [] ≡ looks_from shows start (suc n)
-one_more shows zero = ap (λ k. shows k ∷ []) (omega arith)
+one_more shows zero = search rules
 one_more shows {start} (suc n) = ap (λ rest. shows start ∷ rest) (ap (λ k. looks_from shows (suc start) n ++ shows k ∷ []) (let e : start + suc n ≡ suc start + n = omega arith in e) ∙ one_more shows n)
 
 pub seen_are : (shows : ℕ → Snapshot) (n : ℕ) → seen_first shows n ≡ looks_from shows 0 n
@@ -48,7 +48,7 @@ versions shows file start zero = []
 versions shows file start (suc n) = version_in (shows start) file ∷ versions shows file (suc start) n
 
 later_by : (by_name : Bool) (name : List ℕ) {file : ℕ} (snapshot : Snapshot) {led : Option ℕ} {rest : List Entry} → led ≡ Some file → version_in snapshot file ∷ (entries_led snapshot (Some file) led ++ rest) ≡ version_in snapshot file ∷ rest
-later_by by_name name {file} snapshot is = rw (is, led_same snapshot file)
+later_by by_name name {file} snapshot is = search rules
 
 later_are : (by_name : Bool) {name : List ℕ} (shows : ℕ → Snapshot) {file count : ℕ} (start n : ℕ) → start + n ≤ count → OnlyGrows count shows name file → entries_later by_name name (Some file) (looks_from shows start n) ≡ versions shows file start n
 later_are by_name shows start zero within grows = refl
@@ -121,7 +121,7 @@ record WroteAll (ways : Ways) (name : List ℕ) (before looks : List Look) (text
 
 wrote_all : (ways : Ways) (name : List ℕ) (before looks : List Look) (last : Option (List ℕ)) → is_dropped ways.first before ≡ false → any_failed (shares_from ways (name ∷ []) before looks) ≡ false
     → WroteAll ways name before looks (text_from false last (shares_from ways (name ∷ []) before looks))
-wrote_all ways name before [] last kept well = record { is = refl; kept = refl }
+wrote_all ways name before [] last kept well = search rules
 wrote_all ways name before (look ∷ looks) last kept well =
     let here = before ++ look ∷ [] in
     let both = or_parts (share_of ways before look ways.first name).has_failed (any_failed (shares_from ways (name ∷ []) here looks)) well in
@@ -131,22 +131,14 @@ wrote_all ways name before (look ∷ looks) last kept well =
       kept = rw (fine.0, rest.kept);
     }
 
--- all of the looks
-pub record IsText (ways : Ways) (name : List ℕ) (looks : List Look) (text : List ℕ) : Type 0 where
-  pub is : text ≡ name_text ways.start (entries_in ways name looks)
-  pub kept : is_dropped ways.first looks ≡ false
-
-pub is_text : (ways : Ways) (name : List ℕ) (looks : List Look) → any_failed (shares_from ways (name ∷ []) [] looks) ≡ false → AreKept (entries_in ways name looks) → IsText ways name looks (text_from false None (shares_from ways (name ∷ []) [] looks))
-is_text ways name looks well all = let wrote = wrote_all ways name [] looks None refl well in record { is = wrote.is ∙ looks_give_text ways name looks all; kept = wrote.kept }
-
 -- a file that is open could always have more, so no look is the last that can give something
 alive_by : (dropped by_name : Bool) {opened : Option ℕ} {file : ℕ} → dropped ≡ false → opened ≡ Some file → ((not dropped && (by_name || is_some opened)) || false) ≡ true
-alive_by true by_name kept is = absurd (false≢true (sym kept))
+alive_by true by_name kept is = cc
 alive_by false true kept is = refl
-alive_by false false kept is = ap (λ those. is_some those || false) is
+alive_by false false kept is = cc
 
 opens : (by_name : Bool) {name : List ℕ} (shows : ℕ → Snapshot) {file : ℕ} (looks : List Look) → OnlyGrows (length looks) shows name file → snapshots looks ≡ seen_first shows (length looks) → 0 < length looks → open_after by_name name (snapshots looks) ≡ Some file
-opens by_name shows [] grows saw some = absurd (omega (arith, some))
+opens by_name shows [] grows saw some = search rules
 opens by_name shows (look ∷ looks) grows saw some = cc (saw, seen_are shows (suc (length looks)), stays_open by_name shows (length looks) (omega arith) grows)
 
 all_made : (ways : Ways) {name : List ℕ} (shows : ℕ → Snapshot) {file count : ℕ} (looks : List Look) → OnlyGrows (length looks) shows name file → snapshots looks ≡ seen_first shows (length looks) → is_dropped ways.first looks ≡ false → length looks ≤ count
@@ -158,7 +150,7 @@ all_made ways shows {count} looks grows saw kept few full = elim (cases_lt (leng
 ]
 
 -- the looks that were made, and what was written
-record WroteText (ways : Ways) (name : List ℕ) (shows : ℕ → Snapshot) (count : ℕ) (seen : List Snapshot) (new : List Slot) : Type 0 where
+pub record WroteText (ways : Ways) (name : List ℕ) (shows : ℕ → Snapshot) (count : ℕ) (seen : List Snapshot) (new : List Slot) : Type 0 where
   pub looks : List Look
   pub count_is : length looks ≡ length seen
   pub seen_is : seen ≡ snapshots looks
@@ -170,26 +162,11 @@ record WroteText (ways : Ways) (name : List ℕ) (shows : ℕ → Snapshot) (cou
 
 wrote_text : (ways : Ways) (name : List ℕ) (shows : ℕ → Snapshot) (count : ℕ) (seen : List Snapshot) (watched : List Watched) (new : List Slot) → (seen ≡ seen_first shows (length seen) → AreKept (entries_of ways.by_name name seen))
     → FollowEndsAs true true ways false (name ∷ []) count shows streams seen watched new 0 → WroteText ways name shows count seen new
-wrote_text ways name shows count seen watched new keeps_bytes (looked looks shares seen_is broken made few full are leaves) =
-    let shares_are = are refl in
-    let well : any_failed (shares_of ways (name ∷ []) looks) ≡ false = ap any_failed (sym shares_are) ∙ unfailed (any_failed shares) leaves.status_is in
-    let count_is : length looks ≡ length seen = sym (ap length seen_is ∙ length-map looks (λ (look : Look). look.snapshot)) in
-    let all_kept = keeps_bytes (seen_is ∙ made.saw ∙ ap (seen_first shows) count_is) in
-    let text = is_text ways name looks well (rw seen_is at all_kept) in
-    let (error, tells, slots) = leaves.wrote standard_output standard_error [] refl in record {
-      looks = looks;
-      count_is = count_is;
-      seen_is = seen_is;
-      saw = made.saw;
-      kept = text.kept;
-      few = few;
-      full = full;
-      is = rw (slots, shares_are, text.is, seen_is);
-    }
-wrote_text ways name shows count seen watched new keeps_bytes (stopped mid why stop says failed) = absurd (omega (arith, failed))
-wrote_text ways name shows count seen watched new keeps_bytes (no_room unseen unwatched says failed) = absurd (omega (arith, failed))
+wrote_text ways name shows count seen watched new keeps_bytes (looked looks shares seen_is broken made few full are leaves) = grind (arith, common_steps, unfailed, length-map, wrote_all, looks_give_text)
+wrote_text ways name shows count seen watched new keeps_bytes (stopped mid why stop says failed) = search rules
+wrote_text ways name shows count seen watched new keeps_bytes (no_room unseen unwatched says failed) = search rules
 
-follows_text : {run : FollowRun} {options : EndsAsked} {followed : Followed} {name : List ℕ} → Follows run options followed → IsBare options → options.names ≡ name ∷ [] → (run.seen ≡ seen_first run.shows (length run.seen) → AreKept (entries_of (is_name followed) name run.seen))
+pub follows_text : {run : FollowRun} {options : EndsAsked} {followed : Followed} {name : List ℕ} → Follows run options followed → IsBare options → options.names ≡ name ∷ [] → (run.seen ≡ seen_first run.shows (length run.seen) → AreKept (entries_of (is_name followed) name run.seen))
     → WroteText (ways_of 0 (is_name followed) (start_of options)) name run.shows run.count run.seen run.outputs
 follows_text {run} {options} {followed} {name} follows bare named keeps_bytes =
     let ways = ways_of 0 (is_name followed) (start_of options) in
@@ -197,10 +174,6 @@ follows_text {run} {options} {followed} {name} follows bare named keeps_bytes =
     let one = subst (λ names. FollowEndsAs true true ways (has_headers options.headers options.names) names run.count run.shows streams run.seen run.watched run.outputs run.status) named ends in
     let headless = subst (λ headers. FollowEndsAs true true ways headers (name ∷ []) run.count run.shows streams run.seen run.watched run.outputs run.status) bare one in
     wrote_text ways name run.shows run.count run.seen run.watched run.outputs keeps_bytes (subst (FollowEndsAs true true ways false (name ∷ []) run.count run.shows streams run.seen run.watched run.outputs) follows.well headless)
-
-pub tells_text : (run : FollowRun) (options : EndsAsked) (followed : Followed) (name : List ℕ) → Follows run options followed → IsBare options → options.names ≡ name ∷ [] → AreKept (entries_of (is_name followed) name run.seen)
-    → (slot_at run.outputs 0).written ≡ name_text (tail_of options.delim options.unit (is_plus options.count.sign) options.count.amount) (entries_of (is_name followed) name run.seen)
-tells_text run options followed name follows bare named kept = (follows_text follows bare named (λ saw. kept)).is
 
 pub tells_all : (run : FollowRun) (options : EndsAsked) (followed : Followed) (name came : List ℕ) (file n : ℕ) → Follows run options followed → IsBare options → options.names ≡ name ∷ [] → run.count ≡ n + 1 → OnlyGrows (length run.seen) run.shows name file
     → (run.shows n).holds file ≡ (run.shows 0).holds file ++ came

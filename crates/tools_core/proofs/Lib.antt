@@ -1,14 +1,9 @@
 pub mod AdapterLemmas
 pub mod RunLemmas
-pub mod OutcomeLemmas
 pub mod LeftLemmas
 pub mod BeginLemmas
-pub mod TeeLemmas
 pub mod StoppedPromises
 pub mod PromiseLemmas
-pub mod BeginPromises
-pub mod EndsPromises
 pub mod SplitPromises
-pub mod NumberLemmas
 pub mod CsplitPromises
 pub mod FollowPromises

@@ -1,19 +1,34 @@
--- What a run that met no fault leaves: just its part, as its definition says, and nothing on standard error.
-use Rattle.std.proofs.Common.{◌≡◌, ℕ, Bool, true, false, ◌||◌, is_some, cond, List, [], ◌∷◌, Option, Some, None, inl, inr, refl, sym, ◌∙◌, ap, arith}
-use Rattle.ports_core.specs.Slot.{Slot}
-use Rattle.ports_core.specs.declared.fault.Fault.{Fault}
-use Rattle.run_core.specs.Input.{Input, World, input_of, inputs_at, is_dash}
+-- What a run that met no fault leaves: just its part, as its definition says, and nothing on standard error; so what `head`, `tail` and
+-- `tee` leave of one input, and that what any run leaves is a beginning of it.
+use Rattle.std.proofs.lemmas.Grind.{common_steps}
+use Rattle.std.proofs.Common.{◌≡◌, ℕ, true, false, List, [], ◌∷◌, Option, Some, None, inl, inr, refl, sym, ◌∙◌, ap, arith, ◌+◌, ◌-◌, ◌++◌, map, drop, subst}
+use Rattle.ports_core.specs.Slot.{Slot, slot_at}
+use Rattle.run_core.specs.Input.{Input, inputs_at}
 use Rattle.run_core.specs.Task.{Outcome, Task, made_by}
 use Rattle.words_core.specs.declared.settings.Settings.{Settings}
-use Rattle.tools_core.specs.Tasks.{names_of}
-use Rattle.tools_core.specs.Promises.{Completes, Does, FindAlike, HasInput, Ran, Run}
-use Rattle.tools_core.proofs.BeginLemmas.{ending, made_one, part_of}
-use Rattle.tools_core.proofs.LeftLemmas.{Makes, completes_left, left_whole, same_made}
-use Rattle.tools_core.proofs.OutcomeLemmas.{slots_of}
+use Rattle.tools_core.specs.Tasks.{names_of, is_minus, is_plus, naming_of}
+use Rattle.tools_core.specs.Promises.{Completes, Does, FindAlike, HasInput, Ran, Run, IsHead, IsTail, IsBare, CountAlike, output_of, AreCopies, IsSound, files_of, BeginsAs, BeginsEach}
+use Rattle.tools_core.proofs.BeginLemmas.{ending, part_of, bare_begins, begins_kept, begins_whole, lawful_grows, split_grows, still_begins, tee_begins}
+use Rattle.tools_core.proofs.LeftLemmas.{Makes, completes_left, left_whole, same_made, slots_of, copies_are, copy, tee_made, left_at, ran_over}
 use Rattle.tools_core.proofs.StoppedPromises.{completes_or}
+use Rattle.seg_core.specs.declared.count.Sign.{Sign}
+use Rattle.seg_core.specs.declared.count.Sign.TheVariants.{Plain, Minus, Plus}
+use Rattle.ends_core.specs.Ends.{head_of, tail_of, after_of, first_of}
+use Rattle.ends_core.specs.laws.EndsLaws.{first_then_after, ends_together}
+use Rattle.words_core.specs.declared.settings.Settings.TheVariants.{Tee, Head, Tail, Split, Csplit}
+use Rattle.words_core.specs.EndsAsked.{EndsAsked}
+use Rattle.std.proofs.lemmas.List.Elements.{All-map}
+use Rattle.ports_core.specs.Source.{Content, Source}
+use Rattle.ports_core.specs.declared.slot.Mode.{Mode}
+use Rattle.words_core.specs.TeeAsked.{TeeAsked}
+use Rattle.ends_core.specs.laws.WorkLaws.{head_lawful, tail_lawful}
+use Rattle.csplit_core.specs.laws.InputLaws as csplit_law
+use Rattle.words_core.specs.Words.{CanRun}
+use Rattle.tools_core.specs.Outcome.{DoesAsked}
+use Rattle.tools_core.proofs.RunLemmas.{can_run}
 
 completes : {run : Run} {asked : Settings} → Does run asked → Completes run asked
-completes {run} {asked} does = elim (completes_or run asked does.ran) [ inl whole ↦ whole | inr stop ↦ absurd (omega (arith, does.well, stop.failed)) ]
+completes {run} {asked} does = grind (arith, common_steps, completes_or)
 
 pub leave_same : (one other : Run) (asked : Settings) → Does one asked → Does other asked → FindAlike one other → one.outputs ≡ other.outputs
 leave_same one other asked does does_too same =
@@ -23,21 +38,13 @@ leave_same one other asked does does_too same =
 
 -- One input, which ends
 
-content_by : (world : World) (name : List ℕ) (is_standard : Bool) → (input_of world false 1 name is_standard).content ≡ cond is_standard (Some world.standard) (world.laid 1 name)
-content_by world name true = refl
-content_by world name false = refl
-
 pub record HasOne (run : Run) (asked : Settings) (bytes : List ℕ) : Type 0 where
   pub input : Input
   pub content : input.content ≡ Some (ending bytes)
   pub only : inputs_at run.world (names_of asked) ≡ input ∷ []
 
 pub has_one : {run : Run} {asked : Settings} {bytes : List ℕ} → Ran run asked → HasInput run bytes → HasOne run asked bytes
-has_one {run} ran has = record {
-  input = input_of run.world false 1 has.name (is_dash has.name);
-  content = content_by run.world has.name (is_dash has.name) ∙ has.holds;
-  only = cc (ran.read, has.only);
-}
+has_one {run} ran has = grind (arith, common_steps)
 
 -- what was made of it
 pub record DidOne (run : Run) (asked : Settings) (bytes : List ℕ) : Type 0 where
@@ -55,16 +62,77 @@ did_one does has =
     let whole = left_whole all.fits all.left does.well in
     record { input = one.input; content = one.content; made = all.made; makes = rw one.only at all.of; sound = whole.sound; slots = whole.slots }
 
-not_judged : (verdict : Option Fault) → (is_some verdict || false) ≡ false → verdict ≡ None
-not_judged None sound = refl
-not_judged (Some fault) sound = absurd (cc)
-
 pub record IsMade (task : Task) (name bytes : List ℕ) (new : List Slot) : Type 0 where
   pub unjudged : task.work.verdict bytes ≡ None
   pub slots : new ≡ slots_of (part_of task name bytes)
 
 pub one_made : {run : Run} {asked : Settings} {bytes : List ℕ} (one : DidOne run asked bytes) (task : Task) → one.made ≡ made_by task (one.input ∷ []) → IsMade task one.input.name bytes run.outputs
-one_made {bytes} one task is = record {
-  unjudged = not_judged (task.work.verdict bytes) (rw one.content at (sym (ap (λ (made : Outcome). made.failed) is) ∙ one.sound));
-  slots = cc (one.slots, is, made_one task one.input one.content);
-}
+one_made {bytes} one task is = grind (arith, common_steps)
+
+-- What `head` and `tail` leave of one input.
+
+head_output : {run : Run} (options : EndsAsked) {sign : Sign} {n : ℕ} {input : List ℕ} → IsBare options → IsHead run options sign n → HasInput run input → output_of run ≡ head_of options.delim options.unit (is_minus sign) n input
+head_output options {sign} {n} {input} bare does has = grind (arith, common_steps)
+
+tail_alike : {run : Run} {first rest : EndsAsked} {sign : Sign} {n : ℕ} {input : List ℕ} → CountAlike first rest → IsTail run rest sign n → HasInput run input → output_of run ≡ tail_of first.delim first.unit (is_plus sign) n input
+tail_alike {first} {rest} {sign} {n} {input} alike does has = grind (arith, common_steps)
+
+pub first_meet : (head tail : Run) (first rest : EndsAsked) (n : ℕ) (input : List ℕ) → CountAlike first rest → IsHead head first Plain n → IsTail tail rest Plus (n + 1) → HasInput head input → HasInput tail input → output_of head ++ output_of tail ≡ input
+first_meet head tail first rest n input alike one other has has_too =
+    ap (λ front. front ++ output_of tail) (head_output first alike.bare.0 one has)
+    ∙ ap (λ back. first_of first.delim first.unit n input ++ back) (tail_alike alike other has_too ∙ ap (λ k. after_of first.delim first.unit k input) (same n))
+    ∙ first_then_after first.delim first.unit n input where
+      same : (k : ℕ) → k + 1 - 1 ≡ k
+      same k = omega arith
+
+pub last_meet : (head tail : Run) (first rest : EndsAsked) (n : ℕ) (input : List ℕ) → CountAlike first rest → IsHead head first Minus n → IsTail tail rest Plain n → HasInput head input → HasInput tail input → output_of head ++ output_of tail ≡ input
+last_meet head tail first rest n input alike one other has has_too = grind (arith, common_steps, head_output, tail_alike, ends_together)
+
+-- What `tee` leaves of its input.
+
+abbrev first_content : Content → List Input → Option Content
+first_content default [] = Some default
+first_content default (input ∷ inputs) = input.content
+
+copies_named : (mode : Mode) (bytes : List ℕ) (names : List (List ℕ)) → map (λ (file : Slot). file.name) (map (copy mode bytes) names) ≡ names
+copies_named mode bytes [] = refl
+copies_named mode bytes (name ∷ names) = ap (λ those. name ∷ those) (copies_named mode bytes names)
+
+pub record IsCopied (tee : Run) (asked : TeeAsked) (input : List ℕ) : Type 0 where
+  pub output : output_of tee ≡ input
+  pub files : AreCopies asked.mode asked.names input (files_of tee)
+
+pub is_copied : {tee : Run} {asked : TeeAsked} {input : List ℕ} → Does tee (Tee asked) → HasInput tee input → IsCopied tee asked input
+is_copied {asked} {input} does has =
+    let one = did_one does has in
+    let (content, only, is) = one.makes in
+    let same : Some content ≡ Some (ending input) = ap (first_content content) (sym only) ∙ one.content in
+    let there : content ≡ ending input = cc in
+    let whole = one.slots ∙ ap (λ (made : Outcome). slots_of made.part) is ∙ ap (λ those. slots_of (tee_made asked those).part) there in
+    record {
+      output = ap (λ slots. (slot_at slots 0).written) whole;
+      files = rw (ap (drop 2) whole ∙ copies_are asked.mode input asked.names) (record { named = copies_named asked.mode input asked.names; each = All-map (λ (file : Slot). IsSound asked.mode file × (file.written ≡ input)) (copy asked.mode input) asked.names (λ k name within. ((refl, refl, refl), refl)) });
+    }
+
+-- the outputs have beginnings of what is made of the input
+abbrev BeginsMade : Settings → Input → List Slot → Type 0
+BeginsMade asked input new = (made : Outcome) × Makes asked (input ∷ []) made × ((place : ℕ) → (place ≡ 1 → ⊥) → BeginsAs (slot_at new place) (slot_at (slots_of made.part) place))
+
+begins_made : (asked : Settings) (input : Input) {bytes : List ℕ} (sources : List Source) (new : List Slot) (status : ℕ) → CanRun asked → input.content ≡ Some (ending bytes) → DoesAsked true true asked (input ∷ []) sources new status → BeginsMade asked input new
+begins_made (Head asked) input sources new status can is does = (_, refl, λ place differs. begins_whole is (lawful_grows (head_lawful _ _ _ _)) differs does)
+begins_made (Tail asked) input sources new status can is does = (_, refl, λ place differs. begins_whole is (lawful_grows (tail_lawful _ _ _ _)) differs does)
+begins_made (Split asked) input sources new status can is does = (_, refl, λ place differs. begins_whole is (split_grows asked.delim asked.cut asked.elide (naming_of asked) can.named) differs does)
+begins_made (Csplit asked) input sources new status can is does = (_, (does.operands, does.asks, refl), λ place differs. begins_whole is (lawful_grows (csplit_law.lawful asked.style does.operands)) differs does.ends)
+begins_made (Tee asked) input sources new status can is does = (_, (does.content, does.input, refl), λ place differs. tee_begins place differs does.ends)
+
+pub begins_each : (run well : Run) (asked : Settings) (input : List ℕ) → Ran run asked → Completes well asked → FindAlike run well → HasInput run input → BeginsEach run well
+begins_each run well asked input ran whole same has =
+    let one = has_one ran has in
+    let all = completes_left whole in
+    elim (rw one.only at (ran_over ran)) [
+      | inl does ↦ λ place differs.
+          let (made, makes, begins) = begins_made asked one.input run.inputs run.outputs run.status (can_run run.words ran.read) one.content does in
+          let same_too = same_made run well ran.read whole.read same (subst (λ inputs. Makes asked inputs made) (sym one.only) makes) all.of in
+          begins_kept (left_at all.left place differs) (subst (λ (those : Outcome). BeginsAs (slot_at run.outputs place) (slot_at (slots_of those.part) place)) (sym same_too) (begins place differs))
+      | inr (fault, bad, refuses) ↦ λ place differs. still_begins place refuses.slots (bare_begins refuses.error place differs)
+    ]

@@ -1,31 +1,29 @@
 -- How a run ends, by its words.
-use Rattle.std.proofs.Common.{◌≡◌, ℕ, List, [], ◌∷◌, Option, Some, None, option_map, Result, Ok, Err, refl, sym, ◌∙◌, ap, ◌≤◌, Bool, true, false, length, map, Bor, inl, inr, codes, arith, if◌then◌else◌}
+use Rattle.std.proofs.lemmas.Grind.{common_steps}
+use Rattle.std.proofs.Common.{◌≡◌, ℕ, List, [], ◌∷◌, Option, Some, None, option_map, Result, Ok, Err, refl, sym, ◌∙◌, ap, Bool, true, false, length, map, Bor, inl, inr, codes, arith, rules}
 use Rattle.ports_core.specs.declared.fault.Fault.{Fault}
 use Rattle.ports_core.specs.declared.tool.Tool.{Tool}
 use Rattle.words_core.specs.declared.settings.Settings.{Settings}
-use Rattle.words_core.specs.declared.settings.Settings.TheVariants.{Tail, Split, Csplit, Tee}
-use Rattle.words_core.specs.CsplitWords.{csplit_asked, HasBadOperand}
+use Rattle.words_core.specs.declared.settings.Settings.TheVariants.{Tail, Csplit, Tee}
+use Rattle.words_core.specs.CsplitWords.{HasBadOperand}
 use Rattle.words_core.specs.Given.{Given}
 use Rattle.words_core.specs.Spelling.{given_by, IsRefused}
-use Rattle.words_core.specs.SplitWords.{split_asked}
 use Rattle.words_core.specs.Value.{then_check}
-use Rattle.words_core.specs.TailWords.{tail_asked}
 use Rattle.words_core.specs.Table.{ToolRow, row_named, tools}
-use Rattle.words_core.specs.Words.{settings_for, settings_of, tool_settings, CanRun, HasBadOperands, follows, looks}
-use Rattle.tools_core.specs.Outcome.{speaker, or_cutters, CsplitEndsAs, DoesAsked, RefusesFor, RunEnds, RunEndsAt, TeeEndsAs, names_at, names_read}
-use Rattle.tools_core.specs.Tasks.{tool_of, csplit_task, names_of, has_headers}
+use Rattle.words_core.specs.Words.{settings_for, settings_of, tool_settings, CanRun, HasBadOperands, looks}
+use Rattle.tools_core.specs.Outcome.{speaker, or_cutters, RefusesFor, RunEndsAt, TeeEndsAs, names_at}
+use Rattle.tools_core.specs.Tasks.{tool_of}
 use Rattle.words_core.proofs.LimitLemmas.{read-can}
 use Rattle.std.proofs.lemmas.Bool.{false≢true}
-use Rattle.ports_core.specs.Slot.{Slot, changed_at, slot_at, streams}
+use Rattle.ports_core.specs.Slot.{Slot, changed_at, slot_at}
 use Rattle.ports_core.specs.Source.{Content, Source, source_at, IsFresh}
 use Rattle.ports_core.specs.Text.{message_of}
 use Rattle.ports_core.specs.Message.{SaysAll}
 use Rattle.ports_core.specs.declared.fault.Fault.TheVariants.{Memory, Usage}
 use Rattle.ports_core.specs.declared.slot.Mode.{Mode}
-use Rattle.ports_core.specs.Inputs.{BreaksOnly, KeepsOthers, OfContent, empty}
-use Rattle.run_core.specs.Input.{Input, World, Finds, standard_input}
-use Rattle.run_core.specs.Reading.{count_after}
-use Rattle.run_core.specs.RunEnds.{EndsAs, no_room, RunsOver}
+use Rattle.ports_core.specs.Inputs.{BreaksOnly, OfContent, empty}
+use Rattle.run_core.specs.Input.{Finds, standard_input}
+use Rattle.run_core.specs.RunEnds.{no_room, RunsOver}
 use Rattle.ports_core.specs.Streams.{standard_error}
 use Rattle.run_core.specs.RunSteps.{world_of}
 use Rattle.run_core.proofs.InputLemmas.{none_touched}
@@ -35,17 +33,14 @@ use Rattle.tee_core.specs.Run.{IsUnread, all_copied, EndsAs as TeeCopies}
 use Rattle.words_core.specs.EndsAsked.{EndsAsked}
 use Rattle.words_core.specs.CsplitAsked.{CsplitAsked}
 use Rattle.words_core.specs.TeeAsked.{TeeAsked}
-use Rattle.operand_core.specs.Reading.{Asks, no_memory}
-use Rattle.operand_core.specs.declared.operand.Operand.{Operand}
+use Rattle.operand_core.specs.Reading.{no_memory}
 use Rattle.words_core.specs.declared.settings.Headers.{Headers}
 use Rattle.ports_core.specs.declared.fault.UsageKind.TheVariants.{BadFollow}
 use Rattle.watch_core.specs.Snapshot.{Snapshot}
 use Rattle.watch_core.specs.Watched.{Watched}
-use Rattle.follow_core.specs.declared.start.Start.{Start}
-use Rattle.follow_core.specs.Ending.{FollowEndsAs, no_room as no_room_yet}
-use Rattle.follow_core.specs.Look.{ways_of}
+use Rattle.follow_core.specs.Ending.{no_room as no_room_yet}
 use Rattle.words_core.specs.declared.value.Followed.{Followed}
-use Rattle.tools_core.specs.Following.{FollowingEnds, FollowingEndsAt, FollowsAs, FollowsTail, is_name, start_of}
+use Rattle.tools_core.specs.Following.{FollowingEnds, FollowingEndsAt, FollowsTail}
 use Rattle.tools_core.specs.Program.{ProgramEnds, ProgramEndsAt, looks_at}
 use Rattle.ports_core.specs.declared.tool.Tool.TheVariants as tool
 use Rattle.tee_core.specs.Run as copies
@@ -53,27 +48,8 @@ use Rattle.operand_core.specs.declared.operand_fault.OperandFaultKind.TheVariant
 
 -- The tool that runs is the one that the words name.
 
-tool_in : Result Settings Fault → Tool
-tool_in (Ok settings) = tool_of settings
-tool_in (Err fault) = tool.Cutters
-
--- what is asked of a tool that may find more wrong with it
-by_check : {A : Type 0} {which : Tool} (make : A → Settings) → ((asked : A) → tool_of (make asked) ≡ which) → (asked : Result A Fault) (settings : Settings) → then_check asked (λ those. Ok (make those)) ≡ Ok settings → which ≡ tool_of settings
-unfolding tool_in
-by_check make same (Ok asked) settings is = sym (same asked) ∙ ap tool_in is
-by_check make same (Err fault) settings is = absurd (cc)
-
-by_tool : (which : Tool) (given : Given) (settings : Settings) → settings_for which given ≡ Ok settings → which ≡ tool_of settings
-unfolding tool_in
-by_tool tool.Head given settings is = ap tool_in is
-by_tool tool.Tail given settings is = by_check (λ asked. Tail asked) (λ asked. refl) (tail_asked given) settings is
-by_tool tool.Split given settings is = by_check (λ asked. Split asked) (λ asked. refl) (split_asked given) settings is
-by_tool tool.Csplit given settings is = by_check (λ asked. Csplit asked) (λ asked. refl) (csplit_asked given) settings is
-by_tool tool.Tee given settings is = ap tool_in is
-by_tool tool.Cutters given settings is = absurd (cc)
-
 by_given : {which : Tool} (given : Result Given Fault) {settings : Settings} → then_check given (settings_for which) ≡ Ok settings → which ≡ tool_of settings
-by_given {which} (Ok given) {settings} is = by_tool which given settings is
+by_given {which} (Ok given) {settings} is = search rules
 by_given (Err fault) is = absurd (cc)
 
 named : (row : Option ToolRow) (words : List (List ℕ)) (settings : Settings) → tool_settings words row ≡ Ok settings → or_cutters (option_map (λ row. row.tool) row) ≡ tool_of settings
@@ -99,20 +75,6 @@ can_run [] is = absurd (cc)
 can_run (name ∷ words) is = can_tool words (row_named tools name) is
 
 -- Lemmas on how a run ends, by its words.
-
-pub tool_runs : {told_in : Bool} (told : Bool) {world : World} (words : List (List ℕ)) {settings : Settings} (old sources : List Source) (new : List Slot) (status : ℕ) → settings_of words ≡ Ok settings
-    → RunsOver told_in world (names_of settings) (λ found. DoesAsked told_in told settings found sources new status)
-    → RunsOver told_in world (names_read words) (λ found. RunEnds told_in told words found old sources new status)
-tool_runs told words old sources new status is (found, finds, does) = rw is (found, finds, inl does)
-
-pub for_settings : {told_in : Bool} (told : Bool) {world : World} {settings same : Settings} (sources : List Source) (new : List Slot) (status : ℕ) → settings ≡ same
-    → RunsOver told_in world (names_of same) (λ found. DoesAsked told_in told same found sources new status)
-    → RunsOver told_in world (names_of settings) (λ found. DoesAsked told_in told settings found sources new status)
-for_settings told sources new status is runs = rw is runs
-
--- the same for an equal list of names
-pub runs_names : {told_in : Bool} {world : World} {names same : List (List ℕ)} (P : List Input → Type 0) → names ≡ same → RunsOver told_in world names P → RunsOver told_in world same P
-runs_names P is runs = rw (← is) runs
 
 -- the names that a run reads are those of its settings
 pub ends_names : {asked : EndsAsked} {unit : Counted} {count : Count} {headers : Headers} {delim : ℕ} {items now : List (Bor (List ℕ))} → now ≡ items → record { unit = unit; count = count; headers = headers; delim = delim; names = map (λ (name : Bor (List ℕ)). name.now) items } ≡ asked
@@ -143,16 +105,11 @@ tee_runs {told} {mode} {names} old mode_is names_is (content, there, (ends, brea
   },
 )
 
--- it opens no input
-pub tee_counts : {old new : List Source} → IsFresh old → KeepsOthers 0 old new → length new ≤ 1
-tee_counts fresh keeps = omega (arith, keeps.count, ap length fresh.only)
-
 -- words that weren't read for want of memory, where they ask for this
 
 -- an input that wasn't read, whether it tells its bytes or not
 unread_source : (told : Bool) {sources : List Source} → IsFresh sources → OfContent told (source_at sources 0).left (λ content. IsUnread told content (source_at sources 0) × BreaksOnly told content (source_at sources 0))
-unread_source true {sources} fresh =
-    let is = ap (λ those. source_at those 0) fresh.only in ((source_at sources 0).left, λ t. refl, ((fresh.standard, is, λ t. sym (ap (λ (source : Source). source.left) is)), λ untold. absurd (false≢true (sym untold))))
+unread_source true {sources} fresh = grind (arith, common_steps)
 unread_source false fresh = (empty, λ t. absurd (false≢true t), ((fresh.standard, ap (λ those. source_at those 0) fresh.only, λ t. absurd (false≢true t)), λ untold breaks. absurd (false≢true breaks)))
 
 -- want of memory is one of the faults of operands
@@ -200,33 +157,7 @@ module _ (told_in told : Bool) (words : List (List ℕ)) (laid : ℕ → List �
   refused_or_memory {fault} (inr (inr (settings, is, bad))) refuses = rw is (operands_refused settings fault bad refuses)
   refused_or_memory (inl is) refuses = unread_for (settings_of words) refl (rw is at refuses)
 
--- `csplit` cuts at the operands that were read
-pub csplit_runs : {told_in told : Bool} {world : World} {asked : CsplitAsked} {input : List ℕ} {operands : List Operand} {sources : List Source} {new : List Slot} {status : ℕ} → input ≡ asked.input → Asks asked.operands operands
-    → RunsOver told_in world (input ∷ []) (λ found. EndsAs told_in told (csplit_task asked operands) found sources new status)
-    → RunsOver told_in world (asked.input ∷ []) (λ found. CsplitEndsAs told_in told asked found sources new status)
-csplit_runs {operands} is asks (found, finds, ends) =
-    (found, rw is at finds, record { operands = operands; asks = asks; ends = ends })
-
-pub asked_or_none : (words : List (List ℕ)) {settings : Settings} {fault : Fault} → settings_of words ≡ Ok settings → settings_of words ≡ Err fault → ⊥
-asked_or_none words {settings} {fault} asks refuses = both (sym asks ∙ refuses) where
-  both : Ok settings ≡ Err fault → ⊥
-  both is = cc
-
--- how many inputs there can be, by the names
-
-pub counts_by : {count : ℕ} (words : List (List ℕ)) {settings : Settings} → settings_of words ≡ Ok settings → count ≤ count_after 1 (names_of settings) → count ≤ count_after 1 (names_read words)
-counts_by words is few = rw is few
-
-pub counts_for : {count : ℕ} {settings same : Settings} {names : List (List ℕ)} → settings ≡ same → names ≡ names_of same → count ≤ count_after 1 names → count ≤ count_after 1 (names_of settings)
-counts_for is named few = rw (is, ← named) few
-
 -- Lemmas on how a run that follows ends, by its words.
-
--- what is followed is what the settings ask for
-pub follows_as : {told_in told : Bool} (asked : EndsAsked) (followed : Followed) {by_name : Bool} {start : Start} {headers : Bool} {names : List (List ℕ)} {looks : ℕ} {shows : ℕ → Snapshot} {first : List Slot} {seen : List Snapshot} {watched : List Watched} {new : List Slot} {status : ℕ}
-    → by_name ≡ is_name followed → start ≡ start_of asked → headers ≡ has_headers asked.headers asked.names → names ≡ asked.names → first ≡ streams
-    → FollowEndsAs told_in told (ways_of 0 by_name start) headers names looks shows first seen watched new status → FollowsAs told_in told asked followed looks shows seen watched new status
-follows_as asked followed name_is start_is headers_are names_are first_is ends = rw (name_is, start_is, headers_are, names_are, first_is) at ends
 
 module _ (told_in told : Bool) (words : List (List ℕ)) (looks : ℕ) (shows : ℕ → Snapshot) (seen : List Snapshot) (watched : List Watched) (new : List Slot) (status : ℕ) (unseen : seen ≡ []) (unwatched : watched ≡ []) where
   -- words that weren't read for want of memory
@@ -255,18 +186,6 @@ module _ (told_in told : Bool) (words : List (List ℕ)) (looks : ℕ) (shows : 
   refused_words (inl is) refuses = unread_files (settings_of words) refl (rw is at refuses)
 
 -- Which of both runs the words ask for.
-
--- what the words ask for was followed
-pub program_follows : (told_in told_watched told : Bool) (words : List (List ℕ)) {settings : Settings} (laid : ℕ → List ℕ → Option Content) (sources : List Source) (shows : ℕ → Snapshot) (seen : List Snapshot) (watched : List Watched) (new : List Slot) (status : ℕ) → settings_of words ≡ Ok settings → follows settings ≡ true
-    → FollowingEndsAt told_watched told words (looks settings) shows seen watched new status (Ok settings) → ProgramEnds told_in told_watched told words laid sources sources shows seen watched new status
-program_follows told_in told_watched told words {settings} laid sources shows seen watched new status is asked ends =
-    rw (ap looks_at is ∙ ap (λ b. if b then Some (looks settings) else None) asked) (refl, rw is ends)
-
--- their tool ran over its inputs
-pub program_runs : {told_in : Bool} (told_watched told : Bool) (words : List (List ℕ)) {settings : Settings} {laid : ℕ → List ℕ → Option Content} (sources sources_new : List Source) (shows : ℕ → Snapshot) {seen : List Snapshot} {watched : List Watched} (new : List Slot) (status : ℕ) → settings_of words ≡ Ok settings → follows settings ≡ false → seen ≡ [] → watched ≡ []
-    → RunsOver told_in (world_of laid sources) (names_of settings) (λ found. DoesAsked told_in told settings found sources_new new status) → ProgramEnds told_in told_watched told words laid sources sources_new shows seen watched new status
-program_runs told_watched told words {settings} sources sources_new shows new status is asked unseen unwatched does =
-    rw (ap looks_at is ∙ ap (λ b. if b then Some (looks settings) else None) asked) (unseen, unwatched, tool_runs told words sources sources_new new status is does)
 
 -- what words leave that are refused, whichever run they ask for
 pub program_refuses : (told_in told_watched : Bool) {told : Bool} (words : List (List ℕ)) (laid : ℕ → List ℕ → Option Content) {sources : List Source} (shows : ℕ → Snapshot) {seen : List Snapshot} {watched : List Watched} {fault : Fault} {new : List Slot} {status : ℕ} → IsFresh sources → seen ≡ [] → watched ≡ [] → IsRefused HasBadOperands (settings_of words) fault → RefusesFor told words fault new status

@@ -1,23 +1,29 @@
--- What `split` leaves of its input.
-use Rattle.std.proofs.Common.{◌≡◌, ℕ, ◌+◌, ◌-◌, ◌*◌, ◌/◌, ◌%◌, ◌<◌, ◌≤◌, zero, suc, min, Bool, true, false, not, cond, List, [], ◌∷◌, ◌++◌, append_assoc, length-append, length, map, take, drop, filter, get_or, Some, None, inl, inr, refl, sym, ◌∙◌, ap, arith, All, mul-le-mul_right, suc-mul}
+-- What `split` leaves of its input; and that numbered names are in the order of their numbers, while none has more digits than it is
+-- filled to.
+use Rattle.std.proofs.lemmas.Grind.{common_steps}
+use Rattle.std.proofs.Common.{◌≡◌, ℕ, ◌+◌, ◌-◌, ◌/◌, ◌%◌, ◌^◌, ◌<◌, ◌≤◌, zero, suc, List, [], ◌∷◌, ◌++◌, length, replicate, inl, inr, refl, sym, ◌∙◌, ap, arith, append_assoc, length-append, decimal, Less, nat_cmp, append-nil, div-add-mod', rules, ◌*◌, min, Bool, true, false, not, cond, map, take, drop, filter, get_or, Some, None, All, suc-mul}
+use Rattle.std.specs.Cmp.Lexicographic.{slice_cmp}
+use Rattle.std.proofs.Math.Nat.{mod-lt}
 use Rattle.std.proofs.lemmas.Bool.{cases_lt}
+use Rattle.std.proofs.lemmas.Fmt.{decimal_by_steps}
+use Rattle.ports_core.specs.Name.{numbered_name, zero_filled, Naming}
+use Rattle.ports_core.proofs.OrderLemmas.{IsBelow, first_less, same_front, in_order}
+use Rattle.tools_core.specs.Promises.{AreInOrder, text_at, Run, Does, HasInput, AreListed, ArePieces, AreLinePieces, AreUncut, AreDealt, EndsLine, IsFilled, IsSound, contents_of, files_of}
 use Rattle.std.proofs.lemmas.List.{length-map, length-take, length-take-le, length-drop, get_or-take, get_or_past, take-append-drop}
 use Rattle.std.proofs.lemmas.List.FromFn.{get_or-map-range_with_len, length-map-range_with_len}
-use Rattle.std.proofs.lemmas.Nat.{div-add-mod', mod_below}
-use Rattle.std.proofs.lemmas.List.Elements.{All-nil, All-cons, All-map}
+use Rattle.std.proofs.lemmas.Nat.{mod_below}
+use Rattle.std.proofs.lemmas.List.Elements.{All-cons, All-map}
 use Rattle.seg_core.specs.Line.{joined, lines_of, line_count, delimiters, ends_with, first_lines, after_lines}
 use Rattle.seg_core.proofs.Delimiters.{delimiters-le-length}
 use Rattle.seg_core.proofs.LinesOf.{joined-lines_of}
-use Rattle.seg_core.proofs.FirstLines.{delimiters-first_lines, first_lines-append, first_lines-cons, first_lines-full, first_lines-more, first_lines-short, lines_of-first_lines, lines_of-after_lines}
+use Rattle.seg_core.proofs.FirstLines.{delimiters-first_lines, first_lines-append, first_lines-full, first_lines-more, first_lines-short, lines_of-first_lines, lines_of-after_lines}
 use Rattle.seg_core.proofs.LineCounts.{line_count-open, line_count_near}
 use Rattle.seg_core.specs.declared.cut.Cut.{Cut}
-use Rattle.ports_core.specs.Name.{Naming}
 use Rattle.ports_core.specs.Part.{File}
 use Rattle.ports_core.specs.Slot.{Slot}
 use Rattle.ports_core.specs.declared.fault.Fault.TheVariants.{Suffixes}
 use Rattle.ports_core.specs.declared.slot.Mode.TheVariants.{Fresh}
 use Rattle.ports_core.specs.declared.slot.State.TheVariants.{Closed}
-use Rattle.ports_core.proofs.OrderLemmas.{in_order}
 use Rattle.split_core.specs.declared.limit.Limit.TheVariants as limit
 use Rattle.split_core.specs.Parts.{parts, round_robin, whole_lines}
 use Rattle.split_core.specs.Sections.{AreLineByteParts}
@@ -28,17 +34,86 @@ use Rattle.split_core.specs.laws.CutLaws.{whole_of_lines, whole_of_none}
 use Rattle.split_core.specs.laws.DealLaws.{share_none}
 use Rattle.split_core.proofs.CutLaws.{first_then_after, bytes_of_shares}
 use Rattle.split_core.proofs.AgreedLemmas.{bytes_named, each_named}
-use Rattle.split_core.proofs.MoveLemmas.{named_before}
 use Rattle.split_core.proofs.SectionLemmas.{line_at, all_dealt, first_files, joined_parts, part_lines, part_bytes, lines_count, bytes_count, line_bytes_are_parts, line_bytes_within}
 use Rattle.words_core.specs.declared.settings.Settings.TheVariants.{Split}
 use Rattle.words_core.specs.SplitAsked.{SplitAsked}
 use Rattle.words_core.specs.SplitWords.{CanSplit, IsInLimits}
 use Rattle.tools_core.specs.Tasks.{naming_of, split_task}
-use Rattle.tools_core.specs.Promises.{Run, Does, HasInput, AreListed, ArePieces, AreLinePieces, AreUncut, AreDealt, EndsLine, IsFilled, IsSound, contents_of, files_of, text_at}
 use Rattle.tools_core.proofs.RunLemmas.{can_run}
-use Rattle.tools_core.proofs.NumberLemmas.{order_by}
-use Rattle.tools_core.proofs.OutcomeLemmas.{named_each, pieces_of, shares_are, slot_of}
+use Rattle.tools_core.proofs.LeftLemmas.{named_each, pieces_of, shares_are, slot_of}
 use Rattle.tools_core.proofs.PromiseLemmas.{did_one, one_made}
+
+below_then : (low high rest others : List ℕ) → IsBelow low high → IsBelow (low ++ rest) (high ++ others)
+below_then low high rest others less = grind (arith, common_steps)
+
+-- the last digits of a number, the highest first
+abbrev digits_in : ℕ → ℕ → List ℕ
+digits_in zero n = []
+digits_in (suc width) n = digits_in width (n / 10) ++ (48 + n % 10) ∷ []
+
+tenth : (width : ℕ) {n : ℕ} → n < 10 ^ suc width → n / 10 < 10 ^ width
+tenth width {n} small = grind (arith, common_steps)
+
+digits_in_order : (width : ℕ) {low high : ℕ} → low < high → high < 10 ^ width → IsBelow (digits_in width low) (digits_in width high)
+digits_in_order zero less small = grind (arith, common_steps)
+digits_in_order (suc width) {low} {high} less small =
+    let one = div-add-mod' low 10 in
+    let two = div-add-mod' high 10 in
+    let first : low % 10 < 10 = mod-lt low (omega arith) in
+    let second : high % 10 < 10 = mod-lt high (omega arith) in
+    elim (cases_lt (low / 10) (high / 10)) [
+      | inl lower ↦ below_then (digits_in width (low / 10)) (digits_in width (high / 10)) ((48 + low % 10) ∷ []) ((48 + high % 10) ∷ []) (digits_in_order width lower (tenth width small))
+      | inr reached ↦
+          let same : high / 10 ≡ low / 10 = omega (arith, reached, one, two, less, first, second) in
+          let last : 48 + low % 10 < 48 + high % 10 = omega (arith, same, one, two, less) in
+          rw (ap (digits_in width) same) (same_front (digits_in width (low / 10)) ((48 + low % 10) ∷ []) ((48 + high % 10) ∷ []) (first_less (48 + low % 10) (48 + high % 10) [] [] last))
+    ]
+
+one_more : {byte : ℕ} (count : ℕ) → byte ∷ replicate count byte ≡ replicate count byte ++ byte ∷ []
+one_more zero = refl
+one_more {byte} (suc count) = ap (λ rest. byte ∷ rest) (one_more count)
+
+zeros : (width : ℕ) → replicate width 48 ≡ digits_in width 0
+zeros zero = refl
+zeros (suc width) = rw (one_more width, zeros width)
+
+-- a number in decimal, filled with zeros, is its last digits
+
+abbrev Fills : ℕ → List ℕ → Type 0
+Fills n text = (width : ℕ) → n < 10 ^ suc width → zero_filled (suc width) text ≡ digits_in (suc width) n
+
+fills_one : (n : ℕ) → n < 10 → Fills n ((48 + n) ∷ [])
+fills_one n digit width small = grind (arith, common_steps, zeros)
+
+fills_more : (n : ℕ) (digits : List ℕ) → 10 ≤ n → Fills (n / 10) digits → Fills n (digits ++ (48 + n % 10) ∷ [])
+fills_more n digits ten fills zero small = search rules
+fills_more n digits ten fills (suc width) small = grind (arith, common_steps)
+
+number_digits : (width : ℕ) {n : ℕ} → n < 10 ^ suc width → n < 2 ^ 64 → zero_filled (suc width) (decimal n) ≡ digits_in (suc width) n
+number_digits width {n} small least = decimal_by_steps Fills fills_one fills_more n least width small
+
+names_below : (prefix : List ℕ) (digits : ℕ) {low high : ℕ} → low < high → high < 10 ^ digits → high < 2 ^ 64 → slice_cmp nat_cmp (numbered_name prefix digits low) (numbered_name prefix digits high) ≡ Less
+names_below prefix zero less small least = grind (arith, common_steps)
+names_below prefix (suc width) {low} {high} less small least =
+    ap (λ text. slice_cmp nat_cmp (prefix ++ text) (numbered_name prefix (suc width) high)) (number_digits width (omega (arith, less, small)) (omega (arith, less, least)))
+    ∙ ap (λ text. slice_cmp nat_cmp (prefix ++ digits_in (suc width) low) (prefix ++ text)) (number_digits width small least)
+    ∙ sym (ap (λ text. slice_cmp nat_cmp text ((prefix ++ digits_in (suc width) high) ++ [])) (append-nil (prefix ++ digits_in (suc width) low))
+    ∙ ap (slice_cmp nat_cmp (prefix ++ digits_in (suc width) low)) (append-nil (prefix ++ digits_in (suc width) high)))
+    ∙ same_front prefix (digits_in (suc width) low) (digits_in (suc width) high) (digits_in_order (suc width) less small) [] []
+
+by_places : (names : List (List ℕ)) → ((k : ℕ) → k + 1 < length names → slice_cmp nat_cmp (text_at names k) (text_at names (suc k)) ≡ Less) → AreInOrder names
+by_places (name ∷ next ∷ names) each = (each 0 (omega arith), by_places (next ∷ names) (λ k within. each (suc k) (omega (arith, within))))
+by_places names each = tt
+
+-- texts that are named by their places
+pub order_by : (name : ℕ → List ℕ) (names : List (List ℕ)) → ((place : ℕ) → place < length names → text_at names place ≡ name place)
+    → ((k : ℕ) → suc k < length names → slice_cmp nat_cmp (name k) (name (suc k)) ≡ Less) → AreInOrder names
+order_by name names named less = grind (arith, common_steps, by_places)
+
+pub numbered_in_order : (prefix : List ℕ) (digits : ℕ) (names : List (List ℕ)) → ((place : ℕ) → place < length names → text_at names place ≡ numbered_name prefix digits place)
+    → length names ≤ 10 ^ digits → length names ≤ 2 ^ 64 → AreInOrder names
+numbered_in_order prefix digits names named few least =
+    order_by (numbered_name prefix digits) names named (λ k next. names_below prefix digits (omega arith) (omega (arith, next, few)) (omega (arith, next, least)))
 
 -- The pieces, and their files
 
@@ -63,18 +138,18 @@ AreNamed name start files = (k : ℕ) → k < length (map slot_of files) → tex
 
 pub named_step : (name : ℕ → List ℕ) (start : ℕ) (file : File) (made others : List File) (has : Bool) → file.name ≡ name start → AreNamed name (start + 1) made
     → AreNamed name start others → AreNamed name start (cond has (file ∷ made) others)
-named_step name start file made others true is are without zero within = is ∙ ap name (omega arith)
+named_step name start file made others true is are without zero within = search rules
 named_step name start file made others true is are without (suc k) within = are k (omega (arith, within)) ∙ ap name (omega arith)
 named_step name start file made others false is are without k within = without k within
 
 have_names : (names : Naming) (start : ℕ) (shares : List Share) → AreNamed (name_of names) start (named names start shares)
-have_names names start [] k within = absurd (omega (arith, within))
+have_names names start [] k within = search rules
 have_names names start (share ∷ shares) k within = named_step (name_of names) start (file_at names start share) (named names (start + 1) shares) []
     (is_named names start) refl (have_names names (start + 1) shares) (λ k within. absurd (omega (arith, within))) k within
 
 named_below : (names : Naming) (count : ℕ) → are_named names count ≡ true → (place : ℕ) → place < count → is_named names place ≡ true
-named_below names zero are place less = absurd (omega (arith, less))
-named_below names (suc last) are place less = named_before names place last are (omega (arith, less))
+named_below names zero are place less = search rules
+named_below names (suc last) are place less = grind (arith, common_steps)
 
 -- What a run leaves
 
@@ -114,17 +189,14 @@ is_split {run} {asked} {input} does has =
 -- Pieces of n lines or bytes
 
 up_to : (i count n : ℕ) → i < count → i * n + n ≤ count * n
-up_to i count n less =
-    let up : suc i ≤ count = omega arith in
-    let grows : suc i * n ≤ count * n = mul-le-mul_right n up in
-    let next : suc i * n ≡ i * n + n = suc-mul i n in omega (arith, grows, next)
+up_to i count n less = grind (arith, common_steps)
 
 -- this many runs of n members have all that there are, and one run less has not
 abbrev AreFew : ℕ → ℕ → ℕ → Type 0
 AreFew count n all = (all ≤ count * n) × (count * n < all + n)
 
 run_size : {X : Type 0} (n i : ℕ) (xs : List X) → length (take n (drop (i * n) xs)) ≡ min n (length xs - i * n)
-run_size n i xs = length-take n (drop (i * n) xs) ∙ ap (min n) (length-drop (i * n) xs)
+run_size n i xs = grind (arith, common_steps)
 
 run_pieces : (size : List ℕ → ℕ) {n all : ℕ} {x : List ℕ} {pieces : List (List ℕ)} → 0 < n → joined pieces ≡ x → AreFew (length pieces) n all → ((i : ℕ) → size (text_at pieces i) ≡ min n (all - i * n)) → ArePieces size n x pieces
 run_pieces size {n} {pieces} some are few each = record {
@@ -149,9 +221,7 @@ lines_end delim {k} bytes false some enough is =
 
 -- the lines from this place on hold a run of n lines and more
 more_lines : {n : ℕ} (i : ℕ) {count : ℕ} (all : ℕ) → count * n < all + n → i + 1 < count → n < all - i * n
-more_lines {n} i {count} all few next =
-    let there = up_to (suc i) count n (omega (arith, next)) in
-    let step : suc i * n ≡ i * n + n = suc-mul i n in omega (arith, there, step, few)
+more_lines {n} i {count} all few next = grind (arith, common_steps)
 
 line_part : (delim : ℕ) {n : ℕ} (i : ℕ) (x : List ℕ) → 0 < n → text_at (parts (limit.Lines n delim) x) i ≡ first_lines delim n (after_lines delim (i * n) x)
 line_part delim {n} i x some = cc (joined-lines_of delim (text_at (parts (limit.Lines n delim) x) i), part_lines delim n i x some, lines_of-after_lines delim (i * n) x)
@@ -170,22 +240,18 @@ byte_pieces {n} {x} some = run_pieces length some (joined_parts (limit.Bytes n) 
 -- Pieces of whole lines within n bytes
 
 ends_line : (delim : ℕ) {n : ℕ} (bytes : List ℕ) → length bytes ≡ n → EndsLine delim n (whole_lines delim bytes)
-ends_line delim bytes long = elim (cases_lt 0 (delimiters delim bytes)) [
-  | inl lines ↦ inl (ap (ends_with delim) (whole_of_lines delim bytes lines) ∙ lines_end delim bytes _ lines (omega arith) refl)
-  | inr few ↦ let none : delimiters delim bytes ≡ 0 = omega (arith, few) in
-      inr (rw (whole_of_none delim bytes none) (long, none))
-]
+ends_line delim bytes long = grind (arith, common_steps, cases_lt, whole_of_lines, lines_end, whole_of_none)
 
 uncut : (delim n : ℕ) (x : List ℕ) (pieces : List (List ℕ)) → AreLineByteParts delim n x pieces → (place : ℕ) → place + 1 < length pieces → EndsLine delim n (text_at pieces place)
 uncut delim n _ _ (piece.more x pieces enough past) zero next = ends_line delim (take n x) (length-take-le n x enough)
 uncut delim n _ _ (piece.more x pieces enough past) (suc place) next = uncut delim n _ pieces past place (omega (arith, next))
-uncut delim n x pieces are place next = absurd (omega (arith, next))
+uncut delim n x pieces are place next = search rules
 
 -- each piece has as many lines as fit
 
 some_line : (delim : ℕ) (text : List ℕ) → 0 < length text → 0 < length (first_lines delim 1 text)
-some_line delim [] some = absurd (omega (arith, some))
-some_line delim (byte ∷ text) some = rw (first_lines-cons delim byte 0 text) (omega arith)
+some_line delim [] some = search rules
+some_line delim (byte ∷ text) some = grind (arith, common_steps)
 
 -- the line after the complete ones of a front, which is completed
 line_after : (delim : ℕ) (front rest : List ℕ) {k : ℕ} → k ≡ delimiters delim front → length (first_lines delim (k + 1) ((front ++ rest) ++ delim ∷ [])) ≡ length front + length (first_lines delim 1 (rest ++ delim ∷ []))
@@ -208,10 +274,7 @@ line_past delim {n} {x} part rest enough is same =
     omega (arith, both, long, some)
 
 whole_count : (delim : ℕ) (text : List ℕ) → delimiters delim (whole_lines delim text) ≡ delimiters delim text
-whole_count delim text = elim (cases_lt 0 (delimiters delim text)) [
-  | inl lines ↦ ap (delimiters delim) (whole_of_lines delim text lines) ∙ delimiters-first_lines delim (delimiters delim text) text (omega arith)
-  | inr few ↦ ap (delimiters delim) (whole_of_none delim text (omega (arith, few)))
-]
+whole_count delim text = grind (arith, common_steps, cases_lt, whole_of_lines, delimiters-first_lines, whole_of_none)
 
 same_line : (delim : ℕ) (next rest : List ℕ) → 0 < delimiters delim next → first_lines delim 1 ((next ++ rest) ++ delim ∷ []) ≡ first_lines delim 1 (next ++ delim ∷ [])
 same_line delim next rest some = rw (append_assoc next rest (delim ∷ []), first_lines-full delim 1 next (rest ++ delim ∷ []) (omega (arith, some)), first_lines-full delim 1 next (delim ∷ []) (omega (arith, some)))
@@ -235,7 +298,7 @@ filled_by delim {n} part rest enough filled =
     ]
 
 first_filled : {delim n : ℕ} (part : List ℕ) {rest : List ℕ} {pieces : List (List ℕ)} → AreLineByteParts delim n rest pieces → 0 < length pieces → IsFilled delim n part rest → IsFilled delim n part (text_at pieces 0)
-first_filled part piece.none some filled = absurd (omega (arith, some))
+first_filled part piece.none some filled = search rules
 first_filled part (piece.one rest has short) some filled = filled
 first_filled {delim} part (piece.more rest pieces enough past) some filled = filled_by delim part rest enough filled
 
@@ -244,7 +307,7 @@ each_filled {delim} {n} (piece.more x pieces enough past) zero next =
     let first = whole_lines delim (take n x) in
     first_filled first past (omega (arith, next)) (line_past delim first (drop (length first) x) enough (sym (first_then_after (limit.LineBytes n delim) x)) (whole_count delim (take n x)))
 each_filled (piece.more x pieces enough past) (suc place) next = each_filled past place (omega (arith, next))
-each_filled are place next = absurd (omega (arith, next))
+each_filled are place next = search rules
 
 pub line_byte_pieces : {delim n : ℕ} {x : List ℕ} → 0 < n → AreLinePieces delim n x (parts (limit.LineBytes n delim) x)
 line_byte_pieces {delim} {n} {x} some =
@@ -262,14 +325,7 @@ line_byte_pieces {delim} {n} {x} some =
 -- a file that is left out has no line
 dealt_at : (delim : ℕ) {n : ℕ} (elide : Bool) (x : List ℕ) {file : ℕ} → file < n → text_at (dealt_files delim elide n x) file ≡ text_at (round_robin delim n x) file
 dealt_at delim false x within = refl
-dealt_at delim {n} true x {file} within = ap (λ files. text_at files file) (first_files delim n x) ∙ elim (cases_lt file (line_count delim x)) [
-  | inl some ↦ get_or-take (line_count delim x) (round_robin delim n x) file [] some
-  | inr past ↦
-      let here : 0 + file ≡ file = omega arith in
-      let few : length (take (line_count delim x) (round_robin delim n x)) ≤ file = (let size = length-take (line_count delim x) (round_robin delim n x) in omega (arith, size, past)) in
-      get_or_past (take (line_count delim x) (round_robin delim n x)) file [] few
-      ∙ sym (get_or-map-range_with_len (share_of delim n x) 0 n file file [] within here ∙ share_none delim n x file past within)
-]
+dealt_at delim {n} true x {file} within = grind (arith, common_steps, first_files, cases_lt, get_or-take, length-take, get_or_past, get_or-map-range_with_len, share_none)
 
 joined_some : (files : List (List ℕ)) → joined (filter is_some files) ≡ joined files
 joined_some [] = refl
@@ -281,7 +337,7 @@ joined_dealt delim n true x = joined_some (round_robin delim n x)
 joined_dealt delim n false x = refl
 
 all_some : (files : List (List ℕ)) → All (λ bytes. 0 < length bytes) (filter is_some files)
-all_some [] = All-nil (λ bytes. 0 < length bytes)
+all_some [] = search rules
 all_some ([] ∷ files) = all_some files
 all_some ((byte ∷ bytes) ∷ files) = All-cons (λ bytes. 0 < length bytes) (byte ∷ bytes) (filter is_some files) (omega arith) (all_some files)
 

@@ -1,12 +1,13 @@
 -- A run that a fault stopped told it, and which outputs are broken then.
-use Rattle.std.proofs.Common.{◌≡◌, ℕ, ◌+◌, ◌^◌, ◌≤◌, suc, Bool, true, false, ◌&&◌, cond, is_none, List, [], ◌∷◌, ◌++◌, length, length-append, Option, Some, None, codes, inl, inr, ◌⊎◌, refl, sym, ◌∙◌, ap, subst, arith, zero}
+use Rattle.std.proofs.lemmas.Grind.{common_steps}
+use Rattle.std.proofs.Common.{◌≡◌, ℕ, ◌^◌, ◌≤◌, suc, Bool, true, false, ◌&&◌, cond, is_none, List, [], ◌∷◌, ◌++◌, length, length-append, Option, Some, None, codes, inl, inr, ◌⊎◌, refl, sym, ◌∙◌, ap, subst, arith, zero, rules}
 use Rattle.std.specs.List.{concat}
 use Rattle.std.proofs.lemmas.Bool.{cases_Bool, false≢true}
 use Rattle.std.proofs.lemmas.List.{get_or_push}
 use Rattle.std.proofs.lemmas.List.Elements.{All-append}
 use Rattle.ports_core.specs.Message.{SaysAll, output_named}
 use Rattle.ports_core.specs.Part.{IsAt, IsNext, Marks, Part, StoppedBetween}
-use Rattle.ports_core.specs.Slot.{Slot, breaks, changed_at, no_slot, slot_at, unopened}
+use Rattle.ports_core.specs.Slot.{Slot, breaks, no_slot, slot_at, unopened}
 use Rattle.ports_core.specs.Source.{Content, Source}
 use Rattle.ports_core.specs.Streams.{standard_error, streams_with}
 use Rattle.ports_core.specs.Swept.{Swept}
@@ -19,43 +20,37 @@ use Rattle.ports_core.specs.declared.slot.State.{State}
 use Rattle.ports_core.specs.declared.slot.State.TheVariants as state
 use Rattle.ports_core.specs.declared.tool.Tool.{Tool}
 use Rattle.ports_core.specs.declared.tool.Tool.TheVariants as tool
-use Rattle.operand_core.specs.declared.operand_fault.OperandFaultKind.{OperandFaultKind}
-use Rattle.operand_core.specs.declared.operand_fault.OperandFaultKind.TheVariants as kind
 use Rattle.run_core.specs.Feeding.{IsCall, Step, Stops, closes as ends_call, enough, feeds, opens, to_end}
 use Rattle.run_core.specs.Input.{inputs_at, standard_input}
 use Rattle.run_core.specs.RunEnds.{EndsAs, RunStep, as_defined, calling, no_room, stopped}
 use Rattle.run_core.specs.Task.{Task, made_by}
-use Rattle.run_core.proofs.StopLemmas.{swept_error}
 use Rattle.tee_core.specs.Run.{FilesLeft, IsRead, OutputLeft, are_sound, messages_of, output_names, said_before, said_in}
 use Rattle.tee_core.specs.Run as tee
 use Rattle.tee_core.proofs.EndLemmas.{sound_first}
-use Rattle.words_core.specs.CsplitWords.{fault_in}
 use Rattle.words_core.specs.Words.{HasBadOperands}
 use Rattle.words_core.specs.declared.settings.Settings.{Settings}
 use Rattle.words_core.specs.declared.settings.Settings.TheVariants.{Head, Tail, Split, Csplit, Tee}
 use Rattle.tools_core.specs.Outcome.{DoesAsked, word_of}
-use Rattle.tools_core.specs.Tasks.{is_minus, is_plus, names_of, plan_of, tool_of}
-use Rattle.tools_core.specs.Promises.{BrokeAt, Completes, HasLong, IsCalled, IsCopied, IsGone, IsStopped, IsUnstopped, Ran, Run, SaysLines, SaysWhy, StopsRun, Unstopped, WhyBroken, failing, named, removes_files, unremoved}
-use Rattle.tools_core.proofs.BeginLemmas.{IsMarked, marked_at}
-use Rattle.tools_core.proofs.LeftLemmas.{LeftBy, completes_left, failing_file, left_at, left_says, ran_over, slots_at, some_left, swept_gone, swept_kept}
-use Rattle.tools_core.proofs.OutcomeLemmas.{AreLive, IsLiving, IsMessage, IsSoundAt, SaysLine, a_message, csplit_living, has_after, has_before, head_living, inputs_fit, live_begin, outputs_live, says_line, split_living, step_live, tail_living}
+use Rattle.tools_core.specs.Tasks.{is_minus, names_of, plan_of, tool_of}
+use Rattle.tools_core.specs.Promises.{BrokeAt, Completes, HasLong, IsCalled, IsCopied, IsGone, IsStopped, IsUnstopped, Ran, Run, SaysLines, SaysWhy, StopsRun, Unstopped, WhyBroken, failing, named, removes_files}
+use Rattle.tools_core.proofs.BeginLemmas.{IsMarked, marked_at, tee_lines, tee_says, unsound_broke}
+use Rattle.tools_core.proofs.LeftLemmas.{LeftBy, completes_left, left_at, left_says, ran_over, slots_at, some_left, swept_gone, swept_kept, AreLive, IsLiving, IsMessage, IsSoundAt, SaysLine, a_message, csplit_living, has_after, has_before, head_living, inputs_fit, live_begin, outputs_live, says_line, split_living, step_live, tail_living}
 use Rattle.tools_core.proofs.RunLemmas.{runs_as_named}
-use Rattle.tools_core.proofs.TeeLemmas.{tee_lines, tee_says, unsound_broke}
 
 -- What was read of an input is a beginning of it.
 
 call_long : {work : Work} {opening : Needs} {most : ℕ} {content : Content} {call : Step} → IsCall work opening most content call → 2 ^ 63 ≤ length call.read → 2 ^ 63 ≤ length content.bytes
-call_long opens long = absurd (omega (arith, long))
-call_long (feeds x piece rest is short more) long = let size = ap length is in let all = length-append (x ++ piece) rest in omega (arith, size, all, long)
+call_long opens long = search rules
+call_long (feeds x piece rest is short more) long = grind (arith, common_steps)
 call_long (ends_call x (to_end ended is) needed) long = rw is long
-call_long (ends_call x (enough rest is complete) needed) long = let size = ap length is in let all = length-append x rest in omega (arith, size, all, long)
+call_long (ends_call x (enough rest is complete) needed) long = grind (arith, common_steps)
 
 abbrev IsLong : Option Content → Type 0
 IsLong there = (content : Content) × (there ≡ Some content) × (2 ^ 63 ≤ length content.bytes)
 
 step_long : {task : Task} {most : ℕ} {so_far : Part} {header : List ℕ} {slot : Option ℕ} {sources : List Source} {there : Option Content} {step : Step} → RunStep true task most so_far header slot sources there step → 2 ^ 63 ≤ length step.read → IsLong there
 step_long (calling content call is leaves) long = (content, refl, call_long is long)
-step_long at long = absurd (omega (arith, long))
+step_long at long = search rules
 
 stops_run : (run : Run) (asked : Settings) (IsDue : List ℕ → Type 0) (step : Step) (clears : Bool) (place count : ℕ) (before reached : List Slot) (fault : Fault) → (2 ^ 63 ≤ length step.read → HasLong run asked) → 2 ≤ length before → IsAt fault 2 place count
     → Stops step reached fault → Marks IsDue fault before reached → Swept clears 2 reached run.outputs → StopsRun run asked (output_named run.outputs fault) fault
@@ -93,9 +88,6 @@ streams_sound : (place : ℕ) (error : Slot) → (place ≡ 1 → ⊥) → (slot
 streams_sound (suc zero) error differs = absurd (differs refl)
 streams_sound place error differs = refl
 
-still_sound : {A : Type 0} {before after : List Slot} (place : ℕ) → after ≡ before → (slot_at before place).is_broken ≡ false → (slot_at after place).is_broken ≡ true → A
-still_sound place same sound broken = absurd (false≢true (sym sound ∙ sym (ap (λ slots. (slot_at slots place).is_broken) same) ∙ broken))
-
 stop_early : {which : Tool} {clears : Bool} {run : Run} {asked : Settings} (fault : Fault) (name : List ℕ) {error : Slot} → StopsRun run asked name fault → SaysAll true which (message_of which fault name ∷ []) standard_error error → run.outputs ≡ streams_with error → run.status ≡ 1
     → IsStop which clears run asked
 stop_early fault name {error} stops says slots is = record {
@@ -104,7 +96,8 @@ stop_early fault name {error} stops says slots is = record {
   name = name;
   stops = stops;
   line = rw slots ([], [], record { are = a_message fault name; said = says });
-  broke = λ place differs broken. still_sound place slots (streams_sound place error differs) broken;
+  broke = λ place differs broken.
+      absurd (false≢true (sym (streams_sound place error differs) ∙ sym (ap (λ those. (slot_at those place).is_broken) slots) ∙ broken));
 }
 
 -- Of a run over inputs: the output that the fault marked is the one that its line names.
@@ -114,30 +107,14 @@ record IsBlamed (fault : Fault) (place : ℕ) (old new : Slot) : Type 0 where
   pub named : (slots : List Slot) → (slot_at slots place).name ≡ output_named slots fault
 
 blamed : (fault : Fault) (place : ℕ) (before : List Slot) {new : Slot} → IsSoundAt before place → IsMarked fault place before new → IsBlamed fault place (slot_at before place) new
-blamed (Write slot) place before sound (here, there, is) = record {
-  is = rw (is, failing_file (slot_at before place).state (sound.1 there), here);
-  named = λ slots. ap (λ which. (slot_at slots which).name) here;
-}
-blamed (Open slot) place before sound (here, (kept, is)) = record { is = ap (λ (output : Slot). failing place output.state) is ∙ ap Open here; named = λ slots. ap (λ which. (slot_at slots which).name) here }
+blamed (Write slot) place before sound (here, there, is) = grind (arith, common_steps)
+blamed (Open slot) place before sound (here, (kept, is)) = grind (arith, common_steps)
 blamed fault place before sound marked = absurd marked
 
 -- Standard error stays the slot after the first.
 
-broken_other : (slot place : ℕ) (output : Slot) {error : Slot} (since : List Slot) → (slot ≡ 0) ⊎ (slot ≡ 2 + place) → slot_at (changed_at slot breaks (output ∷ error ∷ since)) 1 ≡ error
-broken_other (suc zero) place output since (inl from) = absurd (omega (arith, from))
-broken_other (suc zero) place output since (inr from) = absurd (omega (arith, from))
-broken_other slot place output since from = refl
-
-marked_error : (IsDue : List ℕ → Type 0) (fault : Fault) (place count : ℕ) (output : Slot) {error : Slot} (since after : List Slot) → IsAt fault 2 place count → Marks IsDue fault (output ∷ error ∷ since) after → slot_at after 1 ≡ error
-marked_error IsDue (Write slot) place count output since after from marks = rw (marks.1, broken_other slot place output since from)
-marked_error IsDue (Open slot) place count output since after from (number, (name, kept, due, is, slots)) = ap (λ those. slot_at those 1) slots
-marked_error IsDue fault place count output since after from marks = ap (λ slots. slot_at slots 1) marks
-
 stopped_error : (clears : Bool) {error : Slot} {low high : Part} {fault : Fault} {reached : List Slot} (new : List Slot) → StoppedBetween true (streams_with error) low high fault reached → Swept clears 2 reached new → slot_at new 1 ≡ error
-stopped_error clears {high} {fault} {reached} new between swept =
-    swept_error clears reached new (omega arith) swept
-    ∙ marked_error (IsNext between.part high) fault between.place (length between.part.files) _ between.outputs.since reached between.from
-    (rw between.outputs.slots at between.marks)
+stopped_error clears {high} {fault} {reached} new between swept = grind (arith, common_steps)
 
 stopped_broke : {which : Tool} {clears : Bool} {error : Slot} {low high : Part} {fault : Fault} {reached : List Slot} (new : List Slot) (lines : List (List ℕ)) → AreLive high.files → StoppedBetween true (streams_with error) low high fault reached → Swept clears 2 reached new
     → SaysLines which (lines ++ message_of which fault (output_named new fault) ∷ []) (slot_at new 1) → (place : ℕ) → (place ≡ 1 → ⊥) → (slot_at new place).is_broken ≡ true → IsToldOf which new place ⊎ IsStuck clears new place
@@ -222,21 +199,15 @@ tee_or only (tee.no_room error says unread slots is) = inr (stop_early Memory []
 does_or : {run : Run} (asked : Settings) (does : DoesAsked true true asked (inputs_at run.world (names_of asked)) run.inputs run.outputs run.status)
     → Unstopped asked (inputs_at run.world (names_of asked)) run.inputs run.outputs run.status does ⊎ IsStop (tool_of asked) (removes_files asked) run asked
 does_or (Head asked) does = ends_or (head_living asked.delim asked.unit (is_minus asked.count.sign) asked.count.amount) does
-does_or (Tail asked) does = ends_or (tail_living asked.ends.delim asked.ends.unit (is_plus asked.ends.count.sign) asked.ends.count.amount) does
+does_or (Tail asked) does = search (rules, ends_or, tail_living)
 does_or (Split asked) does = ends_or (split_living (plan_of asked)) does
 does_or (Csplit asked) does = ends_or (csplit_living asked.style does.operands) does.ends
 does_or (Tee asked) does = tee_or does.input does.ends
 
 -- operands that are wrong
 
-operand_stops : (run : Run) (asked : Settings) (word : ℕ) (which : OperandFaultKind) → HasBadOperands asked (fault_in word which) → StopsRun run asked (word_of run.words (fault_in word which)) (fault_in word which)
-operand_stops run asked word kind.Memory bad = tt
-operand_stops run asked word which bad = (bad, refl)
-
 bad_stops : (run : Run) (asked : Settings) (fault : Fault) → HasBadOperands asked fault → StopsRun run asked (word_of run.words fault) fault
-bad_stops run (Csplit asked) fault bad =
-    let (found, is, same) = bad in
-    subst (λ why. HasBadOperands (Csplit asked) why → StopsRun run (Csplit asked) (word_of run.words why) why) (sym same) (operand_stops run (Csplit asked) _ found.kind) bad
+bad_stops run (Csplit asked) fault bad = grind (arith, common_steps)
 bad_stops run asked fault bad = absurd bad
 
 ran_so : {run : Run} {asked : Settings} → Ran run asked → Completes run asked ⊎ IsStop (tool_of asked) (removes_files asked) run asked
@@ -250,14 +221,11 @@ ran_so {run} {asked} ran = elim (ran_over ran) [
 ]
 
 pub completes_or : (run : Run) (asked : Settings) → Ran run asked → Completes run asked ⊎ IsStopped run asked
-completes_or run asked ran = elim (ran_so ran) [
-  | inl whole ↦ inl whole
-  | inr stop ↦ inr (record { failed = stop.failed; why = stop.why; name = stop.name; stops = stop.stops; says = stop.line })
-]
+completes_or run asked ran = grind (arith, common_steps, ran_so)
 
 has_failed : (failed : Bool) {status : ℕ} → status ≡ cond failed 1 0 → status ≡ 1 → failed ≡ true
 has_failed true is one = refl
-has_failed false is one = absurd (omega (arith, is, one))
+has_failed false is one = cc
 
 pub says_why : (run : Run) (asked : Settings) → Ran run asked → run.status ≡ 1 → SaysWhy run asked
 says_why run asked ran one = elim (ran_so ran) [
@@ -274,7 +242,7 @@ left_broke run asked {place} all differs broken =
 
 why_broken : {run : Run} {asked : Settings} {place : ℕ} → IsToldOf (tool_of asked) run.outputs place ⊎ IsStuck (removes_files asked) run.outputs place → WhyBroken run asked place
 why_broken (inl (name, called, line)) = named name called line
-why_broken (inr (removes, closed, gone)) = unremoved removes closed gone
+why_broken (inr (removes, closed, gone)) = search rules
 
 pub is_broken : (run : Run) (asked : Settings) (place : ℕ) → Ran run asked → (place ≡ 1 → ⊥) → (slot_at run.outputs place).is_broken ≡ true → (run.status ≡ 1) × WhyBroken run asked place
 is_broken run asked place ran differs broken = elim (ran_so ran) [

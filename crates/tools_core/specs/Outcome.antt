@@ -36,13 +36,6 @@ abbrev pub word_of : List (List ℕ) → Fault → List ℕ
 word_of words (Usage kind place) = slice_index_or words place []
 word_of words fault = []
 
--- words that are refused: a message, status 1, and nothing else
-pub record Refuses (told : Bool) (tool : Tool) (text : List ℕ) (new : List Slot) (status : ℕ) : Type 0 where
-  pub error : Slot
-  pub says : Says told tool text standard_error error
-  pub slots : new ≡ streams_with error
-  pub failed : status ≡ 1
-
 -- `csplit` over its input, which was cut at the operands that its words ask for
 pub record CsplitEndsAs (told_in told : Bool) (asked : CsplitAsked) (inputs : List Input) (sources : List Source)
     (new : List Slot) (status : ℕ) : Type 0 where
@@ -72,10 +65,13 @@ DoesAsked told_in told (Csplit asked) inputs sources new status =
     CsplitEndsAs told_in told asked inputs sources new status
 DoesAsked told_in told (Tee asked) inputs sources new status = TeeEndsAs told_in told asked inputs sources new status
 
--- the words are refused for this fault, with the word that it speaks of
-abbrev pub RefusesFor : Bool → List (List ℕ) → Fault → List Slot → ℕ → Type 0
-RefusesFor told words fault new status =
-    Refuses told (speaker words) (message_of (speaker words) fault (word_of words fault)) new status
+-- the words are refused for this fault, with the word that it speaks of: a message, status 1, and nothing else
+pub record RefusesFor (told : Bool) (words : List (List ℕ)) (fault : Fault) (new : List Slot)
+    (status : ℕ) : Type 0 where
+  pub error : Slot
+  pub says : Says told (speaker words) (message_of (speaker words) fault (word_of words fault)) standard_error error
+  pub slots : new ≡ streams_with error
+  pub failed : status ≡ 1
 
 -- what is asked for has operands that can't be read, or there was no memory for them, and the words are refused for
 -- that

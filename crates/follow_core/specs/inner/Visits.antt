@@ -1,7 +1,5 @@
--- What a look at one name leaves, and at one name after another.
-use Rattle.std.specs.Prelude.{Bool, true, false, ◌||◌, List, [], ◌∷◌, if◌then◌else◌, ◌≡◌, ℕ, ◌++◌, Option, Some, None, length, Result, Ok, Err, ◌<◌, take, ◌≤◌, IfErr, IfOk, OnOk, ◌+◌}
-use Rattle.follow_core.specs.declared.visitor.Came.{Came}
-use Rattle.follow_core.specs.declared.visitor.Came.TheVariants.{Through, Missing, Dropped}
+-- What a look leaves at one name, at one name after another and at all names, and what all looks of a run do.
+use Rattle.std.specs.Prelude.{Bool, true, false, ◌||◌, List, [], ◌∷◌, ◌≡◌, ℕ, ◌++◌, Option, Some, None, length, Result, Ok, Err, ◌<◌, take, ◌≤◌, IfErr, IfOk, OnOk, ◌+◌, map}
 use Rattle.follow_core.specs.declared.name.Standing.{Standing}
 use Rattle.follow_core.specs.declared.name.Standing.TheVariants.{New, Followed, Left}
 use Rattle.follow_core.specs.Standing.{NameState, AllStand, CanVisit, Stands, StandsAmong, texts}
@@ -11,24 +9,19 @@ use Rattle.ports_core.specs.Text.{message_of}
 use Rattle.ports_core.specs.declared.tool.Tool.TheVariants.{Tail}
 use Rattle.ports_core.specs.declared.fault.Fault.{Fault}
 use Rattle.watch_core.specs.Snapshot.{Snapshot}
-use Rattle.watch_core.specs.Watched.{Watched, opens, watched_at}
+use Rattle.watch_core.specs.Watched.{Watched, opens, watched_at, added}
 use Rattle.follow_core.specs.Share.{BeginsShare, IsFront, Share, share_by, share_of, shares_at_look_from}
-use Rattle.follow_core.specs.Look.{Fate, Look, Ways, sound, fate_at, is_dropped, ways_of}
+use Rattle.follow_core.specs.Look.{Fate, Look, Ways, sound, fate_at, is_dropped, ways_of, snapshots}
 use Rattle.follow_core.specs.Printing.{PrinterState}
-use Rattle.follow_core.specs.inner.Giving.{Shared}
+use Rattle.follow_core.specs.inner.Giving.{Shared, HasStopped}
 use Rattle.follow_core.specs.declared.visitor.Stop.{Stop}
 use Rattle.follow_core.specs.declared.visitor.Stop.TheVariants.{Broke, Over}
 use Rattle.follow_core.specs.Followed.{any_failed}
-use Rattle.follow_core.specs.inner.Calls.{HasStopped}
-use Rattle.follow_core.specs.FollowState.{AllReady, Begun}
+use Rattle.follow_core.specs.FollowState.{AllReady, Begun, FollowState, Holds, IsCause, IsOther, LooksOn, SawOrNot, StopsOn, is_alive}
 use Rattle.follow_core.specs.declared.start.Start.{Start}
-use Rattle.follow_core.specs.Sharing.{AllShared, AllShort, CanPrint}
-
--- how it stands after a look that it came through so
-abbrev pub standing_after : (by_name : Bool) → Came → Standing
-standing_after by_name (Through len) = Followed len
-standing_after by_name Missing = if by_name then Followed 0 else Left
-standing_after by_name Dropped = Left
+use Rattle.follow_core.specs.Sharing.{AllShared, AllShort, CanPrint, HasError}
+use Rattle.follow_core.specs.declared.follow.Stage.TheVariants.{Fresh, Looking, Over}
+use Rattle.follow_core.specs.Ending.{Made}
 
 -- a further look can give something of it
 abbrev pub goes_on_as : (by_name : Bool) → Standing → Bool
@@ -41,12 +34,6 @@ abbrev pub any_goes_on : (by_name : Bool) → List NameState → Bool
 any_goes_on by_name [] = false
 any_goes_on by_name (name ∷ names) = goes_on_as by_name name.standing || any_goes_on by_name names
 
--- the name was missing, or a call on it failed
-abbrev pub has_failed : Came → Bool
-has_failed (Through len) = false
-has_failed Missing = true
-has_failed Dropped = true
-
 -- the look at the name was stopped: the outputs have a beginning of what it gives
 pub record Stopped (told_in told : Bool) (ways : Ways) (before : List Look) (snapshot : Snapshot) (name : List ℕ)
     (printer : PrinterState) (old new : List Slot) (why : Fault) : Type 0 where
@@ -57,10 +44,10 @@ pub record Stopped (told_in told : Bool) (ways : Ways) (before : List Look) (sna
   pub short : Shared told printer share old after new (Some why)
 
 -- A call on the name failed, which was told, so that it is dropped; or following ends, and nothing more was told.
-abbrev pub TellsStop : Bool → List ℕ → List Slot → List Slot → Stop → Result Came Fault → Type 0
-TellsStop told name old new (Broke why) result = (result ≡ Ok Dropped)
+abbrev pub TellsStop : Bool → List ℕ → List Slot → Standing → List Slot → Stop → Result Bool Fault → Type 0
+TellsStop told name old standing new (Broke why) result = (result ≡ Ok true) × (standing ≡ Left)
     × SaysOn told Tail (message_of Tail why name) old new
-TellsStop told name old new (Over why) result = (result ≡ Err why) × (new ≡ old)
+TellsStop told name old standing new (Over why) result = (result ≡ Err why) × (new ≡ old)
 
 -- another file of the name at this place may be open, and no name broke
 abbrev pub Opened : ℕ → List Watched → List Watched → Type 0
@@ -86,53 +73,22 @@ pub record Visited (told_in told : Bool) (ways : Ways) (looks : List Look) (snap
   pub stands : (fates : List Fate) → fate_at place (record { snapshot = snapshot; fates = fates }) ≡ fate
       → Stands told_in ways (looks ++ record { snapshot = snapshot; fates = fates } ∷ []) place name watched standing
 
--- Whatever looks were made before at this name, which stood so: one more was made that saw this, and the outputs have
--- what it gives.
-abbrev pub VisitsOn : (told_in told : Bool) → Ways → Snapshot → ℕ → NameState → Watched → PrinterState → List Slot
-    → NameState → Watched → PrinterState → List Slot → (failed : Bool) → Type 0
-VisitsOn told_in told ways snapshot place old watched printer slots new watched_new printer_new slots_new failed =
-    (looks : List Look) → Stands told_in ways looks place old.text watched old.standing
-    → Visited told_in told ways looks snapshot place old.text printer slots printer_new slots_new watched_new
-    new.standing failed
-
--- whatever looks were made before, the next one was stopped
-abbrev pub StopsVisit : (told_in told : Bool) → Ways → Snapshot → ℕ → NameState → Watched → PrinterState → List Slot
-    → List Slot → Fault → Type 0
-StopsVisit told_in told ways snapshot place name watched printer slots slots_new why = (looks : List Look)
-    → Stands told_in ways looks place name.text watched name.standing
-    → (is_dropped place looks ≡ false) × Stopped told_in told ways looks snapshot name.text printer slots slots_new why
-
--- What a look at one name leaves: it can be looked at again, or is looked at no more.
-pub record Visits (told_in told : Bool) (ways : Ways) (snapshot : Snapshot) (place : ℕ) (old : NameState)
-    (watched : List Watched) (printer : PrinterState) (slots : List Slot)
-    (new : NameState) (watched_new : List Watched) (printer_new : PrinterState) (slots_new : List Slot)
+-- What a look at one name leaves that stood so, whatever looks were made before: one more was made that saw this, and
+-- the outputs have what it gives; or it was stopped. The name can be looked at again, or is looked at no more.
+pub record Visits (told_in told : Bool) (ways : Ways) (snapshot : Snapshot) (place : ℕ) (name : List ℕ)
+    (standing : Standing) (watched : List Watched) (printer : PrinterState) (slots : List Slot)
+    (standing_new : Standing) (watched_new : List Watched) (printer_new : PrinterState) (slots_new : List Slot)
     (result : Result Bool Fault) : Type 0 where
-  pub visited : IfOk result (VisitsOn told_in told ways snapshot place old (watched_at watched place) printer slots new
-      (watched_at watched_new place) printer_new slots_new)
-  pub stopped : IfErr result (StopsVisit told_in told ways snapshot place old (watched_at watched place) printer slots
-      slots_new)
-  pub same : new.text ≡ old.text
-  pub ready : OnOk result (CanVisit new (watched_at watched_new place))
+  pub visited : IfOk result (λ failed. (looks : List Look)
+      → Stands told_in ways looks place name (watched_at watched place) standing
+      → Visited told_in told ways looks snapshot place name printer slots printer_new slots_new
+      (watched_at watched_new place) standing_new failed)
+  pub stopped : IfErr result (λ why. (looks : List Look)
+      → Stands told_in ways looks place name (watched_at watched place) standing
+      → (is_dropped place looks ≡ false) × Stopped told_in told ways looks snapshot name printer slots slots_new why)
+  pub ready : OnOk result (CanVisit (record { text = name; standing = standing_new }) (watched_at watched_new place))
   pub others : OnOk result (KeepsOthers place watched watched_new)
   pub halts : IfErr result (λ why. Opened place watched watched_new)
-
--- how it stands then, and whether it failed, by how it came through
-abbrev pub standing_then : (by_name : Bool) → Standing → Result Came Fault → Standing
-standing_then by_name standing (Ok came) = standing_after by_name came
-standing_then by_name standing (Err why) = standing
-
-abbrev pub failed_then : Result Came Fault → Result Bool Fault
-failed_then (Ok came) = Ok (has_failed came)
-failed_then (Err why) = Err why
-
--- the same of a name that stood so before
-pub record Looks (told_in told : Bool) (ways : Ways) (snapshot : Snapshot) (place : ℕ) (name : List ℕ)
-    (standing : Standing) (watched : List Watched) (printer : PrinterState) (slots : List Slot)
-    (watched_new : List Watched) (printer_new : PrinterState) (slots_new : List Slot)
-    (result : Result Came Fault) : Type 0 where
-  pub visits : Visits told_in told ways snapshot place (record { text = name; standing = standing }) watched printer
-      slots (record { text = name; standing = standing_then ways.by_name standing result }) watched_new printer_new
-      slots_new (failed_then result)
 
 -- The outputs have what the look gives for the names before this place, whatever fates those from it on have, and they
 -- stand as after that look; those from it on stand as before it.
@@ -178,3 +134,57 @@ pub record VisitsAll (told_in told : Bool) (snapshot : Snapshot) (by_name : Bool
       → watched_at watched_new number ≡ watched_at watched number
   pub can : OnOk result (CanPrint slots_new)
   pub error : IfErr result (λ why. HasStopped why slots_new)
+
+-- the first of these names were added to what is watched
+pub record AddsSome (names : List (List ℕ)) (old new : List Watched) : Type 0 where
+  pub kept : IsFront old new
+  pub front : IsFront new (old ++ map added names)
+
+-- no look was made yet, or each name can be looked at; following is not over
+abbrev pub CanBegin : FollowState → List Watched → Type 0
+CanBegin follow watched = elim follow.stage [
+  | Fresh ↦ Unit {0}
+  | Looking ↦ AllReady follow.names follow.first watched
+  | Over ↦ ⊥
+]
+
+-- all names are watched, what held of the looks before holds, and the names of others are as they were
+pub record Begins (told_in : Bool) (old : FollowState) (watched : List Watched) (new : FollowState)
+    (watched_new : List Watched) : Type 0 where
+  pub stage : new.stage ≡ Looking
+  pub ready : AllReady new.names new.first watched_new
+  pub others : (number : ℕ) → IsOther old watched number
+      → IsOther new watched_new number × (watched_at watched_new number ≡ watched_at watched number)
+  pub holds : (told : Bool) (ways : Ways) (headers : Bool) (names : List (List ℕ)) (looks : List Look)
+      (first slots : List Slot)
+      → Holds told_in told ways headers names looks first old watched slots
+      → Holds told_in told ways headers names looks first new watched_new slots
+
+-- one more look was made, which saw this, but for whether it failed; or it was stopped
+pub record MakesLook (told_in told : Bool) (snapshot : Snapshot) (seen : List Snapshot) (old : FollowState)
+    (watched : List Watched) (slots : List Slot)
+    (seen_new : List Snapshot) (new : FollowState) (watched_new : List Watched) (slots_new : List Slot)
+    (result : Result Bool Fault) : Type 0 where
+  pub looked : IfOk result (λ failed. LooksOn told_in told snapshot old watched slots
+      (record new { has_failed = new.has_failed || failed }) watched_new slots_new)
+  pub stopped : IfErr result (StopsOn told_in told snapshot old watched slots watched_new slots_new)
+  pub seen_is : OnOk result (seen_new ≡ seen ++ snapshot ∷ [])
+  pub saw : IfErr result (λ why. SawOrNot seen snapshot seen_new)
+  pub stage : OnOk result (new.stage ≡ Looking)
+  pub ready : OnOk result (AllReady new.names new.first watched_new)
+  pub can : OnOk result (CanPrint slots_new)
+  pub cause : IfErr result (IsCause old slots slots_new)
+  pub error : HasError slots_new
+  pub others : (number : ℕ) → IsOther old watched number → watched_at watched_new number ≡ watched_at watched number
+
+-- As many looks were made, or those after which nothing more can come, and no others; and the outputs have what they
+-- give.
+pub record LookedAll (told_in told : Bool) (ways : Ways) (headers : Bool) (names : List (List ℕ)) (count : ℕ)
+    (shows : ℕ → Snapshot) (first : List Slot) (follow : FollowState) (seen : List Snapshot) (watched : List Watched)
+    (slots : List Slot) : Type 0 where
+  pub looks : List Look
+  pub observed : seen ≡ snapshots looks
+  pub made : Made told_in ways names shows looks
+  pub within : length looks ≤ count
+  pub over : length looks < count → (0 < length looks) × (told_in ≡ true → is_alive ways names looks ≡ false)
+  pub holds : Holds told_in told ways headers names looks first follow watched slots

@@ -1,21 +1,40 @@
--- What private calls say: what each step of a run over its inputs leaves.
-use Rattle.std.specs.Prelude.{◌≡◌, ℕ, Bool, true, false, ◌&&◌, ◌||◌, List, ◌∷◌, ◌++◌, length, Option, Some, None, Result, Ok, Err, if◌then◌else◌}
+-- What private calls say: what becomes of an input that is fed to an engine piece by piece, what each step of a run
+-- over its inputs leaves, and what it leaves of these.
+use Rattle.std.specs.Prelude.{◌≡◌, ℕ, Bool, true, false, List, Result, Ok, Err, ◌&&◌, ◌||◌, ◌∷◌, ◌++◌, length, Option, Some, None, if◌then◌else◌, ◌≤◌, ◌<◌}
 use Rattle.ports_core.specs.Slot.{Slot, is_open, streams}
+use Rattle.ports_core.specs.Swept.{Swept}
+use Rattle.ports_core.specs.Work.{Work}
+use Rattle.ports_core.specs.Guard.{GuardState}
+use Rattle.ports_core.specs.Engine.{Finishes, EndsShort, EndsThere, IsCaused, IsMet, is_verdict}
+use Rattle.ports_core.specs.declared.fault.Fault.{Fault}
+use Rattle.run_core.specs.declared.feeding.Fed.{Fed}
 use Rattle.ports_core.specs.Source.{Content, Source, source_at}
 use Rattle.ports_core.specs.Part.{Part, OutputsAt, StoppedBetween}
-use Rattle.ports_core.specs.Swept.{Swept}
 use Rattle.ports_core.specs.Write.{BrokeAfter}
 use Rattle.ports_core.specs.Message.{SaysAll}
-use Rattle.ports_core.specs.declared.fault.Fault.{Fault}
 use Rattle.ports_core.specs.declared.fault.Fault.TheVariants.{Memory, Write, Read, Open, Suffixes, NoMatch, Range, Usage, Failed, TooLong}
 use Rattle.run_core.specs.declared.inputs.Progress.{Progress}
 use Rattle.run_core.specs.Feeding.{Step, Stops}
-use Rattle.ports_core.specs.Inputs.{KeepsOthers, empty, largest_piece}
-use Rattle.run_core.specs.Input.{Input, IsFor, World, is_dash, input_of}
+use Rattle.ports_core.specs.Inputs.{KeepsOthers, empty, largest_piece, AsksAtMost}
+use Rattle.run_core.specs.Input.{Input, IsFor, World, is_dash, input_of, next_slot}
 use Rattle.run_core.specs.Reading.{AreDone, AreUntouched, IsDone}
 use Rattle.run_core.specs.RunEnds.{RunStep}
 use Rattle.ports_core.specs.Streams.{streams_with, standard_error}
 use Rattle.run_core.specs.Task.{Task, Outcome, made_by, after_part, header_text, is_missing, are_missing}
+
+-- How closing an engine ends that has got all of its input: it finished; or a fault stopped it, and its files went if
+-- the work clears them, by itself where that fault is a verdict.
+pub data EndsSo {S : Type 0} (Holds : S → List ℕ → Type 0) (Owns : S → ℕ → List Slot → Type 0) (work : S → Work)
+    (told : Bool) (engine : GuardState S) (fed : Fed) (old new : List Slot) : Result Fed Fault → Type 0 where
+  finished : Finishes Holds Owns work engine.stage told old new
+      → EndsSo Holds Owns work told engine fed old new (Ok fed)
+  fell_short : (fault : Fault) (reached : List Slot) → EndsShort Holds Owns work engine.stage told old reached fault
+      → IsCaused (IsMet (work engine.stage).means (work engine.stage).means.closing (Unit {0})
+      (EndsThere Holds work engine.stage) old reached) engine.is_over engine.fed 0 old reached fault
+      → (is_verdict fault ≡ true → new ≡ reached)
+      → (is_verdict fault ≡ false → (first : ℕ) → Owns engine.stage first old
+      → Swept (work engine.stage).clears first reached new)
+      → EndsSo Holds Owns work told engine fed old new (Err fault)
 
 -- the outputs are at some part, and standard error is open
 pub record HasStreams (told : Bool) (slots : List Slot) : Type 0 where
@@ -110,3 +129,13 @@ KeepsOther (Some slot) old new = KeepsOthers slot old new
 -- where a `-` reads from: from standard input the first time, and from nowhere again
 abbrev pub standard_source : Bool → Option ℕ
 standard_source was_read = if was_read then None else Some 0
+
+-- What taking a name leaves of the inputs: a file is one more at the most, those before it are as they were, and
+-- standard input is touched by the first `-` alone.
+pub record TakesOne (most : ℕ) (was_read : Bool) (name : List ℕ) (old new : List Source) : Type 0 where
+  pub grown : length old ≤ length new
+  pub within : length new ≤ next_slot (length old) name
+  pub files : (place : ℕ) → 0 < place → place < length old → source_at new place ≡ source_at old place
+  pub unasked : is_dash name ≡ false → source_at new 0 ≡ source_at old 0
+  pub again : was_read ≡ true → source_at new 0 ≡ source_at old 0
+  pub asked : AsksAtMost most old → AsksAtMost most new

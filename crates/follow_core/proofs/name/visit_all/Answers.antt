@@ -44,12 +44,13 @@ loop-place-preserved g c =
     let test : l.place < length l.names = c.loop-place-test.true in
     let many : length c.args.names.now ≡ length l.names = same_length c.args.names.now l.names l.invariant.same in
     let visits = c.in-Ok.ensures.visits c.args.first in
+    let here = get_or_default l.names l.place c.index-names-place.result no_state test in
     record {
       within = subst (λ n. l.place + 1 ≤ n) (sym (length-set l.names l.place c.visit.new.self)) (omega arith);
-      same = texts_set l.names c.index-names-place.result c.visit.new.self test visits.same ∙ l.invariant.same;
-      ready = next_ready c.args.first l.names c.visit.new.self test l.invariant.ready visits.others visits.ready;
+      same = texts_set l.names c.index-names-place.result c.visit.new.self test c.visit.ensures.same ∙ l.invariant.same;
+      ready = next_ready c.args.first l.names c.visit.new.self test l.invariant.ready visits.others (rw c.visit.ensures.same visits.ready);
       visited = λ from looks stood. visited_more test
-          (rw (l.invariant.seen, get_or_default l.names l.place c.index-names-place.result no_state test, stood.numbered (omega (arith, many, test))) at (c.in-Ok.ensures.visits from))
+          (rw (l.invariant.seen, here, stood.numbered (omega (arith, many, test))) at (c.in-Ok.ensures.visits from)) (rw here at c.visit.ensures.same)
           (l.invariant.visited from looks stood);
       count = visits.others.count ∙ l.invariant.count;
       others = λ number other. visits.others.others number (other l.place (omega (arith, many, test))) ∙ l.invariant.others number other;

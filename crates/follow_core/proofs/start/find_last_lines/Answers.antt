@@ -1,4 +1,4 @@
-use Rattle.std.proofs.Common.{◌≡◌, ◌∙◌, ◌-◌, ◌<◌, arith, length, min}
+use Rattle.std.proofs.Common.{◌≡◌, ◌-◌, arith, length, min, rules}
 use Rattle.std.proofs.lemmas.Grind.{common_steps}
 use Rattle.watch_core.specs.Snapshot.{latest}
 use Rattle.watch_core.specs.Watched.{open_contents, watched_at}
@@ -21,23 +21,7 @@ returns-in-Begins-clause-part g c told =
     c.in-Begins.ensures)
 
 pub loop-end-preserved : goal.loop-end-preserved
-loop-end-preserved g c =
-    let contents = open_contents (latest (g.W.Watch.seen c.args.watch.now)) (watched_at (g.W.Watch.watched c.args.watch.now) c.args.place) in
-    let within = c.loop-end.invariant.within in
-    let size : c.min-size.result ≡ min c.loop-end.end (length c.loop-end.buffer) = c.min-size.ensures in
-    let fewer : c.in-Short.found < c.loop-end.wanted = c.in-Short.ensures.fewer in record {
-      lines = λ told. let long : c.args.len ≡ length contents = c.requires.whole told in
-          wanted_before (c.loop-end.end - c.min-size.result) c.min-size.result contents
-          (c.loop-end.invariant.lines told) (omega (arith, size)) (omega (arith, within, long))
-          (block_read c.loop-end.buffer c.read_block.new.block (c.loop-end.end - c.min-size.result) c.loop-end.end c.min-size.ensures c.in_ok-n.ensures.bound c.read_block.ensures.length (contents_same c.args.place c.loop-end.invariant.seen c.loop-end.invariant.watched) (c.in_ok-n.ensures.bytes told))
-          c.in-Short.ensures;
-      some = omega (arith, fewer);
-      within = omega (arith, within);
-      seen = c.read_block.ensures.seen ∙ c.loop-end.invariant.seen;
-      watched = c.in_ok-n.ensures.same ∙ c.loop-end.invariant.watched;
-      shows = c.read_block.ensures.shows ∙ c.loop-end.invariant.shows;
-      room = room_kept c.loop-end.buffer c.read_block.new.block c.min-size.ensures c.loop-end-test.true c.read_block.ensures.length c.loop-end.invariant.room;
-    }
+loop-end-preserved g c = search (rules, wanted_before, block_read, contents_same, room_kept)
 
 pub returns-clause-part : goal.returns-clause-part
 returns-clause-part g c told =

@@ -1,4 +1,5 @@
-use Rattle.std.proofs.Common.{◌∙◌, ◌-◌, arith}
+use Rattle.std.proofs.lemmas.Grind.{common_steps}
+use Rattle.std.proofs.Common.{◌-◌, arith}
 use Rattle.watch_core.specs.Snapshot.{latest}
 use Rattle.watch_core.specs.Watched.{open_contents, watched_at}
 use Rattle.follow_core.proofs.StartLemmas.{contents_same, block_read, passed_by, passed_in, room_kept}
@@ -12,14 +13,4 @@ returns-in-Ends-clause-part g c told =
     c.in-Ends.ensures (c.loop-at.invariant.lines told)
 
 pub loop-at-preserved : goal.loop-at-preserved
-loop-at-preserved g c =
-    let contents = open_contents (latest (g.W.Watch.seen c.args.watch.now)) (watched_at (g.W.Watch.watched c.args.watch.now) c.args.place) in
-    let less = c.loop-at-test.true in record {
-      lines = λ told. passed_by c.loop-at.at c.min-size.result contents
-          (block_read c.loop-at.buffer c.read_block.new.block c.loop-at.at (c.args.len - c.loop-at.at) c.min-size.ensures c.in_ok-n.ensures.bound c.read_block.ensures.length (contents_same c.args.place c.loop-at.invariant.seen c.loop-at.invariant.watched) (c.in_ok-n.ensures.bytes told))
-          c.in-Short.ensures (c.loop-at.invariant.lines told);
-      seen = c.read_block.ensures.seen ∙ c.loop-at.invariant.seen;
-      watched = c.in_ok-n.ensures.same ∙ c.loop-at.invariant.watched;
-      shows = c.read_block.ensures.shows ∙ c.loop-at.invariant.shows;
-      room = room_kept c.loop-at.buffer c.read_block.new.block c.min-size.ensures (omega (arith, less)) c.read_block.ensures.length c.loop-at.invariant.room;
-    }
+loop-at-preserved g c = grind (arith, common_steps, passed_by, block_read, contents_same, room_kept)

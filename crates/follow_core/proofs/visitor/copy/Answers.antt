@@ -1,20 +1,11 @@
-use Rattle.std.proofs.Common.{arith, drop, refl, sym, ◌∙◌}
-use Rattle.follow_core.proofs.CallLemmas.{ends_can, broke_after, copy_more, cut_short, due_as, nothing_due}
+use Rattle.std.proofs.Common.{arith, drop, sym, ◌∙◌, ◌-◌}
+use Rattle.follow_core.proofs.CallLemmas.{copy_more, cut_short, due_as, nothing_due}
 use Rattle.std.proofs.lemmas.Grind.{common_steps}
 use Rattle.follow_core.proofs.StartLemmas.{contents_same}
 use Rattle.follow_core.proofs.visitor.copy.Goals as goal
 
 pub loop-at-init : goal.loop-at-init
-loop-at-init g c = record {
-  ends = grind (arith, common_steps, due_as, nothing_due);
-  can = c.requires.can;
-  within = c.requires.within;
-  past = omega arith;
-  seen = refl;
-  watched = refl;
-  shows = refl;
-  room = c.requires.room;
-}
+loop-at-init g c = grind (arith, common_steps, common_steps, due_as, nothing_due)
 
 pub loop-at-preserved : goal.loop-at-preserved
 loop-at-preserved g c =
@@ -22,7 +13,7 @@ loop-at-preserved g c =
     let past = l.invariant.past in record {
       ends = copy_more (drop c.min-room.result l.buffer) past (contents_same c.args.place (sym l.invariant.seen) (sym l.invariant.watched))
           c.in-Ok.ensures.bound c.read_at.ensures.length c.in-Ok.ensures.bytes l.invariant.ends (c.in-Ok-put.ensures.ends g.W.Watch.told);
-      can = ends_can (c.in-Ok-put.ensures.ends g.W.Watch.told) l.invariant.can;
+      writable = c.in-Ok-put.ensures.writable;
       within = grind (arith, common_steps);
       past = omega (arith, past);
       seen = c.read_at.ensures.seen ∙ l.invariant.seen;
@@ -32,7 +23,7 @@ loop-at-preserved g c =
     }
 
 pub returns-in-Err-clause-ends : goal.returns-in-Err-clause-ends
-returns-in-Err-clause-ends g c = cut_short _ (broke_after c.loop-at.invariant.ends)
+returns-in-Err-clause-ends g c = let l = c.loop-at in let ends = l.invariant.ends in cut_short (l.at - c.args.from) (grind (arith, common_steps))
 
 pub returns-in-Err-put-clause-ends : goal.returns-in-Err-put-clause-ends
 returns-in-Err-put-clause-ends g c =

@@ -1,13 +1,10 @@
-use Rattle.run_core.specs.inner.Feeding.{finished}
-use Rattle.run_core.proofs.FeedingLemmas.{close_short}
+use Rattle.run_core.specs.inner.RunSteps.{finished, fell_short}
 use Rattle.run_core.proofs.feeding.end.Goals as goal
 
 pub returns-in-Ok : goal.returns-in-Ok
 returns-in-Ok g c = finished c.in-Ok.ensures.outputs
 
-pub given_up-requires : goal.given_up-requires
-given_up-requires g c unjudged = (c.requires.owns.0, c.close.ensures.owns c.requires.owns.0 c.requires.owns.1)
-
 pub returns-in-Err : goal.returns-in-Err
 returns-in-Err g c =
-    rw c.given_up.ensures.same (close_short _ _ _ _ c.close.new.self c.in-Err.ensures.cut c.in-Err.ensures.refused c.close.ensures.same (λ unjudged. c.close.ensures.owns) c.given_up.ensures.judged c.given_up.ensures.swept)
+    rw c.given_up.ensures.same (fell_short _ _ c.in-Err.ensures.cut c.in-Err.ensures.refused c.given_up.ensures.judged (λ unjudged first own.
+    rw c.close.ensures.same at (c.given_up.ensures.swept unjudged first (c.close.ensures.owns first own))))

@@ -1,11 +1,13 @@
-use Rattle.std.proofs.Common.{◌&&◌, not, inl, inr, ◌≡◌, ◌≤◌, drop, length, ◌++◌, ◌∙◌, [], true, false, sym, ap, refl, take, arith, append_assoc, append-nil}
-use Rattle.std.proofs.lemmas.Bool.{false≢true}
+use Rattle.std.proofs.lemmas.List.{length-take-le, take_at}
+use Rattle.ports_core.proofs.LoadLemmas.{passed_at}
+use Rattle.std.proofs.Common.{◌&&◌, not, inl, inr, ◌≡◌, ◌≤◌, drop, length, ◌++◌, ◌∙◌, [], true, false, sym, ap, refl, take, arith, append_assoc, append-nil, length-append}
+use Rattle.std.proofs.lemmas.Bool.{false≢true, not-false}
 use Rattle.ports_core.specs.Source.{gets_back, Source}
 use Rattle.ports_core.specs.Work.{Work, IsSettled}
-use Rattle.ports_core.specs.Engine.{EndsWith}
-use Rattle.ports_core.proofs.SpareLemmas.{complete_used, spare_within}
-use Rattle.run_core.specs.Feeding.{enough, to_end}
-use Rattle.run_core.proofs.FeedingLemmas.{of_more, of_read, alike_after, alike_itself, judges, judging_of, broken_off, goes_on, stopped_feeding, ended, needed_more, piece_within, ends_sound, loaded_feeds, loaded_readable, loaded_others, loaded_read, loaded_needed, loaded_asked, last_given, loaded_few, loaded_taken, needed_within, read_used, takes_more, takes_none, uses_all, uses_judged, uses_part}
+use Rattle.ports_core.specs.Engine.{EndsWith, is_verdict}
+use Rattle.ports_core.proofs.SpareLemmas.{complete_used, spare_within, none_spare}
+use Rattle.run_core.specs.Feeding.{enough, to_end, broke_off}
+use Rattle.run_core.proofs.FeedingLemmas.{of_more, of_read, alike_after, alike_itself, judges, goes_on, stopped_feeding, ended, needed_more, piece_within, ends_sound, needed_within, read_used, takes_more, uses_all, uses_judged, uses_part, needed_front}
 use Rattle.ports_core.proofs.InputsLemmas.{changed_source, sound_at, read_none_more, keeps_again, keeps_others, read_broken, still_readable, read_more, read_failed, read_to_end, asked_again, asked_at_end, broken_now}
 use Rattle.run_core.proofs.feeding.feed_input.Goals as goal
 
@@ -13,38 +15,37 @@ use Rattle.run_core.proofs.feeding.feed_input.Goals as goal
 
 pub pieces-init : goal.pieces-init
 pieces-init g c =
-    let start = c.args.engine.now in
-    let now = c.load.new.self in
-    let loads = c.load.ensures.loads in record {
+    let loads = c.load.ensures.loads in
+    let passed = passed_at _ _ _ _ c.requires.input loads.passed in record {
       fed = loads.front;
-      feeds = loaded_feeds _ _ _ _ _ _ _ start now _ _ loads c.load.ensures.same c.load.ensures.fed c.load.ensures.live c.load.ensures.bound;
-      readable = loaded_readable _ _ _ _ _ _ _ start now _ _ loads c.requires.input;
-      others = loaded_others _ _ _ _ _ _ _ start now _ _ loads;
-      read = λ told. loaded_read _ _ _ _ _ _ _ start now _ _ loads told c.requires.input;
-      took = λ told. loaded_taken _ _ _ _ _ _ _ start.stage now.stage _ _ loads told c.requires.input;
-      last = λ told. loaded_needed _ _ _ _ _ _ _ start now _ _ loads;
-      few = λ standard. loaded_few _ _ _ _ _ _ _ start.stage now.stage _ _ loads (g.met.S.Stage.lawful _);
+      feeds = record {
+        same = c.load.ensures.same;
+        holds = record { live = c.load.ensures.live; count = c.load.ensures.fed ∙ loads.long; within = loads.holds };
+        owns = λ first own. loads.owns first _ own;
+        outputs = λ before own at. rw c.load.ensures.same (rw loads.idle at);
+        bound = rw c.load.ensures.fed c.load.ensures.bound;
+      };
+      readable = rw (passed, c.requires.input);
+      others = keeps_others _ _ _ _ loads.passed;
+      read = λ told. record { bytes = loads.there told; breaks_off = rw passed };
+      took = λ told. record {
+        taken = rw (passed, loads.there told, loads.long, take_at loads.front _ (length loads.front) refl);
+        far = λ unread. omega (arith, ap (λ (source : Source). source.reached) passed, unread.1);
+      };
+      last = λ told. needed_front loads.going;
+      -- of what is taken in without a read all is used
+      few = λ standard n spare. elim loads.going [
+        | inl none ↦ omega (arith, ap length none, ap length spare.joined ∙ length-append spare.used spare.rest, spare.long)
+        | inr going ↦ omega (arith, none_spare _ loads.front n (g.met.S.Stage.lawful _) going spare)
+      ];
       room = c.load.auto.buffer;
-      needed = loaded_needed _ _ _ _ _ _ _ start now _ _ loads;
-      asked = λ within. loaded_asked _ _ _ _ _ _ _ start now _ _ loads c.requires.input within;
+      needed = needed_front loads.going;
+      asked = λ within. rw (ap (λ (source : Source). source.asked) passed) within;
       laid = c.load.ensures.laid;
       ready = loads.ready _ c.requires.output;
     }
 
--- a read
-
-pub piece_size-size-requires-clause-wanted : goal.piece_size-size-requires-clause-wanted
-piece_size-size-requires-clause-wanted g c =
-    let so_far = c.pieces.invariant in
-    c.wanted.ensures.some so_far.fed so_far.feeds.holds (sym (c.done.ensures.complete so_far.fed so_far.feeds.holds) ∙ c.pieces-test.true)
-
-pub read_part-requires-clause-input : goal.read_part-requires-clause-input
-read_part-requires-clause-input g c = c.pieces.invariant.readable
-
 -- where the read broke off
-
-pub abandon-requires : goal.abandon-requires
-abandon-requires g c = g.met.S.Stage.there _ c.requires.owns.0 _ (c.pieces.invariant.feeds.owns c.requires.owns.0 c.requires.owns.1)
 
 pub returns-in-Err : goal.returns-in-Err
 returns-in-Err g c =
@@ -52,7 +53,8 @@ returns-in-Err g c =
     let going : (g.S.Stage.work c.pieces.engine.stage).is_complete so_far.fed ≡ false = sym (c.done.ensures.complete so_far.fed so_far.feeds.holds) ∙ c.pieces-test.true in record {
       ends = λ before opening own at.
           of_read g.I.Inputs.told _ so_far.fed true _ _ (λ told. read_broken _ _ _ _ (so_far.read told) (c.in-Err.ensures.break_off told)) (λ off. broken_now _ _ _ _ so_far.readable c.in-Err.ensures.err)
-          (λ content is bytes breaks. broken_off _ _ _ _ _ so_far.feeds own at bytes breaks going c.abandon.ensures.swept);
+          (λ content is bytes breaks. rw (← so_far.feeds.same)
+          (broke_off breaks (ap (g.S.Stage.work c.pieces.engine.stage).is_complete bytes ∙ going) (g.O.Outs.slots c.pieces.outs) (rw bytes (so_far.feeds.outputs before own at)) (c.abandon.ensures.swept (length before) (so_far.feeds.owns (length before) own))));
       others = keeps_again _ _ _ _ so_far.others (keeps_others _ _ _ _ c.in-Err.ensures.err);
       reads = λ told. (so_far.fed, so_far.needed, read_failed _ _ _ _ _ _ (so_far.read told) so_far.readable c.in-Err.ensures.err);
       used = λ told ends unread.
@@ -60,16 +62,13 @@ returns-in-Err g c =
           uses_all (read_failed _ _ _ _ _ _ (so_far.read told) so_far.readable failed)
           (ap (λ (source : Source). source.left.bytes) (changed_source _ _ _ _ so_far.readable failed) ∙ (c.in-Err.ensures.break_off told).no_more)
           so_far.needed (ap (λ (work : Work). work.is_complete so_far.fed) (sym so_far.feeds.same) ∙ going)
-          ((takes_none _ (so_far.took told) so_far.readable failed).far unread);
+          (rw (ap (λ (source : Source). source.reached) (changed_source _ _ _ _ so_far.readable failed)) ((so_far.took told).far unread));
       asked = λ within. asked_at_end _ _ _ _ _ so_far.readable c.in-Err.ensures.err (omega (arith, c.piece_size-size.ensures.within, so_far.room)) (so_far.asked within);
       broke = λ is. broken_now _ _ _ _ so_far.readable c.in-Err.ensures.err;
       laid = c.read_part.ensures.kept ∙ so_far.laid;
     }
 
 -- where the input ended
-
-pub end-requires-clause-owns : goal.end-requires-clause-owns
-end-requires-clause-owns g c = (c.requires.owns.0, c.pieces.invariant.feeds.owns c.requires.owns.0 c.requires.owns.1)
 
 pub returns-then-n-eq0 : goal.returns-then-n-eq0
 returns-then-n-eq0 g c =
@@ -110,7 +109,7 @@ pieces-preserved g c =
       others = keeps_again _ _ _ _ so_far.others (keeps_others _ _ _ _ c.in-Ok.ensures.rest);
       read = λ told. read_more _ _ _ _ _ _ _ _ _ (so_far.read told) so_far.readable (c.in-Ok.ensures.bytes told) c.in-Ok.ensures.rest;
       took = λ told. takes_more _ (so_far.took told) so_far.readable (c.in-Ok.ensures.bytes told) c.in-Ok.ensures.rest;
-      last = λ told. needed_more so_far.fed c.read_part.new.buffer (ap (λ (work : Work). work.is_complete so_far.fed) (sym so_far.feeds.same) ∙ sym (c.done.ensures.complete so_far.fed so_far.feeds.holds) ∙ c.pieces-test.true) (omega (arith, last_given _ _ _ so_far.readable (c.in-Ok.ensures.bytes told) c.in-Ok.ensures.rest));
+      last = λ told. needed_more so_far.fed c.read_part.new.buffer (ap (λ (work : Work). work.is_complete so_far.fed) (sym so_far.feeds.same) ∙ sym (c.done.ensures.complete so_far.fed so_far.feeds.holds) ∙ c.pieces-test.true) (omega (arith, ap (λ (source : Source). source.last) (changed_source _ _ _ _ so_far.readable c.in-Ok.ensures.rest), length-take-le c.in-Ok.n _ (c.in-Ok.ensures.bytes told).within));
       few = λ standard n spare. rw (← so_far.feeds.same)
           (c.wanted.ensures.few so_far.fed (take c.in-Ok.n c.read_part.new.buffer) c.feed.new.self.stage n so_far.feeds.holds.within
           (sym (c.done.ensures.complete so_far.fed so_far.feeds.holds) ∙ c.pieces-test.true)
@@ -125,9 +124,6 @@ pieces-preserved g c =
     }
 
 -- where it failed
-
-pub given_up-requires : goal.given_up-requires
-given_up-requires g c unjudged = (c.requires.owns.0, c.feed.ensures.owns c.requires.owns.0 (c.pieces.invariant.feeds.owns c.requires.owns.0 c.requires.owns.1))
 
 pub returns-in-Err-feed : goal.returns-in-Err-feed
 returns-in-Err-feed g c =
@@ -148,7 +144,7 @@ returns-in-Err-feed g c =
       );
       used = λ told ends unread.
           let gave = c.in-Ok.ensures.bytes told in
-          let judging = judging_of c.given_up.ensures.same ends in
+          let judging = ap is_verdict (sym c.given_up.ensures.same) ∙ not-false (is_verdict c.given_up.result) ends in
           let settles : IsSettled (g.S.Stage.work c.pieces.engine.stage) (so_far.fed ++ take c.in-Ok.n c.read_part.new.buffer) c.in-Err-feed.fault
           = judges (g.S.Stage.work c.pieces.engine.stage).means _ (EndsWith g.S.Stage.Holds g.S.Stage.work c.pieces.engine.stage (take c.in-Ok.n c.read_part.new.buffer)) judging c.in-Err-feed.ensures.refused so_far.fed so_far.feeds.holds.within in
           rw (← so_far.feeds.same)
@@ -163,16 +159,10 @@ returns-in-Err-feed g c =
 
 -- where nothing more can follow
 
-pub give_back-requires-clause-input : goal.give_back-requires-clause-input
-give_back-requires-clause-input g c = c.pieces.invariant.readable
-
 pub give_back-requires-clause-within : goal.give_back-requires-clause-within
 give_back-requires-clause-within g c told =
     let so_far = c.pieces.invariant in
     spare_within _ _ _ so_far.fed (g.met.S.Stage.lawful _) (rw so_far.feeds.same (so_far.last told)) (c.unused-unused.ensures so_far.fed so_far.feeds.holds)
-
-pub end-requires-2-clause-owns : goal.end-requires-2-clause-owns
-end-requires-2-clause-owns g c = (c.requires.owns.0, c.pieces.invariant.feeds.owns c.requires.owns.0 c.requires.owns.1)
 
 pub returns : goal.returns
 returns g c =

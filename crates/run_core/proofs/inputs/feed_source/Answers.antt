@@ -1,8 +1,7 @@
 use Rattle.std.proofs.Common.{not, ◌∙◌, ap, sym}
 use Rattle.std.proofs.lemmas.Bool.{false≢true}
 use Rattle.ports_core.proofs.HandedOn.{handed_on}
-use Rattle.run_core.proofs.InputLemmas.{fed_as, fed_none, keeps_all}
-use Rattle.run_core.proofs.ReadingLemmas.{unread_source, asks_there, still_within}
+use Rattle.run_core.proofs.InputLemmas.{unread_source, still_within, left_of}
 use Rattle.run_core.specs.Feeding.{opens, stopped}
 use Rattle.run_core.proofs.inputs.feed_source.Goals as goal
 
@@ -11,13 +10,8 @@ returns-in_err-engine-clause-fed g c = rw (handed_on _ _ c.from_residual.ensures
     let short = c.in_err-engine.ensures.err in (stopped _ short.unjudged _ opens unread short.reached short.why short.stop short.swept, λ ends. absurd (false≢true (sym ends ∙ ap not short.unjudged)))))
 
 pub returns-in-Some-clause-fed : goal.returns-in-Some-clause-fed
-returns-in-Some-clause-fed g c = fed_as _ _ _ _ _ _ c.in-Some.is c.in_ok-engine.ensures.ok (still_within c.in-Some.is c.requires.input c.feed_input.ensures.others) c.feed_input.ensures.ends (λ told ends. c.feed_input.ensures.used told ends (rw c.in-Some.is at c.requires.unread))
-
-pub returns-in-Some-clause-asked : goal.returns-in-Some-clause-asked
-returns-in-Some-clause-asked g c = asks_there c.feed_input.ensures.others c.feed_input.ensures.asked
-
-pub returns-clause-fed : goal.returns-clause-fed
-returns-clause-fed g c = fed_none _ _ _ _ _ _ _ _ c.in-None.is c.in_ok-engine.ensures.ok c.feed_nothing.ensures.ends
-
-pub returns-in_err-engine-clause-others : goal.returns-in_err-engine-clause-others
-returns-in_err-engine-clause-others g c = keeps_all _ _
+returns-in-Some-clause-fed g c =
+    let had = c.in_ok-engine.ensures.ok in
+    rw (c.in-Some.is, ← had.does) (left_of _ _ (still_within c.in-Some.is c.requires.input c.feed_input.ensures.others)
+    (λ told ends. c.feed_input.ensures.used told ends (rw c.in-Some.is at c.requires.unread))
+    (c.feed_input.ensures.ends _ _ had.owns (rw (← had.does) at had.outputs)))

@@ -1,24 +1,10 @@
-use Rattle.std.proofs.Common.{not, ap, inl, inr, sym, refl}
+use Rattle.std.proofs.Common.{not, ap, inl, inr, sym, refl, rules}
 use Rattle.ports_core.proofs.HandedOn.{handed_on}
-use Rattle.run_core.proofs.InputLemmas.{of_source_too, from_source, part_writable, part_two, headed, headed_count, stopped_in_header, took_well, took_broken, took_verdict, took_stopped, fed_open, keeps_all}
-use Rattle.run_core.proofs.ReadingLemmas.{unread_source}
+use Rattle.run_core.proofs.InputLemmas.{of_source_too, from_source, part_two, headed, headed_count, stopped_in_header, took_well, took_broken, took_verdict, took_stopped, fed_open, unread_source}
 use Rattle.run_core.proofs.inputs.take_input.Goals as goal
 
-pub put_header-requires : goal.put_header-requires
-put_header-requires g c = let had = c.requires.outputs in part_writable had.at
-
-pub feed_source-requires-clause-streams : goal.feed_source-requires-clause-streams
-feed_source-requires-clause-streams g c = let had = c.requires.outputs in part_two (headed _ had.at c.in_ok-put_header.ensures.ok)
-
-pub feed_source-requires-clause-output : goal.feed_source-requires-clause-output
-feed_source-requires-clause-output g c = let had = c.requires.outputs in part_writable (headed _ had.at c.in_ok-put_header.ensures.ok)
-
 pub returns-in_err-put_header-clause-took : goal.returns-in_err-put_header-clause-took
-returns-in_err-put_header-clause-took g c so_far error opened at =
-    rw (handed_on _ _ c.from_residual.ensures.1) (unread_source _ _ _ _ c.requires.input (λ content unread. stopped_in_header _ _ c.in_err-put_header.ensures.due unread at c.in_err-put_header.ensures.err))
-
-pub returns-in_err-put_header-clause-others : goal.returns-in_err-put_header-clause-others
-returns-in_err-put_header-clause-others g c = keeps_all _ _
+returns-in_err-put_header-clause-took g c so_far error opened at = search (rules, handed_on, unread_source, stopped_in_header)
 
 pub say-requires : goal.say-requires
 say-requires g c =

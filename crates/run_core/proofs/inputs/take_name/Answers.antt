@@ -1,7 +1,6 @@
 use Rattle.std.proofs.Common.{◌∙◌, sym, arith}
 use Rattle.std.proofs.lemmas.Grind.{common_steps}
-use Rattle.run_core.proofs.InputLemmas.{of_missing, of_no_room, took_opened, took_standard}
-use Rattle.run_core.proofs.ReadingLemmas.{takes_dash, takes_file, takes_missing}
+use Rattle.run_core.proofs.InputLemmas.{of_missing, of_no_room, took_opened, took_standard, takes_file, takes_missing}
 use Rattle.run_core.proofs.inputs.take_name.Goals as goal
 
 -- the name is `-`
@@ -9,9 +8,6 @@ use Rattle.run_core.proofs.inputs.take_name.Goals as goal
 pub returns-then-is_dash-clause-took : goal.returns-then-is_dash-clause-took
 returns-then-is_dash-clause-took g c so_far error opened at =
     took_standard _ (g.I.Inputs.laid c.args.inputs.now) c.args.name.now (g.I.Inputs.sources c.args.inputs.now) c.standard_source-source.ensures (sym c.is_dash.ensures ∙ c.if-is_dash.true) (c.take_input.ensures.took so_far error opened at)
-
-pub returns-then-is_dash-clause-takes : goal.returns-then-is_dash-clause-takes
-returns-then-is_dash-clause-takes g c = takes_dash _ (sym c.is_dash.ensures ∙ c.if-is_dash.true) (rw c.standard_source-source.ensures at c.take_input.ensures.others) c.take_input.ensures.asked
 
 -- the file was opened
 
@@ -34,8 +30,7 @@ returns-else-not-is_unopened-clause-takes g c = takes_missing (sym c.is_dash.ens
 -- there is no room for it
 
 pub returns-then-not-is_unopened-clause-took : goal.returns-then-not-is_unopened-clause-took
-returns-then-not-is_unopened-clause-took g c so_far error opened at =
-    of_no_room _ (sym c.is_dash.ensures ∙ c.if-is_dash.false) c.in-Err.ensures.err (sym c.if-not-is_unopened.ensures) at
+returns-then-not-is_unopened-clause-took g c so_far error opened at = grind (arith, common_steps, of_no_room)
 
 pub returns-then-not-is_unopened-clause-takes : goal.returns-then-not-is_unopened-clause-takes
 returns-then-not-is_unopened-clause-takes g c = takes_missing (sym c.is_dash.ensures ∙ c.if-is_dash.false) c.requires.some c.in-Err.ensures.err

@@ -1,50 +1,40 @@
-use Rattle.std.proofs.Common.{◌∙◌, arith, refl}
+use Rattle.std.proofs.lemmas.Grind.{common_steps}
+use Rattle.std.proofs.Common.{◌∙◌, arith, rules}
 use Rattle.std.proofs.lemmas.List.{length-map}
 use Rattle.ports_core.proofs.HandedOn.{handed_on}
-use Rattle.run_core.proofs.InputLemmas.{walk_begins, walk_streams, walk_readable, walked_at, walk_goes_on, walk_stops, walk_ends, walk_counts, walk_within, asks_on, untouched_on, none_left}
-use Rattle.run_core.proofs.ReadingLemmas.{nothing_taken}
+use Rattle.run_core.proofs.InputLemmas.{walk_begins, walk_streams, walked_at, walk_goes_on, walk_stops, walk_ends, untouched_on, none_left, walked_error, slots_at, count_more}
 use Rattle.run_core.proofs.inputs.take_names.Goals as goal
 
 pub loop-left-init : goal.loop-left-init
-loop-left-init g c = record {
-  walked = walk_begins c.requires.fresh c.requires.outputs c.requires.alone;
-  untouched = record { none_left = λ none. none; same = λ none. refl };
-  room = c.requires.room;
-}
-
-pub take_name-requires-clause-some : goal.take_name-requires-clause-some
-take_name-requires-clause-some g c = c.loop-left.invariant.walked.some
-
-pub take_name-requires-clause-standard : goal.take_name-requires-clause-standard
-take_name-requires-clause-standard g c = walk_readable c.loop-left.invariant.walked
-
-pub take_name-requires-clause-unread : goal.take_name-requires-clause-unread
-take_name-requires-clause-unread g c = λ first. nothing_taken (g.I.Inputs.sources c.loop-left.inputs) 0 (c.loop-left.invariant.walked.standard first)
+loop-left-init g c = grind (arith, common_steps, walk_begins, none_left)
 
 pub take_name-requires-clause-outputs : goal.take_name-requires-clause-outputs
-take_name-requires-clause-outputs g c = walk_streams (omega (arith, length-map c.loop-left.left.now (λ word. word.now), c.in-len1-up.len_at_least)) c.loop-left.invariant.walked
+take_name-requires-clause-outputs g c = search (rules, walk_streams, length-map)
 
 pub loop-left-preserved : goal.loop-left-preserved
-loop-left-preserved g c = record {
-  walked = walk_goes_on c.loop-left.invariant.room
-      (walked_at _ _ c.loop-left.left.now c.in-len1-up.len_at_least c.loop-left.invariant.walked) c.in_ok-progress.ensures.took c.take_name.ensures.takes c.in_ok-progress.ensures.opens c.in_ok-progress.ensures.laid;
-  untouched = untouched_on _ c.loop-left.left.now _ c.in-len1-up.len_at_least c.loop-left.invariant.untouched c.take_name.ensures.takes.unasked;
-  room = c.take_name.auto.buffer ∙ c.loop-left.invariant.room;
-}
+loop-left-preserved g c =
+    let walked = walked_at _ _ c.loop-left.left.now c.in-len1-up.len_at_least c.loop-left.invariant.walked in
+    let takes = c.in_ok-progress.ensures.took walked.made.part walked.error (walked_error _ walked) (slots_at (omega arith) walked) in record {
+      walked = walk_goes_on walked (rw c.loop-left.invariant.room at c.take_name.ensures.takes) c.in_ok-progress.ensures.opens c.in_ok-progress.ensures.laid (rw c.loop-left.invariant.room at takes);
+      untouched = untouched_on _ c.loop-left.left.now _ c.in-len1-up.len_at_least c.loop-left.invariant.untouched c.take_name.ensures.takes.unasked;
+      room = c.take_name.auto.buffer ∙ c.loop-left.invariant.room;
+    }
 
 pub returns-in_err-progress : goal.returns-in_err-progress
-returns-in_err-progress g c = record {
-  took = rw (handed_on _ _ c.from_residual.ensures.1) (walk_stops _ c.in_err-progress.field-0.0 c.loop-left.invariant.room
-      (walked_at _ _ c.loop-left.left.now c.in-len1-up.len_at_least c.loop-left.invariant.walked) c.in_err-progress.ensures.took c.take_name.ensures.takes);
-  opened = walk_within _ (walked_at _ _ c.loop-left.left.now c.in-len1-up.len_at_least c.loop-left.invariant.walked) c.take_name.ensures.takes;
-  asked = asks_on c.loop-left.invariant.room c.take_name.ensures.takes c.loop-left.invariant.walked.asked;
-  untouched = (untouched_on _ c.loop-left.left.now (g.I.Inputs.sources c.take_name.new.inputs) c.in-len1-up.len_at_least c.loop-left.invariant.untouched c.take_name.ensures.takes.unasked).same;
-}
+returns-in_err-progress g c =
+    let walked = walked_at _ _ c.loop-left.left.now c.in-len1-up.len_at_least c.loop-left.invariant.walked in
+    let takes = c.in_err-progress.ensures.took walked.made.part walked.error (walked_error _ walked) (slots_at (omega arith) walked) in
+    let leaves = rw c.loop-left.invariant.room at c.take_name.ensures.takes in record {
+      took = rw (handed_on _ _ c.from_residual.ensures.1) (walk_stops _ c.in_err-progress.field-0.0 walked leaves (rw c.loop-left.invariant.room at takes));
+      opened = grind (arith, common_steps, count_more);
+      asked = leaves.asked walked.asked;
+      untouched = (untouched_on _ c.loop-left.left.now (g.I.Inputs.sources c.take_name.new.inputs) c.in-len1-up.len_at_least c.loop-left.invariant.untouched c.take_name.ensures.takes.unasked).same;
+    }
 
 pub returns : goal.returns
 returns g c = record {
   took = walk_ends (none_left c.loop-left.left.now c.in_default.len_below) c.loop-left.invariant.walked;
-  opened = walk_counts (none_left c.loop-left.left.now c.in_default.len_below) c.loop-left.invariant.walked;
+  opened = let none = none_left c.loop-left.left.now c.in_default.len_below in let walked = c.loop-left.invariant.walked in grind (arith, common_steps);
   asked = c.loop-left.invariant.walked.asked;
   untouched = c.loop-left.invariant.untouched.same;
 }

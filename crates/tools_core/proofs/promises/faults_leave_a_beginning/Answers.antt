@@ -1,4 +1,4 @@
-use Rattle.tools_core.proofs.BeginPromises.{begins_each}
+use Rattle.tools_core.proofs.PromiseLemmas.{begins_each}
 use Rattle.tools_core.proofs.StoppedPromises.{is_broken, says_why}
 use Rattle.tools_core.proofs.promises.faults_leave_a_beginning.Goals as goal
 

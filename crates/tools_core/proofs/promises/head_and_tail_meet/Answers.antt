@@ -1,4 +1,4 @@
-use Rattle.tools_core.proofs.EndsPromises.{first_meet, last_meet}
+use Rattle.tools_core.proofs.PromiseLemmas.{first_meet, last_meet}
 use Rattle.tools_core.proofs.promises.head_and_tail_meet.Goals as goal
 
 pub returns : goal.returns

@@ -1,8 +1,5 @@
-use Rattle.tools_core.proofs.EndsPromises.{is_copied}
+use Rattle.tools_core.proofs.PromiseLemmas.{is_copied}
 use Rattle.tools_core.proofs.promises.tee_copies.Goals as goal
-
-pub returns-clause-output : goal.returns-clause-output
-returns-clause-output c tee asked input does has = (is_copied does has).output
 
 pub returns-clause-files : goal.returns-clause-files
 returns-clause-files c tee asked input does has = (is_copied does has).files

@@ -2,12 +2,12 @@ use Rattle.std.proofs.Common.{◌∙◌, ap, sym, arith, length}
 use Rattle.std.proofs.lemmas.Grind.{common_steps}
 use Rattle.watch_core.specs.Snapshot.{latest}
 use Rattle.watch_core.specs.Watched.{watched_at}
-use Rattle.follow_core.proofs.CallLemmas.{adds_copied, adds_none, adds_untold, contents_open, ends_can}
+use Rattle.follow_core.proofs.CallLemmas.{adds_copied, adds_untold, contents_open, ends_can, nothing_due}
 use Rattle.follow_core.proofs.StartLemmas.{contents_same}
 use Rattle.follow_core.proofs.visitor.Visitor.catch_up.Goals as goal
 
 pub returns-in_default-clause-adds : goal.returns-in_default-clause-adds
-returns-in_default-clause-adds g c = adds_none (latest (g.W.Watch.seen c.args.watch.now)) (sym c.open_id.ensures ∙ c.in_default.is)
+returns-in_default-clause-adds g c = grind (arith, common_steps, nothing_due)
 
 pub returns-in-Err-begin_at-clause-adds : goal.returns-in-Err-begin_at-clause-adds
 returns-in-Err-begin_at-clause-adds g c =
