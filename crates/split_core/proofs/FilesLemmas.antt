@@ -334,13 +334,13 @@ owned_opened {files} {old} name drawn is first owns = rw is (record {
 -- the file could not be opened: then a name was drawn for it, or no output was added
 owned_unopened : (files : FilesState) (names : Naming) {old new : List Slot} {why : Fault} → files.names.drawn ≡ length files.outputs → OpensNone files.names names old new why
     → KeepsFiles files old (record files { names = names }) new
-owned_unopened files names drawn (no_memory same) first owns = record { stand = owns.stand; last = λ also. owns.last drawn ∙ sym (ap length same) }
+owned_unopened files names drawn (no_memory has same) first owns = record { stand = owns.stand; last = λ also. owns.last drawn ∙ sym (ap length same) }
 owned_unopened files names drawn (no_name has same) first owns = record { stand = owns.stand; last = λ also. owns.last drawn ∙ sym (ap length same) }
 owned_unopened files names drawn (no_file slot kept at has drew is made) first owns =
     record { stand = owns.stand; last = λ also. absurd (omega (arith, also, drawn, ap (λ (those : Naming). those.drawn) drew)) }
 
 fails_caused : {names next : Naming} {old new : List Slot} {why : Fault} → IsTrue (has_next names) → OpensNone names next old new why → CannotOpen old new why
-fails_caused has (no_memory same) = inl refl
+fails_caused has (no_memory left same) = inl refl
 fails_caused {old = old} {new} has (no_file slot kept at _ drew is made) = inr (slot, refl, open_rose slot kept old new at made)
 fails_caused has (no_name none same) = absurd (false≢true (sym none ∙ has))
 
@@ -384,14 +384,21 @@ reached told files {old} {new} place ready here is = record {
 
 -- or it couldn't be
 pub reached_not : (told : Bool) (files : FilesState) {names : Naming} {old new : List Slot} (place : ℕ) {why : Fault} → AreReady files old → place ≡ length files.outputs → is_named files.names place ≡ true
-    → names ≡ record files.names { drawn = names.drawn } → OpensNone files.names names old new why → Opens told files place (place + 1) old (record files { names = names }) new (Err why)
-reached_not told files {names} {old} {new} place {why} ready here named same fails = record {
+    → names ≡ record files.names { drawn = names.drawn } → (IsTrue (has_next files.names) → OpensNone files.names names old new why)
+    → Opens told files place (place + 1) old (record files { names = names }) new (Err why)
+reached_not told files {names} {old} {new} place {why} ready here named same unopened = record {
   adds = adds_not told files _ place (place + 1) why (omega arith) (omega arith) (omega arith) (ap from_start same) (owned_unopened files names ready.drawn fails) (of_files caused) (λ i out. refl)
       (opens_marks _ (λ has. (ap (name_of files.names) ready.drawn, omega arith)) fails) (λ first. opens_at first here fails);
   caused = caused;
 } where
+  has : IsTrue (has_next files.names)
+  has = subst (λ n. is_named files.names n ≡ true) (here ∙ sym ready.drawn) named
+
+  fails : OpensNone files.names names old new why
+  fails = unopened has
+
   caused : CannotOpen old new why
-  caused = fails_caused (subst (λ n. is_named files.names n ≡ true) (here ∙ sym ready.drawn) named) fails
+  caused = fails_caused has fails
 
 -- Writing
 

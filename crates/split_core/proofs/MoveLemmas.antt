@@ -96,18 +96,18 @@ pub write_breaks : (told : Bool) {slot : ℕ} {bytes : List ℕ} {old new : List
 write_breaks told {slot} {bytes} {old} {new} two can (broke n cut) = breaks_write slot two (write_rose told slot bytes n old new can cut)
 
 pub open_breaks : {names next : Naming} {old new : List Slot} {fault : Fault} → OpensNone names next old new fault → Breaks old new fault
-open_breaks (no_memory same) = wants_memory
+open_breaks (no_memory has same) = wants_memory
 open_breaks {old = old} {new} (no_file slot kept at has drew is made) = breaks_open slot (open_rose slot kept old new at made)
 open_breaks (no_name none same) = lacks_names
 
 -- what an open that failed leaves, and where it failed
 pub opens_marks : (IsName : List ℕ → Type 0) {names next : Naming} {old new : List Slot} {fault : Fault} → (IsTrue (has_next names) → IsName (next_name names)) → OpensNone names next old new fault → Marks IsName fault old new
-opens_marks IsName named (no_memory same) = same
+opens_marks IsName named (no_memory has same) = same
 opens_marks IsName {names} named (no_file slot kept at has drew is made) = grind (arith, common_steps)
 opens_marks IsName named (no_name none same) = same
 
 pub opens_at : {names next : Naming} {old new : List Slot} {fault : Fault} (first : ℕ) {place count : ℕ} → place ≡ count → OpensNone names next old new fault → IsAt fault first place count
-opens_at first here (no_memory same) = tt
+opens_at first here (no_memory has same) = tt
 opens_at first here (no_file slot kept at has drew is made) = here
 opens_at first here (no_name none same) = tt
 
@@ -154,7 +154,7 @@ owned_opened one old {new} at is first owns = grind (arith, common_steps)
 
 -- the file could not be opened
 pub owned_unopened : {names next : Naming} {old new : List Slot} {fault : Fault} → OpensNone names next old new fault → KeepsFile None old None new
-owned_unopened {old = old} {new} (no_memory same) first owns = grind (arith, common_steps)
+owned_unopened {old = old} {new} (no_memory has same) first owns = grind (arith, common_steps)
 owned_unopened {old = old} (no_file slot kept at has drew is made) first owns = grind (arith, common_steps)
 owned_unopened {old = old} {new} (no_name none same) first owns = grind (arith, common_steps)
 
@@ -333,4 +333,4 @@ empties_short told {slot} front rest {old} {new} {fault} so_far is short = grind
 pub opens_none : (names : Naming) {next : Naming} {name : List ℕ} {old new : List Slot} → name ≡ next_name names → IsTrue (has_next names) → next ≡ with_one_drawn names
     → {fault : Fault} → FailsToOpen old name new fault → OpensNone names next old new fault
 opens_none names named has drew (outputs.broke slot kept at is made) = no_file slot kept at has drew (subst (λ those. (kept ≡ those) ⊎ (kept ≡ [])) named is) made
-opens_none names named has drew (outputs.numberless full same) = no_memory same
+opens_none names named has drew (outputs.numberless full same) = no_memory has same

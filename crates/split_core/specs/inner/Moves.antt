@@ -35,9 +35,10 @@ pub data Breaks (old new : List Slot) : Fault → Type 0 where
 abbrev pub WritesTo : Bool → ℕ → List ℕ → List Slot → List Slot → Result (Unit {0}) Fault → Type 0
 WritesTo told slot bytes old new result = Wrote told slot bytes old new (fault_in result)
 
--- why the next file wasn't opened; a name was drawn for one that can't be
+-- why the next file wasn't opened: where there was no memory a name had been left, and one was drawn for a file that
+-- can't be opened
 pub data OpensNone (names next : Naming) (old new : List Slot) : Fault → Type 0 where
-  no_memory : new ≡ old → OpensNone names next old new Memory
+  no_memory : IsTrue (has_next names) → new ≡ old → OpensNone names next old new Memory
   no_file : (slot : ℕ) (kept : List ℕ) → slot ≡ length old → IsTrue (has_next names) → next ≡ with_one_drawn names
       → (kept ≡ next_name names) ⊎ (kept ≡ []) → new ≡ old ++ unopened kept ∷ [] → OpensNone names next old new (Open slot)
   no_name : has_next names ≡ false → new ≡ old → OpensNone names next old new Suffixes
