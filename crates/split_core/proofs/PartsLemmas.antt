@@ -1,10 +1,10 @@
 -- What each call on parts leaves: a step of a piece, a piece that is taken in step by step, the end of the input, and what the stage owes.
 use Rattle.std.proofs.lemmas.Grind.{common_steps}
-use Rattle.std.proofs.Common.{◌≡◌, ℕ, ◌+◌, ◌-◌, ◌<◌, ◌≤◌, suc, List, [], ◌∷◌, ◌++◌, length, map, Bool, true, false, eqb, IsTrue, Option, Some, None, Result, Ok, Err, OnOk, IfErr, refl, sym, ◌∙◌, ap, subst, add-one, arith, length-append, rules, take, drop, IfOk, inl, append_assoc, not, cond, zero-add}
+use Rattle.std.proofs.Common.{◌≡◌, ℕ, ◌+◌, ◌-◌, ◌<◌, ◌≤◌, suc, List, [], ◌∷◌, ◌++◌, length, map, Bool, true, false, eqb, Option, Some, None, Result, Ok, Err, OnOk, IfErr, refl, sym, ◌∙◌, ap, subst, add-one, arith, length-append, rules, take, drop, IfOk, inl, append_assoc, not, cond, zero-add}
 use Rattle.std.proofs.lemmas.List.{append-nil, drop-take, take-append-drop, length-map}
 use Rattle.std.proofs.lemmas.Bool.{false≢true}
 use Rattle.std.proofs.lemmas.Result.{IfErr-weaker, on_ok_weaker}
-use Rattle.ports_core.specs.Name.{Naming, next_name, has_next, with_one_drawn}
+use Rattle.ports_core.specs.Name.{Naming, next_name}
 use Rattle.ports_core.specs.Slot.{Slot, Rose, changed_at, opened, closes, with_broken, is_closable}
 use Rattle.ports_core.specs.declared.slot.Mode.TheVariants.{Fresh}
 use Rattle.ports_core.specs.declared.slot.State.{State}
@@ -19,7 +19,7 @@ use Rattle.split_core.specs.laws.ShareLaws.{shares_after, part_begins, settled_o
 use Rattle.split_core.proofs.CutLaws.{shut_more, cut_two, shut_map, shares_trans}
 use Rattle.split_core.specs.PartsState.{PartsState, IsReady, is_given, Lacks, Stands}
 use Rattle.split_core.specs.inner.CutLaws.{AllShut, cut_so, SharesBegin, whole_parts}
-use Rattle.split_core.specs.inner.Moves.{Keeps, KeepsFile, Breaks, Draft, draft, written, Begun, gets, turns, Moves, Found, HasNone, Extends, Turns, Shuts, WritesTo, breaks_write, numbers, Takes, Steps, Finishes, CannotClose, wants_memory, lacks_names}
+use Rattle.split_core.specs.inner.Moves.{Keeps, KeepsFile, Breaks, Draft, draft, written, Begun, gets, turns, Moves, HasFile, there, made, HasNone, Extends, Turns, Shuts, WritesTo, breaks_write, numbers, Takes, Steps, Finishes, CannotClose, wants_memory, lacks_names}
 use Rattle.split_core.proofs.MoveLemmas.{close_goes, goes_same, goes_then, goes_wider, keeps_still, keeps_then, moves_then, on_ok, open_breaks, open_goes, open_stops, owned_ended, owned_opened, owned_same, owned_unopened, write_breaks, write_goes, are_named_same, last_turn, shut_files, met_closing, met_files, owns_last, same_files}
 use Rattle.ports_core.proofs.SlotSteps as slot_steps
 use Rattle.std.proofs.Math.Seq.{take-length}
@@ -160,15 +160,15 @@ shuts_some told parts next {slot} {old} {new} result ready is next_is ok err = s
 
 -- the file of the part that was begun, once it is there
 
-pub found_there : (told : Bool) (parts : PartsState) (old : List Slot) (slot : ℕ) → parts.current ≡ Some slot → IsReady parts.current old
-    → Found told parts old old parts slot
-found_there told parts old slot is ready = record {
-  same = ap (λ current. record parts { current = current }) is;
-  keeps = keeps_still ready;
-  can = subst (λ current. IsReady current old) is ready;
-  last = λ those has. begun_named has (sym has.given ∙ ap is_given is);
-  goes = λ those has. goes_same (written_some those (sym has.given ∙ ap is_given is));
-}
+-- the file of the part that was begun is there, and the next has its name, if there was none
+pub record Found (told : Bool) (parts : PartsState) (old new : List Slot) (next : PartsState) (slot : ℕ) : Type 0 where
+  pub same : next ≡ record parts { names = next.names; current = Some slot }
+  pub keeps : Keeps parts old new next (Ok tt)
+  pub can : is_closable new slot
+  pub last : (those : Draft) → Begun parts.names parts.current those
+      → (next.names.drawn ≡ suc (length those.shares)) × (is_named parts.names (length those.shares) ≡ true)
+  pub goes : (those : Draft) → Begun parts.names parts.current those
+      → run.Goes told (from_start parts.names) parts.current (written those) (those.shares ++ share file_state.Open those.begun ∷ []) old new (Ok tt)
 
 -- where no file is open, nothing of the part is written
 begun_yet : {names : Naming} {current : Option ℕ} {those : Draft} → Begun names current those → current ≡ None
@@ -177,10 +177,16 @@ begun_yet {those = those} has none =
     let no_bytes = none_begun those.begun (sym has.given ∙ ap is_given none) in
     (no_bytes, has.drawn ∙ ap (λ bytes. length (written (draft those.shares bytes))) no_bytes ∙ ap length (append-nil those.shares))
 
-pub found_made : (told : Bool) (parts : PartsState) {old new : List Slot} (next : PartsState) (slot : ℕ) → parts.current ≡ None → IsReady parts.current old
-    → slot ≡ length old → IsTrue (has_next parts.names) → next ≡ record parts { names = with_one_drawn parts.names; current = Some slot }
-    → new ≡ old ++ opened (next_name parts.names) Fresh ∷ [] → Found told parts old new next slot
-found_made told parts {old} {new} next slot none ready at has next_is made_it = subst (λ those. Found told parts old new those slot) (sym next_is) (record {
+pub found : (told : Bool) {parts : PartsState} {old new : List Slot} {next : PartsState} {slot : ℕ} → IsReady parts.current old → HasFile parts old new next slot
+    → Found told parts old new next slot
+found told {parts} {old} {slot = slot} ready (there is same unchanged) = rw (same, unchanged) (record {
+  same = ap (λ current. record parts { current = current }) is;
+  keeps = keeps_still ready;
+  can = subst (λ current. IsReady current old) is ready;
+  last = λ those has. begun_named has (sym has.given ∙ ap is_given is);
+  goes = λ those has. goes_same (written_some those (sym has.given ∙ ap is_given is));
+})
+found told {parts} {old} {new} {slot = slot} ready (made none at has next_is made_it) = subst (λ those. Found told parts old new those slot) (sym next_is) (record {
   same = refl;
   keeps = record {
     limit = refl;
@@ -564,7 +570,7 @@ whole_so state {x} stands = append-nil _ ∙ ap (λ rest. full_of state x ++ map
 module _ (told : Bool) (state : PartsState) {slot : ℕ} {old : List Slot} (held : List ℕ) (ready : IsReady state.current old) (is : state.current ≡ Some slot) where
   pub held_moves : {wet : List Slot} {mid : PartsState} (result : Result (Unit {0}) Fault) → WritesTo told slot state.waiting old wet result → mid ≡ record state { waiting = held } → OnOk result (held ≡ [])
       → Moves told state (state.left, state.has_line, []) (gets state.waiting) old wet mid result
-  held_moves result wrote mid_is none = extended state.waiting held result (λ those has. longer those.begun (sym has.given ∙ ap is_given is)) (found_there told state old slot is ready) wrote mid_is none where
+  held_moves result wrote mid_is none = extended state.waiting held result (λ those has. longer those.begun (sym has.given ∙ ap is_given is)) (found told ready (there is refl refl)) wrote mid_is none where
     longer : (begun : List ℕ) → is_some begun ≡ true → is_some (begun ++ state.waiting) ≡ true
     longer [] none = absurd (false≢true none)
     longer (byte ∷ begun) is = refl

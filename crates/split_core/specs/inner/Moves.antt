@@ -1,8 +1,9 @@
 -- How the files of `split` change in a step.
-use Rattle.std.specs.Prelude.{◌≡◌, ℕ, ◌-◌, ◌≤◌, ◌<◌, suc, Bool, true, false, List, [], ◌∷◌, ◌++◌, ◌⊎◌, length, take, map, IsTrue, Option, Some, None, Result, Ok, Err, OnOk, IfErr}
+use Rattle.std.specs.Prelude.{◌≡◌, ℕ, ◌-◌, ◌≤◌, ◌<◌, Bool, true, false, List, [], ◌∷◌, ◌++◌, ◌⊎◌, length, take, map, IsTrue, Option, Some, None, Result, Ok, Err, OnOk, IfErr}
 use Rattle.ports_core.specs.Name.{Naming, next_name, has_next, with_one_drawn}
-use Rattle.ports_core.specs.Slot.{Slot, Rose, is_closable, unopened}
+use Rattle.ports_core.specs.Slot.{Slot, Rose, opened, unopened}
 use Rattle.ports_core.specs.inner.Slot.{KeepsBroken}
+use Rattle.ports_core.specs.declared.slot.Mode.TheVariants.{Fresh}
 use Rattle.ports_core.specs.declared.slot.State.TheVariants as state
 use Rattle.ports_core.specs.Part.{Part, OutputsAt}
 use Rattle.ports_core.proofs.PartSteps.{Becomes}
@@ -115,16 +116,12 @@ pub record Moves (told : Bool) (parts : PartsState) (are : ℕ × Bool × List �
   pub goes : (those : Draft) → Begun parts.names parts.current those
       → Goes told (from_start parts.names) parts.current (written those) (written (change those)) old new result
 
--- the file of the part that was begun is there, and the next has its name, if there was none
-pub record Found (told : Bool) (parts : PartsState) (old new : List Slot) (next : PartsState) (slot : ℕ) : Type 0 where
-  pub same : next ≡ record parts { names = next.names; current = Some slot }
-  pub keeps : Keeps parts old new next (Ok tt)
-  pub can : is_closable new slot
-  pub last : (those : Draft) → Begun parts.names parts.current those
-      → (next.names.drawn ≡ suc (length those.shares)) × (is_named parts.names (length those.shares) ≡ true)
-  pub goes : (those : Draft) → Begun parts.names parts.current those
-      → Goes told (from_start parts.names) parts.current (written those)
-      (those.shares ++ share state.Open those.begun ∷ []) old new (Ok tt)
+-- the file of the part that was begun: it was there, or it was opened now
+pub data HasFile (parts : PartsState) (old new : List Slot) (next : PartsState) (slot : ℕ) : Type 0 where
+  there : parts.current ≡ Some slot → next ≡ parts → new ≡ old → HasFile parts old new next slot
+  made : parts.current ≡ None → slot ≡ length old → IsTrue (has_next parts.names)
+      → next ≡ record parts { names = with_one_drawn parts.names; current = Some slot }
+      → new ≡ old ++ opened (next_name parts.names) Fresh ∷ [] → HasFile parts old new next slot
 
 -- the file of the part that was begun couldn't be opened
 pub record HasNone (parts : PartsState) (old new : List Slot) (next : PartsState) (fault : Fault) : Type 0 where
@@ -133,9 +130,9 @@ pub record HasNone (parts : PartsState) (old new : List Slot) (next : PartsState
   pub same : next ≡ record parts { names = next.names }
   pub names_same : next.names ≡ record parts.names { drawn = next.names.drawn }
 
-abbrev pub FindsFile : Bool → PartsState → List Slot → List Slot → PartsState → Result ℕ Fault → Type 0
-FindsFile told parts old new next (Ok slot) = Found told parts old new next slot
-FindsFile told parts old new next (Err fault) = HasNone parts old new next fault
+abbrev pub FindsFile : PartsState → List Slot → List Slot → PartsState → Result ℕ Fault → Type 0
+FindsFile parts old new next (Ok slot) = HasFile parts old new next slot
+FindsFile parts old new next (Err fault) = HasNone parts old new next fault
 
 -- what waits and these bytes went to the part that was begun, or a fault came meanwhile
 abbrev pub Extends : Bool → PartsState → List ℕ → List Slot → List Slot → PartsState → Result (Unit {0}) Fault → Type 0
