@@ -19,7 +19,7 @@ use Rattle.split_core.specs.FilesState.{FilesState}
 use Rattle.split_core.specs.Round.{AreReady, output_at}
 use Rattle.split_core.specs.laws.ShareLaws.{kept_file}
 use Rattle.split_core.proofs.MoveLemmas.{breaks_later, opens_marks, opens_at}
-use Rattle.split_core.specs.inner.Sharing.{part_by, all_open, only_at, StandAt, KeepsFiles, IsOfFiles, Adds, Leaves, Grow, IsDue, HaltedAt, closed_first, Opens, HaveClosed, ClosesAll, with_opened}
+use Rattle.split_core.specs.inner.Sharing.{part_by, all_open, only_at, StandAt, KeepsFiles, IsOfFiles, Adds, Leaves, Grow, Halts, closed_first, Opens, HaveClosed, ClosesAll, with_opened}
 use Rattle.std.proofs.Math.Seq.{get_or-append_seam}
 use Rattle.std.proofs.lemmas.Bool.{cases_lt, false≢true, eq-eqb, ne_eqb}
 use Rattle.ports_core.specs.inner.Write as short
@@ -102,39 +102,9 @@ grow_by from to {had} {has} more count outside are = record {
 
 -- A fault that stopped them
 
-pub halts_after : {told : Bool} {before : List Slot} {names : Naming} {low mid high : ℕ → Share} {a b few some many from to : ℕ} {why : Fault} {now : List Slot}
-    → Grow a b low few mid some → HaltedAt told before names mid some high many from to why now → a ≤ from → b ≤ suc from → HaltedAt told before names low few high many a to why now
-halts_after {a = a} grow stop less next = record {
-  place = stop.place;
-  after = omega (arith, stop.after);
-  within = stop.within;
-  part = stop.part;
-  some = stop.some;
-  inside = stop.inside;
-  above = grow_trans a (stop.place + 1) grow stop.above (omega arith) less (omega (arith, stop.after)) (omega arith);
-  below = stop.below;
-  reached = stop.reached;
-  outputs = stop.outputs;
-  marks = stop.marks;
-  came = stop.came;
-}
-
-halts_wider : {told : Bool} {before : List Slot} {names : Naming} {low mid high : ℕ → Share} {c few some many from to : ℕ} (most : ℕ) {why : Fault} {now : List Slot}
-    → HaltedAt told before names low few mid some from to why now → Grow c most mid some high many → to ≤ suc c → to ≤ most → HaltedAt told before names low few high many from most why now
-halts_wider most {why} stop grow next more = record {
-  place = stop.place;
-  after = stop.after;
-  within = omega (arith, stop.within);
-  part = stop.part;
-  some = stop.some;
-  inside = stop.inside;
-  above = stop.above;
-  below = grow_trans stop.place most stop.below grow (omega arith) (omega (arith, stop.within)) more (omega arith);
-  reached = stop.reached;
-  outputs = stop.outputs;
-  marks = marks_by _ _ why stop.reached _ (λ name due. (due.0, omega (arith, due.1, grow.more))) stop.marks;
-  came = stop.came;
-}
+-- after some files the next one of many is due, and it has this name
+abbrev pub IsDue : Naming → ℕ → ℕ → List ℕ → Type 0
+IsDue names some many name = (name ≡ name_of names some) × (some < many)
 
 next_due : (names : Naming) (part high : ℕ → Share) {some many : ℕ} (name : List ℕ) → IsDue names some many name → IsNext (part_by names part some) (part_by names high many) name
 next_due names part high {some} {many} name due = record {
@@ -150,31 +120,44 @@ next_due names part high {some} {many} name due = record {
   file : ℕ → File
   file i = file_at names i (high i)
 
--- the files are in order where the fault stopped them
-pub stops_in_order : {told : Bool} {before : List Slot} {names : Naming} {low high : ℕ → Share} {few many from to : ℕ} (why : Fault) {now : List Slot}
-    → HaltedAt told before names low few high many from to why now → StoppedBetween told before (part_by names low few) (part_by names high many) why now
-stops_in_order {before = before} {names} {low} {high} {few} {many} {to = to} why {now} stop = record {
-  part = part_by names stop.part stop.some;
-  above = grow_begins names stop.above;
-  below = grow_begins names stop.below;
-  place = stop.place;
-  order = record { done = done; untouched = untouched };
-  reached = stop.reached;
-  outputs = stop.outputs;
-  marks = marks_by (IsDue names stop.some many) _ why stop.reached now (next_due names stop.part high) stop.marks;
-  from = subst (IsAt why (length before) stop.place) (sym (length-map-range_with_len (λ i. file_at names i (stop.part i)) 0 stop.some)) stop.came;
+-- The files before a place have got theirs already, and the files after it have got nothing.
+pub halts : {told : Bool} {before : List Slot} {names : Naming} {low high : ℕ → Share} {few many from to : ℕ} (place : ℕ) (part : ℕ → Share) (some : ℕ) {why : Fault} {reached now : List Slot}
+    → from ≤ place → place < max 1 to → place ≤ some → Grow from (place + 1) low few part some → Grow place to part some high many
+    → OutputsAt told before (part_by names part some) reached → Marks (IsDue names some many) why reached now → IsAt why (length before) place some
+    → Halts told before names low few high many from to why now
+halts {before = before} {names} {few = few} {many} {from} {to} place part some {why} {reached} {now} after within inside above below outputs marks came = record {
+  stops = λ first last fewest most end front back.
+      let risen = grow_trans 0 (place + 1) front above (omega arith) (omega arith) (omega arith) (omega arith) in
+      let left = grow_trans place (max to end) below back (omega arith) (omega arith) (omega arith) (omega arith) in record {
+        part = part_by names part some;
+        above = grow_begins names risen;
+        below = grow_begins names left;
+        place = place;
+        order = record { done = done last left; untouched = untouched first risen };
+        reached = reached;
+        outputs = outputs;
+        marks = marks_by (IsDue names some many) _ why reached now (λ name due. next_due names part last name (due.0, omega (arith, due.1, back.more))) marks;
+        from = subst (IsAt why (length before) place) (sym (length-map-range_with_len (λ i. file_at names i (part i)) 0 some)) came;
+      };
 } where
-  done : take stop.place (map (λ i. file_at names i (stop.part i)) (range_with_len 0 stop.some)) ≡ take stop.place (map (λ i. file_at names i (high i)) (range_with_len 0 many))
-  done = take-map-range_with_len _ 0 stop.some stop.place stop.inside
-      ∙ same_by _ _ 0 stop.place (λ i past before. ap (file_at names i) (stop.below.same i (inl (omega arith))))
-      ∙ sym (take-map-range_with_len _ 0 many stop.place (omega (arith, stop.inside, stop.below.more)))
+  done : {most end : ℕ} (last : ℕ → Share) → Grow place end part some last most
+      → take place (map (λ i. file_at names i (part i)) (range_with_len 0 some)) ≡ take place (map (λ i. file_at names i (last i)) (range_with_len 0 most))
+  done {most} last left = take-map-range_with_len _ 0 some place inside
+      ∙ same_by _ _ 0 place (λ i past before. ap (file_at names i) (left.same i (inl (omega arith))))
+      ∙ sym (take-map-range_with_len _ 0 most place (omega (arith, inside, left.more)))
 
-  untouched : drop (suc stop.place) (map (λ i. file_at names i (stop.part i)) (range_with_len 0 stop.some)) ≡ drop (suc stop.place) (map (λ i. file_at names i (low i)) (range_with_len 0 few))
-  untouched =
-      let left : stop.some - suc stop.place ≡ few - suc stop.place = omega (arith, stop.above.more, stop.above.new) in
-      drop_by _ (suc stop.place) 0 stop.some (zero-add (suc stop.place)) ∙ ap (λ n. map (λ i. file_at names i (stop.part i)) (range_with_len (suc stop.place) n)) left
-      ∙ same_by _ _ (suc stop.place) (few - suc stop.place) (λ i past in_it. ap (file_at names i) (sym (stop.above.same i (inr (omega arith)))))
-      ∙ sym (drop_by _ (suc stop.place) 0 few (zero-add (suc stop.place)))
+  untouched : {fewest : ℕ} (first : ℕ → Share) → Grow 0 (place + 1) first fewest part some
+      → drop (suc place) (map (λ i. file_at names i (part i)) (range_with_len 0 some)) ≡ drop (suc place) (map (λ i. file_at names i (first i)) (range_with_len 0 fewest))
+  untouched {fewest} first risen =
+      let left : some - suc place ≡ fewest - suc place = omega (arith, risen.more, risen.new) in
+      drop_by _ (suc place) 0 some (zero-add (suc place)) ∙ ap (λ n. map (λ i. file_at names i (part i)) (range_with_len (suc place) n)) left
+      ∙ same_by _ _ (suc place) (fewest - suc place) (λ i past in_it. ap (file_at names i) (sym (risen.same i (inr (omega arith)))))
+      ∙ sym (drop_by _ (suc place) 0 fewest (zero-add (suc place)))
+
+-- it stopped them in order
+pub stops_in_order : {told : Bool} {before : List Slot} {names : Naming} {low high : ℕ → Share} {few many from to : ℕ} {why : Fault} {now : List Slot}
+    → Halts told before names low few high many from to why now → StoppedBetween told before (part_by names low few) (part_by names high many) why now
+stops_in_order stop = stop.stops _ _ _ _ 0 (grow_same _ _ _ _) (grow_same _ _ _ _)
 
 pub stopped_as : (told : Bool) {before : List Slot} {low low' high high' : Part} {why : Fault} {now : List Slot} → low ≡ low' → high ≡ high' → StoppedBetween told before low high why now → StoppedBetween told before low' high' why now
 stopped_as told {before} {low} {high' = high'} {why} {now} is_low is_high stop =
@@ -202,20 +185,8 @@ adds_not told files more {from} place to {old} why low high inside names owned c
   sound = tt;
   caused = caused;
   outside = λ i out. outside i (wider low (omega arith) out);
-  leaves = λ before had has at are. record {
-    place = place;
-    after = low;
-    within = high;
-    part = all_open had;
-    some = length files.outputs;
-    inside = inside;
-    above = grow_same from (place + 1) (all_open had) (length files.outputs);
-    below = grow_by place to more (length files.outputs) outside are;
-    reached = old;
-    outputs = at.outputs;
-    marks = marks;
-    came = came (length before);
-  };
+  leaves = λ before had has at are. halts place (all_open had) (length files.outputs) low high inside (grow_same from (place + 1) (all_open had) (length files.outputs))
+      (grow_by place to more (length files.outputs) outside are) at.outputs marks (came (length before));
 }
 
 -- a later step
@@ -254,7 +225,10 @@ adds_then {told} {files} {between} {next} {first} {second} {from} {to} {low} {hi
       → Leaves told before (from_start files.names) (all_open (λ i. had i ++ first i)) (max (length files.outputs) to) (all_open has) (max (length files.outputs) high) low high new result
       → Leaves told before (from_start files.names) (all_open had) (length files.outputs) (all_open has) (max (length files.outputs) high) from high new result
   further (Ok done) before had has at = at
-  further (Err why) before had has stop = halts_after (grow_by from to first (length files.outputs) one.outside (λ i. refl)) stop less near
+  further (Err why) before had has stop = record {
+    stops = λ start last fewest most end front back. stop.stops start last fewest most end
+        (grow_trans 0 (low + 1) front (grow_by from to first (length files.outputs) one.outside (λ i. refl)) (omega arith) (omega arith) (omega arith) (omega arith)) back;
+  }
 
 -- a fault on the way to more than was to be added
 pub adds_wider : {told : Bool} {files next : FilesState} {some more : ℕ → List ℕ} {from to : ℕ} (low most : ℕ) (rest : ℕ → List ℕ) {old new : List Slot} {why : Fault}
@@ -268,10 +242,14 @@ adds_wider {files = files} {some} {more} {from} {to} low most rest {new = new} {
   sound = tt;
   caused = adds.caused;
   outside = λ i out. are i ∙ cc (adds.outside i (wider (omega arith) far out), none i (wider less (omega arith) out));
-  leaves = λ before had has at is. let count : max (max (length files.outputs) to) most ≡ max (length files.outputs) most = omega arith in
-      halts_wider most (adds.leaves before had _ at (λ i. refl))
-      (subst (λ n. Grow low most (all_open (λ i. had i ++ some i)) (max (length files.outputs) to) (all_open has) n) count
-      (grow_by low most rest (max (length files.outputs) to) none (λ i. is i ∙ ap (λ bytes. had i ++ bytes) (are i) ∙ sym (append_assoc (had i) (some i) (rest i))))) near far;
+  leaves = λ before had has at is. record {
+    stops = λ start last fewest all end front back.
+        let count : max (max (length files.outputs) to) most ≡ max (length files.outputs) most = omega arith in
+        (adds.leaves before had _ at (λ i. refl)).stops start last fewest all (max most end) front (grow_trans (to - 1) (max most end)
+        (subst (λ n. Grow low most (all_open (λ i. had i ++ some i)) (max (length files.outputs) to) (all_open has) n) count
+        (grow_by low most rest (max (length files.outputs) to) none (λ i. is i ∙ ap (λ bytes. had i ++ bytes) (are i) ∙ sym (append_assoc (had i) (some i) (rest i))))) back
+        (omega arith) (omega arith) (omega arith) (omega arith));
+  };
 }
 
 -- what the first of the files get, one after another
@@ -456,22 +434,13 @@ written told {files} {old} {new} place bytes (Err _) ready within (short.broke n
   sound = tt;
   caused = (breaks_write slot (ready.closable place within).0 (write_rose told slot bytes n old new (ready.closable place within).1 cut), λ named. false≢true (ap is_verdict named));
   outside = none_outside place bytes;
-  leaves = λ before had has at are. record {
-    place = place;
-    after = omega arith;
-    within = omega arith;
-    part = all_open (λ i. had i ++ only_at place (take n bytes) i);
-    some = length files.outputs;
-    inside = omega arith;
-    above = subst (λ many. Grow place (place + 1) (all_open had) (length files.outputs) (all_open (λ i. had i ++ only_at place (take n bytes) i)) many) count
-        (grow_by place (place + 1) (only_at place (take n bytes)) (length files.outputs) (none_outside place (take n bytes)) (λ i. refl));
-    below = grow_by place (place + 1) (only_at place (drop n bytes)) (length files.outputs) (none_outside place (drop n bytes))
-        (λ i. are i ∙ ap (λ those. had i ++ those) (parted i) ∙ sym (append_assoc (had i) (only_at place (take n bytes) i) (only_at place (drop n bytes) i)));
-    reached = with_written slot (told_of told (take n bytes)) old;
-    outputs = writes told place (take n bytes) within refl at (λ i. refl);
-    marks = ((omega (arith, length-changed_at slot (adds (told_of told (take n bytes))) old, output_within place ready within)), cut.slots);
-    came = inr (at.owns.stand place within);
-  };
+  leaves = λ before had has at are. halts place (all_open (λ i. had i ++ only_at place (take n bytes) i)) (length files.outputs) (omega arith) (omega arith) (omega arith)
+      (subst (λ many. Grow place (place + 1) (all_open had) (length files.outputs) (all_open (λ i. had i ++ only_at place (take n bytes) i)) many) count
+      (grow_by place (place + 1) (only_at place (take n bytes)) (length files.outputs) (none_outside place (take n bytes)) (λ i. refl)))
+      (grow_by place (place + 1) (only_at place (drop n bytes)) (length files.outputs) (none_outside place (drop n bytes))
+      (λ i. are i ∙ ap (λ those. had i ++ those) (parted i) ∙ sym (append_assoc (had i) (only_at place (take n bytes) i) (only_at place (drop n bytes) i))))
+      (writes told place (take n bytes) within refl at (λ i. refl))
+      (omega (arith, length-changed_at slot (adds (told_of told (take n bytes))) old, output_within place ready within), cut.slots) (inr (at.owns.stand place within));
 } where
   slot : ℕ
   slot = output_at files place
@@ -523,7 +492,7 @@ module _ (told : Bool) {files : FilesState} {place : ℕ} {old now : List Slot} 
   pub not_closed : {new : List Slot} {slot : ℕ} {why : Fault} → slot ≡ output_at files place → (why ≡ fault.Write slot) × (new ≡ with_broken slot (changed_at slot closes now)) → ClosesAll told files old new (Err why)
   not_closed {new} {slot} {why} slot_is failed = subst (λ those. ClosesAll told files old new (Err those)) (sym (failed.0 ∙ ap fault.Write slot_is)) (record {
     closed = tt;
-    cut = λ before had at. stops_in_order _ (halted before had at);
+    cut = λ before had at. stops_in_order (halted before had at);
     caused = (output_at files place, refl, can.0, (so_far.sound (output_at files place) (sound_at (output_at files place) now can.1), risen));
     owned = owned_same (broken_size (output_at files place) now new is ∙ so_far.size);
   }) where
@@ -552,27 +521,16 @@ module _ (told : Bool) {files : FilesState} {place : ℕ} {old now : List Slot} 
     }
 
     halted : (before : List Slot) (had : ℕ → List ℕ) → StandAt told files before had old
-        → HaltedAt told before (from_start files.names) (all_open had) (length files.outputs) (closed_first (length files.outputs) had) (length files.outputs) 0 (length files.outputs) (fault.Write (output_at files place)) new
-    halted before had at = record {
-      place = place;
-      after = omega arith;
-      within = omega arith;
-      part = closed_first (place + 1) had;
-      some = length files.outputs;
-      inside = omega arith;
-      above = record {
-        more = omega arith;
-        new = omega arith;
-        begin = λ i. inl refl;
-        bytes = λ i. begins_itself (had i);
-        same = λ i out. ap (λ now. share now (had i)) (sym (still_open i (place + 1) (omega (arith, out))));
-      };
-      below = shut_grow had place (length files.outputs) (place + 1) (length files.outputs) (omega arith) (omega arith) (omega arith);
-      reached = changed_at (output_at files place) closes now;
-      outputs = closes_next refl at;
-      marks = (there, is);
-      came = inr (at.owns.stand place within);
-    }
+        → Halts told before (from_start files.names) (all_open had) (length files.outputs) (closed_first (length files.outputs) had) (length files.outputs) 0
+        (length files.outputs) (fault.Write (output_at files place)) new
+    halted before had at = halts place (closed_first (place + 1) had) (length files.outputs) (omega arith) (omega arith) (omega arith) (record {
+      more = omega arith;
+      new = omega arith;
+      begin = λ i. inl refl;
+      bytes = λ i. begins_itself (had i);
+      same = λ i out. ap (λ now. share now (had i)) (sym (still_open i (place + 1) (omega (arith, out))));
+    }) (shut_grow had place (length files.outputs) (place + 1) (length files.outputs) (omega arith) (omega arith) (omega arith))
+        (closes_next refl at) (there, is) (inr (at.owns.stand place within))
 
 -- A file was reached, and then written to.
 

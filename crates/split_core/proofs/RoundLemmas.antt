@@ -188,7 +188,7 @@ passes_by told old new piece before after (Err why) deals = record {
   ready = tt;
   owns = deals.adds.owned;
   cut = λ start x at. cut (unjudged deals.adds.caused.0 deals.adds.caused.1)
-      (stopped_as told (stands_is at.holds) (made_is told old piece at) (stops_in_order why (left_by told old piece at (Err why) deals.adds)));
+      (stopped_as told (stands_is at.holds) (made_is told old piece at) (stops_in_order (left_by told old piece at (Err why) deals.adds)));
   met = met_files (EndsWith ways.Holds ways.work (way.Round old) piece) deals.adds.caused.0 (λ is. absurd (deals.adds.caused.1 is));
 }
 
@@ -250,7 +250,7 @@ module _ (told : Bool) (names : Naming) {count : ℕ} {files next : FilesState} 
     by : (result : Result (Unit {0}) Fault) → Leaves told before (from_start names) (all_open (λ i. [])) 0 (all_open (λ i. [])) (max 0 count) 0 count new result
         → (OnOk result (OutputsAt told before part new)) × (IfErr result (λ why. StoppedBetween told before nothing part why new))
     by (Ok done) leaves = (subst (λ those. OutputsAt told before those new) made leaves, tt)
-    by (Err why) leaves = (tt, stopped_as told refl made (stops_in_order why leaves))
+    by (Err why) leaves = (tt, stopped_as told refl made (stops_in_order leaves))
 
 -- where all files have names, the work is what was asked for
 pub does_all : (delim : ℕ) (names others : Naming) (elide : Bool) (n : ℕ) → names.drawn ≡ 0 → are_named names n ≡ true → from_start others ≡ from_start names → round_work (round_plan delim n elide (from_start others)) ≡ split_work (round_plan delim n elide names)
