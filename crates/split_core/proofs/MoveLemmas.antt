@@ -16,7 +16,7 @@ use Rattle.ports_core.specs.declared.fault.Fault.TheVariants.{Write, Suffixes}
 use Rattle.ports_core.proofs.PartLemmas.{begins_itself, begins_more, turn_last, turn_next}
 use Rattle.ports_core.proofs.PartSteps.{Becomes, with_last, becomes_again, falls_wider, halts_here, opens, writes_to, closes_last, closes_not}
 use Rattle.ports_core.specs.inner.Write.{WritesShort, broke}
-use Rattle.ports_core.proofs.SlotSteps.{keeps_again, rose_later, write_rose, open_rose}
+use Rattle.ports_core.proofs.SlotSteps.{keeps_again, rose_later, write_rose, open_rose, written_writable}
 use Rattle.split_core.specs.Split.{Share, share, split_means, is_named, are_named, from_start, only_files, file_at, named, name_of}
 use Rattle.split_core.specs.inner.CutLaws.{AllShut, SharesBegin}
 use Rattle.split_core.proofs.CutLaws.{shares_more, shares_themselves, shares_trans, last_grows}
@@ -27,8 +27,7 @@ use Rattle.split_core.specs.inner.Moves.{part_of, Draft, written, Goes, Moves, R
 use Rattle.std.proofs.lemmas.List.{append-nil, take-append-le}
 use Rattle.std.proofs.Math.Seq.{drop-append_seam, take-append-add}
 use Rattle.ports_core.specs.Slot as outputs
-use Rattle.ports_core.proofs.WriteLemmas.{told_of-append, told_of-nil, with_written-append, writable-written}
-use Rattle.ports_core.proofs.SlotLemmas.{with_written-nil}
+use Rattle.ports_core.proofs.WriteLemmas.{broke_later, none_written, written_both}
 
 -- names
 
@@ -281,24 +280,9 @@ open_stops told {names} {next} current shares one {old} {new} shut drawn none = 
     moves = λ last before at. rw same at;
   }
 
-pub nothing_written : (told : Bool) (slot : ℕ) {slots : List Slot} → slots ≡ with_written slot (told_of told []) slots
-nothing_written told slot {slots} = sym (ap (λ bytes. with_written slot bytes slots) (told_of-nil told) ∙ with_written-nil slot slots)
-
--- one write after another
-pub written_both : (told : Bool) (slot : ℕ) (first more : List ℕ) (old : List Slot) {mid new : List Slot} → mid ≡ with_written slot (told_of told first) old → new ≡ with_written slot (told_of told more) mid → new ≡ with_written slot (told_of told (first ++ more)) old
-written_both told slot first more old one other = grind (arith, common_steps, with_written-append, told_of-append)
-
-pub still_writable : (told : Bool) (slot : ℕ) (bytes : List ℕ) (old : List Slot) {new : List Slot} → IsTrue (is_writable old slot) → new ≡ with_written slot (told_of told bytes) old → IsTrue (is_writable new slot)
-still_writable told slot bytes old can wrote = grind (arith, common_steps, writable-written)
-
 -- the output broke in a later write
 pub short_later : (told : Bool) {slot : ℕ} (first more past : List ℕ) {old mid new : List Slot} {fault : Fault} → mid ≡ with_written slot (told_of told first) old → WritesShort told slot more mid new fault → WritesShort told slot (first ++ (more ++ past)) old new fault
-short_later told {slot} first more past {old} one (broke n cut) = broke (length first + n) (record {
-  within = omega (arith, cut.within, length-append first (more ++ past), length-append more past);
-  slots = cc (cut.slots, written_both told slot first (take n more) old one refl, taken);
-}) where
-  taken : take (length first + n) (first ++ (more ++ past)) ≡ first ++ take n more
-  taken = take-append-add first (more ++ past) n ∙ ap (λ z. first ++ z) (take-append-le n more past (omega (arith, cut.within)))
+short_later told first more past one (broke n cut) = broke (length first + n) (broke_later told first more past one cut)
 
 pub wrote_both : (told : Bool) (slot : ℕ) (first more : List ℕ) (old : List Slot) {mid : List Slot} (new : List Slot) (result : Result (Unit {0}) Fault) → mid ≡ with_written slot (told_of told first) old → WritesTo told slot more mid new result → WritesTo told slot (first ++ more) old new result
 wrote_both told slot first more old new (Ok done) one other = written_both told slot first more old one other
@@ -313,16 +297,16 @@ pub record Emptying (told : Bool) (slot : ℕ) (most now_most : ℕ) (held now :
   pub writable : IsTrue (is_writable slots slot)
 
 pub all_held : (told : Bool) {slot most : ℕ} {held : List ℕ} {old : List Slot} → IsTrue (is_writable old slot) → Emptying told slot most most held held old old
-all_held told {slot} can = record { gone = []; both = refl; wrote = nothing_written told slot; same = refl; writable = can }
+all_held told {slot} can = record { gone = []; both = refl; wrote = none_written told slot; same = refl; writable = can }
 
 pub empties : (told : Bool) {slot most now_most next_most : ℕ} {held now : List ℕ} (front rest : List ℕ) {next : List ℕ} {old slots new : List Slot} → Emptying told slot most now_most held now old slots → now ≡ front ++ rest → new ≡ with_written slot (told_of told front) slots
     → next_most ≡ now_most → next ≡ drop (length front) now → Emptying told slot most next_most held next old new
-empties told {slot} front rest {old} {slots} so_far is wrote same left = record {
+empties told {slot} front rest {old} {slots} {new} so_far is wrote same left = record {
   gone = so_far.gone ++ front;
   both = so_far.both ∙ ap (λ those. so_far.gone ++ those) is ∙ sym (append_assoc so_far.gone front rest) ∙ ap (λ those. (so_far.gone ++ front) ++ those) (sym (left ∙ ap (drop (length front)) is ∙ drop-append_seam front rest));
   wrote = written_both told slot so_far.gone front old so_far.wrote wrote;
   same = same ∙ so_far.same;
-  writable = still_writable told slot front slots so_far.writable wrote;
+  writable = written_writable slots new slot slot _ so_far.writable wrote;
 }
 
 pub empties_short : (told : Bool) {slot most now_most : ℕ} {held now : List ℕ} (front rest : List ℕ) {old slots new : List Slot} {fault : Fault} → Emptying told slot most now_most held now old slots → now ≡ front ++ rest → WritesShort told slot front slots new fault
