@@ -1,7 +1,7 @@
 -- What all continuations agree on, of files.
 use Rattle.std.proofs.lemmas.Grind.{common_steps}
 use Rattle.std.proofs.lemmas.Bool.Decides.{nat_tests}
-use Rattle.std.proofs.Common.{◌≡◌, ℕ, ◌+◌, ◌-◌, ◌<◌, zero, suc, List, [], ◌∷◌, ◌++◌, length, map, replicate, Bool, true, false, cond, inl, inr, refl, sym, ◌∙◌, ap, subst, arith, append_assoc, length-append, zero-add}
+use Rattle.std.proofs.Common.{◌≡◌, ℕ, ◌+◌, ◌-◌, ◌<◌, zero, suc, List, [], ◌∷◌, ◌++◌, length, map, replicate, Bool, true, false, cond, inl, inr, refl, sym, ◌∙◌, ap, subst, arith, append_assoc, length-append, zero-add, rules}
 use Rattle.std.proofs.lemmas.Bool.{cases_lt, ne_eqb}
 use Rattle.std.proofs.lemmas.List.{append-nil, take_all, length-map, length-replicate}
 use Rattle.seg_core.specs.Line.{delimiters}
@@ -65,7 +65,7 @@ each_named names (one ∷ those) are = named_each names 0 one those (subst (λ n
 -- Parts that follow one another
 
 pub whole_files : (limit : Limit) (names : Naming) (x : List ℕ) → file_bytes ((parts_work limit names).whole x) ≡ named_bytes names 0 (parts limit x)
-whole_files limit names x = bytes_named names 0 (map (share Closed) (parts limit x)) ∙ ap (named_bytes names 0) (bytes_of_shares Closed (parts limit x))
+whole_files limit names x = search (rules, bytes_named, bytes_of_shares)
 
 pub settled_files : (limit : Limit) (names : Naming) (x : List ℕ) → file_bytes ((parts_work limit names).settled x) ≡ named_bytes names 0 (settled_list limit x)
 settled_files limit names x = bytes_named names 0 (settled_parts limit x) ∙ ap (named_bytes names 0) (settled_bytes limit x)
@@ -130,10 +130,7 @@ decides_lines delim n {x} some lines =
 decides : (limit : Limit) → 0 < most limit → {x : List ℕ} → Decides limit x
 decides (Lines n delim) some = decides_now refl
 decides (Bytes n) some = decides_now refl
-decides (LineBytes n delim) some {x} = elim (cases_lt 0 (delimiters delim (cut_up (LineBytes n delim) x).rest)) [
-  | inl lines ↦ decides_lines delim n some lines
-  | inr none ↦ decides_now (whole_of_none delim (cut_up (LineBytes n delim) x).rest (omega (arith, none)))
-]
+decides (LineBytes n delim) some {x} = grind (arith, common_steps, cases_lt, decides_lines, decides_now, whole_of_none)
 
 parts_agreed_by : {limit : Limit} (names : Naming) {x : List ℕ} → Decides limit x → IsAgreed (parts_work limit names) x ((parts_work limit names).settled x)
 parts_agreed_by {limit} names {x} decides =
@@ -149,10 +146,10 @@ parts_agreed limit names some = parts_agreed_by names (decides limit some)
 -- Lines that are dealt
 
 pub dealt_settled : (delim n : ℕ) (elide : Bool) (names : Naming) (x : List ℕ) → file_bytes (settled_by (round_plan delim n elide names) x) ≡ named_bytes names 0 (dealt_files delim elide n x)
-dealt_settled delim n elide names x = bytes_named names 0 (map (share Open) (dealt_files delim elide n x)) ∙ ap (named_bytes names 0) (bytes_of_shares Open (dealt_files delim elide n x))
+dealt_settled delim n elide names x = search (rules, bytes_named, bytes_of_shares)
 
 pub dealt_whole : (delim n : ℕ) (elide : Bool) (names : Naming) (x : List ℕ) → file_bytes (whole_by (round_plan delim n elide names) x) ≡ named_bytes names 0 (dealt_files delim elide n x)
-dealt_whole delim n elide names x = bytes_named names 0 (map (share Closed) (dealt_files delim elide n x)) ∙ ap (named_bytes names 0) (bytes_of_shares Closed (dealt_files delim elide n x))
+dealt_whole delim n elide names x = search (rules, bytes_named, bytes_of_shares)
 
 round_agreed : (delim n : ℕ) (elide : Bool) (names : Naming) {x : List ℕ} → IsAgreed (split_work (round_plan delim n elide names)) x (settled_by (round_plan delim n elide names) x)
 round_agreed delim n elide names {x} = agreed_now (split_work (round_plan delim n elide names)) x (common (round_work (round_plan delim n elide names)) (round_law.lawful delim n elide names) x)

@@ -131,12 +131,7 @@ there_by true these less = (refl, less)
 there_by false these less = absurd (omega (arith, less))
 
 within_n : (delim : ℕ) (elide : Bool) (n : ℕ) (x : List ℕ) (file offset : ℕ) → offset < length (get_or (dealt_files delim elide n x) file []) → file < n
-within_n delim elide n x file offset less = elim (cases_lt file n) [
-  | inl within ↦ within
-  | inr past ↦ (let none : get_or (dealt_files delim elide n x) file [] ≡ [] = get_or_past (dealt_files delim elide n x) file []
-      (omega (arith, ap length (dealt_files_are delim elide n x) ∙ length-map-range_with_len (share_of delim n x) 0 (opened_by delim elide n x), opened_by-most delim elide n x, past)) in
-      let size : length (get_or (dealt_files delim elide n x) file []) ≡ 0 = ap length none in absurd (omega (arith, less, size)))
-]
+within_n delim elide n x file offset less = grind (arith, common_steps, cases_lt, get_or_past, dealt_files_are, length-map-range_with_len, opened_by-most)
 
 -- Spots
 
@@ -152,22 +147,13 @@ abbrev files_of : ℕ → ℕ → Bool → Naming → List ℕ → List (List �
 files_of delim n elide names x = file_bytes (whole_by (round_plan delim n elide names) x)
 
 file_there : (delim n : ℕ) (elide : Bool) (names : Naming) (x : List ℕ) (file : ℕ) → file < n → is_named names file ≡ true → get_or ([] ∷ files_of delim n elide names x) (file + 1) [] ≡ share_of delim n x file
-file_there delim n elide names x file within named =
-    ap (λ k. get_or ([] ∷ files_of delim n elide names x) k []) (let e : file + 1 ≡ suc file = omega arith in e)
-    ∙ ap (λ files. get_or files file []) (dealt_whole delim n elide names x)
-    ∙ named_at names 0 (dealt_files delim elide n x) file
-    ∙ ap (λ has. cond has (get_or (dealt_files delim elide n x) file []) []) (ap (is_named names) (zero-add file) ∙ named)
-    ∙ file_is delim elide n x file within
+file_there delim n elide names x file within named = search (rules, get_or, dealt_whole, named_at, zero-add, file_is)
 
 abbrev StandsThere : List (List ℕ) → Spot → ℕ → Type 0
 StandsThere outputs at byte = (at.offset < length (get_or outputs at.place [])) × (get_or (get_or outputs at.place []) at.offset 0 ≡ byte)
 
 dealt_stands : (delim n : ℕ) (elide : Bool) (names : Naming) → 0 < n → (x : List ℕ) (i : ℕ) (at : Spot) → GoesTo at (dealt_spots delim n names x i) → StandsThere ([] ∷ files_of delim n elide names x) at (get_or x i 0)
-dealt_stands delim n elide names some x i at goes =
-    let one = dealt_goes names goes in
-    let there = file_there delim n elide names x (dealt_to delim n x i) (mod-lt (delimiters delim (take i x)) some) one.named in
-    subst (λ those. StandsThere ([] ∷ files_of delim n elide names x) those (get_or x i 0)) (sym one.is)
-    (subst (λ those. had delim n (dealt_to delim n x i) x i < length those) (sym there) (had_less delim n x i one.within), ap (λ those. get_or those (had delim n (dealt_to delim n x i) x i) 0) there ∙ had_byte delim n x i one.within)
+dealt_stands delim n elide names some x i at goes = grind (arith, common_steps, dealt_goes, file_there, mod-lt, get_or, had_less, had_byte)
 
 goes_there : (delim n : ℕ) (names : Naming) (x : List ℕ) (i : ℕ) {file offset : ℕ} → i < length x → dealt_to delim n x i ≡ file → had delim n file x i ≡ offset → is_named names file ≡ true → GoesTo (spot (suc file) offset) (dealt_spots delim n names x i)
 goes_there delim n names x i {file} {offset} less to at named = grind (arith, common_steps)
@@ -185,14 +171,10 @@ dealt_filled delim n elide names x (suc file) offset less =
     )
 
 not_before : {delim n : ℕ} {names : Naming} {x : List ℕ} {i j : ℕ} {at : Spot} → Goes delim n names x i at → Goes delim n names x j at → i < j → ⊥
-not_before {delim} {n} {x} {i} {j} one two less =
-    let same : dealt_to delim n x i ≡ dealt_to delim n x j = (omega (arith, ap (λ those. those.place) (sym one.is ∙ two.is))) in
-    omega (arith, ap (λ those. those.offset) (sym one.is ∙ two.is), had_grows delim n x i j less two.within same)
+not_before {delim} {n} {x} {i} {j} one two less = grind (arith, common_steps, had_grows)
 
 dealt_apart : (delim n : ℕ) (names : Naming) (x : List ℕ) {i j : ℕ} (at : Spot) → GoesTo at (dealt_spots delim n names x i) → GoesTo at (dealt_spots delim n names x j) → i ≡ j
-dealt_apart delim n names x {i} {j} at goes also =
-    let one = dealt_goes names goes in let two = dealt_goes names also in
-    grind (arith, λ (less : i < j). not_before one two less, λ (less : j < i). not_before two one less)
+dealt_apart delim n names x {i} {j} at goes also = grind (arith, common_steps, dealt_goes, not_before)
 
 pub round_placed : (delim n : ℕ) (elide : Bool) (names : Naming) → 0 < n → ArePlaced (split_work (round_plan delim n elide names)) (dealt_spots delim n names)
 round_placed delim n elide names some = record {

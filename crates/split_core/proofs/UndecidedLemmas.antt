@@ -186,10 +186,10 @@ parts_decided limit names x i less y =
 -- where all files have names
 
 settled_bytes_in : (limit : Limit) (names : Naming) (x : List ℕ) → are_named names (length (parts limit x)) ≡ true → settled_in limit names x ≡ joined (settled_list limit x)
-settled_bytes_in limit names x are = ap joined (settled_files limit names x ∙ each_named names (settled_list limit x) (ap (are_named names) (list_count limit x) ∙ are))
+settled_bytes_in limit names x are = grind (arith, common_steps, settled_files, each_named, settled_list, list_count)
 
 came_in : (limit : Limit) (names : Naming) {x : List ℕ} → are_named names (length (parts limit x)) ≡ true → settled_in limit names x ++ waiting_rest limit (cut_up limit x).rest ≡ x
-came_in limit names {x} are = ap (λ bytes. bytes ++ waiting_rest limit (cut_up limit x).rest) (settled_bytes_in limit names x are) ∙ list_all limit x
+came_in limit names {x} are = grind (arith, common_steps, settled_bytes_in, list_all)
 
 -- what stands after a beginning
 none_wait : (limit : Limit) (names : Naming) (x : List ℕ) (i : ℕ) → are_named names (length (parts limit x)) ≡ true → waiting_rest limit (cut_up limit x).rest ≡ [] → length (settled_in limit names x) ≤ i → i < length x → ⊥
