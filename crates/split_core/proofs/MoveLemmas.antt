@@ -170,20 +170,18 @@ pub goes_then : {told : Bool} {names : Naming} {current next : Option ℕ} {low 
 goes_then {names = names} {current} {next} {low} {mid} {high} {old} {wet} result owned one other = record {
   grows = shares_trans low mid high one.grows other.grows;
   moves = λ last. becomes_again (part_begins names low mid one.grows) (one.moves last) (other.moves (stays_last current next old wet owned last));
-  short = IfErr-weaker result _ _ (λ fault short is. let ran = short is in record {
-    those = ran.those;
-    shut = ran.shut;
-    none = ran.none;
-    begins = ran.begins;
-    fewer = ran.fewer;
-    moves = λ last before at. ran.moves (stays_last current next old wet owned last) before ((one.moves last).gets before at);
-  }) other.short;
+  short = IfErr-weaker result _ _ (λ fault short is. let ran = short is in
+      (ran.0, ran.1, λ last. becomes_again (part_begins names low mid one.grows) (one.moves last) (ran.2 (stays_last current next old wet owned last)))) other.short;
 }
 
 -- a fault on the way to what the step was only a part of
 pub goes_wider : {told : Bool} {names : Naming} {current : Option ℕ} {low mid high : List Share} {old new : List Slot} {fault : Fault}
     → Goes told names current low mid old new (Err fault) → SharesBegin mid high → Goes told names current low high old new (Err fault)
-goes_wider {names = names} {low = low} {mid} {high} stop begins = grind (arith, common_steps, shares_trans, falls_wider, part_begins, shares_fewer)
+goes_wider {names = names} {low = low} {mid} {high} stop begins = record {
+  grows = shares_trans low mid high stop.grows begins;
+  moves = λ last. falls_wider (stop.moves last) (part_begins names mid high begins);
+  short = λ is. let ran = stop.short is in (ran.0, grind (arith, common_steps, ran.1, shares_trans, shares_fewer, begins), ran.2);
+}
 
 -- nothing changed
 pub goes_same : {told : Bool} {names : Naming} {current : Option ℕ} {low high : List Share} {slots : List Slot} → low ≡ high → Goes told names current low high slots slots (Ok tt)
@@ -270,15 +268,14 @@ open_stops told {names} {next} current shares one {old} {new} shut drawn none = 
       }) none) (λ before at. opens_at (length before) refl none);
   short = λ is. ran (subst (OpensNone names next old new) is none);
 } where
-  ran : OpensNone names next old new Suffixes → RunsShort told (from_start names) current shares (shares ++ one ∷ []) old new
-  ran (no_name none same) = record {
-    those = shares;
+  ran : OpensNone names next old new Suffixes → (those : List Share) × RunsShort (from_start names) those (shares ++ one ∷ [])
+      × (IsAtEnd current old → Becomes told (part_of (from_start names) shares) (part_of (from_start names) those) old new None)
+  ran (no_name none same) = (shares, record {
     shut = shut;
     none = subst (λ n. is_named names n ≡ false) drawn none;
     begins = shares_more shares (one ∷ []);
     fewer = omega (arith, length-append shares (one ∷ []));
-    moves = λ last before at. rw same at;
-  }
+  }, λ last. record { gets = λ before at. rw same at })
 
 -- the output broke in a later write
 pub short_later : (told : Bool) {slot : ℕ} (first more past : List ℕ) {old mid new : List Slot} {fault : Fault} → mid ≡ with_written slot (told_of told first) old → WritesShort told slot more mid new fault → WritesShort told slot (first ++ (more ++ past)) old new fault

@@ -619,15 +619,15 @@ module _ (told : Bool) (state next : PartsState) (piece : List ℕ) (old new : L
   settles : (f : Fault) → f ≡ Suffixes → Takes told state piece old new next (Err f) → EndsWith ways.Holds ways.work (way.Parts state) piece f
   settles f is stop x stands =
       let ran = (stop.goes x stands).short is in
-      let none = have_names state (x ++ piece) (are_named_more (from_start state.names) (suc (length ran.those)) _ ran.none ran.fewer) in
+      let none = have_names state (x ++ piece) (are_named_more (from_start state.names) (suc (length ran.0)) _ ran.1.none ran.1.fewer) in
       (ap not none, ap (λ (have : Bool). cond (not have) (Some Suffixes) None) none ∙ ap Some (sym is))
 
   cut_off : {f : Fault} → Breaks old new f → Takes told state piece old new next (Err f) → CutsOff ways.Holds ways.Owns ways.work (way.Parts state) piece told old new f
   cut_off lacks_names stop before x at =
       let ran = (stop.goes x at.holds).short refl in
       engine.judged refl new (subst (λ files. OutputsAt told before (only_files files) new)
-      (sym (same_files (from_start state.names) 0 ran.those _ ran.shut ran.begins (subst (λ n. is_named state.names n ≡ false) (sym (zero-add _)) ran.none)))
-      (ran.moves (owns_last state.current (length before) old at.owns) before at.outputs)) refl
+      (sym (same_files (from_start state.names) 0 ran.0 _ ran.1.shut ran.1.begins (subst (λ n. is_named state.names n ≡ false) (sym (zero-add _)) ran.1.none)))
+      ((ran.2 (owns_last state.current (length before) old at.owns)).gets before at.outputs)) refl
   cut_off {f} breaks stop before x at =
       engine.cut refl (stopped_in_turn told before _ _ f new (((stop.goes x at.holds).moves (owns_last state.current (length before) old at.owns)).gets before at.outputs))
 

@@ -55,25 +55,21 @@ pub record Keeps (parts : PartsState) (old new : List Slot) (next : PartsState) 
   pub ready : OnOk result (IsReady next.current new)
   pub breaks : IfErr result (Breaks old new)
 
--- Names ran out on the way from the shares `low` to the shares `high`, after all of those that have names. Those are
--- written, where the file of the part that was begun was the last output.
-pub record RunsShort (told : Bool) (names : Naming) (current : Option ℕ) (low high : List Share) (old new : List Slot)
-    : Type 0 where
-  pub those : List Share
+-- names ran out on the way to the shares `high`, after all of those that have names
+pub record RunsShort (names : Naming) (those high : List Share) : Type 0 where
   pub shut : AllShut those
   pub none : is_named names (length those) ≡ false
   pub begins : SharesBegin those high
   pub fewer : length those < length high
-  pub moves : IsAtEnd current old → (before : List Slot) → OutputsAt told before (part_of names low) old
-      → OutputsAt told before (part_of names those) new
 
--- Outputs that had the shares `low` have the shares `high`, or a fault stopped them between the two; where the file of
--- the part that was begun was the last output.
+-- Outputs that had the shares `low` have the shares `high`, or a fault stopped them between the two, where the file of the
+-- part that was begun was the last output; where names ran out, they have the shares that have names.
 pub record Goes (told : Bool) (names : Naming) (current : Option ℕ) (low high : List Share) (old new : List Slot)
     (result : Result (Unit {0}) Fault) : Type 0 where
   pub grows : SharesBegin low high
   pub moves : IsAtEnd current old → Becomes told (part_of names low) (part_of names high) old new (fault_in result)
-  pub short : IfErr result (λ fault. fault ≡ Suffixes → RunsShort told names current low high old new)
+  pub short : IfErr result (λ fault. fault ≡ Suffixes → (those : List Share) × RunsShort names those high
+      × (IsAtEnd current old → Becomes told (part_of names low) (part_of names those) old new None))
 
 -- the shares of closed files, and what is written of the part that was begun
 pub record Draft : Type 0 where
