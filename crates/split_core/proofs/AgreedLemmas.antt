@@ -21,8 +21,7 @@ use Rattle.split_core.specs.PartState.{parts_work}
 use Rattle.split_core.specs.Round.{round_plan, round_work}
 use Rattle.split_core.specs.laws.CutLaws.{short_some, full_from, whole_of_none, whole_some, rest_short}
 use Rattle.split_core.specs.laws.ShareLaws.{cut_first, one_on, parts_on, settled_count}
-use Rattle.split_core.specs.laws.PartStateLaws as part_law
-use Rattle.split_core.specs.laws.RoundLaws as round_law
+use Rattle.split_core.specs.laws.WorkLaws.{parts_lawful, round_lawful}
 use Rattle.split_core.proofs.MoveLemmas.{named_before}
 use Rattle.split_core.proofs.SectionLemmas.{settled_list, settled_bytes}
 use Rattle.split_core.proofs.CutLaws.{bytes_of_shares}
@@ -135,7 +134,7 @@ decides (LineBytes n delim) some {x} = grind (arith, common_steps, cases_lt, dec
 parts_agreed_by : {limit : Limit} (names : Naming) {x : List ℕ} → Decides limit x → IsAgreed (parts_work limit names) x ((parts_work limit names).settled x)
 parts_agreed_by {limit} names {x} decides =
     let further = named_more names 0 (settled_list limit x) decides.more in
-    agreed_by (parts_work limit names) x [] decides.y further.0 (common (parts_work limit names) (part_law.lawful limit names) x) none_comes decides.comes count
+    agreed_by (parts_work limit names) x [] decides.y further.0 (common (parts_work limit names) (parts_lawful limit names) x) none_comes decides.comes count
     (ap (λ files. [] ∷ files) (whole_files limit names (x ++ decides.y) ∙ ap (named_bytes names 0) decides.are ∙ further.1 ∙ ap (λ files. files ++ further.0) (sym (settled_files limit names x)))) where
       count : length (outputs_of ((parts_work limit names).whole (x ++ []))) ≡ length (outputs_of ((parts_work limit names).settled x))
       count = cc (whole_files limit names (x ++ []), count_named names 0 (parts limit (x ++ [])) (settled_list limit x) (ap (λ all. length (parts limit all)) (append-nil x) ∙ sym (list_count limit x)), settled_files limit names x)
@@ -152,7 +151,7 @@ pub dealt_whole : (delim n : ℕ) (elide : Bool) (names : Naming) (x : List ℕ)
 dealt_whole delim n elide names x = search (rules, bytes_named, bytes_of_shares)
 
 round_agreed : (delim n : ℕ) (elide : Bool) (names : Naming) {x : List ℕ} → IsAgreed (split_work (round_plan delim n elide names)) x (settled_by (round_plan delim n elide names) x)
-round_agreed delim n elide names {x} = agreed_now (split_work (round_plan delim n elide names)) x (common (round_work (round_plan delim n elide names)) (round_law.lawful delim n elide names) x)
+round_agreed delim n elide names {x} = agreed_now (split_work (round_plan delim n elide names)) x (common (round_work (round_plan delim n elide names)) (round_lawful delim n elide names) x)
     (ap (λ files. [] ∷ files) (dealt_whole delim n elide names x ∙ sym (dealt_settled delim n elide names x)))
 
 -- All ways to cut

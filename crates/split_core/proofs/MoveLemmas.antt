@@ -21,9 +21,8 @@ use Rattle.split_core.specs.Split.{Share, share, split_means, is_named, are_name
 use Rattle.split_core.specs.inner.CutLaws.{AllShut, SharesBegin}
 use Rattle.split_core.proofs.CutLaws.{shares_more, shares_themselves, shares_trans, last_grows}
 use Rattle.split_core.specs.laws.ShareLaws.{part_begins, one_on, shares_fewer}
-use Rattle.split_core.specs.inner.PartsState.{IsAtEnd}
 use Rattle.split_core.specs.PartsState.{PartsState, IsReady, OwnsFile}
-use Rattle.split_core.specs.inner.Moves.{part_of, Draft, written, Goes, Moves, RunsShort, Keeps, KeepsFile, Breaks, CannotClose, OpensNone, no_memory, no_file, no_name, WritesTo, wants_memory, breaks_write, breaks_open, lacks_names}
+use Rattle.split_core.specs.inner.Moves.{IsAtEnd, part_of, Draft, written, Goes, Moves, RunsShort, Keeps, KeepsFile, Breaks, CannotClose, OpensNone, no_memory, no_file, no_name, WritesTo, wants_memory, breaks_write, breaks_open, lacks_names}
 use Rattle.std.proofs.lemmas.List.{append-nil, take-append-le}
 use Rattle.std.proofs.Math.Seq.{drop-append_seam, take-append-add}
 use Rattle.ports_core.specs.Slot as outputs

@@ -1,4 +1,4 @@
--- Lemmas on dealing lines in turn, as a stage.
+-- Lemmas on dealing lines in turn, as a stage, and on what waits in the engine in each of its two ways to cut.
 use Rattle.std.proofs.Common.{◌≡◌, ℕ, ◌+◌, ◌%◌, ◌<◌, ◌≤◌, zero, suc, min, max, Bool, true, false, not, cond, List, [], ◌∷◌, ◌++◌, length, map, take, drop, get_or, Some, None, inl, inr, refl, sym, ◌∙◌, ap, subst, arith, Ok, Err, OnOk, IfErr, Result}
 use Rattle.std.proofs.Math.Nat.{mod-add-mod, mod-eq_of_lt, mod-mod, mod-le, zero-add}
 use Rattle.std.proofs.Math.Path.{fun_ext}
@@ -12,7 +12,7 @@ use Rattle.seg_core.proofs.Delimiters.{delimiters-append}
 use Rattle.seg_core.proofs.LineCounts.{line_count-some, line_count_near, line_count-front}
 use Rattle.ports_core.specs.Name.{Naming}
 use Rattle.ports_core.specs.Slot.{Slot}
-use Rattle.ports_core.specs.Part.{Part, OutputsAt, StoppedBetween, nothing}
+use Rattle.ports_core.specs.Part.{Part, OutputsAt, StoppedBetween, nothing, File}
 use Rattle.ports_core.specs.Work.{Work}
 use Rattle.ports_core.specs.Engine.{TakesIn, EndsWith, EndsThere, StandsAt, is_verdict, cut}
 use Rattle.ports_core.specs.declared.fault.Fault.{Fault}
@@ -21,21 +21,27 @@ use Rattle.ports_core.specs.declared.slot.State.{State}
 use Rattle.ports_core.specs.declared.slot.State.TheVariants.{Open, Closed}
 use Rattle.ports_core.proofs.PartLemmas.{outputs_count}
 use Rattle.split_core.specs.Parts.{dealt, round_robin}
-use Rattle.split_core.specs.Split.{share, named, is_named, are_named, from_start, file_at, only_files, dealt_files, settled_by, whole_by, is_short, is_some, split_means, split_work, bytes_in, waiting_after}
+use Rattle.split_core.specs.Split.{share, named, is_named, are_named, from_start, file_at, only_files, dealt_files, settled_by, whole_by, is_short, is_some, split_means, split_work, bytes_in, waiting_after, Share, settled_parts}
 use Rattle.split_core.specs.inner.Dealt.{dealt_piece, dealt_first, reached_by, share_of}
 use Rattle.split_core.specs.FilesState.{FilesState}
 use Rattle.split_core.specs.RoundState.{RoundState}
 use Rattle.split_core.specs.Round.{round_plan, plan_of, round_work, work, opened_by, Holds, OwnsFiles}
 use Rattle.split_core.specs.Ways as ways
 use Rattle.split_core.specs.declared.splitter.Splitter.TheVariants as way
-use Rattle.split_core.specs.inner.Ways.{Deals, PassesBy, FinishesBy}
+use Rattle.split_core.specs.inner.Ways.{Deals, PassesBy, FinishesBy, held}
 use Rattle.split_core.specs.inner.Sharing.{part_by, all_open, closed_first, StandAt, Adds, Opens, Leaves, ClosesAll}
 use Rattle.split_core.specs.laws.DealLaws.{dealt_append, dealt_none, dealt_files_are, share_none}
-use Rattle.split_core.proofs.AgreedLemmas.{dealt_settled, each_named}
+use Rattle.split_core.proofs.AgreedLemmas.{dealt_settled, each_named, bytes_named}
 use Rattle.split_core.proofs.CutLaws.{dealt_same, dealt_past, opened_by-most}
 use Rattle.split_core.proofs.FilesLemmas.{same_by, stopped_as, stops_in_order, shut_now}
 use Rattle.split_core.proofs.MoveLemmas.{are_named_same, met_closing, met_files, named_before, unjudged}
-use Rattle.split_core.proofs.SectionLemmas.{all_dealt}
+use Rattle.split_core.proofs.SectionLemmas.{all_dealt, settled_all}
+use Rattle.std.proofs.lemmas.Grind.{common_steps}
+use Rattle.ports_core.specs.Guard.{GuardState, HoldsIn}
+use Rattle.split_core.specs.declared.splitter.Splitter.{Splitter}
+use Rattle.split_core.proofs.PartsLemmas as part
+use Rattle.split_core.specs.PartsState.{PartsState, Stands}
+use Rattle.split_core.specs.PartState as parts_state
 
 -- Names
 
@@ -64,8 +70,8 @@ all_have : (delim : ℕ) (names : Naming) (elide : Bool) (n : ℕ) (x : List ℕ
 all_have delim names elide n x are = named_fewer names _ n are
     (omega (arith, ap length (dealt_files_are delim elide n x) ∙ length-map-range_with_len (share_of delim n x) 0 (opened_by delim elide n x), opened_by-most delim elide n x))
 
-never_short : (delim : ℕ) (names : Naming) (elide : Bool) (n : ℕ) (x : List ℕ) → are_named names n ≡ true → false ≡ is_short (round_plan delim n elide names) x
-never_short delim names elide n x are = sym (ap not (ap (are_named names) (length-map (dealt_files delim elide n x) (share Closed)) ∙ all_have delim names elide n x are))
+not_short : (delim : ℕ) (names : Naming) (elide : Bool) (n : ℕ) (x : List ℕ) → are_named names n ≡ true → false ≡ is_short (round_plan delim n elide names) x
+not_short delim names elide n x are = sym (ap not (ap (are_named names) (length-map (dealt_files delim elide n x) (share Closed)) ∙ all_have delim names elide n x are))
 
 -- One more piece
 
@@ -257,7 +263,7 @@ pub does_all : (delim : ℕ) (names others : Naming) (elide : Bool) (n : ℕ) �
 does_all delim names others elide n fresh are same =
     ap (λ those. round_work (round_plan delim n elide those)) (same ∙ ap (λ drawn. record names { drawn = drawn }) (sym fresh)) ∙ ap work_by never where
       never : ◌≡◌ {A = List ℕ → Bool} (λ x. false) (is_short (round_plan delim n elide names))
-      never = fun_ext (λ x. never_short delim names elide n x are)
+      never = fun_ext (λ x. not_short delim names elide n x are)
 
       work_by : (List ℕ → Bool) → Work
       work_by short = record {
@@ -291,3 +297,38 @@ dealt_all delim n elide names x some are = ap (λ those. length (joined those)) 
 pub none_waits : {round : RoundState} {x : List ℕ} → Holds round x → 0 ≡ length ((work round).waiting x)
 none_waits {round} {x} holds = sym (ap length (ap (λ count. drop count x)
     (dealt_all round.delim round.count round.elide (from_start round.files.names) x holds.some (all_have round.delim (from_start round.files.names) round.elide round.count x holds.named)) ∙ drop-length x))
+
+-- Both ways to cut
+
+abbrev bytes_of : List File → List (List ℕ)
+bytes_of files = map (λ (file : File). file.bytes) files
+
+abbrev shared : List Share → List (List ℕ)
+shared shares = map (λ (file : Share). file.bytes) shares
+
+-- where all files have names, they have all bytes
+all_bytes : (names : Naming) (shares : List Share) → are_named names (length shares) ≡ true → bytes_of (named (from_start names) 0 shares) ≡ shared shares
+all_bytes names [] are = refl
+all_bytes names (one ∷ shares) are = bytes_named (from_start names) 0 (one ∷ shares)
+    ∙ each_named (from_start names) (shared (one ∷ shares)) (ap (is_named names) (length-map shares (λ (file : Share). file.bytes)) ∙ are)
+
+-- what follows a beginning
+after : {x : List ℕ} (front : List ℕ) {rest : List ℕ} → front ++ rest ≡ x → drop (length front) x ≡ rest
+after front {rest} is = grind (arith, common_steps)
+
+-- what waits in a stage that cuts off parts
+pub parts_wait : {parts : PartsState} {x : List ℕ} → Stands parts x → length parts.waiting ≡ length ((parts_state.work parts).waiting x)
+parts_wait {parts} {x} stands = ap length (stands.waits ∙ sym (after (joined (shared (settled_parts parts.limit x))) (settled_all parts.limit x)))
+    ∙ ap (λ those. length (drop (length (joined those)) x)) (sym (all_bytes parts.names (settled_parts parts.limit x) stands.enough))
+
+-- as long as the engine goes on, all files have names
+pub all_named : (splitter : Splitter) (x : List ℕ) → ways.Holds splitter x → (ways.work splitter).is_complete x ≡ false
+all_named (way.Parts parts) x holds = sym (part.never_done holds)
+all_named (way.Round round) x holds = refl
+
+pub never_short : (engine : GuardState Splitter) (x : List ℕ) → HoldsIn ways.Holds engine x → (ways.work engine.stage).is_complete x ≡ false
+never_short engine x holds = all_named engine.stage x holds.within
+
+pub held_is : (splitter : Splitter) (x : List ℕ) → ways.Holds splitter x → held splitter ≡ length ((ways.work splitter).waiting x)
+held_is (way.Parts parts) x holds = parts_wait holds
+held_is (way.Round round) x holds = none_waits holds

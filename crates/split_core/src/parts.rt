@@ -34,7 +34,7 @@ pub struct Parts {
 
 impl Model for Parts {
     ghost use Rattle.split_core.specs.PartsState.{PartsState};
-    ghost use Rattle.split_core.specs.inner.PartsState.{Fits};
+    ghost use Rattle.split_core.specs.inner.Step.{Fits};
 
     ghost Value = { PartsState };
 

@@ -8,7 +8,7 @@ ghost use Rattle.split_core.specs.Split.{settled_by, split_work};
 ghost use Rattle.split_core.specs.Splitter.{HasNames, IsPositive};
 ghost use Rattle.split_core.specs.Ways.{Holds, Owns, Ready, work};
 ghost use Rattle.split_core.specs.inner.Ways.{FinishesBy, PassesBy, held};
-ghost use Rattle.split_core.specs.laws.Ways.{lawful};
+ghost use Rattle.split_core.specs.laws.WorkLaws.{lawful};
 
 use crate::parts::Parts;
 use crate::round_splitter::RoundSplitter;

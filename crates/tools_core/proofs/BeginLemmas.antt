@@ -24,8 +24,7 @@ use Rattle.split_core.specs.Split.{share, are_named, dealt_files, split_work, wh
 use Rattle.split_core.specs.Round.{opened_by, round_plan}
 use Rattle.split_core.specs.inner.Dealt.{share_of}
 use Rattle.split_core.specs.laws.DealLaws.{dealt_files_are}
-use Rattle.split_core.specs.laws.PartStateLaws as part_law
-use Rattle.split_core.specs.laws.RoundLaws as round_law
+use Rattle.split_core.specs.laws.WorkLaws.{parts_lawful, round_lawful}
 use Rattle.split_core.proofs.AgreedLemmas.{plan_by}
 use Rattle.split_core.proofs.CutLaws.{opened_by-most}
 use Rattle.run_core.specs.Feeding.{HasAll, IsCall, Step, enough, to_end, opens, feeds, closes}
@@ -200,7 +199,7 @@ dealt_closed delim {n} elide names all x (enough rest is complete) =
     absurd (false≢true (sym (ap not named) ∙ complete))
 
 pub split_grows : (delim : ℕ) (cut : Cut) (elide : Bool) (names : Naming) {bytes : List ℕ} → AreNamed cut names.alphabet names.width → IsGrowing (split_work (plan_by delim cut elide names)) bytes
-split_grows delim (Lines n) elide names all = lawful_grows (part_law.lawful (limit.Lines n delim) names)
-split_grows delim (Bytes n) elide names all = lawful_grows (part_law.lawful (limit.Bytes n) names)
-split_grows delim (LineBytes n) elide names all = lawful_grows (part_law.lawful (limit.LineBytes n delim) names)
-split_grows delim (Round n) elide names all = record { settled = settled_whole (round_law.lawful delim n elide names); closed = dealt_closed delim elide names all }
+split_grows delim (Lines n) elide names all = lawful_grows (parts_lawful (limit.Lines n delim) names)
+split_grows delim (Bytes n) elide names all = lawful_grows (parts_lawful (limit.Bytes n) names)
+split_grows delim (LineBytes n) elide names all = lawful_grows (parts_lawful (limit.LineBytes n delim) names)
+split_grows delim (Round n) elide names all = record { settled = settled_whole (round_lawful delim n elide names); closed = dealt_closed delim elide names all }

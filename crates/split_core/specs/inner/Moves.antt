@@ -1,5 +1,5 @@
 -- How the files of `split` change in a step.
-use Rattle.std.specs.Prelude.{◌≡◌, ℕ, ◌-◌, ◌≤◌, ◌<◌, Bool, true, false, List, [], ◌∷◌, ◌++◌, ◌⊎◌, length, take, map, IsTrue, Option, Some, None, Result, Ok, Err, OnOk, IfErr}
+use Rattle.std.specs.Prelude.{◌≡◌, ℕ, ◌-◌, ◌≤◌, ◌<◌, Bool, true, false, List, [], ◌∷◌, ◌++◌, ◌⊎◌, length, suc, take, map, IsTrue, Option, Some, None, Result, Ok, Err, OnOk, IfErr}
 use Rattle.ports_core.specs.Name.{Naming, next_name, has_next, with_one_drawn}
 use Rattle.ports_core.specs.Slot.{Slot, Rose, opened, unopened}
 use Rattle.ports_core.specs.inner.Slot.{KeepsBroken}
@@ -15,7 +15,6 @@ use Rattle.split_core.specs.Parts.{most, unless_empty}
 use Rattle.split_core.specs.Split.{Share, share, is_some, is_named, named, are_named, from_start, only_files, settled_parts}
 use Rattle.split_core.specs.inner.CutLaws.{AllShut, SharesBegin, whole_parts}
 use Rattle.split_core.specs.PartsState.{PartsState, Stands, IsReady, OwnsFile, is_given}
-use Rattle.split_core.specs.inner.PartsState.{IsAtEnd}
 
 -- the part that these shares make
 abbrev pub part_of : Naming → List Share → Part
@@ -24,6 +23,11 @@ part_of names shares = only_files (named names 0 shares)
 -- the file of the part that was begun stays the last of the outputs from a place on
 abbrev pub KeepsFile : Option ℕ → List Slot → Option ℕ → List Slot → Type 0
 KeepsFile current old next new = (first : ℕ) → OwnsFile current first old → OwnsFile next first new
+
+-- that file is the last output
+abbrev pub IsAtEnd : Option ℕ → List Slot → Type 0
+IsAtEnd None slots = Unit {0}
+IsAtEnd (Some slot) slots = suc slot ≡ length slots
 
 -- the faults of files: a slot broke in the call where the fault names one, and none of the streams by a write
 pub data Breaks (old new : List Slot) : Fault → Type 0 where

@@ -1,4 +1,4 @@
-use Rattle.split_core.proofs.WaysLemmas.{never_short}
+use Rattle.split_core.proofs.RoundLemmas.{never_short}
 use Rattle.split_core.proofs.laws.all_files_have_names.Goals as goal
 
 pub returns : goal.returns

@@ -1,5 +1,5 @@
 use Rattle.ports_core.proofs.SpareLemmas.{all_used}
-use Rattle.split_core.proofs.WaysLemmas.{all_named}
+use Rattle.split_core.proofs.RoundLemmas.{all_named}
 use Rattle.split_core.proofs.splitter.SplitterStage.unused.Goals as goal
 
 pub returns : goal.returns
