@@ -269,12 +269,16 @@ open_stops told {names} {next} current shares one {old} {new} shut drawn none = 
 } where
   ran : OpensNone names next old new Suffixes → (those : List Share) × RunsShort (from_start names) those (shares ++ one ∷ [])
       × (IsAtEnd current old → Becomes told (part_of (from_start names) shares) (part_of (from_start names) those) old new None)
-  ran (no_name none same) = (shares, record {
-    shut = shut;
-    none = subst (λ n. is_named names n ≡ false) drawn none;
-    begins = shares_more shares (one ∷ []);
-    fewer = omega (arith, length-append shares (one ∷ []));
-  }, λ last. record { gets = λ before at. rw same at })
+  ran (no_name none same) = (
+    shares,
+    record {
+      shut = shut;
+      none = subst (λ n. is_named names n ≡ false) drawn none;
+      begins = shares_more shares (one ∷ []);
+      fewer = omega (arith, length-append shares (one ∷ []));
+    },
+    λ last. record { gets = λ before at. rw same at },
+  )
 
 -- the output broke in a later write
 pub short_later : (told : Bool) {slot : ℕ} (first more past : List ℕ) {old mid new : List Slot} {fault : Fault} → mid ≡ with_written slot (told_of told first) old → WritesShort told slot more mid new fault → WritesShort told slot (first ++ (more ++ past)) old new fault

@@ -602,7 +602,7 @@ have_names : (state : PartsState) (x : List ℕ) {have : Bool} → are_named (fr
     → are_named (from_start state.names) (length (map (share Closed) (parts state.limit x))) ≡ have
 have_names state x is = grind (arith, common_steps, length-map, settled_count)
 
-all_have : {state : PartsState} {x : List ℕ} → Stands state x → are_named (from_start state.names) (length (map (share Closed) (parts state.limit x))) ≡ true
+pub all_have : {state : PartsState} {x : List ℕ} → Stands state x → are_named (from_start state.names) (length (map (share Closed) (parts state.limit x))) ≡ true
 all_have {state} {x} stands = have_names state x (are_named_same state.names (from_start state.names) _ refl ∙ stands.enough)
 
 -- as long as all parts have names, more can come

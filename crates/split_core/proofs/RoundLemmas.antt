@@ -21,6 +21,7 @@ use Rattle.ports_core.specs.declared.slot.State.{State}
 use Rattle.ports_core.specs.declared.slot.State.TheVariants.{Open, Closed}
 use Rattle.ports_core.proofs.PartLemmas.{outputs_count}
 use Rattle.split_core.specs.Parts.{dealt, round_robin}
+use Rattle.split_core.specs.Parts as cut
 use Rattle.split_core.specs.Split.{share, named, is_named, are_named, from_start, file_at, only_files, dealt_files, settled_by, whole_by, is_short, is_some, split_means, split_work, bytes_in, waiting_after, Share, settled_parts}
 use Rattle.split_core.specs.inner.Dealt.{dealt_piece, dealt_first, reached_by, share_of}
 use Rattle.split_core.specs.FilesState.{FilesState}
@@ -31,7 +32,7 @@ use Rattle.split_core.specs.declared.splitter.Splitter.TheVariants as way
 use Rattle.split_core.specs.inner.Ways.{Deals, PassesBy, FinishesBy, held}
 use Rattle.split_core.specs.inner.Sharing.{part_by, all_open, closed_first, StandAt, Adds, Opens, Leaves, ClosesAll}
 use Rattle.split_core.specs.laws.DealLaws.{dealt_append, dealt_none, dealt_files_are, share_none}
-use Rattle.split_core.proofs.AgreedLemmas.{dealt_settled, each_named, bytes_named}
+use Rattle.split_core.proofs.AgreedLemmas.{each_named, shared_bytes, waiting_is}
 use Rattle.split_core.proofs.CutLaws.{dealt_same, dealt_past, opened_by-most}
 use Rattle.split_core.proofs.FilesLemmas.{same_by, stopped_as, stops_in_order, shut_now}
 use Rattle.split_core.proofs.MoveLemmas.{are_named_same, met_closing, met_files, named_before, unjudged}
@@ -291,7 +292,7 @@ joined_files delim false n x = refl
 -- all bytes are with the files
 pub dealt_all : (delim n : ℕ) (elide : Bool) (names : Naming) (x : List ℕ) → 0 < n → are_named names (length (dealt_files delim elide n x)) ≡ true
     → length (bytes_in (settled_by (round_plan delim n elide names) x)) ≡ length x
-dealt_all delim n elide names x some are = ap (λ those. length (joined those)) (dealt_settled delim n elide names x ∙ each_named names (dealt_files delim elide n x) are)
+dealt_all delim n elide names x some are = ap (λ those. length (joined those)) (shared_bytes names Open (dealt_files delim elide n x) ∙ each_named names (dealt_files delim elide n x) are)
     ∙ ap length (joined_files delim elide n x) ∙ all_dealt delim n x some
 
 pub none_waits : {round : RoundState} {x : List ℕ} → Holds round x → 0 ≡ length ((work round).waiting x)
@@ -300,26 +301,10 @@ none_waits {round} {x} holds = sym (ap length (ap (λ count. drop count x)
 
 -- Both ways to cut
 
-abbrev bytes_of : List File → List (List ℕ)
-bytes_of files = map (λ (file : File). file.bytes) files
-
-abbrev shared : List Share → List (List ℕ)
-shared shares = map (λ (file : Share). file.bytes) shares
-
--- where all files have names, they have all bytes
-all_bytes : (names : Naming) (shares : List Share) → are_named names (length shares) ≡ true → bytes_of (named (from_start names) 0 shares) ≡ shared shares
-all_bytes names [] are = refl
-all_bytes names (one ∷ shares) are = bytes_named (from_start names) 0 (one ∷ shares)
-    ∙ each_named (from_start names) (shared (one ∷ shares)) (ap (is_named names) (length-map shares (λ (file : Share). file.bytes)) ∙ are)
-
--- what follows a beginning
-after : {x : List ℕ} (front : List ℕ) {rest : List ℕ} → front ++ rest ≡ x → drop (length front) x ≡ rest
-after front {rest} is = grind (arith, common_steps)
-
 -- what waits in a stage that cuts off parts
 pub parts_wait : {parts : PartsState} {x : List ℕ} → Stands parts x → length parts.waiting ≡ length ((parts_state.work parts).waiting x)
-parts_wait {parts} {x} stands = ap length (stands.waits ∙ sym (after (joined (shared (settled_parts parts.limit x))) (settled_all parts.limit x)))
-    ∙ ap (λ those. length (drop (length (joined those)) x)) (sym (all_bytes parts.names (settled_parts parts.limit x) stands.enough))
+parts_wait {parts} {x} stands = ap length (stands.waits ∙ sym (waiting_is parts.limit (from_start parts.names) x
+    (ap (are_named (from_start parts.names)) (sym (length-map (cut.parts parts.limit x) (share Closed))) ∙ part.all_have stands)))
 
 -- as long as the engine goes on, all files have names
 pub all_named : (splitter : Splitter) (x : List ℕ) → ways.Holds splitter x → (ways.work splitter).is_complete x ≡ false

@@ -14,7 +14,7 @@ use Rattle.split_core.specs.laws.ShareLaws.{one_on}
 use Rattle.split_core.specs.Split.{is_named, Plan, share, are_named, named, settled_by, is_short, split_work, dealt_files, bytes_in, whole_by}
 use Rattle.split_core.specs.PartState.{parts_work}
 use Rattle.split_core.proofs.SectionLemmas.{joined_parts, settled_list, list_all}
-use Rattle.split_core.proofs.AgreedLemmas.{named_bytes, whole_files, named_more, each_named, settled_files, list_count, decides_lines, one_of, delimiters_some, plan_by, dealt_whole}
+use Rattle.split_core.proofs.AgreedLemmas.{named_bytes, came_in, settled_bytes_in, settled_in, shared_bytes, waiting_is, named_more, each_named, list_count, decides_lines, one_of, delimiters_some, plan_by}
 use Rattle.std.proofs.lemmas.Grind.{common_steps}
 use Rattle.ports_core.specs.Part.{File, FilesBegin}
 use Rattle.ports_core.specs.Slot.{is_open}
@@ -109,7 +109,7 @@ files_together : (limit : Limit) (names : Naming) {x : List ℕ} → (rest : Lis
 files_together limit names {x} =
     let front = named_front names 0 (parts limit x) in (
       joined front.0,
-      sym (joined_parts limit x) ∙ ap joined front.1 ∙ joined-append (named_bytes names 0 (parts limit x)) front.0 ∙ ap (λ files. joined files ++ joined front.0) (sym (whole_files limit names x)),
+      sym (joined_parts limit x) ∙ ap joined front.1 ∙ joined-append (named_bytes names 0 (parts limit x)) front.0 ∙ ap (λ files. joined files ++ joined front.0) (sym (shared_bytes names Closed (parts limit x))),
     )
 
 abbrev files_of : Limit → Naming → List ℕ → List (List ℕ)
@@ -182,20 +182,9 @@ spots_stay place i (file ∷ low) (whole ∷ high) begins last less = elim (case
 abbrev parts_spots : Limit → Naming → List ℕ → ℕ → List Spot
 parts_spots limit names x i = spots_from 1 (file_bytes ((parts_work limit names).whole x)) i
 
-abbrev settled_in : Limit → Naming → List ℕ → List ℕ
-settled_in limit names x = bytes_in ((parts_work limit names).settled x)
-
 parts_decided : (limit : Limit) (names : Naming) (x : List ℕ) (i : ℕ) → i < length (settled_in limit names x) → (y : List ℕ) → parts_spots limit names (x ++ y) i ≡ spots_from 1 (file_bytes ((parts_work limit names).settled x)) i
 parts_decided limit names x i less y =
     spots_stay 1 i _ _ (common (parts_work limit names) (parts_lawful limit names) x y).files (last_open names 0 (cut_up limit x).full (settled_rest limit (cut_up limit x).rest)) less
-
--- where all files have names
-
-settled_bytes_in : (limit : Limit) (names : Naming) (x : List ℕ) → are_named names (length (parts limit x)) ≡ true → settled_in limit names x ≡ joined (settled_list limit x)
-settled_bytes_in limit names x are = grind (arith, common_steps, settled_files, each_named, settled_list, list_count)
-
-came_in : (limit : Limit) (names : Naming) {x : List ℕ} → are_named names (length (parts limit x)) ≡ true → settled_in limit names x ++ waiting_rest limit (cut_up limit x).rest ≡ x
-came_in limit names {x} are = grind (arith, common_steps, settled_bytes_in, list_all)
 
 -- what stands after a beginning
 none_wait : (limit : Limit) (names : Naming) (x : List ℕ) (i : ℕ) → are_named names (length (parts limit x)) ≡ true → waiting_rest limit (cut_up limit x).rest ≡ [] → length (settled_in limit names x) ≤ i → i < length x → ⊥
@@ -220,7 +209,7 @@ lines_here delim n names x are lines i past within =
     let full = (cut_up (LineBytes n delim) x).full in let rest = (cut_up (LineBytes n delim) x).rest in
     cc (
       append-nil x,
-      whole_files (LineBytes n delim) names x,
+      shared_bytes names Closed (parts (LineBytes n delim) x),
       each_named names (parts (LineBytes n delim) x) are,
       one_of rest (delimiters_some delim rest lines),
       spots_after 1 i full (rest ∷ []) past,
@@ -233,7 +222,7 @@ lines_there : (limit : Limit) (names : Naming) (x y : List ℕ) (next : List (Li
 lines_there limit names x y next are is i past =
     let further = named_more names 0 (settled_list limit x) next in (
       further.0,
-      ap (λ files. spots_from 1 files i) (whole_files limit names (x ++ y) ∙ ap (named_bytes names 0) is ∙ further.1
+      ap (λ files. spots_from 1 files i) (shared_bytes names Closed (parts limit (x ++ y)) ∙ ap (named_bytes names 0) is ∙ further.1
           ∙ ap (λ files. files ++ further.0) (each_named names (settled_list limit x) (ap (are_named names) (list_count limit x) ∙ are)))
           ∙ spots_after 1 i (settled_list limit x) further.0 past,
     )
@@ -267,7 +256,7 @@ parts_differ (LineBytes n delim) names {x} some are {i} past within = elim (case
 parts_undecided : (limit : Limit) (names : Naming) {x : List ℕ} → 0 < most limit → are_named names (length (parts limit x)) ≡ true → IsUndecided (parts_spots limit names) x ((parts_work limit names).waiting x)
 parts_undecided limit names {x} some are = record {
   before = settled_in limit names x;
-  are_last = cc (came_in limit names are, drop-append_seam (settled_in limit names x) (waiting_rest limit (cut_up limit x).rest));
+  are_last = cc (came_in limit names are, waiting_is limit names x are);
   differ = λ i past within. (let two = parts_differ limit names some are past within in (two.y, two.z, two.y_comes, two.z_comes, two.apart));
   decided = λ i less y z can also. parts_decided limit names x i less y ∙ sym (parts_decided limit names x i less z);
 }
@@ -422,7 +411,7 @@ abbrev dealt_files_of : ℕ → ℕ → Bool → Naming → List ℕ → List (L
 dealt_files_of delim n elide names x = file_bytes (whole_by (round_plan delim n elide names) x)
 
 file_there : (delim n : ℕ) (elide : Bool) (names : Naming) (x : List ℕ) (file : ℕ) → file < n → is_named names file ≡ true → get_or ([] ∷ dealt_files_of delim n elide names x) (file + 1) [] ≡ share_of delim n x file
-file_there delim n elide names x file within named = search (rules, get_or, dealt_whole, named_at, zero-add, file_is)
+file_there delim n elide names x file within named = search (rules, get_or, shared_bytes names Closed (dealt_files delim elide n x), named_at, zero-add, file_is)
 
 abbrev StandsThere : List (List ℕ) → Spot → ℕ → Type 0
 StandsThere outputs at byte = (at.offset < length (get_or outputs at.place [])) × (get_or (get_or outputs at.place []) at.offset 0 ≡ byte)
@@ -436,7 +425,7 @@ goes_there delim n names x i {file} {offset} less to at named = grind (arith, co
 dealt_filled : (delim n : ℕ) (elide : Bool) (names : Naming) (x : List ℕ) (place offset : ℕ) → offset < length (get_or ([] ∷ dealt_files_of delim n elide names x) place []) → (i : ℕ) × (i < length x) × GoesTo (spot place offset) (dealt_spots delim n names x i)
 dealt_filled delim n elide names x zero offset less = absurd (omega (arith, less))
 dealt_filled delim n elide names x (suc file) offset less =
-    let there = there_by (is_named names (0 + file)) (get_or (dealt_files delim elide n x) file []) (subst (λ those. offset < length those) (ap (λ files. get_or files file []) (dealt_whole delim n elide names x) ∙ named_at names 0 (dealt_files delim elide n x) file) less) in
+    let there = there_by (is_named names (0 + file)) (get_or (dealt_files delim elide n x) file []) (subst (λ those. offset < length those) (ap (λ files. get_or files file []) (shared_bytes names Closed (dealt_files delim elide n x)) ∙ named_at names 0 (dealt_files delim elide n x) file) less) in
     let within = within_n delim elide n x file offset there.1 in
     let found = find 0 x (subst (λ those. offset < length those) (file_is delim elide n x file within) there.1) in (
       found.i,
