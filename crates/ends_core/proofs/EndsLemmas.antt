@@ -119,8 +119,7 @@ incomplete : (delim : ℕ) (unit : Counted) (but_last : Bool) (n : ℕ) (x : Lis
 incomplete delim unit false n x byte short done =
     let few : measure delim unit x < n = leb-false n (measure delim unit x) short in
     let same : x ++ 0 ∷ [] ≡ x = sym (first_of-more delim unit n x 0 few) ∙ done (0 ∷ []) (All-replicate (λ byte. byte < 256) 1 0 (lit< tt)) ∙ first_of-short delim unit n {x = x} few in
-    let longer : length x + 1 ≡ length x = sym (length-append x (0 ∷ [])) ∙ ap length same in
-    omega arith
+    omega (arith, length-append x (0 ∷ []), ap length same)
 incomplete delim unit true n x byte short done =
     but_last_grows delim unit n x (replicate (n + 1) delim) (let many = measure-delimiters delim unit {k = n + 1} in omega arith) (done (replicate (n + 1) delim) (All-replicate (λ byte. byte < 256) (n + 1) delim byte))
 
@@ -322,13 +321,9 @@ goes_past delim x piece used rest is more = elim (cases_lt (length x) (length us
 
 few_between : (delim : ℕ) (x piece used rest : List ℕ) → x ++ piece ≡ used ++ rest → length x < length used → delimiters delim used + length x ≤ delimiters delim x + length used
 few_between delim x piece used rest is past =
-    let between : length used - length x + length x ≡ length used = omega (arith, past) in
-    let all : take (length used) (x ++ piece) ≡ used = ap (take (length used)) is ∙ take_at used rest (length used) refl in
-    let front : take (length x) (x ++ piece) ≡ x = take_at x piece (length x) refl in
-    let cut = delimiters-take-add delim (length x) (length used - length x) (x ++ piece) in
-    let few = delimiters-le-length delim (take (length used - length x) (drop (length x) (x ++ piece))) in
-    let same : delimiters delim (take (length x + (length used - length x)) (x ++ piece)) ≡ delimiters delim used = ap (λ k. delimiters delim (take k (x ++ piece))) (omega (arith, past)) ∙ ap (delimiters delim) all in
-    omega (arith, cut, few, same, ap (delimiters delim) front, length-take (length used - length x) (drop (length x) (x ++ piece)), past)
+    let all : take (length x + (length used - length x)) (x ++ piece) ≡ used = ap (λ k. take k (x ++ piece)) (omega (arith, past)) ∙ ap (take (length used)) is ∙ take_at used rest (length used) refl in
+    omega (arith, delimiters-take-add delim (length x) (length used - length x) (x ++ piece), ap (delimiters delim) all, ap (delimiters delim) (take_at x piece (length x) refl),
+    delimiters-le-length delim (take (length used - length x) (drop (length x) (x ++ piece))), length-take (length used - length x) (drop (length x) (x ++ piece)), past)
 
 few_spare : (delim : ℕ) (unit : Counted) (count : ℕ) {left n : ℕ} (x piece : List ℕ) (spare : IsSpare (head_work delim unit false count) (x ++ piece) n) → left ≡ count - measure delim unit x → measure delim unit x < count → count ≤ measure delim unit spare.used
     → length piece ≤ piece_for unit left → n ≤ ahead_of unit
