@@ -176,11 +176,7 @@ goes_then {names = names} {current} {next} {low} {mid} {high} {old} {wet} result
 -- a fault on the way to what the step was only a part of
 pub goes_wider : {told : Bool} {names : Naming} {current : Option ℕ} {low mid high : List Share} {old new : List Slot} {fault : Fault}
     → Goes told names current low mid old new (Err fault) → SharesBegin mid high → Goes told names current low high old new (Err fault)
-goes_wider {names = names} {low = low} {mid} {high} stop begins = record {
-  grows = shares_trans low mid high stop.grows begins;
-  moves = λ last. falls_wider (stop.moves last) (part_begins names mid high begins);
-  short = λ is. let ran = stop.short is in (ran.0, grind (arith, common_steps, ran.1, shares_trans, shares_fewer, begins), ran.2);
-}
+goes_wider {names = names} {low = low} {mid} {high} stop begins = grind (arith, common_steps, shares_trans, falls_wider, part_begins, shares_fewer)
 
 -- nothing changed
 pub goes_same : {told : Bool} {names : Naming} {current : Option ℕ} {low high : List Share} {slots : List Slot} → low ≡ high → Goes told names current low high slots slots (Ok tt)
@@ -216,40 +212,18 @@ module _ (told : Bool) (names : Naming) (shares : List Share) (begun : List ℕ)
   -- bytes were written to it, or it broke among them
   pub write_goes : (bytes : List ℕ) {slot : ℕ} {new : List Slot} (result : Result (Unit {0}) Fault) → WritesTo told slot bytes old new result
       → Goes told names (Some slot) (shares ++ share state.Open begun ∷ []) (shares ++ share state.Open (begun ++ bytes) ∷ []) old new result
-  write_goes bytes {slot} {new} result wrote = record {
-    grows = last_grows shares [] _ _ (inl refl) (begins_more begun bytes);
-    moves = λ last. becomes_as (last_one _) (last_one _)
-        (writes_to told [] (named names 0 shares) (name_of names (length shares)) begun bytes old (fault_in result) (shut_files names 0 shares shut) last wrote);
-    short = by _ result wrote;
-  } where
-    by : (P : Type 0) (result : Result (Unit {0}) Fault) → WritesTo told slot bytes old new result → IfErr result (λ fault. fault ≡ Suffixes → P)
-    by P (Ok done) wrote = tt
-    by P (Err _) (broke n cut) = λ same. absurd (false≢true (ap is_verdict same))
+  write_goes bytes {slot} {new} result wrote = search (rules, last_grows, begins_more, becomes_as, last_one, writes_to, shut_files, false≢true)
 
   -- it was closed, or it broke at that
   pub close_goes : {slot : ℕ} {new : List Slot} (result : Result (Unit {0}) Fault) → OnOk result (new ≡ changed_at slot closes old)
       → IfErr result (λ fault. (fault ≡ Write slot) × (new ≡ with_broken slot (changed_at slot closes old)))
       → Goes told names (Some slot) (shares ++ share state.Open begun ∷ []) (shares ++ share state.Closed begun ∷ []) old new result
-  close_goes (Ok done) ok err = record {
-    grows = last_grows shares [] _ _ (inl refl) (begins_itself begun);
-    moves = λ last. becomes_as (last_one _) (last_one _) (closes_last told [] (named names 0 shares) (name_of names (length shares)) begun old last ok);
-    short = tt;
-  }
-  close_goes {slot} {new} (Err fault) ok err =
-      subst (λ those. Goes told names (Some slot) (shares ++ share state.Open begun ∷ []) (shares ++ share state.Closed begun ∷ []) old new (Err those)) (sym err.0) (record {
-        grows = last_grows shares [] _ _ (inl refl) (begins_itself begun);
-        moves = λ last. becomes_as (last_one _) (last_one _)
-            (closes_not told [] (named names 0 shares) (name_of names (length shares)) begun old (shut_files names 0 shares shut) last err.1);
-        short = λ same. absurd (false≢true (ap is_verdict same));
-      })
+  close_goes (Ok done) ok err = grind (arith, common_steps, last_grows, becomes_as, last_one, closes_last)
+  close_goes {slot} {new} (Err fault) ok err = search (rules, last_grows, begins_itself, becomes_as, last_one, closes_not, shut_files, false≢true)
 
   -- the next file was opened
   pub open_goes : (current : Option ℕ) {new : List Slot} → new ≡ old ++ opened (name_of names (length shares)) Fresh ∷ [] → Goes told names current shares (shares ++ share state.Open [] ∷ []) old new (Ok tt)
-  open_goes current made = record {
-    grows = shares_more shares _;
-    moves = λ last. becomes_as refl (last_one _) (opens told [] (named names 0 shares) (name_of names (length shares)) made);
-    short = tt;
-  }
+  open_goes current made = search (rules, shares_more, becomes_as, last_one, opens)
 
 -- or it could not be opened
 pub open_stops : (told : Bool) {names next : Naming} (current : Option ℕ) (shares : List Share) (one : Share) {old new : List Slot} {fault : Fault} → AllShut shares
