@@ -169,11 +169,8 @@ round_agreed delim n elide names {x} = agreed_now (split_work (round_plan delim 
 abbrev pub plan_by : ℕ → Cut → Bool → Naming → Plan
 plan_by delim cut elide names = record { delim = delim; cut = cut; elide = elide; names = names }
 
-agreed_at : (delim : ℕ) (cut : Cut) (elide : Bool) (names : Naming) → IsPositive cut → {x : List ℕ} → IsAgreed (split_work (plan_by delim cut elide names)) x ((split_work (plan_by delim cut elide names)).settled x)
+pub agreed_at : (delim : ℕ) (cut : Cut) (elide : Bool) (names : Naming) → IsPositive cut → {x : List ℕ} → IsAgreed (split_work (plan_by delim cut elide names)) x ((split_work (plan_by delim cut elide names)).settled x)
 agreed_at delim (cut.Lines n) elide names some = parts_agreed (Lines n delim) names some
 agreed_at delim (cut.Bytes n) elide names some = parts_agreed (Bytes n) names some
 agreed_at delim (cut.LineBytes n) elide names some = parts_agreed (LineBytes n delim) names some
 agreed_at delim (cut.Round n) elide names some = round_agreed delim n elide names
-
-pub split_agreed : (plan : Plan) → IsPositive plan.cut → (x : List ℕ) → IsAgreed (split_work plan) x ((split_work plan).settled x)
-split_agreed plan some x = agreed_at plan.delim plan.cut plan.elide plan.names some

@@ -231,11 +231,8 @@ extended {told} {parts} more held {old} {mid} {new} {fresh} {next} {slot} result
           (write_goes told (from_start parts.names) those.shares those.begun mid has.shut (facts.last those has).1 more result wrote));
     })
 
-some_bytes : (front bytes : List ℕ) → 0 < length bytes → is_some (front ++ bytes) ≡ true
+pub some_bytes : (front bytes : List ℕ) → 0 < length bytes → is_some (front ++ bytes) ≡ true
 some_bytes front bytes some = is_some_of (front ++ bytes) (omega (arith, some, length-append front bytes))
-
-pub some_more : (front waiting bytes : List ℕ) → 0 < length bytes → is_some (front ++ (waiting ++ bytes)) ≡ true
-some_more front waiting bytes some = some_bytes front (waiting ++ bytes) (omega (arith, some, length-append waiting bytes))
 
 -- no file could be opened
 pub no_file : (told : Bool) (parts : PartsState) (bytes : List ℕ) {old new : List Slot} {next : PartsState} (f : Fault) → 0 < length bytes

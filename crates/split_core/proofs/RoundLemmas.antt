@@ -311,9 +311,6 @@ pub all_named : (splitter : Splitter) (x : List ℕ) → ways.Holds splitter x �
 all_named (way.Parts parts) x holds = sym (part.never_done holds)
 all_named (way.Round round) x holds = refl
 
-pub never_short : (engine : GuardState Splitter) (x : List ℕ) → HoldsIn ways.Holds engine x → (ways.work engine.stage).is_complete x ≡ false
-never_short engine x holds = all_named engine.stage x holds.within
-
 pub held_is : (splitter : Splitter) (x : List ℕ) → ways.Holds splitter x → held splitter ≡ length ((ways.work splitter).waiting x)
 held_is (way.Parts parts) x holds = parts_wait holds
 held_is (way.Round round) x holds = none_waits holds

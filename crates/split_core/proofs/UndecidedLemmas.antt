@@ -281,15 +281,12 @@ round_undecided delim n elide names {x} some are =
 counted : (names : Naming) (those : List (List ℕ)) → not (are_named names (length (map (share Closed) those))) ≡ false → are_named names (length those) ≡ true
 counted names those is = grind (arith, common_steps)
 
-undecided_at : (delim : ℕ) (cut : Cut) (elide : Bool) (names : Naming) → IsPositive cut → {x : List ℕ} → is_short (plan_by delim cut elide names) x ≡ false
+pub undecided_at : (delim : ℕ) (cut : Cut) (elide : Bool) (names : Naming) → IsPositive cut → {x : List ℕ} → is_short (plan_by delim cut elide names) x ≡ false
     → IsUndecided (split_spots (plan_by delim cut elide names)) x ((split_work (plan_by delim cut elide names)).waiting x)
 undecided_at delim (cut.Lines n) elide names some {x} enough = parts_undecided (Lines n delim) names some (counted names (parts (Lines n delim) x) enough)
 undecided_at delim (cut.Bytes n) elide names some {x} enough = parts_undecided (Bytes n) names some (counted names (parts (Bytes n) x) enough)
 undecided_at delim (cut.LineBytes n) elide names some {x} enough = parts_undecided (LineBytes n delim) names some (counted names (parts (LineBytes n delim) x) enough)
 undecided_at delim (cut.Round n) elide names some {x} enough = round_undecided delim n elide names some (counted names (dealt_files delim elide n x) enough)
-
-pub split_undecided : (plan : Plan) → IsPositive plan.cut → (x : List ℕ) → is_short plan x ≡ false → IsUndecided (split_spots plan) x ((split_work plan).waiting x)
-split_undecided plan some x enough = undecided_at plan.delim plan.cut plan.elide plan.names some enough
 
 -- Lines that are dealt: what a file has, byte by byte
 
@@ -342,9 +339,6 @@ pub record Found (delim n file place : ℕ) (x : List ℕ) (k : ℕ) : Type 0 wh
   pub goes : (place + delimiters delim (take i x)) % n ≡ file
   pub at : length (dealt n file place (lines_of delim (take i x))) ≡ k
 
-found_now : {delim n file place byte : ℕ} {x : List ℕ} → eqb (place % n) file ≡ true → Found delim n file place (byte ∷ x) 0
-found_now {n} {file} {place} is = grind (arith, common_steps)
-
 found_after : {delim n file place byte k : ℕ} {x : List ℕ} {gets : Bool} → eqb (place % n) file ≡ gets → Found delim n file (cond (eqb byte delim) (place + 1) place) x k → Found delim n file place (byte ∷ x) (cond gets (suc k) k)
 found_after {delim} {n} {file} {place} {byte} {k} {x} {gets} is found = record {
   i = suc found.i;
@@ -360,7 +354,7 @@ found_by : {delim n file place byte : ℕ} (k : ℕ) {x : List ℕ} (gets : Bool
     → ((k : ℕ) → k < length (dealt n file (cond (eqb byte delim) (place + 1) place) (lines_of delim x)) → Found delim n file (cond (eqb byte delim) (place + 1) place) x k)
     → k < length (cond gets (byte ∷ dealt n file (cond (eqb byte delim) (place + 1) place) (lines_of delim x)) (dealt n file (cond (eqb byte delim) (place + 1) place) (lines_of delim x)))
     → Found delim n file place (byte ∷ x) k
-found_by zero true is later less = found_now is
+found_by {n = n} {file} {place} zero true is later less = grind (arith, common_steps)
 found_by (suc k) true is later less = found_after is (later k (omega (arith, less)))
 found_by k false is later less = found_after is (later k less)
 
@@ -394,9 +388,6 @@ there_by : (has : Bool) (these : List ℕ) {offset : ℕ} → offset < length (c
 there_by true these less = (refl, less)
 there_by false these less = absurd (omega (arith, less))
 
-within_n : (delim : ℕ) (elide : Bool) (n : ℕ) (x : List ℕ) (file offset : ℕ) → offset < length (get_or (dealt_files delim elide n x) file []) → file < n
-within_n delim elide n x file offset less = grind (arith, common_steps, cases_lt, get_or_past, dealt_files_are, length-map-range_with_len, opened_by-most)
-
 -- Spots
 
 pub record Goes (delim n : ℕ) (names : Naming) (x : List ℕ) (i : ℕ) (at : Spot) : Type 0 where
@@ -416,9 +407,6 @@ file_there delim n elide names x file within named = search (rules, get_or, shar
 abbrev StandsThere : List (List ℕ) → Spot → ℕ → Type 0
 StandsThere outputs at byte = (at.offset < length (get_or outputs at.place [])) × (get_or (get_or outputs at.place []) at.offset 0 ≡ byte)
 
-dealt_stands : (delim n : ℕ) (elide : Bool) (names : Naming) → 0 < n → (x : List ℕ) (i : ℕ) (at : Spot) → GoesTo at (dealt_spots delim n names x i) → StandsThere ([] ∷ dealt_files_of delim n elide names x) at (get_or x i 0)
-dealt_stands delim n elide names some x i at goes = grind (arith, common_steps, dealt_goes, file_there, mod-lt, get_or, had_less, had_byte)
-
 goes_there : (delim n : ℕ) (names : Naming) (x : List ℕ) (i : ℕ) {file offset : ℕ} → i < length x → dealt_to delim n x i ≡ file → had delim n file x i ≡ offset → is_named names file ≡ true → GoesTo (spot (suc file) offset) (dealt_spots delim n names x i)
 goes_there delim n names x i {file} {offset} less to at named = grind (arith, common_steps)
 
@@ -426,7 +414,7 @@ dealt_filled : (delim n : ℕ) (elide : Bool) (names : Naming) (x : List ℕ) (p
 dealt_filled delim n elide names x zero offset less = absurd (omega (arith, less))
 dealt_filled delim n elide names x (suc file) offset less =
     let there = there_by (is_named names (0 + file)) (get_or (dealt_files delim elide n x) file []) (subst (λ those. offset < length those) (ap (λ files. get_or files file []) (shared_bytes names Closed (dealt_files delim elide n x)) ∙ named_at names 0 (dealt_files delim elide n x) file) less) in
-    let within = within_n delim elide n x file offset there.1 in
+    let within : file < n = grind (arith, common_steps, there.1, cases_lt, get_or_past, dealt_files_are, length-map-range_with_len, opened_by-most) in
     let found = find 0 x (subst (λ those. offset < length those) (file_is delim elide n x file within) there.1) in (
       found.i,
       found.within,
@@ -437,21 +425,15 @@ dealt_filled delim n elide names x (suc file) offset less =
 not_before : {delim n : ℕ} {names : Naming} {x : List ℕ} {i j : ℕ} {at : Spot} → Goes delim n names x i at → Goes delim n names x j at → i < j → ⊥
 not_before {delim} {n} {x} {i} {j} one two less = grind (arith, common_steps, had_grows)
 
-dealt_apart : (delim n : ℕ) (names : Naming) (x : List ℕ) {i j : ℕ} (at : Spot) → GoesTo at (dealt_spots delim n names x i) → GoesTo at (dealt_spots delim n names x j) → i ≡ j
-dealt_apart delim n names x {i} {j} at goes also = grind (arith, common_steps, dealt_goes, not_before)
-
 pub round_placed : (delim n : ℕ) (elide : Bool) (names : Naming) → 0 < n → ArePlaced (split_work (round_plan delim n elide names)) (dealt_spots delim n names)
 round_placed delim n elide names some = record {
-  stands = λ x i at less goes. dealt_stands delim n elide names some x i at goes;
+  stands = λ x i at less goes. grind (arith, common_steps, goes, dealt_goes, file_there, mod-lt, get_or, had_less, had_byte);
   filled = λ x at less. dealt_filled delim n elide names x at.place at.offset less;
-  apart = λ x i j at goes also. dealt_apart delim n names x at goes also;
+  apart = λ x i j at goes also. grind (arith, common_steps, dealt_goes names goes, dealt_goes names also, not_before);
 }
 
-placed_at : (delim : ℕ) (cut : Cut) (elide : Bool) (names : Naming) → IsPositive cut → ArePlaced (split_work (plan_by delim cut elide names)) (split_spots (plan_by delim cut elide names))
+pub placed_at : (delim : ℕ) (cut : Cut) (elide : Bool) (names : Naming) → IsPositive cut → ArePlaced (split_work (plan_by delim cut elide names)) (split_spots (plan_by delim cut elide names))
 placed_at delim (cut.Lines n) elide names some = parts_placed (Lines n delim) names
 placed_at delim (cut.Bytes n) elide names some = parts_placed (Bytes n) names
 placed_at delim (cut.LineBytes n) elide names some = parts_placed (LineBytes n delim) names
 placed_at delim (cut.Round n) elide names some = round_placed delim n elide names some
-
-pub split_placed : (plan : Plan) → IsPositive plan.cut → ArePlaced (split_work plan) (split_spots plan)
-split_placed plan some = placed_at plan.delim plan.cut plan.elide plan.names some
