@@ -8,7 +8,7 @@ use Rattle.ports_core.specs.Slot.{Slot, is_writable, with_written, told_of}
 use Rattle.ports_core.specs.Source.{Source}
 use Rattle.ports_core.specs.Part.{OutputsAt, StoppedBetween, only_out}
 use Rattle.ports_core.proofs.PartLemmas.{out_more}
-use Rattle.ports_core.specs.Work.{on_output, IsNeeded, IsSpare}
+use Rattle.ports_core.specs.Work.{Means, Needs, on_output, IsNeeded, IsSpare}
 use Rattle.ports_core.specs.Engine.{Loads, TakesIn, PutsOut, CutsOff, Finishes, EndsShort, EndsWith, EndsThere, IsMet, cut, MayGet}
 use Rattle.ports_core.specs.inner.Engine.{OwnsNone}
 use Rattle.ports_core.specs.declared.fault.Fault.{Fault}
@@ -137,21 +137,17 @@ full_is (First count front) {x} holds = grind (arith, common_steps)
 full_is ends holds = refl
 
 -- where memory may be wanted, something is kept
-lacks_kept : (ends : Ends) → may_lack ends ≡ true → keeps (stretch_of ends) ≡ true
+pub lacks_kept : (ends : Ends) → may_lack ends ≡ true → keeps (stretch_of ends) ≡ true
 lacks_kept (First count front) lacking = cc
 lacks_kept ends lacking = cc
 
-pub met : (told : Bool) (ends : Ends) (piece bytes : List ℕ) (old new : List Slot) (f : Fault) → IsTrue (is_writable old 0)
-    → Stops told (may_lack ends) bytes old new f → IsMet (work ends).means (work ends).means.feeding (may_lack ends ≡ true) (EndsWith Holds work ends piece) old new f
-met told ends piece bytes old new f can stops =
-    subst (λ means. IsMet means means.feeding (may_lack ends ≡ true) (EndsWith Holds work ends piece) old new f) (sym (on_means (stretch_of ends) (delim_of ends) (unit_of ends) (count_of ends)))
-    (stop.met (on_output (keeps (stretch_of ends))) (on_output (keeps (stretch_of ends))).feeding (may_lack ends ≡ true) (EndsWith Holds work ends piece) told refl (λ lacking. (lacks_kept ends lacking, lacking)) can stops)
-
-pub end_met : (told : Bool) (ends : Ends) {bytes : List ℕ} {old new : List Slot} {f : Fault} → IsTrue (is_writable old 0)
-    → Stops told false bytes old new f → IsMet (work ends).means (work ends).means.closing (Unit {0}) (EndsThere Holds work ends) old new f
-end_met told ends {old} {new} {f} can stops =
-    subst (λ means. IsMet means means.closing (Unit {0}) (EndsThere Holds work ends) old new f) (sym (on_means (stretch_of ends) (delim_of ends) (unit_of ends) (count_of ends)))
-    (stop.met (on_output (keeps (stretch_of ends))) (on_output (keeps (stretch_of ends))).closing (Unit {0}) (EndsThere Holds work ends) told refl (λ never. absurd (false≢true never)) can stops)
+-- why a call stopped
+pub met : (told : Bool) (ends : Ends) (needs : Means → Needs) (Lacks : Type 0) (Fails : Fault → Type 0) {lacks : Bool} {bytes : List ℕ} {old new : List Slot} {f : Fault}
+    → (lacks ≡ true → ((needs (on_output (keeps (stretch_of ends)))).memory ≡ true) × Lacks) → IsTrue (is_writable old 0) → Stops told lacks bytes old new f
+    → IsMet (work ends).means (needs (work ends).means) Lacks Fails old new f
+met told ends needs Lacks Fails {old = old} {new} {f} room can stops =
+    subst (λ means. IsMet means (needs means) Lacks Fails old new f) (sym (on_means (stretch_of ends) (delim_of ends) (unit_of ends) (count_of ends)))
+    (stop.met (on_output (keeps (stretch_of ends))) (needs (on_output (keeps (stretch_of ends)))) Lacks Fails told refl room can stops)
 
 -- what a call owes for its result, from what the call within it gave
 
