@@ -56,21 +56,7 @@ first_long delim unit n x y short = grind (arith, common_steps, first_of-append,
 
 module _ {spots_of : List ℕ → ℕ → List Spot} (delim : ℕ) (unit : Counted) (n : ℕ) where
   first_decided : Cuts spots_of (first_of delim unit n) → (x : List ℕ) (i : ℕ) → i < length x → (y z : List ℕ) → spots_of (x ++ y) i ≡ spots_of (x ++ z) i
-  first_decided cuts x i less y z = elim (cases_lt (measure delim unit x) n) [
-    | inl short ↦ cuts.before (x ++ y) i (omega (arith, less, first_long delim unit n x y short))
-        ∙ sym (cuts.before (x ++ z) i (omega (arith, less, first_long delim unit n x z short)))
-    | inr full ↦ elim (cases_lt i (length (first_of delim unit n x))) [
-      | inl within ↦ cuts.before (x ++ y) i (omega (arith, within, same y full)) ∙ sym (cuts.before (x ++ z) i (omega (arith, within, same z full)))
-      | inr past ↦ beyond y full past ∙ sym (beyond z full past)
-    ]
-  ] where
-    same : (w : List ℕ) → n ≤ measure delim unit x → length (first_of delim unit n (x ++ w)) ≡ length (first_of delim unit n x)
-    same w full = ap length (first_of-full delim unit n x w full)
-
-    beyond : (w : List ℕ) → n ≤ measure delim unit x → length (first_of delim unit n x) ≤ i
-        → spots_of (x ++ w) i ≡ cuts.late (length (first_of delim unit n x)) i
-    beyond w full past = cuts.after (x ++ w) i (omega (arith, past, same w full)) (omega (arith, less, length-append x w))
-        ∙ ap (λ k. cuts.late k i) (same w full)
+  first_decided cuts x i less y z = search (rules, cases_lt, first_long, first_of-full, length-append)
 
   first_undecided : Cuts spots_of (first_of delim unit n) → {x : List ℕ} → IsUndecided spots_of x []
   first_undecided cuts {x} = record {
@@ -82,9 +68,7 @@ module _ {spots_of : List ℕ → ℕ → List Spot} (delim : ℕ) (unit : Count
 
   last_decided : Cuts spots_of (but_last_of delim unit n) → (x : List ℕ) (i : ℕ) → i < length (but_last_of delim unit n x) → (y : List ℕ)
       → spots_of (x ++ y) i ≡ spots_of x i
-  last_decided cuts x i less y =
-      let more = ap length (but_last_of-append delim unit n x y) ∙ length-append (but_last_of delim unit n x) (but_last_of delim unit n (last_of delim unit n x ++ y)) in
-      cuts.before (x ++ y) i (omega (arith, less, more)) ∙ sym (cuts.before x i less)
+  last_decided cuts x i less y = search (rules, but_last_of-append, length-append)
 
   last_undecided : Cuts spots_of (but_last_of delim unit n) → delim < 256 → {x : List ℕ} → IsUndecided spots_of x (last_of delim unit n x)
   last_undecided cuts byte {x} = record {
@@ -126,17 +110,11 @@ module _ (delim : ℕ) (unit : Counted) (from_nth : Bool) (n : ℕ) (x : List �
   tail_long = ap length (sym (tail_together delim unit from_nth n)) ∙ length-append (tail_first delim unit from_nth n x) (tail_of delim unit from_nth n x)
 
   pub tail_nowhere : (i : ℕ) → i < length (tail_first delim unit from_nth n x) → tail_spots delim unit from_nth n x i ≡ []
-  tail_nowhere i less =
-      ap (λ before. cond before [] (spots_from 0 (tail_of delim unit from_nth n x ∷ []) (i - skipped delim unit from_nth n x)))
-      (lt-ltb i (skipped delim unit from_nth n x) (omega (arith, less, tail_long)))
+  tail_nowhere i less = search (rules, lt-ltb, tail_long)
 
   pub tail_there : (i : ℕ) → length (tail_first delim unit from_nth n x) ≤ i
       → tail_spots delim unit from_nth n x i ≡ spots_from 0 (tail_of delim unit from_nth n x ∷ []) (i - length (tail_first delim unit from_nth n x))
-  tail_there i past =
-      let same : skipped delim unit from_nth n x ≡ length (tail_first delim unit from_nth n x) = omega (arith, tail_long) in
-      ap (λ before. cond before [] (spots_from 0 (tail_of delim unit from_nth n x ∷ []) (i - skipped delim unit from_nth n x)))
-      (le-ltb i (skipped delim unit from_nth n x) (omega (arith, past, same)))
-      ∙ ap (λ k. spots_from 0 (tail_of delim unit from_nth n x ∷ []) (i - k)) same
+  tail_there i past = search (rules, tail_long, le-ltb)
 
 tail_cuts : (delim : ℕ) (unit : Counted) (from_nth : Bool) (n : ℕ) → Cuts (tail_spots delim unit from_nth n) (tail_first delim unit from_nth n)
 tail_cuts delim unit from_nth n = record {
@@ -273,8 +251,7 @@ module _ {spots_of : List ℕ → ℕ → List Spot} {out_of : List ℕ → List
 
   byte_at : (x : List ℕ) (i : ℕ) → length (stretch.before x) ≤ i → i - length (stretch.before x) < length (out_of x)
       → get_or (out_of x) (i - length (stretch.before x)) 0 ≡ get_or x i 0
-  byte_at x i past less = sym (ap (λ those. get_or those i 0) (stretch.whole x) ∙ get_or-append_right (stretch.before x) (out_of x ++ stretch.rest x) i 0 past
-      ∙ get_or_append_left (out_of x) (stretch.rest x) 0 (i - length (stretch.before x)) less)
+  byte_at x i past less = grind (arith, common_steps)
 
   filled : (x : List ℕ) (place offset : ℕ) → offset < length (output_at (only_out (out_of x)) place)
       → (i : ℕ) × (i < length x) × GoesTo (spot place offset) (spots_of x i)

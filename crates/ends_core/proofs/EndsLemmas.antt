@@ -1,6 +1,6 @@
 -- Lemmas on the stage of `head` and `tail`, and on what it uses.
 use Rattle.std.proofs.lemmas.Grind.{common_steps}
-use Rattle.std.proofs.Common.{◌≡◌, ℕ, ◌+◌, ◌-◌, ◌<◌, ◌≤◌, ◌&&◌, not, List, [], ◌∷◌, ◌++◌, ◌⊎◌, length, Bool, true, false, IsTrue, Ok, Err, Result, OnOk, nat_le, inl, inr, None, refl, sym, ◌∙◌, ap, subst, arith, length-append, ◌↔◌, replicate, lit<, zero, suc, take, drop}
+use Rattle.std.proofs.Common.{◌≡◌, ℕ, ◌+◌, ◌-◌, ◌<◌, ◌≤◌, ◌&&◌, not, List, [], ◌∷◌, ◌++◌, ◌⊎◌, length, Bool, true, false, IsTrue, Ok, Err, Result, OnOk, nat_le, inl, inr, None, refl, sym, ◌∙◌, ap, subst, arith, length-append, ◌↔◌, replicate, lit<, zero, suc, take, drop, rules}
 use Rattle.std.proofs.lemmas.Bool.{false≢true, leb-false, cases_lt, le-leb, lt-leb, leb-true}
 use Rattle.std.proofs.lemmas.List.{nil_from_length, append-nil, append_cancel_left, take-append-drop, take-append-le, take_at, length-drop, length-take}
 use Rattle.std.proofs.lemmas.List.Elements.{All-replicate}
@@ -222,10 +222,7 @@ module _ (engine : GuardState Ends) (x : List ℕ) (holds : HoldsIn Holds engine
   tail_waits is = holds.within.waits ∙ ap (λ s. (work_in s (delim_of engine.stage) (unit_of engine.stage) (count_of engine.stage)).waiting x) is
 
   pub loses_nothing : stretch_of engine.stage ≡ all_but_last → ((work engine.stage).settled x).out ++ waiting_of engine.stage ≡ x
-  loses_nothing is =
-      ap (λ held. ((work engine.stage).settled x).out ++ held) (head_waits is)
-      ∙ ap (λ s. ((work_in s (delim_of engine.stage) (unit_of engine.stage) (count_of engine.stage)).settled x).out ++ last_of (delim_of engine.stage) (unit_of engine.stage) (count_of engine.stage) x) is
-      ∙ ends_together (delim_of engine.stage) (unit_of engine.stage) (count_of engine.stage) x
+  loses_nothing is = search (rules, head_waits, ends_together)
 
 first_within : (delim : ℕ) (unit : Counted) (n : ℕ) (x : List ℕ) → length (first_of delim unit n x) ≤ length x
 first_within delim unit n x = omega (arith, sym (length-append (first_of delim unit n x) (after_of delim unit n x)) ∙ ap length (first_then_after delim unit n x))
@@ -270,14 +267,7 @@ first_enough delim unit n x = elim (cases_lt (measure delim unit x) n) [
 
 -- a head uses the first n, and nothing that stands after them
 pub first_used : (delim : ℕ) (unit : Counted) (n : ℕ) {x : List ℕ} → IsSpare (head_work delim unit false n) x (length (after_of delim unit n x))
-first_used delim unit n {x} = record {
-  used = first_of delim unit n x;
-  rest = after_of delim unit n x;
-  joined = sym (first_then_after delim unit n x);
-  long = refl;
-  needed = first_needed delim unit n x;
-  enough = first_enough delim unit n x;
-}
+first_used delim unit n {x} = search (rules, first_then_after, first_needed, first_enough)
 
 -- what was needed to the last byte is its own first n
 needed_whole : (delim : ℕ) (unit : Counted) (n : ℕ) {used : List ℕ} → IsNeeded (head_work delim unit false n).is_complete 1 used → first_of delim unit n used ≡ used
