@@ -153,6 +153,7 @@ impl Stage for Ends {
     /// # Errors
     ///
     /// `Write(0)` where standard output broke, `Memory` where there is no room for what waits.
+    #[tactic(auto, using(ports_core::proofs::WriteLemmas::none_written, crate::proofs::KeptLemmas::or_no_room))]
     fn pass<O: Outs>(&mut self, piece: &[u8], outs: &mut O) -> Result<(), Fault>
         requires fits { length (waiting_of self.old) + past_of self.old + length piece.now < 2 ^ 64 }
         requires writable { IsTrue (is_writable (O.slots outs.old) 0) }
@@ -174,6 +175,7 @@ impl Stage for Ends {
 
     /// Takes in all that an input has left before any piece, where the last are asked for, and returns how many bytes
     /// these are.
+    #[tactic(auto, using(crate::proofs::LoadLemmas::passes_none, crate::proofs::EndsLemmas::waits_none))]
     fn load<I: Inputs>(&mut self, slot: usize, buffer: &mut [u8], inputs: &mut I) -> u64
         requires room { 0 < length buffer.old }
         requires input { IsTrue (is_readable (I.sources inputs.old) slot) }

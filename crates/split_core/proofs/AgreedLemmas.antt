@@ -114,11 +114,7 @@ filling delim n rest = replicate (n - length rest) (other delim)
 
 -- a part that is full without a further line ends with its last one
 line_ends : (delim n : ℕ) (rest : List ℕ) → 0 < n → length rest < n → 0 < delimiters delim rest → parts (LineBytes n delim) (rest ++ filling delim n rest) ≡ whole_lines delim rest ∷ parts (LineBytes n delim) (after_first (LineBytes n delim) (rest ++ filling delim n rest))
-line_ends delim n rest some short lines =
-    let size : length (rest ++ filling delim n rest) ≡ n = (omega (arith, length-append rest (filling delim n rest), length-replicate (n - length rest) (other delim), short)) in
-    ap (λ cut. cut.full ++ unless_empty cut.rest) (cut_first (LineBytes n delim) (rest ++ filling delim n rest) (full_from (LineBytes n delim) (rest ++ filling delim n rest) some (omega (arith, size))))
-    ∙ ap (λ part. part ∷ parts (LineBytes n delim) (after_first (LineBytes n delim) (rest ++ filling delim n rest)))
-    (ap (whole_lines delim) (take_all n (rest ++ filling delim n rest) (omega (arith, size))) ∙ lines_stay delim rest (filling delim n rest) lines (none_among delim (n - length rest)))
+line_ends delim n rest some short lines = search (rules, length-append, length-replicate, other, cut_first, full_from, take_all, lines_stay, none_among)
 
 pub one_of : (bytes : List ℕ) → 0 < length bytes → unless_empty bytes ≡ bytes ∷ []
 one_of [] some = absurd (omega (arith, some))

@@ -45,9 +45,7 @@ pub changed_by : {X : Type 0} (change : X → X) (f g : ℕ → X) (start n plac
     → ((i : ℕ) → (i ≡ at → ⊥) → f i ≡ g i) → change (f at) ≡ g at
     → changed_at place change (map f (range_with_len start n)) ≡ map g (range_with_len start n)
 changed_by change f g start zero place is within other here = absurd (omega arith)
-changed_by change f g start (suc n) zero {at} is within other here =
-    let first : start ≡ at = omega arith in
-    cc (first, here, same_by f g (start + 1) n (λ i from to. other i (λ same. omega arith)))
+changed_by change f g start (suc n) zero {at} is within other here = search (rules, same_by)
 changed_by change f g start (suc n) (suc place) is within other here =
     cc (other start (λ same. omega arith), changed_by change f g (start + 1) n place (omega arith) (omega arith) other here)
 
@@ -82,13 +80,7 @@ grow_trans from to {low = low} {mid} {high} first second here there before after
 }
 
 pub grow_same : (from to : ℕ) (shares : ℕ → Share) (count : ℕ) → Grow from to shares count shares count
-grow_same from to shares count = record {
-  more = omega arith;
-  new = omega arith;
-  begin = λ i. inr refl;
-  bytes = λ i. begins_itself (shares i).bytes;
-  same = λ i out. refl;
-}
+grow_same from to shares count = search rules
 
 pub grow_by : (from to : ℕ) {had has : ℕ → List ℕ} (more : ℕ → List ℕ) (count : ℕ) → ((i : ℕ) → (i < from) ⊎ (to ≤ i) → more i ≡ []) → ((i : ℕ) → has i ≡ had i ++ more i)
     → Grow from to (all_open had) count (all_open has) (max count to)
@@ -168,9 +160,7 @@ stopped_as told {before} {low} {high' = high'} {why} {now} is_low is_high stop =
 -- the same files
 pub outputs_as : (told : Bool) {before now : List Slot} (names : Naming) {shares others : ℕ → Share} {m n : ℕ} → ((i : ℕ) → i < n → shares i ≡ others i) → m ≡ n
     → OutputsAt told before (part_by names shares m) now → OutputsAt told before (part_by names others n) now
-outputs_as told {before} {now} names {shares} {others} {n = n} same count at =
-    subst (λ files. OutputsAt told before (only_files files) now) (same_by _ _ 0 n (λ i past within. ap (file_at names i) (same i (omega arith))))
-    (subst (λ k. OutputsAt told before (part_by names shares k) now) count at)
+outputs_as told {before} {now} names {shares} {others} {n = n} same count at = search (rules, same_by)
 
 -- a fault came at a place before anything was done
 pub adds_not : (told : Bool) (files : FilesState) {names : Naming} (more : ℕ → List ℕ) {from : ℕ} (place to : ℕ) {old new : List Slot} (why : Fault) → from ≤ place → place < max 1 to → place ≤ length files.outputs
@@ -280,34 +270,17 @@ sent_all {told} {files} {next} {old} {new} place {most} more none is adds = grin
 -- what is so of each output and of one more
 each_output : (P : ℕ → ℕ → Type 0) (outputs : List ℕ) (slot : ℕ) → ((place : ℕ) → place < length outputs → P place (get_or outputs place 0)) → P (length outputs) slot
     → (place : ℕ) → place < length (outputs ++ slot ∷ []) → P place (get_or (outputs ++ slot ∷ []) place 0)
-each_output P outputs slot before last place within = elim (cases_lt place (length outputs)) [
-  | inl less ↦ subst (P place) (sym (get_or_append_left outputs (slot ∷ []) 0 place less)) (before place less)
-  | inr past ↦
-      let here : length outputs ≡ place = omega (arith, past, length-append outputs (slot ∷ [])) in
-      subst (λ n. P n (get_or (outputs ++ slot ∷ []) n 0)) here (subst (P (length outputs)) (sym (get_or-append_seam outputs slot [] 0)) last)
-]
+each_output P outputs slot before last place within = grind (arith, common_steps)
 
 -- each output is one of the slots
 output_within : {files : FilesState} {slots : List Slot} (place : ℕ) → AreReady files slots → place < length files.outputs → output_at files place < length slots
 output_within {files} {slots} place ready within = writable_within (output_at files place) slots (ready.closable place within).1
 
 ready_opened : {files : FilesState} {old new : List Slot} (name : List ℕ) → AreReady files old → new ≡ old ++ opened name Fresh ∷ [] → AreReady (with_opened (length old) files) new
-ready_opened {files} {old} name ready is = rw is (record {
-  streams = omega (arith, length-append old (opened name Fresh ∷ []), ready.streams);
-  drawn = ap (λ n. n + 1) ready.drawn ∙ sym (length-append files.outputs (length old ∷ []));
-  apart = λ place other less within. each_output (λ at out. (place : ℕ) → place < at → get_or (files.outputs ++ length old ∷ []) place 0 < out) files.outputs (length old)
-      (λ other inside place less. rw (get_or_append_left files.outputs (length old ∷ []) 0 place (omega arith)) (ready.apart place other less inside))
-      (λ place less. rw (get_or_append_left files.outputs (length old ∷ []) 0 place less) (output_within place ready less)) other within place less;
-  closable = each_output (λ at out. is_closable (old ++ opened name Fresh ∷ []) out) files.outputs (length old)
-      (λ place within. ((ready.closable place within).0, writable_before old _ _ (opened name Fresh) (output_within place ready within) refl (ready.closable place within).1))
-      (ready.streams, opened_writable old _ (length old) name Fresh refl refl);
-})
+ready_opened {files} {old} name ready is = grind (arith, common_steps, length-append, each_output, get_or_append_left, output_within, opened_writable)
 
 owned_opened : {files : FilesState} {old new : List Slot} (name : List ℕ) → files.names.drawn ≡ length files.outputs → new ≡ old ++ opened name Fresh ∷ [] → KeepsFiles files old (with_opened (length old) files) new
-owned_opened {files} {old} name drawn is first owns = rw is (record {
-  stand = each_output (λ place out. out ≡ first + place) files.outputs (length old) owns.stand (sym (owns.last drawn));
-  last = λ same. (omega (arith, length-append files.outputs (length old ∷ []), length-append old (opened name Fresh ∷ []), owns.last drawn));
-})
+owned_opened {files} {old} name drawn is first owns = grind (arith, common_steps)
 
 -- the file could not be opened: then a name was drawn for it, or no output was added
 owned_unopened : (files : FilesState) (names : Naming) {old new : List Slot} {why : Fault} → files.names.drawn ≡ length files.outputs → OpensNone files.names names old new why
@@ -381,12 +354,7 @@ reached_not told files {names} {old} {new} place {why} ready here named same uno
 -- Writing
 
 ready_written : {files : FilesState} (slot : ℕ) (bytes : List ℕ) {old new : List Slot} → AreReady files old → new ≡ with_written slot bytes old → AreReady files new
-ready_written {files} slot bytes {old} ready is = rw is (record {
-  streams = subst (λ n. 2 ≤ n) (sym (length-changed_at slot (adds bytes) old)) ready.streams;
-  drawn = ready.drawn;
-  apart = ready.apart;
-  closable = λ place within. ((ready.closable place within).0, writable-written old slot (output_at files place) bytes ∙ (ready.closable place within).1);
-})
+ready_written {files} slot bytes {old} ready is = search (rules, length-changed_at, writable-written)
 
 -- there are as many slots as before
 owned_same : {files : FilesState} {old new : List Slot} → length new ≡ length old → KeepsFiles files old files new
@@ -416,16 +384,8 @@ writes told {files} {had = had} {has} place bytes within is at are = changes tol
 pub written : (told : Bool) {files : FilesState} {old new : List Slot} (place : ℕ) (bytes : List ℕ) (result : Result (Unit {0}) Fault) → AreReady files old → place < length files.outputs
     → WritesTo told (output_at files place) bytes old new result
     → Adds told files (only_at place bytes) place (place + 1) old files new result
-written told {files} {old} {new} place bytes (Ok done) ready within is = record {
-  names = refl;
-  owned = owned_same (written_size (output_at files place) _ old new is);
-  ready = ready_written (output_at files place) _ ready is;
-  opened = omega arith;
-  sound = keeps_write (output_at files place) _ old new is;
-  caused = tt;
-  outside = none_outside place bytes;
-  leaves = λ before had has at are. outputs_as told (from_start files.names) (λ i inside. refl) (omega arith) (writes told place bytes within is at are);
-}
+written told {files} {old} {new} place bytes (Ok done) ready within is =
+    grind (arith, common_steps, owned_same, written_size, ready_written, keeps_write, none_outside, outputs_as, writes)
 written told {files} {old} {new} place bytes (Err _) ready within (short.broke n cut) = record {
   names = refl;
   owned = owned_same (short_size told slot bytes old new _ (short.broke n cut));
@@ -481,13 +441,7 @@ module _ (told : Bool) {files : FilesState} {place : ℕ} {old now : List Slot} 
       (ap (λ now. file_at (from_start files.names) place (share now (had place))) (sym (shut_now place (place + 1) (omega arith))))
 
   pub one_closed : {new : List Slot} → new ≡ changed_at (output_at files place) closes now → Closing told files (place + 1) old new
-  one_closed {new} is = record {
-    size = ap length is ∙ length-changed_at (output_at files place) closes now ∙ so_far.size;
-    left = λ other past inside. (let can = so_far.left other (omega arith) inside in let apart = ready.apart place other (omega arith) inside in
-        (can.0, writable_elsewhere now new (output_at files other) (output_at files place) closes (λ same. omega (arith, same, apart)) is can.1));
-    closed = λ before had at. closes_next is at;
-    sound = keeps_again old now new so_far.sound (keeps_close (output_at files place) now new is);
-  }
+  one_closed {new} is = search (rules, length-changed_at, writable_elsewhere, closes_next, keeps_again, keeps_close)
 
   pub not_closed : {new : List Slot} {slot : ℕ} {why : Fault} → slot ≡ output_at files place → (why ≡ fault.Write slot) × (new ≡ with_broken slot (changed_at slot closes now)) → ClosesAll told files old new (Err why)
   not_closed {new} {slot} {why} slot_is failed = subst (λ those. ClosesAll told files old new (Err those)) (sym (failed.0 ∙ ap fault.Write slot_is)) (record {

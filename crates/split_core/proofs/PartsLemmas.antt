@@ -95,7 +95,7 @@ write_keeps told parts held {slot} bytes {old} {new} (Err f) is can short = reco
 
 -- where none of it is written, nothing ends
 turn_nothing : (those : Draft) → those.begun ≡ [] → turns [] those ≡ those
-turn_nothing those none = ap (λ bytes. draft (those.shares ++ map (share file_state.Closed) (unless_empty bytes)) []) none ∙ ap (λ shares. draft shares []) (append-nil those.shares) ∙ ap (draft those.shares) (sym none)
+turn_nothing those none = search rules
 
 pub shuts_none : (told : Bool) (parts : PartsState) {slots : List Slot} → IsReady parts.current slots → parts.current ≡ None
     → Shuts told parts slots slots parts (Ok tt)
@@ -114,14 +114,7 @@ shuts_none told parts ready none = record {
 
 -- no part is begun once one was closed
 shut_begun : {names : Naming} {current : Option ℕ} {those : Draft} → Begun names current those → is_some those.begun ≡ true → Begun names None (turns [] those)
-shut_begun {names} {those = those} has some = record {
-  drawn = (begun_named has some).0 ∙ sym count;
-  enough = ap (are_named names) count ∙ (begun_named has some).1;
-  given = refl;
-  shut = subst (λ more. AllShut (those.shares ++ more)) (sym (some_share file_state.Closed those.begun some)) (shut_more those.shares _ has.shut refl);
-} where
-  count : length (written (turns [] those)) ≡ suc (length those.shares)
-  count = ap length (append-nil _ ∙ ap (λ more. those.shares ++ more) (some_share file_state.Closed those.begun some)) ∙ count_one those.shares _
+shut_begun {names} {those = those} has some = search (rules, begun_named, some_share, shut_more, append-nil, count_one)
 
 pub shuts_some : (told : Bool) (parts next : PartsState) {slot : ℕ} {old new : List Slot} (result : Result (Unit {0}) Fault) → IsReady parts.current old
     → parts.current ≡ Some slot → next ≡ record parts { current = None } → OnOk result (new ≡ changed_at slot closes old)
@@ -331,24 +324,11 @@ record Comes (parts : PartsState) (x taken : List ℕ) (after : Draft) (are : �
 
 module _ {parts : PartsState} {x taken : List ℕ} {after : Draft} {are : ℕ × Bool × List ℕ} (comes : Comes parts x taken after are) where
   settled_so : settled_parts parts.limit (x ++ taken) ≡ written after
-  settled_so = settled_on parts.limit x taken
-      ∙ ap (λ (cut : CutUp). full_of parts x ++ (map (share file_state.Closed) cut.full ++ map (share file_state.Open) (unless_empty (settled_rest parts.limit cut.rest)))) comes.cut
-      ∙ sym (append_assoc (full_of parts x) (map (share file_state.Closed) comes.full) _) ∙ ap written (sym comes.is)
+  settled_so = grind (arith, common_steps, settled_on)
 
   -- it can be what came in
   stands_so : (next : PartsState) → next.limit ≡ parts.limit → numbers next ≡ are → Begun next.names next.current after → Stands next (x ++ taken)
-  stands_so next limit same has = record {
-    drawn = has.drawn ∙ sym (ap length all);
-    enough = ap (λ those. are_named next.names (length those)) all ∙ has.enough;
-    lacks = rw (limit, cut, ap (λ (those : ℕ × Bool × List ℕ). those.0) same, ap (λ (those : ℕ × Bool × List ℕ). those.1) same) comes.lacks;
-    waits = ap (λ (those : ℕ × Bool × List ℕ). those.2) same ∙ comes.waits ∙ sym (rw (limit, cut));
-    opened = has.given ∙ ap (λ (those : Draft). is_some those.begun) comes.is ∙ sym (rw (limit, cut));
-  } where
-    all : settled_parts next.limit (x ++ taken) ≡ written after
-    all = ap (λ limit. settled_parts limit (x ++ taken)) limit ∙ settled_so
-
-    cut : cut_up parts.limit (x ++ taken) ≡ cut_so ((cut_up parts.limit x).full ++ comes.full) comes.rest
-    cut = cut_on parts.limit x taken ∙ ap (λ (those : CutUp). cut_so ((cut_up parts.limit x).full ++ those.full) those.rest) comes.cut
+  stands_so next limit same has = search (rules, settled_so, cut_on)
 
 -- so far that is a beginning of what the whole piece leads to
 below : {parts : PartsState} {x : List ℕ} (piece : List ℕ) (bytes : ℕ) {after : Draft} {are : ℕ × Bool × List ℕ} → Comes parts x (take bytes piece) after are
@@ -360,20 +340,12 @@ below {parts} {x} piece bytes comes = subst (λ low. SharesBegin low (settled_pa
 
 -- a part that ends begins itself, and may be closed by then
 turn_begins : (those : Draft) (past : List ℕ) → SharesBegin (written those) (written (turns past those))
-turn_begins those past = subst (SharesBegin (written those)) (sym (append_assoc those.shares _ _)) (shares_after those.shares _ _ (by those.begun)) where
-  by : (begun : List ℕ) → SharesBegin (map (share file_state.Open) (unless_empty begun)) (map (share file_state.Closed) (unless_empty begun) ++ map (share file_state.Open) (unless_empty past))
-  by [] = tt
-  by (byte ∷ begun) = (inl refl, begins_itself (byte ∷ begun), tt)
+turn_begins those past = grind (arith, common_steps, append_assoc, shares_after)
 
 -- what was taken in
 takes_so : {told : Bool} {parts next : PartsState} {taken : List ℕ} {change : Draft → Draft} {are : ℕ × Bool × List ℕ} {old new : List Slot}
     → ((x : List ℕ) → Stands parts x → Comes parts x taken (change (draft_of parts x)) are) → Moves told parts are change old new next (Ok tt) → Takes told parts taken old new next (Ok tt)
-takes_so {told} {parts} {next} {old = old} {new} comes moves = record {
-  keeps = moves.keeps;
-  stands = λ x stands. stands_so (comes x stands) next moves.keeps.limit moves.same (moves.begun (draft_of parts x) (begun_so stands));
-  goes = λ x stands. subst (λ high. run.Goes told (from_start parts.names) parts.current (settled_parts parts.limit x) high old new (Ok tt)) (sym (settled_so (comes x stands)))
-      (moves.goes (draft_of parts x) (begun_so stands));
-}
+takes_so {told} {parts} {next} {old = old} {new} comes moves = search (rules, stands_so, begun_so, settled_so)
 
 -- a fault came on the way
 takes_not : {told : Bool} {parts next : PartsState} {taken : List ℕ} {change : Draft → Draft} {are : ℕ × Bool × List ℕ} {old new : List Slot} {f : Fault}
@@ -407,14 +379,7 @@ module _ {parts : PartsState} (piece : List ℕ) (bytes left : ℕ) (has_line : 
 -- the part is full, and the next has begun
 turned_so : {parts : PartsState} {x taken first past : List ℕ} → IsTurned parts.limit (rest_of parts x ++ taken) first past
     → Comes parts x taken (draft (full_of parts x ++ map (share file_state.Closed) (unless_empty first)) past) (most parts.limit - length past, false, [])
-turned_so {parts} {x} {taken} {first} {past} led = record {
-  full = first ∷ [];
-  rest = past;
-  cut = cut_two parts.limit past led.full led.first_is led.both led.begun.short;
-  is = cc (one_of first (subst (λ part. 0 < length part) led.first_is (first_some parts.limit _ led.full)), led.begun.settled);
-  lacks = led.begun.lacks;
-  waits = sym led.begun.waits;
-}
+turned_so {parts} {x} {taken} {first} {past} led = search (rules, cut_two, one_of, first_some)
 
 -- what a step takes of a piece; where a fault comes, the piece is what was to be taken
 abbrev pub taken : ℕ → List ℕ → Result (Unit {0}) Fault → List ℕ
@@ -506,11 +471,7 @@ waited told parts next piece slots (Err f) some leads ready count waits err = rw
 -- A piece is taken in step by step.
 
 pub takes_none : (told : Bool) (parts : PartsState) {slots : List Slot} → IsReady parts.current slots → Takes told parts [] slots slots parts (Ok tt)
-takes_none told parts ready = record {
-  keeps = keeps_still ready;
-  stands = λ x stands. rw append-nil stands;
-  goes = λ x stands. goes_same (ap (settled_parts parts.limit) (sym (append-nil x)));
-}
+takes_none told parts ready = search (rules, keeps_still, append-nil, goes_same)
 
 takes_again : {told : Bool} {state mid next : PartsState} (first more : List ℕ) {old wet new : List Slot} (result : Result (Unit {0}) Fault)
     → Takes told state first old wet mid (Ok tt) → Takes told mid more wet new next result → Takes told state (first ++ more) old new next result
@@ -561,8 +522,7 @@ finishes_none told state ready none = record {
 -- what waits is written, and then the part has all that is left
 
 whole_so : (state : PartsState) {x : List ℕ} → Stands state x → written (turns [] (gets state.waiting (draft_of state x))) ≡ whole_parts state.limit x
-whole_so state {x} stands = append-nil _ ∙ ap (λ rest. full_of state x ++ map (share file_state.Closed) (unless_empty rest))
-    (ap (λ waits. begun_of state x ++ waits) stands.waits ∙ settled_then_waiting state.limit (rest_of state x)) ∙ sym (whole_is state x)
+whole_so state {x} stands = search (rules, append-nil, settled_then_waiting, whole_is)
 
 module _ (told : Bool) (state : PartsState) {slot : ℕ} {old : List Slot} (held : List ℕ) (ready : IsReady state.current old) (is : state.current ≡ Some slot) where
   pub held_moves : {wet : List Slot} {mid : PartsState} (result : Result (Unit {0}) Fault) → WritesTo told slot state.waiting old wet result → mid ≡ record state { waiting = held } → OnOk result (held ≡ [])
@@ -625,28 +585,11 @@ module _ (told : Bool) (state next : PartsState) (piece : List ℕ) (old new : L
       engine.judged refl new (subst (λ files. OutputsAt told before (only_files files) new)
       (sym (same_files (from_start state.names) 0 ran.0 _ ran.1.shut ran.1.begins (subst (λ n. is_named state.names n ≡ false) (sym (zero-add _)) ran.1.none)))
       ((ran.2 (owns_last state.current (length before) old at.owns)).gets before at.outputs)) refl
-  cut_off {f} breaks stop before x at =
-      engine.cut refl (stopped_in_turn told before _ _ f new (((stop.goes x at.holds).moves (owns_last state.current (length before) old at.owns)).gets before at.outputs))
+  cut_off {f} breaks stop before x at = search (rules, stopped_in_turn, owns_last)
 
   pub passes_by : (result : Result (Unit {0}) Fault) → Takes told state piece old new next result → PassesBy told piece old new result (way.Parts state) (way.Parts next)
-  passes_by (Ok done) takes = record {
-    same = work_by state next takes.keeps.limit takes.keeps.names;
-    holds = takes.stands;
-    outputs = λ before x at. ((takes.goes x at.holds).moves (owns_last state.current (length before) old at.owns)).gets before at.outputs;
-    ready = takes.keeps.ready;
-    owns = takes.keeps.owned;
-    cut = tt;
-    met = tt;
-  }
-  passes_by (Err f) takes = record {
-    same = work_by state next takes.keeps.limit takes.keeps.names;
-    holds = tt;
-    outputs = tt;
-    ready = tt;
-    owns = takes.keeps.owned;
-    cut = cut_off takes.keeps.breaks takes;
-    met = met_files (EndsWith ways.Holds ways.work (way.Parts state) piece) takes.keeps.breaks (λ is x stands. settles f is takes x stands);
-  }
+  passes_by (Ok done) takes = search rules
+  passes_by (Err f) takes = search (rules, work_by, cut_off, met_files, settles)
 
 -- the end
 

@@ -366,11 +366,8 @@ find {delim} {n} {file} place (byte ∷ x) {k} less = found_by k (eqb (place % n
 -- The files
 
 file_is : (delim : ℕ) (elide : Bool) (n : ℕ) (x : List ℕ) (file : ℕ) → file < n → get_or (dealt_files delim elide n x) file [] ≡ share_of delim n x file
-file_is delim elide n x file within = ap (λ files. get_or files file []) (dealt_files_are delim elide n x) ∙ elim (cases_lt file (opened_by delim elide n x)) [
-  | inl less ↦ get_or-map-range_with_len (share_of delim n x) 0 (opened_by delim elide n x) file file [] less (zero-add file)
-  | inr past ↦ get_or_past (map (share_of delim n x) (range_with_len 0 (opened_by delim elide n x))) file [] (omega (arith, length-map-range_with_len (share_of delim n x) 0 (opened_by delim elide n x), past))
-      ∙ sym (none_yet delim elide n x file (omega arith) past)
-]
+file_is delim elide n x file within =
+    search (rules, dealt_files_are, cases_lt, get_or-map-range_with_len, zero-add, get_or_past, length-map-range_with_len, none_yet)
 
 named_at : (names : Naming) (place : ℕ) (those : List (List ℕ)) (k : ℕ) → get_or (named_bytes names place those) k [] ≡ cond (is_named names (place + k)) (get_or those k []) []
 named_at names place [] k = grind (arith, nat_tests)

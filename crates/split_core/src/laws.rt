@@ -18,6 +18,7 @@ use crate::Limit;
 /// Parts of n lines, or of n bytes, are runs: part i has the lines, or the bytes, at the places from i * n to less
 /// than (i + 1) * n. There are as many parts as hold all of them, and no more (POSIX.1-2017, XCU split, `-l` and
 /// `-b`).
+#[tactic(auto, using(crate::proofs::SectionLemmas::lines_are_runs, crate::proofs::SectionLemmas::bytes_are_runs, crate::proofs::SectionLemmas::part_lines, crate::proofs::SectionLemmas::part_bytes, crate::proofs::SectionLemmas::lines_count, crate::proofs::SectionLemmas::bytes_count))]
 pub fn parts_are_runs()
     ensures lines { (delim n : ℕ) (x : List ℕ) → 0 < n → parts (Lines n delim) x ≡ line_parts delim n x }
     ensures bytes { (n : ℕ) (x : List ℕ) → 0 < n → parts (Bytes n) x ≡ byte_parts n x }
@@ -40,6 +41,7 @@ pub fn line_byte_parts()
 /// What a text and what follows it are cut into: the parts that the text has in full, and then those of what is left
 /// of it and what follows. So a part that is full never changes. Nothing is lost: the parts are together the text,
 /// and what is settled and what waits are together what came in. What waits is shorter than a part.
+#[tactic(auto, using(crate::specs::laws::CutLaws::settled_then_waiting, crate::specs::laws::ShareLaws::parts_on, crate::specs::laws::ShareLaws::settled_on, crate::proofs::SectionLemmas::joined_parts, crate::proofs::SectionLemmas::settled_all, crate::proofs::SectionLemmas::waiting_few))]
 pub fn parts_go_on(limit: Limit)
     ensures parts { (x y : List ℕ) → parts limit (x ++ y) ≡ (cut_up limit x).full ++ parts limit ((cut_up limit x).rest ++ y) }
     ensures settled { (x y : List ℕ) → settled_parts limit (x ++ y) ≡ map (share Closed) (cut_up limit x).full ++ settled_parts limit ((cut_up limit x).rest ++ y) }
@@ -75,6 +77,7 @@ pub fn agreed_is_settled()
 {}
 
 /// An engine that has returned no fault has named all files that its input needs: names that ran out are always told.
+#[tactic(auto, using(crate::proofs::RoundLemmas::all_named))]
 pub fn all_files_have_names()
     ensures { (engine : GuardState Splitter) (x : List ℕ) → HoldsIn Holds engine x → (work engine.stage).is_complete x ≡ false }
 {}

@@ -1,6 +1,6 @@
 -- Laws that traits cite: those of the work of `split`, in each of its two ways to cut.
 use Rattle.std.proofs.lemmas.Grind.{common_steps}
-use Rattle.std.proofs.Common.{◌≡◌, ℕ, ◌+◌, ◌≤◌, zero, suc, List, [], ◌∷◌, ◌++◌, map, Bool, true, false, cond, refl, arith, length, not, Some, None, sym, ◌∙◌, ap}
+use Rattle.std.proofs.Common.{◌≡◌, ℕ, ◌+◌, ◌≤◌, zero, suc, List, [], ◌∷◌, ◌++◌, map, Bool, true, false, cond, refl, arith, length, not, Some, None, sym, ◌∙◌, ap, rules}
 use Rattle.std.specs.List.{range_with_len}
 use Rattle.std.proofs.lemmas.Bool.{false≢true, not-true}
 use Rattle.ports_core.specs.Name.{Naming}
@@ -70,11 +70,7 @@ stays limit names x y short = record {
   here = ap (λ all. named names 0 (settled_parts limit all)) (sym (append-nil x)) ∙ files_settled names limit x [] none
 
 pub parts_lawful : (limit : Limit) (names : Naming) → IsLawful (parts_work limit names)
-parts_lawful limit names = record {
-  grows = λ x y. part_begins names _ _ (settled_grow limit x y);
-  ends = λ x. part_begins names _ _ (settled_end limit x);
-  stays = stays limit names;
-}
+parts_lawful limit names = search (rules, part_begins, settled_grow, settled_end, stays)
 
 -- Both ways
 
