@@ -175,7 +175,6 @@ impl Stage for Ends {
 
     /// Takes in all that an input has left before any piece, where the last are asked for, and returns how many bytes
     /// these are.
-    #[tactic(auto, using(crate::proofs::LoadLemmas::passes_none, crate::proofs::EndsLemmas::waits_none))]
     fn load<I: Inputs>(&mut self, slot: usize, buffer: &mut [u8], inputs: &mut I) -> u64
         requires room { 0 < length buffer.old }
         requires input { IsTrue (is_readable (I.sources inputs.old) slot) }

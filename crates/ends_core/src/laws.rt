@@ -29,7 +29,6 @@ pub fn head_goes_on(unit: Unit, delim: u8)
 
 /// The first lines or bytes of a text and what stands after them are together the text, and so are all but the last
 /// and the last. Where all but the last are asked for, what is written and what waits are together what came in.
-#[tactic(auto, using(crate::specs::laws::EndsLaws::first_then_after, crate::specs::laws::EndsLaws::ends_together, crate::proofs::EndsLemmas::loses_nothing))]
 pub fn nothing_is_lost(unit: Unit, delim: u8)
     ensures first { (n : ℕ) (x : List ℕ) → first_of delim unit n x ++ after_of delim unit n x ≡ x }
     ensures last { (n : ℕ) (x : List ℕ) → but_last_of delim unit n x ++ last_of delim unit n x ≡ x }
@@ -41,7 +40,6 @@ pub fn nothing_is_lost(unit: Unit, delim: u8)
 /// A head of the first lines or bytes uses exactly what it writes. If what it used of a text was needed to the last byte,
 /// and was enough, as it is after a run over an input, then that is the head of the text, and what is left is what stands
 /// after it.
-#[tactic(auto, using(crate::proofs::EndsLemmas::written_used, crate::proofs::EndsLemmas::rest_left))]
 pub fn head_uses_what_it_writes(unit: Unit, delim: u8)
     ensures used { (n : ℕ) (used rest : List ℕ) → IsNeeded (head_work delim unit false n).is_complete 1 used → (rest ≡ []) ⊎ ((head_work delim unit false n).is_complete used ≡ true) → first_of delim unit n (used ++ rest) ≡ used }
     ensures left { (n : ℕ) (used rest : List ℕ) → IsNeeded (head_work delim unit false n).is_complete 1 used → (rest ≡ []) ⊎ ((head_work delim unit false n).is_complete used ≡ true) → after_of delim unit n (used ++ rest) ≡ rest }

@@ -401,9 +401,6 @@ dealt_files_of delim n elide names x = file_bytes (whole_by (round_plan delim n 
 file_there : (delim n : ℕ) (elide : Bool) (names : Naming) (x : List ℕ) (file : ℕ) → file < n → is_named names file ≡ true → get_or ([] ∷ dealt_files_of delim n elide names x) (file + 1) [] ≡ share_of delim n x file
 file_there delim n elide names x file within named = search (rules, get_or, shared_bytes names Closed (dealt_files delim elide n x), named_at, zero-add, file_is)
 
-abbrev StandsThere : List (List ℕ) → Spot → ℕ → Type 0
-StandsThere outputs at byte = (at.offset < length (get_or outputs at.place [])) × (get_or (get_or outputs at.place []) at.offset 0 ≡ byte)
-
 goes_there : (delim n : ℕ) (names : Naming) (x : List ℕ) (i : ℕ) {file offset : ℕ} → i < length x → dealt_to delim n x i ≡ file → had delim n file x i ≡ offset → is_named names file ≡ true → GoesTo (spot (suc file) offset) (dealt_spots delim n names x i)
 goes_there delim n names x i {file} {offset} less to at named = grind (arith, common_steps)
 

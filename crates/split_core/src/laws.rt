@@ -41,7 +41,6 @@ pub fn line_byte_parts()
 /// What a text and what follows it are cut into: the parts that the text has in full, and then those of what is left
 /// of it and what follows. So a part that is full never changes. Nothing is lost: the parts are together the text,
 /// and what is settled and what waits are together what came in. What waits is shorter than a part.
-#[tactic(auto, using(crate::specs::laws::CutLaws::settled_then_waiting, crate::specs::laws::ShareLaws::parts_on, crate::specs::laws::ShareLaws::settled_on, crate::proofs::SectionLemmas::joined_parts, crate::proofs::SectionLemmas::settled_all, crate::proofs::SectionLemmas::waiting_few))]
 pub fn parts_go_on(limit: Limit)
     ensures parts { (x y : List ℕ) → parts limit (x ++ y) ≡ (cut_up limit x).full ++ parts limit ((cut_up limit x).rest ++ y) }
     ensures settled { (x y : List ℕ) → settled_parts limit (x ++ y) ≡ map (share Closed) (cut_up limit x).full ++ settled_parts limit ((cut_up limit x).rest ++ y) }
