@@ -218,13 +218,7 @@ tail_agreed delim byte unit false n {x} = record {
 -- Spots are right: each of them writes one stretch of its input, and nothing else.
 
 one_spot : (bytes : List ℕ) (i : ℕ) {at : Spot} → GoesTo at (spots_from 0 (bytes ∷ []) i) → (i < length bytes) × (at ≡ spot 0 i)
-one_spot bytes i {at} goes = elim (cases_lt i (length bytes)) [
-  | inl less ↦ (less, only (subst (GoesTo at) (spot_in 0 i bytes [] less) goes))
-  | inr past ↦ absurd (subst (GoesTo at) (spot_past 0 i bytes [] past) goes)
-] where
-  only : GoesTo at (spot 0 i ∷ []) → at ≡ spot 0 i
-  only (inl is) = is
-  only (inr none) = absurd none
+one_spot bytes i {at} goes = grind (arith, common_steps, cases_lt i (length bytes), spot_in, spot_past)
 
 -- the byte at a spot
 abbrev StandsThere : List ℕ → Spot → ℕ → Type 0
@@ -244,10 +238,7 @@ writes out_of = record (head_work 0 Bytes false 0) { whole = λ x. only_out (out
 module _ {spots_of : List ℕ → ℕ → List Spot} {out_of : List ℕ → List ℕ} (stretch : IsStretch spots_of out_of) where
   goes : (x : List ℕ) (i : ℕ) {at : Spot} → GoesTo at (spots_of x i)
       → (length (stretch.before x) ≤ i) × (i - length (stretch.before x) < length (out_of x)) × (at ≡ spot 0 (i - length (stretch.before x)))
-  goes x i {at} is = elim (cases_lt i (length (stretch.before x))) [
-    | inl early ↦ absurd (subst (GoesTo at) (stretch.nowhere x i early) is)
-    | inr past ↦ (let one = one_spot (out_of x) (i - length (stretch.before x)) (subst (GoesTo at) (stretch.there x i past) is) in (past, one.0, one.1))
-  ]
+  goes x i {at} is = grind (arith, common_steps, cases_lt i (length (stretch.before x)), stretch.nowhere, stretch.there, one_spot)
 
   byte_at : (x : List ℕ) (i : ℕ) → length (stretch.before x) ≤ i → i - length (stretch.before x) < length (out_of x)
       → get_or (out_of x) (i - length (stretch.before x)) 0 ≡ get_or x i 0

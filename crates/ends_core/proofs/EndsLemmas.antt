@@ -236,10 +236,8 @@ first_measures delim Bytes n x full = omega (arith, length-take n x, full)
 last_needed : (delim : ℕ) (unit : Counted) (n : ℕ) {k : ℕ} {used : List ℕ} → length used ≡ suc k → first_of delim unit n used ≡ used → measure delim unit (take k used) < n
 last_needed delim unit n {k} {used} long again = elim (cases_lt (measure delim unit (take k used)) n) [
   | inl short ↦ short
-  | inr full ↦
-      let same : used ≡ first_of delim unit n (take k used) = sym again ∙ ap (first_of delim unit n) (sym (take-append-drop k used)) ∙ first_of-full delim unit n (take k used) (drop k used) full in
-      let shorter = first_within delim unit n (take k used) in
-      absurd (omega (arith, ap length same, shorter, length-take k used, long))
+  | inr full ↦ absurd (omega (arith, ap length (sym again ∙ ap (first_of delim unit n) (sym (take-append-drop k used)) ∙ first_of-full delim unit n (take k used) (drop k used) full),
+      first_within delim unit n (take k used), length-take k used, long))
 ]
 
 needed_by : (delim : ℕ) (unit : Counted) (n k : ℕ) {used : List ℕ} → length used ≡ k → first_of delim unit n used ≡ used → IsNeeded (head_work delim unit false n).is_complete 1 used
