@@ -463,27 +463,13 @@ module _ (told : Bool) {files : FilesState} {place : ℕ} {old now : List Slot} 
     risen = ap (λ slots. (slot_at slots (output_at files place)).is_broken) is ∙ broken_there (output_at files place) _ there
 
     shut_grow : (had : ℕ → List ℕ) (from to n m : ℕ) → from ≤ n → n ≤ m → m ≤ to → Grow from to (closed_first n had) (length files.outputs) (closed_first m had) (length files.outputs)
-    shut_grow had from to n m low few high = record {
-      more = omega arith;
-      new = omega arith;
-      begin = λ i. elim (cases_lt i n) [
-        | inl less ↦ inr (closed_as had i n m (λ is. omega (arith, is)) (λ is. less))
-        | inr past ↦ inl (still_open i n past)
-      ];
-      bytes = λ i. begins_itself (had i);
-      same = λ i out. closed_as had i n m (λ is. omega (arith, is)) (λ is. omega (arith, out, is));
-    }
+    shut_grow had from to n m low few high = grind (arith, common_steps, cases_lt, closed_as, still_open, begins_itself)
 
     halted : (before : List Slot) (had : ℕ → List ℕ) → StandAt told files before had old
         → Halts told before (from_start files.names) (all_open had) (length files.outputs) (closed_first (length files.outputs) had) (length files.outputs) 0
         (length files.outputs) (fault.Write (output_at files place)) new
-    halted before had at = halts place (closed_first (place + 1) had) (length files.outputs) (omega arith) (omega arith) (omega arith) (record {
-      more = omega arith;
-      new = omega arith;
-      begin = λ i. inl refl;
-      bytes = λ i. begins_itself (had i);
-      same = λ i out. ap (λ now. share now (had i)) (sym (still_open i (place + 1) (omega (arith, out))));
-    }) (shut_grow had place (length files.outputs) (place + 1) (length files.outputs) (omega arith) (omega arith) (omega arith))
+    halted before had at = halts place (closed_first (place + 1) had) (length files.outputs) (omega arith) (omega arith) (omega arith)
+        (grind (arith, common_steps, still_open, begins_itself)) (shut_grow had place (length files.outputs) (place + 1) (length files.outputs) (omega arith) (omega arith) (omega arith))
         (closes_next refl at) (there, is) (inr (at.owns.stand place within))
 
 -- A file was reached, and then written to.

@@ -123,14 +123,7 @@ shuts_some told parts next {slot} {old} {new} result ready is next_is ok err = s
   same = refl;
   moves = record {
     same = on_ok result refl;
-    keeps = record {
-      limit = refl;
-      names = refl;
-      owned = subst (λ current. KeepsFile current old None new) (sym is) (owned_ended slot old new (size result ok err));
-      sound = on_ok_weaker result (slot_steps.keeps_close slot old new) ok;
-      ready = on_ok result (omega (arith, slot_steps.writable_within slot old can.1, size result ok err, can.0));
-      breaks = IfErr-weaker result _ _ (λ f why. subst (Breaks old new) (sym why.0) (breaks_write slot can.0 (rose why.1))) err;
-    };
+    keeps = grind (arith, common_steps, is, owned_ended, size result ok err, on_ok_weaker, slot_steps.keeps_close, can, slot_steps.writable_within, rose, breaks_write, ok, err);
     begun = on_ok result (λ those has. shut_begun has (some those has));
     goes = λ those has. rw (written_some those (some those has), append-nil (those.shares ++ map (share file_state.Closed) (unless_empty those.begun)), some_share file_state.Closed those.begun (some those has), is)
         (close_goes told (from_start parts.names) those.shares those.begun old has.shut (begun_named has (some those has)).1 result ok err);
@@ -181,14 +174,7 @@ found told {parts} {old} {slot = slot} ready (there is same unchanged) = rw (sam
 })
 found told {parts} {old} {new} {slot = slot} ready (made none at has next_is made_it) = subst (λ those. Found told parts old new those slot) (sym next_is) (record {
   same = refl;
-  keeps = record {
-    limit = refl;
-    names = refl;
-    owned = subst (λ current. KeepsFile current old (Some slot) new) (sym none) (owned_opened (opened (next_name parts.names) Fresh) old at made_it);
-    sound = slot_steps.keeps_open (opened (next_name parts.names) Fresh) old new made_it;
-    ready = can;
-    breaks = tt;
-  };
+  keeps = grind (arith, common_steps, none, at, made_it, can, owned_opened, slot_steps.keeps_open);
   can = can;
   last = λ those had. (ap (λ n. n + 1) (begun_yet had none).1 ∙ add-one (length those.shares), named those had);
   goes = λ those had. rw ((begun_yet had none).0, append-nil those.shares)
@@ -232,16 +218,7 @@ pub no_file : (told : Bool) (parts : PartsState) (bytes : List ℕ) {old new : L
     → HasNone parts old new next f → Extends told parts bytes old new next (Err f)
 no_file told parts bytes {old} {new} {next} f some none = record {
   same = tt;
-  keeps = record {
-    limit = ap (λ (those : PartsState). those.limit) none.same;
-    names = ap from_start none.names_same;
-    owned = subst (λ current. KeepsFile current old next.current new) (sym none.none)
-        (subst (λ current. KeepsFile None old current new) (sym (ap (λ (those : PartsState). those.current) none.same ∙ none.none))
-        (owned_unopened none.opens));
-    sound = tt;
-    ready = tt;
-    breaks = open_breaks none.opens;
-  };
+  keeps = grind (arith, common_steps, none.none, none.opens, none.same, none.names_same, owned_unopened, open_breaks);
   begun = tt;
   goes = λ those has. rw (
     (begun_yet has none.none).0,
