@@ -307,20 +307,7 @@ cannot_later old mid new stay (inr (slot, is, rose)) = inr (slot, is, rose_later
 pub reached : (told : Bool) (files : FilesState) {old new : List Slot} (place : ℕ) → AreReady files old → place ≡ length files.outputs
     → new ≡ old ++ opened (next_name files.names) Fresh ∷ [] → Opens told files place (place + 1) old (with_opened (length old) files) new (Ok tt)
 reached told files {old} {new} place ready here is = record {
-  adds = record {
-    names = refl;
-    owned = owned_opened (next_name files.names) ready.drawn is;
-    ready = ready_opened (next_name files.names) ready is;
-    opened = omega (arith, length-append files.outputs (length old ∷ []), here);
-    sound = keeps_open (opened (next_name files.names) Fresh) old new is;
-    caused = tt;
-    outside = λ i out. refl;
-    leaves = λ before had has at are.
-        let count : max (length files.outputs) (place + 1) ≡ length files.outputs + 1 = omega (arith, here) in
-        subst (λ n. OutputsAt told before (part_by (from_start files.names) (all_open has) n) new) (sym count)
-        (subst (λ files. OutputsAt told before (only_files files) new) (list before had has at are)
-        (file_more told before (part_by (from_start files.names) (all_open had) (length files.outputs)) old new (name_of files.names files.names.drawn) Fresh at.outputs is));
-  };
+  adds = grind (arith, common_steps, ready.drawn, owned_opened, ready_opened, length-append files.outputs (length old ∷ []), keeps_open, leaves);
   caused = tt;
 } where
   file : (ℕ → List ℕ) → ℕ → File
@@ -332,6 +319,14 @@ reached told files {old} {new} place ready here is = record {
       let same : ◌≡◌ {A = ℕ → List ℕ} has had = fun_ext (λ i. are i ∙ append-nil (had i)) in
       sym (map-range_with_len_more (file has) 0 (length files.outputs) (length files.outputs) (zero-add (length files.outputs))
       ∙ cc (same, at.none (length files.outputs) (omega arith), ready.drawn))
+
+  leaves : (before : List Slot) (had has : ℕ → List ℕ) → StandAt told files before had old → ((i : ℕ) → has i ≡ had i ++ [])
+      → OutputsAt told before (part_by (from_start files.names) (all_open has) (max (length files.outputs) (place + 1))) new
+  leaves before had has at are =
+      let count : max (length files.outputs) (place + 1) ≡ length files.outputs + 1 = omega (arith, here) in
+      subst (λ n. OutputsAt told before (part_by (from_start files.names) (all_open has) n) new) (sym count)
+      (subst (λ files. OutputsAt told before (only_files files) new) (list before had has at are)
+      (file_more told before (part_by (from_start files.names) (all_open had) (length files.outputs)) old new (name_of files.names files.names.drawn) Fresh at.outputs is))
 
 -- or it couldn't be
 pub reached_not : (told : Bool) (files : FilesState) {names : Naming} {old new : List Slot} (place : ℕ) {why : Fault} → AreReady files old → place ≡ length files.outputs → is_named files.names place ≡ true

@@ -74,22 +74,10 @@ begun_named {names} {those = those} has some =
 -- writing to its file, whatever is left to wait
 write_keeps : (told : Bool) (parts : PartsState) (held : List ℕ) {slot : ℕ} (bytes : List ℕ) {old new : List Slot} (result : Result (Unit {0}) Fault)
     → parts.current ≡ Some slot → is_closable old slot → WritesTo told slot bytes old new result → Keeps parts old new (record parts { waiting = held }) result
-write_keeps told parts held {slot} bytes {old} {new} (Ok done) is can wrote = record {
-  limit = refl;
-  names = refl;
-  owned = owned_same parts.current old new (slot_steps.written_size slot _ old new wrote);
-  sound = slot_steps.keeps_write slot _ old new wrote;
-  ready = subst (λ current. IsReady current new) (sym is) (can.0, slot_steps.written_writable old new slot slot _ can.1 wrote);
-  breaks = tt;
-}
-write_keeps told parts held {slot} bytes {old} {new} (Err f) is can short = record {
-  limit = refl;
-  names = refl;
-  owned = owned_same parts.current old new (slot_steps.short_size told slot bytes old new f short);
-  sound = tt;
-  ready = tt;
-  breaks = write_breaks told can.0 can.1 short;
-}
+write_keeps told parts held {slot} bytes {old} {new} (Ok done) is can wrote =
+    grind (arith, common_steps, owned_same, slot_steps.written_size slot _ old new wrote, slot_steps.keeps_write, slot_steps.written_writable)
+write_keeps told parts held {slot} bytes {old} {new} (Err f) is can short =
+    grind (arith, common_steps, owned_same, slot_steps.short_size told slot bytes old new f short, write_breaks)
 
 -- closing it
 
@@ -198,12 +186,7 @@ extended {told} {parts} more held {old} {mid} {new} {fresh} {next} {slot} result
       same = on_ok_weaker result (ap (λ waits. (parts.left, parts.has_line, waits))) none;
       keeps = keeps_then result (subst (λ those. Keeps parts old mid those (Ok tt)) facts.same facts.keeps)
           (write_keeps told (record parts { names = fresh.names; current = Some slot }) held more result refl facts.can wrote);
-      begun = on_ok result (λ those has. let count = written_count (gets more those) (some those has) in record {
-        drawn = (facts.last those has).0 ∙ sym count;
-        enough = ap (are_named fresh.names) count ∙ ap (λ (names : Naming). is_named names (length those.shares)) facts.keeps.names ∙ (facts.last those has).1;
-        given = sym (some those has);
-        shut = has.shut;
-      });
+      begun = on_ok result (λ those has. grind (arith, common_steps, has, some those has, written_count (gets more those) (some those has), facts.last those has, facts.keeps.names));
       goes = λ those has. rw (written_some (gets more those) (some those has))
           (goes_then result (subst (λ (those : PartsState). KeepsFile parts.current old those.current mid) facts.same facts.keeps.owned)
           (facts.goes those has)
