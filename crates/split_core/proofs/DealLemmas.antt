@@ -67,12 +67,7 @@ mask_after delim (suc at) (byte ∷ x) =
 
 -- the first line, where the first delimiter is known
 first_line : {delim : ℕ} {x : List ℕ} {at : ℕ} → IsFirstAt delim x at → IsFirstLine delim x (take (at + 1) x) (drop (at + 1) x)
-first_line {delim} {x} {at} first = record {
-  whole = sym (take-append-drop (at + 1) x);
-  first = ap (lines_of delim) (sym whole) ∙ lines_of-complete delim (take at x) (drop (at + 1) x) first.none ∙ ap (λ line. line ∷ lines_of delim (drop (at + 1) x)) (sym line);
-  counted = ap (delimiters delim) (sym whole) ∙ count;
-  shorter = omega (arith, first.within, length-drop (at + 1) x);
-} where
+first_line {delim} {x} {at} first = grind (arith, common_steps, whole, line, count, first.within, lines_of-complete, length-drop, take-append-drop) where
   line : take (at + 1) x ≡ take at x ++ delim ∷ []
   line = take_more x at 0 first.within ∙ ap (λ byte. take at x ++ byte ∷ []) first.here
 
@@ -115,12 +110,7 @@ first_seen {delim} {x} {ahead} {at} sees is some = (
   first = subst (λ n. IsFirstAt delim (take ahead.width (drop ahead.passed x)) n) (sym is) (first_marked (take ahead.width (drop ahead.passed x)) (subst (λ n. 0 < n) sees.marked some))
 
 pub sees_rest : {delim : ℕ} {x : List ℕ} {ahead : Ahead} (at : ℕ) {mask : ℕ} → Sees delim x ahead → at < ahead.width → mask ≡ ahead.mask / 2 ^ at / 2 → Sees delim (drop (ahead.passed + at + 1) x) (record { passed = 0; width = ahead.width - (at + 1); mask = mask })
-sees_rest {delim} {x} {ahead} at sees inside is = record {
-  within = omega (arith, sees.within, length-drop (ahead.passed + at + 1) x);
-  narrow = omega (arith, sees.narrow);
-  none = tt;
-  marked = is ∙ ap (λ m. m / 2 ^ at / 2) sees.marked ∙ mask_after delim at (take ahead.width (drop ahead.passed x)) ∙ ap (delimiter_mask delim) window;
-} where
+sees_rest {delim} {x} {ahead} at sees inside is = grind (arith, common_steps, sees, length-drop, mask_after, window) where
   further : suc at + (ahead.width - (at + 1)) ≡ ahead.width
   further = omega arith
 

@@ -183,42 +183,34 @@ adds_not told files more {from} place to {old} why low high inside names owned c
 pub adds_then : {told : Bool} {files between next : FilesState} {first second : ℕ → List ℕ} {from to low high : ℕ} {old mid new : List Slot} (result : Result (Unit {0}) Fault)
     → Adds told files first from to old between mid (Ok tt) → Adds told between second low high mid next new result
     → from ≤ low → to ≤ suc low → to ≤ high → Adds told files (λ i. first i ++ second i) from high old next new result
-adds_then {told} {files} {between} {next} {first} {second} {from} {to} {low} {high} {old} {mid} {new} result one other less near more = record {
-  names = other.names ∙ one.names;
-  owned = λ place owns. other.owned place (one.owned place owns);
-  ready = other.ready;
-  opened = on_ok_weaker result (λ opened. opened ∙ count) other.opened;
-  sound = on_ok_weaker result (keeps_again old mid new one.sound) other.sound;
-  caused = IfErr-weaker result _ _ (λ why caused. (breaks_later one.sound caused.0, caused.1)) other.caused;
-  outside = outside;
-  leaves = λ before had has at are. further result before had has (leaves before had has at are);
-} where
-  count : max (length between.outputs) high ≡ max (length files.outputs) high
-  count = omega (arith, one.opened)
+adds_then {told} {files} {between} {next} {first} {second} {from} {to} {low} {high} {old} {mid} {new} result one other less near more =
+    grind (arith, common_steps, one, other, on_ok_weaker, keeps_again, IfErr-weaker, breaks_later, outside, leaves, further, count) where
+      count : max (length between.outputs) high ≡ max (length files.outputs) high
+      count = omega (arith, one.opened)
 
-  outside : (i : ℕ) → (i < from) ⊎ (high ≤ i) → first i ++ second i ≡ []
-  outside i out = cc (one.outside i (wider (omega arith) more out), other.outside i (wider less (omega arith) out))
+      outside : (i : ℕ) → (i < from) ⊎ (high ≤ i) → first i ++ second i ≡ []
+      outside i out = cc (one.outside i (wider (omega arith) more out), other.outside i (wider less (omega arith) out))
 
-  leaves : (before : List Slot) (had has : ℕ → List ℕ) → StandAt told files before had old → ((i : ℕ) → has i ≡ had i ++ (first i ++ second i))
-      → Leaves told before (from_start files.names) (all_open (λ i. had i ++ first i)) (max (length files.outputs) to) (all_open has) (max (length files.outputs) high) low high new result
-  leaves before had has at are = subst (λ n. Leaves told before (from_start files.names) (all_open (λ i. had i ++ first i)) (max (length files.outputs) to) (all_open has) n low high new result) count
-      (subst (λ n. Leaves told before (from_start files.names) (all_open (λ i. had i ++ first i)) n (all_open has) (max (length between.outputs) high) low high new result) one.opened
-      (subst (λ names. Leaves told before names (all_open (λ i. had i ++ first i)) (length between.outputs) (all_open has) (max (length between.outputs) high) low high new result) one.names
-      (other.leaves before (λ i. had i ++ first i) has (record {
-        owns = one.owned (length before) at.owns;
-        outputs = subst (λ names. OutputsAt told before (part_by names (all_open (λ i. had i ++ first i)) (length between.outputs)) mid) (sym one.names)
-            (subst (λ n. OutputsAt told before (part_by (from_start files.names) (all_open (λ i. had i ++ first i)) n) mid) (sym one.opened) (one.leaves before had _ at (λ i. refl)));
-        none = λ i past. cc (at.none i (omega (arith, past, one.opened)), one.outside i (inr (omega (arith, past, one.opened))));
-      }) (λ i. are i ∙ sym (append_assoc (had i) (first i) (second i))))))
+      leaves : (before : List Slot) (had has : ℕ → List ℕ) → StandAt told files before had old → ((i : ℕ) → has i ≡ had i ++ (first i ++ second i))
+          → Leaves told before (from_start files.names) (all_open (λ i. had i ++ first i)) (max (length files.outputs) to) (all_open has) (max (length files.outputs) high) low high new result
+      leaves before had has at are = subst (λ n. Leaves told before (from_start files.names) (all_open (λ i. had i ++ first i)) (max (length files.outputs) to) (all_open has) n low high new result) count
+          (subst (λ n. Leaves told before (from_start files.names) (all_open (λ i. had i ++ first i)) n (all_open has) (max (length between.outputs) high) low high new result) one.opened
+          (subst (λ names. Leaves told before names (all_open (λ i. had i ++ first i)) (length between.outputs) (all_open has) (max (length between.outputs) high) low high new result) one.names
+          (other.leaves before (λ i. had i ++ first i) has (record {
+            owns = one.owned (length before) at.owns;
+            outputs = subst (λ names. OutputsAt told before (part_by names (all_open (λ i. had i ++ first i)) (length between.outputs)) mid) (sym one.names)
+                (subst (λ n. OutputsAt told before (part_by (from_start files.names) (all_open (λ i. had i ++ first i)) n) mid) (sym one.opened) (one.leaves before had _ at (λ i. refl)));
+            none = λ i past. cc (at.none i (omega (arith, past, one.opened)), one.outside i (inr (omega (arith, past, one.opened))));
+          }) (λ i. are i ∙ sym (append_assoc (had i) (first i) (second i))))))
 
-  further : (result : Result (Unit {0}) Fault) (before : List Slot) (had has : ℕ → List ℕ)
-      → Leaves told before (from_start files.names) (all_open (λ i. had i ++ first i)) (max (length files.outputs) to) (all_open has) (max (length files.outputs) high) low high new result
-      → Leaves told before (from_start files.names) (all_open had) (length files.outputs) (all_open has) (max (length files.outputs) high) from high new result
-  further (Ok done) before had has at = at
-  further (Err why) before had has stop = record {
-    stops = λ start last fewest most end front back. stop.stops start last fewest most end
-        (grow_trans 0 (low + 1) front (grow_by from to first (length files.outputs) one.outside (λ i. refl)) (omega arith) (omega arith) (omega arith) (omega arith)) back;
-  }
+      further : (result : Result (Unit {0}) Fault) (before : List Slot) (had has : ℕ → List ℕ)
+          → Leaves told before (from_start files.names) (all_open (λ i. had i ++ first i)) (max (length files.outputs) to) (all_open has) (max (length files.outputs) high) low high new result
+          → Leaves told before (from_start files.names) (all_open had) (length files.outputs) (all_open has) (max (length files.outputs) high) from high new result
+      further (Ok done) before had has at = at
+      further (Err why) before had has stop = record {
+        stops = λ start last fewest most end front back. stop.stops start last fewest most end
+            (grow_trans 0 (low + 1) front (grow_by from to first (length files.outputs) one.outside (λ i. refl)) (omega arith) (omega arith) (omega arith) (omega arith)) back;
+      }
 
 -- a fault on the way to more than was to be added
 pub adds_wider : {told : Bool} {files next : FilesState} {some more : ℕ → List ℕ} {from to : ℕ} (low most : ℕ) (rest : ℕ → List ℕ) {old new : List Slot} {why : Fault}

@@ -54,12 +54,7 @@ round_lawful delim count elide names = record {
 -- Parts that follow one another
 
 stays : (limit : Limit) (names : Naming) (x y : List ℕ) → (parts_work limit names).is_complete x ≡ true → IsComplete (parts_work limit names) x y
-stays limit names x y short = record {
-  still = ap not more;
-  settled_stays = ap only_files (files_settled names limit x y none ∙ sym here);
-  whole_stays = ap only_files (files_whole names limit x y none ∙ sym here);
-  verdict_stays = ap (λ (has : Bool). cond (not has) (Some Suffixes) None) (more ∙ sym (not-true _ short));
-} where
+stays limit names x y short = grind (arith, common_steps, none, more, here, files_settled, files_whole, not-true) where
   none : are_named names (length (parts limit x)) ≡ false
   none = sym (ap (are_named names) (length-map (parts limit x) (share Closed))) ∙ not-true _ short
 
