@@ -197,16 +197,7 @@ loads told slot count ends next old new fresh same left past others passes full 
       long = passes.long;
       there = passes.there;
       passed = passes.passed;
-      holds = record {
-        byte = subst (λ delim. delim < 256) (sym same.delim) fresh.byte;
-        left = λ is. let before = sym (ap keeps same.stretch) ∙ is in
-            left ∙ fresh.left before ∙ sym (same_for (λ s d u n. front_in s n - measure d u []) same)
-            ∙ sym (ap (λ x. front_in (stretch_of next) (count_of next) - measure (delim_of next) (unit_of next) x) (none (not_last (stretch_of ends) before)));
-        waits = waits;
-        past = past ∙ fresh.past ∙ past_same (stretch_of ends) (delim_of ends) (unit_of ends) (count_of ends) none ∙ sym (same_for (λ s d u n. past_in s d u n passes.front) same);
-        none = none_lacks next;
-        full = full_lacks next passes.front waits full;
-      };
+      holds = grind (arith, common_steps, fresh, same, left, past, waits, full, none, same_for, not_last, past_same, none_lacks, full_lacks);
       ready = λ slots is. is;
       owns = λ first slots is. is;
       idle = settled_same (stretch_of ends) (delim_of ends) (unit_of ends) (count_of ends) none;

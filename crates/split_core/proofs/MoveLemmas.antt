@@ -245,12 +245,7 @@ open_stops told {names} {next} current shares one {old} {new} shut drawn none = 
       × (IsAtEnd current old → Becomes told (part_of (from_start names) shares) (part_of (from_start names) those) old new None)
   ran (no_name none same) = (
     shares,
-    record {
-      shut = shut;
-      none = subst (λ n. is_named names n ≡ false) drawn none;
-      begins = shares_more shares (one ∷ []);
-      fewer = omega (arith, length-append shares (one ∷ []));
-    },
+    grind (arith, common_steps, shut, drawn, none, shares_more, length-append),
     λ last. record { gets = λ before at. rw same at },
   )
 
