@@ -34,8 +34,12 @@ far delim unit n x = elim (cases_lt (length x) (length (but_last_of delim unit n
       let k = length (but_last_of delim unit n (x ++ replicate (n + 1) delim)) in
       let last : last_of delim unit n (x ++ replicate (n + 1) delim) ≡ drop k x ++ replicate (n + 1) delim
       = last_is_drop delim unit n (x ++ replicate (n + 1) delim) ∙ drop-append-le k x (replicate (n + 1) delim) within in
-      omega (arith, ap (measure delim unit) last ∙ measure-append delim unit (drop k x) (replicate (n + 1) delim), measure-delimiters delim unit {k = n + 1},
-      last_is_small delim unit n (x ++ replicate (n + 1) delim))
+      omega (
+        arith,
+        ap (measure delim unit) last ∙ measure-append delim unit (drop k x) (replicate (n + 1) delim),
+        measure-delimiters delim unit {k = n + 1},
+        last_is_small delim unit n (x ++ replicate (n + 1) delim),
+      )
 
 -- Heads
 

@@ -24,9 +24,8 @@ use Rattle.ends_core.specs.Kept.{most_of, delim_of as kept_delim, unit_of as kep
 use Rattle.ends_core.specs.inner.Kept.{Passes, Stops}
 use Rattle.ends_core.specs.laws.WorkLaws.{full_head}
 use Rattle.ends_core.specs.laws.EndsLaws.{ends_together, first_then_after, measure-append, first_of-append, first_of-short, after_of-append, last_of-append, but_last_of-append, first_of-full}
-use Rattle.ends_core.proofs.KeptLemmas.{measure-delimiters, first_of-more, but_last_grows, first_of-nil}
+use Rattle.ends_core.proofs.KeptLemmas.{measure-delimiters, first_of-more, but_last_grows, first_of-nil, last_none, after-past}
 use Rattle.ends_core.proofs.KeptLemmas as stop
-use Rattle.ends_core.proofs.LoadLemmas.{last_none, after-past}
 use Rattle.ports_core.specs.Guard.{GuardState, HoldsIn}
 use Rattle.ports_core.proofs.SpareLemmas.{all_used}
 use Rattle.seg_core.specs.Line.{delimiters}
@@ -227,8 +226,13 @@ first_measures delim Bytes n x full = omega (arith, length-take n x, full)
 last_needed : (delim : ℕ) (unit : Counted) (n : ℕ) {k : ℕ} {used : List ℕ} → length used ≡ suc k → first_of delim unit n used ≡ used → measure delim unit (take k used) < n
 last_needed delim unit n {k} {used} long again = elim (cases_lt (measure delim unit (take k used)) n) [
   | inl short ↦ short
-  | inr full ↦ absurd (omega (arith, ap length (sym again ∙ ap (first_of delim unit n) (sym (take-append-drop k used)) ∙ first_of-full delim unit n (take k used) (drop k used) full),
-      first_within delim unit n (take k used), length-take k used, long))
+  | inr full ↦ absurd (omega (
+    arith,
+    ap length (sym again ∙ ap (first_of delim unit n) (sym (take-append-drop k used)) ∙ first_of-full delim unit n (take k used) (drop k used) full),
+    first_within delim unit n (take k used),
+    length-take k used,
+    long,
+  ))
 ]
 
 needed_by : (delim : ℕ) (unit : Counted) (n k : ℕ) {used : List ℕ} → length used ≡ k → first_of delim unit n used ≡ used → IsNeeded (head_work delim unit false n).is_complete 1 used
@@ -297,8 +301,15 @@ goes_past delim x piece used rest is more = elim (cases_lt (length x) (length us
 few_between : (delim : ℕ) (x piece used rest : List ℕ) → x ++ piece ≡ used ++ rest → length x < length used → delimiters delim used + length x ≤ delimiters delim x + length used
 few_between delim x piece used rest is past =
     let all : take (length x + (length used - length x)) (x ++ piece) ≡ used = ap (λ k. take k (x ++ piece)) (omega (arith, past)) ∙ ap (take (length used)) is ∙ take_at used rest (length used) refl in
-    omega (arith, delimiters-take-add delim (length x) (length used - length x) (x ++ piece), ap (delimiters delim) all, ap (delimiters delim) (take_at x piece (length x) refl),
-    delimiters-le-length delim (take (length used - length x) (drop (length x) (x ++ piece))), length-take (length used - length x) (drop (length x) (x ++ piece)), past)
+    omega (
+      arith,
+      delimiters-take-add delim (length x) (length used - length x) (x ++ piece),
+      ap (delimiters delim) all,
+      ap (delimiters delim) (take_at x piece (length x) refl),
+      delimiters-le-length delim (take (length used - length x) (drop (length x) (x ++ piece))),
+      length-take (length used - length x) (drop (length x) (x ++ piece)),
+      past,
+    )
 
 few_spare : (delim : ℕ) (unit : Counted) (count : ℕ) {left n : ℕ} (x piece : List ℕ) (spare : IsSpare (head_work delim unit false count) (x ++ piece) n) → left ≡ count - measure delim unit x → measure delim unit x < count → count ≤ measure delim unit spare.used
     → length piece ≤ piece_for unit left → n ≤ ahead_of unit

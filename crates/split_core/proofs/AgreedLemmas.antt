@@ -26,8 +26,7 @@ use Rattle.split_core.specs.laws.ShareLaws.{cut_first, one_on, parts_on, settled
 use Rattle.split_core.specs.laws.WorkLaws.{parts_lawful, round_lawful}
 use Rattle.split_core.proofs.MoveLemmas.{named_before}
 use Rattle.split_core.proofs.SectionLemmas.{settled_list, settled_bytes, list_all}
-use Rattle.split_core.proofs.CutLaws.{bytes_of_shares}
-use Rattle.split_core.proofs.StepLemmas.{lines_stay}
+use Rattle.split_core.proofs.CutLaws.{bytes_of_shares, lines_stay}
 
 -- The bytes of files that have names
 

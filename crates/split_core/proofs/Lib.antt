@@ -1,4 +1,3 @@
-pub mod StepLemmas
 pub mod RoundLemmas
 pub mod AgreedLemmas
 pub mod CutLaws
