@@ -193,15 +193,12 @@ adds_then {told} {files} {between} {next} {first} {second} {from} {to} {low} {hi
 
       leaves : (before : List Slot) (had has : ℕ → List ℕ) → StandAt told files before had old → ((i : ℕ) → has i ≡ had i ++ (first i ++ second i))
           → Leaves told before (from_start files.names) (all_open (λ i. had i ++ first i)) (max (length files.outputs) to) (all_open has) (max (length files.outputs) high) low high new result
-      leaves before had has at are = subst (λ n. Leaves told before (from_start files.names) (all_open (λ i. had i ++ first i)) (max (length files.outputs) to) (all_open has) n low high new result) count
-          (subst (λ n. Leaves told before (from_start files.names) (all_open (λ i. had i ++ first i)) n (all_open has) (max (length between.outputs) high) low high new result) one.opened
-          (subst (λ names. Leaves told before names (all_open (λ i. had i ++ first i)) (length between.outputs) (all_open has) (max (length between.outputs) high) low high new result) one.names
-          (other.leaves before (λ i. had i ++ first i) has (record {
-            owns = one.owned (length before) at.owns;
-            outputs = subst (λ names. OutputsAt told before (part_by names (all_open (λ i. had i ++ first i)) (length between.outputs)) mid) (sym one.names)
-                (subst (λ n. OutputsAt told before (part_by (from_start files.names) (all_open (λ i. had i ++ first i)) n) mid) (sym one.opened) (one.leaves before had _ at (λ i. refl)));
-            none = λ i past. cc (at.none i (omega (arith, past, one.opened)), one.outside i (inr (omega (arith, past, one.opened))));
-          }) (λ i. are i ∙ sym (append_assoc (had i) (first i) (second i))))))
+      leaves before had has at are = rw (← count, ← one.opened, ← one.names) (other.leaves before (λ i. had i ++ first i) has (record {
+        owns = one.owned (length before) at.owns;
+        outputs = subst (λ names. OutputsAt told before (part_by names (all_open (λ i. had i ++ first i)) (length between.outputs)) mid) (sym one.names)
+            (subst (λ n. OutputsAt told before (part_by (from_start files.names) (all_open (λ i. had i ++ first i)) n) mid) (sym one.opened) (one.leaves before had _ at (λ i. refl)));
+        none = λ i past. cc (at.none i (omega (arith, past, one.opened)), one.outside i (inr (omega (arith, past, one.opened))));
+      }) (λ i. are i ∙ sym (append_assoc (had i) (first i) (second i))))
 
       further : (result : Result (Unit {0}) Fault) (before : List Slot) (had has : ℕ → List ℕ)
           → Leaves told before (from_start files.names) (all_open (λ i. had i ++ first i)) (max (length files.outputs) to) (all_open has) (max (length files.outputs) high) low high new result

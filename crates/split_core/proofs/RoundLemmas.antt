@@ -209,16 +209,7 @@ does_all delim names others elide n fresh are same =
       never = fun_ext (λ x. not_short delim names elide n x are)
 
       work_by : (List ℕ → Bool) → Work
-      work_by short = record {
-        settled = settled_by (round_plan delim n elide names);
-        whole = whole_by (round_plan delim n elide names);
-        waiting = waiting_after (settled_by (round_plan delim n elide names));
-        is_complete = short;
-        verdict = λ x. cond (short x) (Some fault.Suffixes) None;
-        clears = false;
-        means = split_means;
-        ahead = 0;
-      }
+      work_by short = record (split_work (round_plan delim n elide names)) { is_complete = short; verdict = λ x. cond (short x) (Some fault.Suffixes) None }
 
 -- nothing waits
 

@@ -372,13 +372,9 @@ file_is delim elide n x file within =
 named_at : (names : Naming) (place : ℕ) (those : List (List ℕ)) (k : ℕ) → get_or (named_bytes names place those) k [] ≡ cond (is_named names (place + k)) (get_or those k []) []
 named_at names place [] k = grind (arith, nat_tests)
 named_at names place (one ∷ those) zero = grind (arith, common_steps)
-named_at names place (one ∷ those) (suc k) = grind (
-  arith,
-  nat_tests,
-  named_at names (place + 1) those k,
-  ap (is_named names) (one_on place k),
-  λ (is : is_named names (place + suc k) ≡ true). named_before names place (place + suc k) is (omega arith),
-)
+named_at names place (one ∷ those) (suc k) =
+    let before = λ (is : is_named names (place + suc k) ≡ true). named_before names place (place + suc k) is (omega arith) in
+    grind (arith, nat_tests, named_at names (place + 1) those k, ap (is_named names) (one_on place k), before)
 
 -- a file that has a byte has a name, and is one of n
 there_by : (has : Bool) (these : List ℕ) {offset : ℕ} → offset < length (cond has these []) → (has ≡ true) × (offset < length these)
