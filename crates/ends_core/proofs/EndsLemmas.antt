@@ -141,7 +141,8 @@ lacks_kept (First count front) lacking = cc
 lacks_kept ends lacking = cc
 
 -- why a call stopped
-pub met : (told : Bool) (ends : Ends) (needs : Means → Needs) (Lacks : Type 0) (Fails : Fault → Type 0) {lacks : Bool} {bytes : List ℕ} {old new : List Slot} {f : Fault}
+pub met : (told : Bool) (ends : Ends) (needs : Means → Needs) (Lacks : Type 0) (Fails : Fault → Type 0)
+    {lacks : Bool} {bytes : List ℕ} {old new : List Slot} {f : Fault}
     → (lacks ≡ true → ((needs (on_output (keeps (stretch_of ends)))).memory ≡ true) × Lacks) → IsTrue (is_writable old 0) → Stops told lacks bytes old new f
     → IsMet (work ends).means (needs (work ends).means) Lacks Fails old new f
 met told ends needs Lacks Fails {old = old} {new} {f} room can stops =
@@ -300,7 +301,8 @@ goes_past delim x piece used rest is more = elim (cases_lt (length x) (length us
 
 few_between : (delim : ℕ) (x piece used rest : List ℕ) → x ++ piece ≡ used ++ rest → length x < length used → delimiters delim used + length x ≤ delimiters delim x + length used
 few_between delim x piece used rest is past =
-    let all : take (length x + (length used - length x)) (x ++ piece) ≡ used = ap (λ k. take k (x ++ piece)) (omega (arith, past)) ∙ ap (take (length used)) is ∙ take_at used rest (length used) refl in
+    let all : take (length x + (length used - length x)) (x ++ piece) ≡ used
+    = ap (λ k. take k (x ++ piece)) (omega (arith, past)) ∙ ap (take (length used)) is ∙ take_at used rest (length used) refl in
     omega (
       arith,
       delimiters-take-add delim (length x) (length used - length x) (x ++ piece),

@@ -62,7 +62,8 @@ pub each_named : (names : Naming) (those : List (List ℕ)) → are_named names 
 each_named names [] are = refl
 each_named names (one ∷ those) are = named_each names 0 one those (subst (λ n. is_named names n ≡ true) (sym (zero-add (length those))) are)
 
-pub shared_bytes : (names : Naming) (state : State) (those : List (List ℕ)) → map (λ (file : File). file.bytes) (named names 0 (map (share state) those)) ≡ named_bytes names 0 those
+pub shared_bytes : (names : Naming) (state : State) (those : List (List ℕ))
+    → map (λ (file : File). file.bytes) (named names 0 (map (share state) those)) ≡ named_bytes names 0 those
 shared_bytes names state those = bytes_named names 0 (map (share state) those) ∙ ap (named_bytes names 0) (bytes_of_shares state those)
 
 -- Parts that follow one another
@@ -78,13 +79,16 @@ list_count limit x = ap length (sym (settled_bytes limit x)) ∙ length-map (set
 abbrev pub settled_in : Limit → Naming → List ℕ → List ℕ
 settled_in limit names x = bytes_in ((parts_work limit names).settled x)
 
-pub settled_bytes_in : (limit : Limit) (names : Naming) (x : List ℕ) → are_named names (length (parts limit x)) ≡ true → settled_in limit names x ≡ joined (settled_list limit x)
+pub settled_bytes_in : (limit : Limit) (names : Naming) (x : List ℕ) → are_named names (length (parts limit x)) ≡ true
+    → settled_in limit names x ≡ joined (settled_list limit x)
 settled_bytes_in limit names x are = grind (arith, common_steps, settled_files, each_named, settled_list, list_count)
 
-pub came_in : (limit : Limit) (names : Naming) {x : List ℕ} → are_named names (length (parts limit x)) ≡ true → settled_in limit names x ++ waiting_rest limit (cut_up limit x).rest ≡ x
+pub came_in : (limit : Limit) (names : Naming) {x : List ℕ} → are_named names (length (parts limit x)) ≡ true
+    → settled_in limit names x ++ waiting_rest limit (cut_up limit x).rest ≡ x
 came_in limit names {x} are = grind (arith, common_steps, settled_bytes_in, list_all)
 
-pub waiting_is : (limit : Limit) (names : Naming) (x : List ℕ) → are_named names (length (parts limit x)) ≡ true → (parts_work limit names).waiting x ≡ waiting_rest limit (cut_up limit x).rest
+pub waiting_is : (limit : Limit) (names : Naming) (x : List ℕ) → are_named names (length (parts limit x)) ≡ true
+    → (parts_work limit names).waiting x ≡ waiting_rest limit (cut_up limit x).rest
 waiting_is limit names x are = ap (drop (length (settled_in limit names x))) (sym (came_in limit names are)) ∙ drop-append_seam (settled_in limit names x) _
 
 -- a continuation of which what is settled are parts, and perhaps others follow
@@ -146,9 +150,15 @@ parts_agreed_by : {limit : Limit} (names : Naming) {x : List ℕ} → Decides li
 parts_agreed_by {limit} names {x} decides =
     let further = named_more names 0 (settled_list limit x) decides.more in
     agreed_by (parts_work limit names) x [] decides.y further.0 (common (parts_work limit names) (parts_lawful limit names) x) none_comes decides.comes count
-    (ap (λ files. [] ∷ files) (shared_bytes names Closed (parts limit (x ++ decides.y)) ∙ ap (named_bytes names 0) decides.are ∙ further.1 ∙ ap (λ files. files ++ further.0) (sym (settled_files limit names x)))) where
+    (ap (λ files. [] ∷ files) (shared_bytes names Closed (parts limit (x ++ decides.y)) ∙ ap (named_bytes names 0) decides.are ∙ further.1 ∙ ap
+    (λ files. files ++ further.0) (sym (settled_files limit names x)))) where
       count : length (outputs_of ((parts_work limit names).whole (x ++ []))) ≡ length (outputs_of ((parts_work limit names).settled x))
-      count = cc (shared_bytes names Closed (parts limit (x ++ [])), count_named names 0 (parts limit (x ++ [])) (settled_list limit x) (ap (λ all. length (parts limit all)) (append-nil x) ∙ sym (list_count limit x)), settled_files limit names x)
+      count = cc (
+        shared_bytes names Closed (parts limit (x ++ [])),
+        count_named names 0 (parts limit (x ++ [])) (settled_list limit x)
+            (ap (λ all. length (parts limit all)) (append-nil x) ∙ sym (list_count limit x)),
+        settled_files limit names x,
+      )
 
 pub parts_agreed : (limit : Limit) (names : Naming) → 0 < most limit → {x : List ℕ} → IsAgreed (parts_work limit names) x ((parts_work limit names).settled x)
 parts_agreed limit names some = parts_agreed_by names (decides limit some)
@@ -156,7 +166,8 @@ parts_agreed limit names some = parts_agreed_by names (decides limit some)
 -- Lines that are dealt
 
 round_agreed : (delim n : ℕ) (elide : Bool) (names : Naming) {x : List ℕ} → IsAgreed (split_work (round_plan delim n elide names)) x (settled_by (round_plan delim n elide names) x)
-round_agreed delim n elide names {x} = agreed_now (split_work (round_plan delim n elide names)) x (common (round_work (round_plan delim n elide names)) (round_lawful delim n elide names) x)
+round_agreed delim n elide names {x} = agreed_now (split_work (round_plan delim n elide names)) x
+    (common (round_work (round_plan delim n elide names)) (round_lawful delim n elide names) x)
     (ap (λ files. [] ∷ files) (shared_bytes names Closed (dealt_files delim elide n x) ∙ sym (shared_bytes names Open (dealt_files delim elide n x))))
 
 -- All ways to cut
@@ -164,7 +175,8 @@ round_agreed delim n elide names {x} = agreed_now (split_work (round_plan delim 
 abbrev pub plan_by : ℕ → Cut → Bool → Naming → Plan
 plan_by delim cut elide names = record { delim = delim; cut = cut; elide = elide; names = names }
 
-pub agreed_at : (delim : ℕ) (cut : Cut) (elide : Bool) (names : Naming) → IsPositive cut → {x : List ℕ} → IsAgreed (split_work (plan_by delim cut elide names)) x ((split_work (plan_by delim cut elide names)).settled x)
+pub agreed_at : (delim : ℕ) (cut : Cut) (elide : Bool) (names : Naming) → IsPositive cut → {x : List ℕ}
+    → IsAgreed (split_work (plan_by delim cut elide names)) x ((split_work (plan_by delim cut elide names)).settled x)
 agreed_at delim (cut.Lines n) elide names some = parts_agreed (Lines n delim) names some
 agreed_at delim (cut.Bytes n) elide names some = parts_agreed (Bytes n) names some
 agreed_at delim (cut.LineBytes n) elide names some = parts_agreed (LineBytes n delim) names some

@@ -113,38 +113,40 @@ next_due names part high {some} {many} name due = record {
   file i = file_at names i (high i)
 
 -- The files before a place have got theirs already, and the files after it have got nothing.
-pub halts : {told : Bool} {before : List Slot} {names : Naming} {low high : ℕ → Share} {few many from to : ℕ} (place : ℕ) (part : ℕ → Share) (some : ℕ) {why : Fault} {reached now : List Slot}
+pub halts : {told : Bool} {before : List Slot} {names : Naming} {low high : ℕ → Share} {few many from to : ℕ} (place : ℕ) (part : ℕ
+    → Share) (some : ℕ) {why : Fault} {reached now : List Slot}
     → from ≤ place → place < max 1 to → place ≤ some → Grow from (place + 1) low few part some → Grow place to part some high many
     → OutputsAt told before (part_by names part some) reached → Marks (IsDue names some many) why reached now → IsAt why (length before) place some
     → Halts told before names low few high many from to why now
-halts {before = before} {names} {few = few} {many} {from} {to} place part some {why} {reached} {now} after within inside above below outputs marks came = record {
-  stops = λ first last fewest most end front back.
-      let risen = grow_trans 0 (place + 1) front above (omega arith) (omega arith) (omega arith) (omega arith) in
-      let left = grow_trans place (max to end) below back (omega arith) (omega arith) (omega arith) (omega arith) in record {
-        part = part_by names part some;
-        above = grow_begins names risen;
-        below = grow_begins names left;
-        place = place;
-        order = record { done = done last left; untouched = untouched first risen };
-        reached = reached;
-        outputs = outputs;
-        marks = marks_by (IsDue names some many) _ why reached now (λ name due. next_due names part last name (due.0, omega (arith, due.1, back.more))) marks;
-        from = subst (IsAt why (length before) place) (sym (length-map-range_with_len (λ i. file_at names i (part i)) 0 some)) came;
-      };
-} where
-  done : {most end : ℕ} (last : ℕ → Share) → Grow place end part some last most
-      → take place (map (λ i. file_at names i (part i)) (range_with_len 0 some)) ≡ take place (map (λ i. file_at names i (last i)) (range_with_len 0 most))
-  done {most} last left = take-map-range_with_len _ 0 some place inside
-      ∙ same_by _ _ 0 place (λ i past before. ap (file_at names i) (left.same i (inl (omega arith))))
-      ∙ sym (take-map-range_with_len _ 0 most place (omega (arith, inside, left.more)))
+halts {before = before} {names} {few = few} {many} {from} {to} place part some {why} {reached} {now} after within inside above below outputs marks came =
+    record {
+      stops = λ first last fewest most end front back.
+          let risen = grow_trans 0 (place + 1) front above (omega arith) (omega arith) (omega arith) (omega arith) in
+          let left = grow_trans place (max to end) below back (omega arith) (omega arith) (omega arith) (omega arith) in record {
+            part = part_by names part some;
+            above = grow_begins names risen;
+            below = grow_begins names left;
+            place = place;
+            order = record { done = done last left; untouched = untouched first risen };
+            reached = reached;
+            outputs = outputs;
+            marks = marks_by (IsDue names some many) _ why reached now (λ name due. next_due names part last name (due.0, omega (arith, due.1, back.more))) marks;
+            from = subst (IsAt why (length before) place) (sym (length-map-range_with_len (λ i. file_at names i (part i)) 0 some)) came;
+          };
+    } where
+      done : {most end : ℕ} (last : ℕ → Share) → Grow place end part some last most
+          → take place (map (λ i. file_at names i (part i)) (range_with_len 0 some)) ≡ take place (map (λ i. file_at names i (last i)) (range_with_len 0 most))
+      done {most} last left = take-map-range_with_len _ 0 some place inside
+          ∙ same_by _ _ 0 place (λ i past before. ap (file_at names i) (left.same i (inl (omega arith))))
+          ∙ sym (take-map-range_with_len _ 0 most place (omega (arith, inside, left.more)))
 
-  untouched : {fewest : ℕ} (first : ℕ → Share) → Grow 0 (place + 1) first fewest part some
-      → drop (suc place) (map (λ i. file_at names i (part i)) (range_with_len 0 some)) ≡ drop (suc place) (map (λ i. file_at names i (first i)) (range_with_len 0 fewest))
-  untouched {fewest} first risen =
-      let left : some - suc place ≡ fewest - suc place = omega (arith, risen.more, risen.new) in
-      drop_by _ (suc place) 0 some (zero-add (suc place)) ∙ ap (λ n. map (λ i. file_at names i (part i)) (range_with_len (suc place) n)) left
-      ∙ same_by _ _ (suc place) (fewest - suc place) (λ i past in_it. ap (file_at names i) (sym (risen.same i (inr (omega arith)))))
-      ∙ sym (drop_by _ (suc place) 0 fewest (zero-add (suc place)))
+      untouched : {fewest : ℕ} (first : ℕ → Share) → Grow 0 (place + 1) first fewest part some
+          → drop (suc place) (map (λ i. file_at names i (part i)) (range_with_len 0 some)) ≡ drop (suc place) (map (λ i. file_at names i (first i)) (range_with_len 0 fewest))
+      untouched {fewest} first risen =
+          let left : some - suc place ≡ fewest - suc place = omega (arith, risen.more, risen.new) in
+          drop_by _ (suc place) 0 some (zero-add (suc place)) ∙ ap (λ n. map (λ i. file_at names i (part i)) (range_with_len (suc place) n)) left
+          ∙ same_by _ _ (suc place) (fewest - suc place) (λ i past in_it. ap (file_at names i) (sym (risen.same i (inr (omega arith)))))
+          ∙ sym (drop_by _ (suc place) 0 fewest (zero-add (suc place)))
 
 -- it stopped them in order
 pub stops_in_order : {told : Bool} {before : List Slot} {names : Naming} {low high : ℕ → Share} {few many from to : ℕ} {why : Fault} {now : List Slot}
@@ -175,7 +177,8 @@ adds_not told files more {from} place to {old} why low high inside names owned c
   sound = tt;
   caused = caused;
   outside = λ i out. outside i (wider low (omega arith) out);
-  leaves = λ before had has at are. halts place (all_open had) (length files.outputs) low high inside (grow_same from (place + 1) (all_open had) (length files.outputs))
+  leaves = λ before had has at are. halts place (all_open had) (length files.outputs) low high inside
+      (grow_same from (place + 1) (all_open had) (length files.outputs))
       (grow_by place to more (length files.outputs) outside are) at.outputs marks (came (length before));
 }
 
@@ -206,7 +209,8 @@ adds_then {told} {files} {between} {next} {first} {second} {from} {to} {low} {hi
       further (Ok done) before had has at = at
       further (Err why) before had has stop = record {
         stops = λ start last fewest most end front back. stop.stops start last fewest most end
-            (grow_trans 0 (low + 1) front (grow_by from to first (length files.outputs) one.outside (λ i. refl)) (omega arith) (omega arith) (omega arith) (omega arith)) back;
+            (grow_trans 0 (low + 1) front (grow_by from to first (length files.outputs) one.outside (λ i. refl)) (omega arith) (omega arith) (omega arith)
+            (omega arith)) back;
       }
 
 -- a fault on the way to more than was to be added
@@ -226,7 +230,8 @@ adds_wider {files = files} {some} {more} {from} {to} low most rest {new = new} {
         let count : max (max (length files.outputs) to) most ≡ max (length files.outputs) most = omega arith in
         (adds.leaves before had _ at (λ i. refl)).stops start last fewest all (max most end) front (grow_trans (to - 1) (max most end)
         (subst (λ n. Grow low most (all_open (λ i. had i ++ some i)) (max (length files.outputs) to) (all_open has) n) count
-        (grow_by low most rest (max (length files.outputs) to) none (λ i. is i ∙ ap (λ bytes. had i ++ bytes) (are i) ∙ sym (append_assoc (had i) (some i) (rest i))))) back
+        (grow_by low most rest (max (length files.outputs) to) none
+        (λ i. is i ∙ ap (λ bytes. had i ++ bytes) (are i) ∙ sym (append_assoc (had i) (some i) (rest i))))) back
         (omega arith) (omega arith) (omega arith) (omega arith));
   };
 }
@@ -315,7 +320,8 @@ reached told files {old} {new} place ready here is = record {
       let count : max (length files.outputs) (place + 1) ≡ length files.outputs + 1 = omega (arith, here) in
       subst (λ n. OutputsAt told before (part_by (from_start files.names) (all_open has) n) new) (sym count)
       (subst (λ files. OutputsAt told before (only_files files) new) (list before had has at are)
-      (file_more told before (part_by (from_start files.names) (all_open had) (length files.outputs)) old new (name_of files.names files.names.drawn) Fresh at.outputs is))
+      (file_more told before (part_by (from_start files.names) (all_open had) (length files.outputs)) old new
+      (name_of files.names files.names.drawn) Fresh at.outputs is))
 
 -- or it couldn't be
 pub reached_not : (told : Bool) (files : FilesState) {names : Naming} {old new : List Slot} (place : ℕ) {why : Fault} → AreReady files old → place ≡ length files.outputs → is_named files.names place ≡ true
@@ -378,13 +384,15 @@ written told {files} {old} {new} place bytes (Err _) ready within (short.broke n
   sound = tt;
   caused = (breaks_write slot (ready.closable place within).0 (write_rose told slot bytes n old new (ready.closable place within).1 cut), λ named. false≢true (ap is_verdict named));
   outside = none_outside place bytes;
-  leaves = λ before had has at are. halts place (all_open (λ i. had i ++ only_at place (take n bytes) i)) (length files.outputs) (omega arith) (omega arith) (omega arith)
+  leaves = λ before had has at are. halts place (all_open (λ i. had i ++ only_at place (take n bytes) i)) (length files.outputs) (omega arith) (omega arith)
+      (omega arith)
       (subst (λ many. Grow place (place + 1) (all_open had) (length files.outputs) (all_open (λ i. had i ++ only_at place (take n bytes) i)) many) count
       (grow_by place (place + 1) (only_at place (take n bytes)) (length files.outputs) (none_outside place (take n bytes)) (λ i. refl)))
       (grow_by place (place + 1) (only_at place (drop n bytes)) (length files.outputs) (none_outside place (drop n bytes))
       (λ i. are i ∙ ap (λ those. had i ++ those) (parted i) ∙ sym (append_assoc (had i) (only_at place (take n bytes) i) (only_at place (drop n bytes) i))))
       (writes told place (take n bytes) within refl at (λ i. refl))
-      (omega (arith, length-changed_at slot (adds (told_of told (take n bytes))) old, output_within place ready within), cut.slots) (inr (at.owns.stand place within));
+      (omega (arith, length-changed_at slot (adds (told_of told (take n bytes))) old, output_within place ready within), cut.slots)
+      (inr (at.owns.stand place within));
 } where
   slot : ℕ
   slot = output_at files place
@@ -453,7 +461,8 @@ module _ (told : Bool) {files : FilesState} {place : ℕ} {old now : List Slot} 
         → Halts told before (from_start files.names) (all_open had) (length files.outputs) (closed_first (length files.outputs) had) (length files.outputs) 0
         (length files.outputs) (fault.Write (output_at files place)) new
     halted before had at = halts place (closed_first (place + 1) had) (length files.outputs) (omega arith) (omega arith) (omega arith)
-        (grind (arith, common_steps, still_open, begins_itself)) (shut_grow had place (length files.outputs) (place + 1) (length files.outputs) (omega arith) (omega arith) (omega arith))
+        (grind (arith, common_steps, still_open, begins_itself))
+        (shut_grow had place (length files.outputs) (place + 1) (length files.outputs) (omega arith) (omega arith) (omega arith))
         (closes_next refl at) (there, is) (inr (at.owns.stand place within))
 
 -- A file was reached, and then written to.

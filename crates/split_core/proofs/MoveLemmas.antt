@@ -169,8 +169,12 @@ pub goes_then : {told : Bool} {names : Naming} {current next : Option ℕ} {low 
 goes_then {names = names} {current} {next} {low} {mid} {high} {old} {wet} result owned one other = record {
   grows = shares_trans low mid high one.grows other.grows;
   moves = λ last. becomes_again (part_begins names low mid one.grows) (one.moves last) (other.moves (stays_last current next old wet owned last));
-  short = IfErr-weaker result _ _ (λ fault short is. let ran = short is in
-      (ran.0, ran.1, λ last. becomes_again (part_begins names low mid one.grows) (one.moves last) (ran.2 (stays_last current next old wet owned last)))) other.short;
+  short = IfErr-weaker result _ _ (λ fault short is. let ran = short is in (
+    ran.0,
+    ran.1,
+    λ last. becomes_again (part_begins names low mid one.grows) (one.moves last)
+        (ran.2 (stays_last current next old wet owned last)),
+  )) other.short;
 }
 
 -- a fault on the way to what the step was only a part of

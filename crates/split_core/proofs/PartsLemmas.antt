@@ -27,7 +27,7 @@ use Rattle.ports_core.specs.inner.Part.{InTurn}
 use Rattle.ports_core.specs.inner.Write.{broke}
 use Rattle.ports_core.proofs.PartLemmas.{begins_itself, turn_next, stopped_in_turn}
 use Rattle.ports_core.proofs.PartSteps.{halts_here}
-use Rattle.ports_core.proofs.SlotSteps.{keeps_same, rose_later, write_rose}
+use Rattle.ports_core.proofs.SlotSteps.{keeps_close, keeps_same, rose_later, writable_within, write_rose}
 use Rattle.ports_core.specs.declared.slot.State.TheVariants as file_state
 use Rattle.split_core.specs.declared.step.Step.{Step}
 use Rattle.split_core.specs.declared.step.Step.TheVariants.{Goes, Ends, Begins, Waits}
@@ -111,7 +111,7 @@ shuts_some told parts next {slot} {old} {new} result ready is next_is ok err = s
   same = refl;
   moves = record {
     same = on_ok result refl;
-    keeps = grind (arith, common_steps, is, owned_ended, size result ok err, on_ok_weaker, slot_steps.keeps_close, can, slot_steps.writable_within, rose, breaks_write, ok, err);
+    keeps = grind (arith, common_steps, is, owned_ended, size result ok err, on_ok_weaker, keeps_close, can, writable_within, rose, breaks_write, ok, err);
     begun = on_ok result (λ those has. shut_begun has (some those has));
     goes = λ those has. rw (written_some those (some those has), append-nil (those.shares ++ map (share file_state.Closed) (unless_empty those.begun)), some_share file_state.Closed those.begun (some those has), is)
         (close_goes told (from_start parts.names) those.shares those.begun old has.shut (begun_named has (some those has)).1 result ok err);
@@ -151,7 +151,8 @@ begun_yet {those = those} has none =
     let no_bytes = none_begun those.begun (sym has.given ∙ ap is_given none) in
     (no_bytes, has.drawn ∙ ap (λ bytes. length (written (draft those.shares bytes))) no_bytes ∙ ap length (append-nil those.shares))
 
-pub found : (told : Bool) {parts : PartsState} {old new : List Slot} {next : PartsState} {slot : ℕ} → IsReady parts.current old → HasFile parts old new next slot
+pub found : (told : Bool) {parts : PartsState} {old new : List Slot} {next : PartsState} {slot : ℕ} → IsReady parts.current old
+    → HasFile parts old new next slot
     → Found told parts old new next slot
 found told {parts} {old} {slot = slot} ready (there is same unchanged) = rw (same, unchanged) (record {
   same = ap (λ current. record parts { current = current }) is;
@@ -160,21 +161,22 @@ found told {parts} {old} {slot = slot} ready (there is same unchanged) = rw (sam
   last = λ those has. begun_named has (sym has.given ∙ ap is_given is);
   goes = λ those has. goes_same (written_some those (sym has.given ∙ ap is_given is));
 })
-found told {parts} {old} {new} {slot = slot} ready (made none at has next_is made_it) = subst (λ those. Found told parts old new those slot) (sym next_is) (record {
-  same = refl;
-  keeps = grind (arith, common_steps, none, at, made_it, can, owned_opened, slot_steps.keeps_open);
-  can = can;
-  last = λ those had. (ap (λ n. n + 1) (begun_yet had none).1 ∙ add-one (length those.shares), named those had);
-  goes = λ those had. rw ((begun_yet had none).0, append-nil those.shares)
-      (open_goes told (from_start parts.names) those.shares [] old had.shut (named those had) parts.current
-      (made_it ∙ ap (λ n. old ++ opened (name_of parts.names n) Fresh ∷ []) (begun_yet had none).1));
-}) where
-  named : (those : Draft) → Begun parts.names parts.current those → is_named parts.names (length those.shares) ≡ true
-  named those had = ap (is_named parts.names) (sym (begun_yet had none).1) ∙ has
+found told {parts} {old} {new} {slot = slot} ready (made none at has next_is made_it) = subst (λ those. Found told parts old new those slot) (sym next_is)
+    (record {
+      same = refl;
+      keeps = grind (arith, common_steps, none, at, made_it, can, owned_opened, slot_steps.keeps_open);
+      can = can;
+      last = λ those had. (ap (λ n. n + 1) (begun_yet had none).1 ∙ add-one (length those.shares), named those had);
+      goes = λ those had. rw ((begun_yet had none).0, append-nil those.shares)
+          (open_goes told (from_start parts.names) those.shares [] old had.shut (named those had) parts.current
+          (made_it ∙ ap (λ n. old ++ opened (name_of parts.names n) Fresh ∷ []) (begun_yet had none).1));
+    }) where
+      named : (those : Draft) → Begun parts.names parts.current those → is_named parts.names (length those.shares) ≡ true
+      named those had = ap (is_named parts.names) (sym (begun_yet had none).1) ∙ has
 
-  can : is_closable new slot
-  can = let streams : 2 ≤ length old = subst (λ current. IsReady current old) none ready in
-      (omega (arith, at, streams), slot_steps.opened_writable old new slot (next_name parts.names) Fresh at made_it)
+      can : is_closable new slot
+      can = let streams : 2 ≤ length old = subst (λ current. IsReady current old) none ready in
+          (omega (arith, at, streams), slot_steps.opened_writable old new slot (next_name parts.names) Fresh at made_it)
 
 -- more went to the part that was begun, or a fault came meanwhile
 pub extended : {told : Bool} {parts : PartsState} (more held : List ℕ) {old mid new : List Slot} {fresh next : PartsState} {slot : ℕ}
@@ -186,7 +188,8 @@ extended {told} {parts} more held {old} {mid} {new} {fresh} {next} {slot} result
       same = on_ok_weaker result (ap (λ waits. (parts.left, parts.has_line, waits))) none;
       keeps = keeps_then result (subst (λ those. Keeps parts old mid those (Ok tt)) facts.same facts.keeps)
           (write_keeps told (record parts { names = fresh.names; current = Some slot }) held more result refl facts.can wrote);
-      begun = on_ok result (λ those has. grind (arith, common_steps, has, some those has, written_count (gets more those) (some those has), facts.last those has, facts.keeps.names));
+      begun = on_ok result (λ those has. let count = written_count (gets more those) (some those has) in
+          grind (arith, common_steps, has, some those has, count, facts.last those has, facts.keeps.names));
       goes = λ those has. rw (written_some (gets more those) (some those has))
           (goes_then result (subst (λ (those : PartsState). KeepsFile parts.current old those.current mid) facts.same facts.keeps.owned)
           (facts.goes those has)
@@ -487,10 +490,11 @@ whole_so state {x} stands = search (rules, append-nil, settled_then_waiting, who
 module _ (told : Bool) (state : PartsState) {slot : ℕ} {old : List Slot} (held : List ℕ) (ready : IsReady state.current old) (is : state.current ≡ Some slot) where
   pub held_moves : {wet : List Slot} {mid : PartsState} (result : Result (Unit {0}) Fault) → WritesTo told slot state.waiting old wet result → mid ≡ record state { waiting = held } → OnOk result (held ≡ [])
       → Moves told state (state.left, state.has_line, []) (gets state.waiting) old wet mid result
-  held_moves result wrote mid_is none = extended state.waiting held result (λ those has. longer those.begun (sym has.given ∙ ap is_given is)) (found told ready (there is refl refl)) wrote mid_is none where
-    longer : (begun : List ℕ) → is_some begun ≡ true → is_some (begun ++ state.waiting) ≡ true
-    longer [] none = absurd (false≢true none)
-    longer (byte ∷ begun) is = refl
+  held_moves result wrote mid_is none = extended state.waiting held result (λ those has. longer those.begun (sym has.given ∙ ap is_given is))
+      (found told ready (there is refl refl)) wrote mid_is none where
+        longer : (begun : List ℕ) → is_some begun ≡ true → is_some (begun ++ state.waiting) ≡ true
+        longer [] none = absurd (false≢true none)
+        longer (byte ∷ begun) is = refl
 
   pub held_stops : {next : PartsState} {new : List Slot} {f : Fault} → WritesTo told slot state.waiting old new (Err f) → next ≡ record state { waiting = held } → Finishes told state old new next (Err f)
   held_stops {next} {new} {f} short next_is = record {
@@ -519,7 +523,8 @@ have_names : (state : PartsState) (x : List ℕ) {have : Bool} → are_named (fr
     → are_named (from_start state.names) (length (map (share Closed) (parts state.limit x))) ≡ have
 have_names state x is = grind (arith, common_steps, length-map, settled_count)
 
-pub all_have : {state : PartsState} {x : List ℕ} → Stands state x → are_named (from_start state.names) (length (map (share Closed) (parts state.limit x))) ≡ true
+pub all_have : {state : PartsState} {x : List ℕ} → Stands state x
+    → are_named (from_start state.names) (length (map (share Closed) (parts state.limit x))) ≡ true
 all_have {state} {x} stands = have_names state x (are_named_same state.names (from_start state.names) _ refl ∙ stands.enough)
 
 -- as long as all parts have names, more can come

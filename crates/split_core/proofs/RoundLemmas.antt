@@ -70,7 +70,8 @@ all_have : (delim : ℕ) (names : Naming) (elide : Bool) (n : ℕ) (x : List ℕ
 all_have delim names elide n x are = grind (arith, common_steps, named_fewer, dealt_files_are, length-map-range_with_len)
 
 not_short : (delim : ℕ) (names : Naming) (elide : Bool) (n : ℕ) (x : List ℕ) → are_named names n ≡ true → false ≡ is_short (round_plan delim n elide names) x
-not_short delim names elide n x are = sym (ap not (ap (are_named names) (length-map (dealt_files delim elide n x) (share Closed)) ∙ all_have delim names elide n x are))
+not_short delim names elide n x are = sym (ap not (ap (are_named names) (length-map (dealt_files delim elide n x) (share Closed))
+    ∙ all_have delim names elide n x are))
 
 -- One more piece
 
@@ -89,7 +90,7 @@ opened_after delim false n x y some = omega arith
 -- what a file has of a text that goes on
 share_after : (delim n : ℕ) (x y : List ℕ) → 0 < n → (i : ℕ) → share_of delim n (x ++ y) i ≡ share_of delim n x i ++ get_or (dealt_first delim n (delimiters delim x % n) y) i []
 share_after delim n x y some i =
-    grind (arith, common_steps, dealt_append, dealt_same, zero-add, mod-mod, cases_lt, get_or-map-range_with_len, get_or_past, length-map-range_with_len, dealt_none, dealt_past)
+    grind (arith, common_steps, dealt_append, dealt_same, mod-mod, get_or-map-range_with_len, get_or_past, length-map-range_with_len, dealt_none, dealt_past)
 
 -- The gathered piece
 

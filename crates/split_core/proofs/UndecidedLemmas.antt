@@ -109,7 +109,8 @@ files_together : (limit : Limit) (names : Naming) {x : List ℕ} → (rest : Lis
 files_together limit names {x} =
     let front = named_front names 0 (parts limit x) in (
       joined front.0,
-      sym (joined_parts limit x) ∙ ap joined front.1 ∙ joined-append (named_bytes names 0 (parts limit x)) front.0 ∙ ap (λ files. joined files ++ joined front.0) (sym (shared_bytes names Closed (parts limit x))),
+      sym (joined_parts limit x) ∙ ap joined front.1 ∙ joined-append (named_bytes names 0 (parts limit x)) front.0 ∙ ap
+          (λ files. joined files ++ joined front.0) (sym (shared_bytes names Closed (parts limit x))),
     )
 
 abbrev files_of : Limit → Naming → List ℕ → List (List ℕ)
@@ -184,7 +185,8 @@ parts_spots limit names x i = spots_from 1 (file_bytes ((parts_work limit names)
 
 parts_decided : (limit : Limit) (names : Naming) (x : List ℕ) (i : ℕ) → i < length (settled_in limit names x) → (y : List ℕ) → parts_spots limit names (x ++ y) i ≡ spots_from 1 (file_bytes ((parts_work limit names).settled x)) i
 parts_decided limit names x i less y =
-    spots_stay 1 i _ _ (common (parts_work limit names) (parts_lawful limit names) x y).files (last_open names 0 (cut_up limit x).full (settled_rest limit (cut_up limit x).rest)) less
+    spots_stay 1 i _ _ (common (parts_work limit names) (parts_lawful limit names) x y).files
+    (last_open names 0 (cut_up limit x).full (settled_rest limit (cut_up limit x).rest)) less
 
 -- what stands after a beginning
 none_wait : (limit : Limit) (names : Naming) (x : List ℕ) (i : ℕ) → are_named names (length (parts limit x)) ≡ true → waiting_rest limit (cut_up limit x).rest ≡ [] → length (settled_in limit names x) ≤ i → i < length x → ⊥
@@ -394,16 +396,22 @@ dealt_goes {delim} {n} names {x} {i} {at} goes = grind (arith, common_steps)
 abbrev dealt_files_of : ℕ → ℕ → Bool → Naming → List ℕ → List (List ℕ)
 dealt_files_of delim n elide names x = file_bytes (whole_by (round_plan delim n elide names) x)
 
-file_there : (delim n : ℕ) (elide : Bool) (names : Naming) (x : List ℕ) (file : ℕ) → file < n → is_named names file ≡ true → get_or ([] ∷ dealt_files_of delim n elide names x) (file + 1) [] ≡ share_of delim n x file
-file_there delim n elide names x file within named = search (rules, get_or, shared_bytes names Closed (dealt_files delim elide n x), named_at, zero-add, file_is)
+file_there : (delim n : ℕ) (elide : Bool) (names : Naming) (x : List ℕ) (file : ℕ) → file < n → is_named names file ≡ true
+    → get_or ([] ∷ dealt_files_of delim n elide names x) (file + 1) [] ≡ share_of delim n x file
+file_there delim n elide names x file within named = search
+    (rules, get_or, shared_bytes names Closed (dealt_files delim elide n x), named_at, zero-add, file_is)
 
 goes_there : (delim n : ℕ) (names : Naming) (x : List ℕ) (i : ℕ) {file offset : ℕ} → i < length x → dealt_to delim n x i ≡ file → had delim n file x i ≡ offset → is_named names file ≡ true → GoesTo (spot (suc file) offset) (dealt_spots delim n names x i)
 goes_there delim n names x i {file} {offset} less to at named = grind (arith, common_steps)
 
-dealt_filled : (delim n : ℕ) (elide : Bool) (names : Naming) (x : List ℕ) (place offset : ℕ) → offset < length (get_or ([] ∷ dealt_files_of delim n elide names x) place []) → (i : ℕ) × (i < length x) × GoesTo (spot place offset) (dealt_spots delim n names x i)
+dealt_filled : (delim n : ℕ) (elide : Bool) (names : Naming) (x : List ℕ) (place offset : ℕ)
+    → offset < length (get_or ([] ∷ dealt_files_of delim n elide names x) place [])
+    → (i : ℕ) × (i < length x) × GoesTo (spot place offset) (dealt_spots delim n names x i)
 dealt_filled delim n elide names x zero offset less = absurd (omega (arith, less))
 dealt_filled delim n elide names x (suc file) offset less =
-    let there = there_by (is_named names (0 + file)) (get_or (dealt_files delim elide n x) file []) (subst (λ those. offset < length those) (ap (λ files. get_or files file []) (shared_bytes names Closed (dealt_files delim elide n x)) ∙ named_at names 0 (dealt_files delim elide n x) file) less) in
+    let there = there_by (is_named names (0 + file)) (get_or (dealt_files delim elide n x) file [])
+    (subst (λ those. offset < length those) (ap (λ files. get_or files file []) (shared_bytes names Closed (dealt_files delim elide n x))
+    ∙ named_at names 0 (dealt_files delim elide n x) file) less) in
     let within : file < n = grind (arith, common_steps, there.1, cases_lt, get_or_past, dealt_files_are, length-map-range_with_len, opened_by-most) in
     let found = find 0 x (subst (λ those. offset < length those) (file_is delim elide n x file within) there.1) in (
       found.i,
@@ -422,7 +430,8 @@ round_placed delim n elide names some = record {
   apart = λ x i j at goes also. grind (arith, common_steps, dealt_goes names goes, dealt_goes names also, not_before);
 }
 
-pub placed_at : (delim : ℕ) (cut : Cut) (elide : Bool) (names : Naming) → IsPositive cut → ArePlaced (split_work (plan_by delim cut elide names)) (split_spots (plan_by delim cut elide names))
+pub placed_at : (delim : ℕ) (cut : Cut) (elide : Bool) (names : Naming) → IsPositive cut
+    → ArePlaced (split_work (plan_by delim cut elide names)) (split_spots (plan_by delim cut elide names))
 placed_at delim (cut.Lines n) elide names some = parts_placed (Lines n delim) names
 placed_at delim (cut.Bytes n) elide names some = parts_placed (Bytes n) names
 placed_at delim (cut.LineBytes n) elide names some = parts_placed (LineBytes n delim) names

@@ -21,7 +21,8 @@ pass-tells g c =
       owns = λ first own. tt;
       there = λ are. tt;
       cut = IfErr-weaker c.result _ _ (λ fault stops. cuts_off g.O.Outs.told ends piece stops) c.ensures.wrote.cut;
-      met = IfErr-weaker c.result _ _ (λ fault stops. met g.O.Outs.told ends (λ means. means.feeding) _ (EndsWith Holds work ends piece) (λ lacking. (lacks_kept ends lacking, lacking)) c.requires.ready stops) c.ensures.wrote.cut;
+      met = IfErr-weaker c.result _ _ (λ fault stops. met g.O.Outs.told ends (λ means. means.feeding) _ (EndsWith Holds work ends piece)
+          (λ lacking. (lacks_kept ends lacking, lacking)) c.requires.ready stops) c.ensures.wrote.cut;
     }
 
 pub finish-tells : goal.finish-tells
@@ -34,7 +35,8 @@ finish-tells g c =
       owns = λ first own. tt;
       there = λ are. tt;
       cut = IfErr-weaker c.result _ _ (λ fault stops. ends_short g.O.Outs.told ends stops) c.ensures.wrote.cut;
-      met = IfErr-weaker c.result _ _ (λ fault stops. met g.O.Outs.told ends (λ means. means.closing) _ (EndsThere Holds work ends) (λ never. absurd (false≢true never)) c.requires.ready stops) c.ensures.wrote.cut;
+      met = IfErr-weaker c.result _ _ (λ fault stops. met g.O.Outs.told ends (λ means. means.closing) _ (EndsThere Holds work ends)
+          (λ never. absurd (false≢true never)) c.requires.ready stops) c.ensures.wrote.cut;
     }
 
 pub load-tells : goal.load-tells
