@@ -2,8 +2,8 @@
 use Rattle.std.proofs.lemmas.Grind.{common_steps}
 use Rattle.std.proofs.Common.{◌≡◌, ◌≢◌, ℕ, ◌+◌, ◌-◌, ◌<◌, ◌≤◌, zero, suc, List, [], ◌∷◌, ◌++◌, length, drop, replicate, get_or, Bool, true, false, cond, inl, inr, refl, sym, ◌∙◌, ap, subst, arith, append_assoc, length-append, rules}
 use Rattle.std.proofs.lemmas.Bool.{cases_lt, lt-ltb, le-ltb, eq-eqb, ne_eqb}
-use Rattle.std.proofs.lemmas.List.{append-nil, drop-append-le, length-replicate, get_or_append_left}
-use Rattle.std.proofs.Math.Seq.{drop-append_seam, get_or-append_right}
+use Rattle.std.proofs.lemmas.List.{append-nil, drop-append-le, length-replicate}
+use Rattle.std.proofs.Math.Seq.{drop-append_seam}
 use Rattle.seg_core.specs.Line.{delimiters, ends_with}
 use Rattle.seg_core.proofs.LinesOf.{lines_of-append, joined-lines_of}
 use Rattle.seg_core.proofs.LineCounts.{line_count-closed, ends_with-append}
@@ -17,7 +17,7 @@ use Rattle.ends_core.specs.laws.EndsLaws.{measure-append, first_of-append, first
 use Rattle.ends_core.proofs.KeptLemmas.{measure-delimiters, last_is_drop, last_is_small}
 use Rattle.ends_core.specs.Head.{head_work, head_waiting}
 use Rattle.ends_core.specs.Tail.{tail_work, tail_waiting}
-use Rattle.ends_core.specs.Place.{head_spots, skipped, tail_spots}
+use Rattle.ends_core.specs.Place.{head_spots, tail_spots}
 use Rattle.ends_core.specs.laws.WorkLaws as law
 use Rattle.ports_core.specs.Work.{Work}
 

@@ -9,7 +9,7 @@ use Rattle.ports_core.specs.Source.{Source}
 use Rattle.ports_core.specs.Part.{OutputsAt, StoppedBetween, only_out}
 use Rattle.ports_core.proofs.PartLemmas.{out_more}
 use Rattle.ports_core.specs.Work.{Means, Needs, on_output, IsNeeded, IsSpare}
-use Rattle.ports_core.specs.Engine.{Loads, TakesIn, PutsOut, CutsOff, Finishes, EndsShort, EndsWith, EndsThere, IsMet, cut, MayGet}
+use Rattle.ports_core.specs.Engine.{Loads, TakesIn, PutsOut, CutsOff, Finishes, EndsShort, IsMet, cut, MayGet}
 use Rattle.ports_core.specs.inner.Engine.{OwnsNone}
 use Rattle.ports_core.specs.declared.fault.Fault.{Fault}
 use Rattle.seg_core.specs.declared.unit.Unit.{Unit as Counted}
@@ -18,7 +18,7 @@ use Rattle.ends_core.specs.declared.ends.Ends.{Ends}
 use Rattle.ends_core.specs.declared.ends.Ends.TheVariants.{First, ButLast, FromNth, Last}
 use Rattle.ends_core.specs.Ends.{measure, first_of, after_of, last_of, but_last_of}
 use Rattle.ends_core.specs.Head.{head_work, IsDone, ahead_of}
-use Rattle.ends_core.specs.Stage.{Stretch, the_first, from_the_nth, the_last, keeps, work_in, front_in, stretch_of, delim_of, unit_of, count_of, left_of, waiting_of, waiting, past_in, past_of, may_lack, work, Holds, is_done, all_but_last}
+use Rattle.ends_core.specs.Stage.{Stretch, the_first, from_the_nth, the_last, keeps, work_in, stretch_of, delim_of, unit_of, count_of, left_of, waiting_of, waiting, past_in, past_of, may_lack, work, Holds, is_done, all_but_last}
 use Rattle.ends_core.specs.inner.Stage.{is_last, due, due_at_end, left_waiting, is_full, unused_of, FullLacksNone, SameAsked, piece_for, wanted_by}
 use Rattle.ends_core.specs.Kept.{most_of, delim_of as kept_delim, unit_of as kept_unit}
 use Rattle.ends_core.specs.inner.Kept.{Passes, Stops}

@@ -1,6 +1,6 @@
 -- How the files of `split` change, as they are opened, written and closed, and how what waits is written.
 use Rattle.std.proofs.lemmas.Grind.{common_steps}
-use Rattle.std.proofs.Common.{◌≡◌, ℕ, ◌+◌, ◌≤◌, zero, suc, List, [], ◌∷◌, ◌++◌, ◌⊎◌, length, Bool, true, false, IsTrue, Option, Some, None, Result, Ok, Err, OnOk, IfErr, inl, inr, refl, sym, ap, subst, arith, length-append, rules, take, drop, ◌∙◌, append_assoc, zero-add}
+use Rattle.std.proofs.Common.{◌≡◌, ℕ, ◌+◌, ◌≤◌, zero, suc, List, [], ◌∷◌, ◌++◌, ◌⊎◌, length, Bool, true, false, IsTrue, Option, Some, None, Result, Ok, Err, OnOk, IfErr, inl, inr, refl, sym, ap, subst, arith, length-append, rules, drop, ◌∙◌, append_assoc, zero-add}
 use Rattle.std.proofs.lemmas.Bool.{cond_both, false≢true}
 use Rattle.std.proofs.lemmas.Result.{IfErr-weaker, on_ok_weaker}
 use Rattle.ports_core.specs.Name.{Naming, next_name, has_next, with_one_drawn}
@@ -9,7 +9,7 @@ use Rattle.ports_core.specs.inner.Slot.{KeepsBroken}
 use Rattle.ports_core.specs.declared.slot.Mode.TheVariants.{Fresh}
 use Rattle.ports_core.specs.declared.slot.State.TheVariants as state
 use Rattle.ports_core.specs.Part.{Part, Marks, IsAt}
-use Rattle.ports_core.specs.inner.Part.{AllClosed, InTurn, fault_in}
+use Rattle.ports_core.specs.inner.Part.{AllClosed, InTurn}
 use Rattle.ports_core.specs.Engine.{IsMet, is_verdict}
 use Rattle.ports_core.specs.declared.fault.Fault.{Fault}
 use Rattle.ports_core.specs.declared.fault.Fault.TheVariants.{Write, Suffixes}
@@ -23,8 +23,8 @@ use Rattle.split_core.proofs.CutLaws.{shares_more, shares_themselves, shares_tra
 use Rattle.split_core.specs.laws.ShareLaws.{part_begins, one_on, shares_fewer}
 use Rattle.split_core.specs.PartsState.{PartsState, IsReady, OwnsFile}
 use Rattle.split_core.specs.inner.Moves.{IsAtEnd, part_of, Draft, written, Goes, Moves, RunsShort, Keeps, KeepsFile, Breaks, CannotClose, OpensNone, no_memory, no_file, no_name, WritesTo, wants_memory, breaks_write, breaks_open, lacks_names}
-use Rattle.std.proofs.lemmas.List.{append-nil, take-append-le}
-use Rattle.std.proofs.Math.Seq.{drop-append_seam, take-append-add}
+use Rattle.std.proofs.lemmas.List.{append-nil}
+use Rattle.std.proofs.Math.Seq.{drop-append_seam}
 use Rattle.ports_core.specs.Slot as outputs
 use Rattle.ports_core.proofs.WriteLemmas.{broke_later, none_written, written_both}
 

@@ -1,6 +1,6 @@
 -- What each call on parts leaves: a step of a piece, a piece that is taken in step by step, the end of the input, and what the stage owes.
 use Rattle.std.proofs.lemmas.Grind.{common_steps}
-use Rattle.std.proofs.Common.{◌≡◌, ℕ, ◌+◌, ◌-◌, ◌<◌, ◌≤◌, suc, List, [], ◌∷◌, ◌++◌, length, map, Bool, true, false, eqb, Option, Some, None, Result, Ok, Err, OnOk, IfErr, refl, sym, ◌∙◌, ap, subst, add-one, arith, length-append, rules, take, drop, IfOk, inl, append_assoc, not, cond, zero-add}
+use Rattle.std.proofs.Common.{◌≡◌, ℕ, ◌+◌, ◌-◌, ◌<◌, ◌≤◌, suc, List, [], ◌∷◌, ◌++◌, length, map, Bool, true, false, eqb, Option, Some, None, Result, Ok, Err, OnOk, IfErr, refl, sym, ◌∙◌, ap, subst, add-one, arith, length-append, rules, take, drop, IfOk, append_assoc, not, cond, zero-add}
 use Rattle.std.proofs.lemmas.List.{append-nil, drop-take, take-append-drop, length-map}
 use Rattle.std.proofs.lemmas.Bool.{false≢true}
 use Rattle.std.proofs.lemmas.Result.{IfErr-weaker, on_ok_weaker}
@@ -12,7 +12,7 @@ use Rattle.ports_core.specs.declared.fault.Fault.{Fault}
 use Rattle.ports_core.specs.declared.fault.Fault.TheVariants as fault
 use Rattle.ports_core.proofs.SlotLemmas.{length-changed_at}
 use Rattle.split_core.specs.declared.limit.Limit.{Limit}
-use Rattle.split_core.specs.Parts.{most, unless_empty, CutUp, cut_up, settled_rest, waiting_rest, parts}
+use Rattle.split_core.specs.Parts.{most, unless_empty, cut_up, settled_rest, waiting_rest, parts}
 use Rattle.split_core.specs.Split.{Share, share, is_some, is_named, are_named, from_start, name_of, named, settled_parts, only_files}
 use Rattle.split_core.specs.laws.DealLaws.{is_some_of}
 use Rattle.split_core.specs.laws.ShareLaws.{shares_after, part_begins, settled_on, settled_grow, are_named_more, settled_count}
@@ -25,7 +25,7 @@ use Rattle.ports_core.proofs.SlotSteps as slot_steps
 use Rattle.std.proofs.Math.Seq.{take-length}
 use Rattle.ports_core.specs.inner.Part.{InTurn}
 use Rattle.ports_core.specs.inner.Write.{broke}
-use Rattle.ports_core.proofs.PartLemmas.{begins_itself, turn_next, stopped_in_turn}
+use Rattle.ports_core.proofs.PartLemmas.{turn_next, stopped_in_turn}
 use Rattle.ports_core.proofs.PartSteps.{halts_here}
 use Rattle.ports_core.proofs.SlotSteps.{keeps_close, keeps_same, rose_later, writable_within, write_rose}
 use Rattle.ports_core.specs.declared.slot.State.TheVariants as file_state

@@ -2,7 +2,7 @@
 use Rattle.std.proofs.Common.{take, ◌≡◌, ℕ, ◌+◌, ◌-◌, ◌<◌, zero, suc, List, [], ◌∷◌, ◌++◌, length, get_or, inl, inr, refl, sym, ◌∙◌, ap, subst, arith, append_assoc, length-append, ◌≢◌, ◌⊎◌, ◌≤◌, map, Bool, true, false, not, rules, add-suc, add-zero, zero-add, ◌%◌, drop, cond, eqb, mod-lt}
 use Rattle.std.proofs.lemmas.Bool.{cond_both, cases_lt, false≢true, eq-eqb}
 use Rattle.std.proofs.lemmas.List.{append-nil, drop_all, take-take, take-append-drop, get_or_past, length-take-le}
-use Rattle.std.proofs.Math.Seq.{get_or-append_right, drop-append_seam, drop-cons, get_or-append_seam}
+use Rattle.std.proofs.Math.Seq.{get_or-append_right, drop-cons, get_or-append_seam}
 use Rattle.seg_core.specs.Line.{joined, delimiters, lines_of}
 use Rattle.seg_core.proofs.FirstLines.{joined-append}
 use Rattle.ports_core.specs.Name.{Naming}
@@ -11,9 +11,9 @@ use Rattle.ports_core.proofs.AgreedLemmas.{spot_in, spot_past, none_comes, begin
 use Rattle.split_core.specs.declared.limit.Limit.{Limit}
 use Rattle.split_core.specs.Parts.{parts, whole_lines, most, cut_up, unless_empty, settled_rest, waiting_rest, dealt}
 use Rattle.split_core.specs.laws.ShareLaws.{one_on}
-use Rattle.split_core.specs.Split.{is_named, Plan, share, are_named, named, settled_by, is_short, split_work, dealt_files, bytes_in, whole_by}
+use Rattle.split_core.specs.Split.{is_named, share, are_named, named, settled_by, is_short, split_work, dealt_files, bytes_in, whole_by}
 use Rattle.split_core.specs.PartState.{parts_work}
-use Rattle.split_core.proofs.SectionLemmas.{joined_parts, settled_list, list_all}
+use Rattle.split_core.proofs.SectionLemmas.{joined_parts, settled_list}
 use Rattle.split_core.proofs.AgreedLemmas.{named_bytes, came_in, settled_bytes_in, settled_in, shared_bytes, waiting_is, named_more, each_named, list_count, decides_lines, one_of, delimiters_some, plan_by}
 use Rattle.std.proofs.lemmas.Grind.{common_steps}
 use Rattle.ports_core.specs.Part.{File, FilesBegin}
@@ -24,12 +24,11 @@ use Rattle.seg_core.specs.declared.cut.Cut.TheVariants as cut
 use Rattle.split_core.specs.declared.limit.Limit.TheVariants.{Lines, Bytes, LineBytes}
 use Rattle.split_core.specs.Splitter.{IsPositive}
 use Rattle.split_core.specs.Place.{dealt_spots, split_spots, dealt_to}
-use Rattle.split_core.specs.Round.{round_plan, opened_by}
+use Rattle.split_core.specs.Round.{round_plan}
 use Rattle.split_core.specs.laws.CutLaws.{whole_some}
 use Rattle.split_core.proofs.CutLaws.{open_of_none, cut_all, opened_by-most}
 use Rattle.split_core.specs.laws.WorkLaws.{parts_lawful}
 use Rattle.split_core.proofs.RoundLemmas.{dealt_all, none_yet}
-use Rattle.std.specs.List.{range_with_len}
 use Rattle.std.proofs.lemmas.Bool.Decides.{nat_tests}
 use Rattle.std.proofs.lemmas.List.FromFn.{get_or-map-range_with_len, length-map-range_with_len}
 use Rattle.split_core.specs.inner.Dealt.{share_of}

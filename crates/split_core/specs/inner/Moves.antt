@@ -5,7 +5,7 @@ use Rattle.ports_core.specs.Slot.{Slot, Rose, opened, unopened}
 use Rattle.ports_core.specs.inner.Slot.{KeepsBroken}
 use Rattle.ports_core.specs.declared.slot.Mode.TheVariants.{Fresh}
 use Rattle.ports_core.specs.declared.slot.State.TheVariants as state
-use Rattle.ports_core.specs.Part.{Part, OutputsAt}
+use Rattle.ports_core.specs.Part.{Part}
 use Rattle.ports_core.proofs.PartSteps.{Becomes}
 use Rattle.ports_core.specs.inner.Part.{fault_in}
 use Rattle.ports_core.specs.inner.Write.{Wrote}

@@ -1,6 +1,6 @@
 -- Laws that traits cite: those of the work of `split`, in each of its two ways to cut.
 use Rattle.std.proofs.lemmas.Grind.{common_steps}
-use Rattle.std.proofs.Common.{◌≡◌, ℕ, ◌+◌, ◌≤◌, zero, suc, List, [], ◌∷◌, ◌++◌, map, Bool, true, false, cond, refl, arith, length, not, Some, None, sym, ◌∙◌, ap, rules}
+use Rattle.std.proofs.Common.{◌≡◌, ℕ, ◌+◌, ◌≤◌, zero, suc, List, [], ◌∷◌, ◌++◌, map, Bool, true, false, cond, refl, arith, length, sym, ◌∙◌, ap, rules}
 use Rattle.std.specs.List.{range_with_len}
 use Rattle.std.proofs.lemmas.Bool.{false≢true, not-true}
 use Rattle.ports_core.specs.Name.{Naming}
@@ -14,7 +14,6 @@ use Rattle.split_core.specs.Round.{round_plan, round_work, opened_by}
 use Rattle.split_core.specs.inner.Dealt.{share_of}
 use Rattle.split_core.specs.laws.DealLaws.{dealt_append, dealt_files_are, opened_by-grows}
 use Rattle.std.proofs.lemmas.List.{append-nil, length-map}
-use Rattle.ports_core.specs.declared.fault.Fault.TheVariants.{Suffixes}
 use Rattle.split_core.specs.declared.limit.Limit.{Limit}
 use Rattle.split_core.specs.Parts.{cut_up, parts}
 use Rattle.split_core.specs.laws.ShareLaws.{part_begins, settled_grow, settled_end, files_settled, files_whole, parts_grow, are_named_more}
