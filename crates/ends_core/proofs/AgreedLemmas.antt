@@ -2,8 +2,8 @@
 use Rattle.std.proofs.lemmas.Grind.{common_steps}
 use Rattle.std.proofs.Common.{◌≡◌, ◌≢◌, ℕ, ◌+◌, ◌-◌, ◌<◌, ◌≤◌, zero, suc, List, [], ◌∷◌, ◌++◌, length, drop, replicate, get_or, Bool, true, false, cond, inl, inr, refl, sym, ◌∙◌, ap, subst, arith, append_assoc, length-append, rules}
 use Rattle.std.proofs.lemmas.Bool.{cases_lt, lt-ltb, le-ltb, eq-eqb, ne_eqb}
-use Rattle.std.proofs.lemmas.List.{append-nil, drop-append-le, length-replicate, get_or_append_left}
-use Rattle.std.proofs.Math.Seq.{drop-append_seam, get_or-append_right}
+use Rattle.std.proofs.lemmas.List.{append-nil, drop-append-le, length-replicate}
+use Rattle.std.proofs.Math.Seq.{drop-append_seam}
 use Rattle.seg_core.specs.Line.{delimiters, ends_with}
 use Rattle.seg_core.proofs.LinesOf.{lines_of-append, joined-lines_of}
 use Rattle.seg_core.proofs.LineCounts.{line_count-closed, ends_with-append}
@@ -17,7 +17,7 @@ use Rattle.ends_core.specs.laws.EndsLaws.{measure-append, first_of-append, first
 use Rattle.ends_core.proofs.KeptLemmas.{measure-delimiters, last_is_drop, last_is_small}
 use Rattle.ends_core.specs.Head.{head_work, head_waiting}
 use Rattle.ends_core.specs.Tail.{tail_work, tail_waiting}
-use Rattle.ends_core.specs.Place.{head_spots, skipped, tail_spots}
+use Rattle.ends_core.specs.Place.{head_spots, tail_spots}
 use Rattle.ends_core.specs.laws.WorkLaws as law
 use Rattle.ports_core.specs.Work.{Work}
 
@@ -34,11 +34,12 @@ far delim unit n x = elim (cases_lt (length x) (length (but_last_of delim unit n
       let k = length (but_last_of delim unit n (x ++ replicate (n + 1) delim)) in
       let last : last_of delim unit n (x ++ replicate (n + 1) delim) ≡ drop k x ++ replicate (n + 1) delim
       = last_is_drop delim unit n (x ++ replicate (n + 1) delim) ∙ drop-append-le k x (replicate (n + 1) delim) within in
-      let sum : measure delim unit (last_of delim unit n (x ++ replicate (n + 1) delim)) ≡ measure delim unit (drop k x) + measure delim unit (replicate (n + 1) delim)
-      = ap (measure delim unit) last ∙ measure-append delim unit (drop k x) (replicate (n + 1) delim) in
-      let many : measure delim unit (replicate (n + 1) delim) ≡ n + 1 = measure-delimiters delim unit in
-      let few : measure delim unit (last_of delim unit n (x ++ replicate (n + 1) delim)) ≤ n = last_is_small delim unit n (x ++ replicate (n + 1) delim) in
-      omega arith
+      omega (
+        arith,
+        ap (measure delim unit) last ∙ measure-append delim unit (drop k x) (replicate (n + 1) delim),
+        measure-delimiters delim unit {k = n + 1},
+        last_is_small delim unit n (x ++ replicate (n + 1) delim),
+      )
 
 -- Heads
 
@@ -59,21 +60,7 @@ first_long delim unit n x y short = grind (arith, common_steps, first_of-append,
 
 module _ {spots_of : List ℕ → ℕ → List Spot} (delim : ℕ) (unit : Counted) (n : ℕ) where
   first_decided : Cuts spots_of (first_of delim unit n) → (x : List ℕ) (i : ℕ) → i < length x → (y z : List ℕ) → spots_of (x ++ y) i ≡ spots_of (x ++ z) i
-  first_decided cuts x i less y z = elim (cases_lt (measure delim unit x) n) [
-    | inl short ↦ cuts.before (x ++ y) i (omega (arith, less, first_long delim unit n x y short))
-        ∙ sym (cuts.before (x ++ z) i (omega (arith, less, first_long delim unit n x z short)))
-    | inr full ↦ elim (cases_lt i (length (first_of delim unit n x))) [
-      | inl within ↦ cuts.before (x ++ y) i (omega (arith, within, same y full)) ∙ sym (cuts.before (x ++ z) i (omega (arith, within, same z full)))
-      | inr past ↦ beyond y full past ∙ sym (beyond z full past)
-    ]
-  ] where
-    same : (w : List ℕ) → n ≤ measure delim unit x → length (first_of delim unit n (x ++ w)) ≡ length (first_of delim unit n x)
-    same w full = ap length (first_of-full delim unit n x w full)
-
-    beyond : (w : List ℕ) → n ≤ measure delim unit x → length (first_of delim unit n x) ≤ i
-        → spots_of (x ++ w) i ≡ cuts.late (length (first_of delim unit n x)) i
-    beyond w full past = cuts.after (x ++ w) i (omega (arith, past, same w full)) (omega (arith, less, length-append x w))
-        ∙ ap (λ k. cuts.late k i) (same w full)
+  first_decided cuts x i less y z = search (rules, cases_lt, first_long, first_of-full, length-append)
 
   first_undecided : Cuts spots_of (first_of delim unit n) → {x : List ℕ} → IsUndecided spots_of x []
   first_undecided cuts {x} = record {
@@ -85,9 +72,7 @@ module _ {spots_of : List ℕ → ℕ → List Spot} (delim : ℕ) (unit : Count
 
   last_decided : Cuts spots_of (but_last_of delim unit n) → (x : List ℕ) (i : ℕ) → i < length (but_last_of delim unit n x) → (y : List ℕ)
       → spots_of (x ++ y) i ≡ spots_of x i
-  last_decided cuts x i less y =
-      let more = ap length (but_last_of-append delim unit n x y) ∙ length-append (but_last_of delim unit n x) (but_last_of delim unit n (last_of delim unit n x ++ y)) in
-      cuts.before (x ++ y) i (omega (arith, less, more)) ∙ sym (cuts.before x i less)
+  last_decided cuts x i less y = search (rules, but_last_of-append, length-append)
 
   last_undecided : Cuts spots_of (but_last_of delim unit n) → delim < 256 → {x : List ℕ} → IsUndecided spots_of x (last_of delim unit n x)
   last_undecided cuts byte {x} = record {
@@ -129,17 +114,11 @@ module _ (delim : ℕ) (unit : Counted) (from_nth : Bool) (n : ℕ) (x : List �
   tail_long = ap length (sym (tail_together delim unit from_nth n)) ∙ length-append (tail_first delim unit from_nth n x) (tail_of delim unit from_nth n x)
 
   pub tail_nowhere : (i : ℕ) → i < length (tail_first delim unit from_nth n x) → tail_spots delim unit from_nth n x i ≡ []
-  tail_nowhere i less =
-      ap (λ before. cond before [] (spots_from 0 (tail_of delim unit from_nth n x ∷ []) (i - skipped delim unit from_nth n x)))
-      (lt-ltb i (skipped delim unit from_nth n x) (omega (arith, less, tail_long)))
+  tail_nowhere i less = search (rules, lt-ltb, tail_long)
 
   pub tail_there : (i : ℕ) → length (tail_first delim unit from_nth n x) ≤ i
       → tail_spots delim unit from_nth n x i ≡ spots_from 0 (tail_of delim unit from_nth n x ∷ []) (i - length (tail_first delim unit from_nth n x))
-  tail_there i past =
-      let same : skipped delim unit from_nth n x ≡ length (tail_first delim unit from_nth n x) = omega (arith, tail_long) in
-      ap (λ before. cond before [] (spots_from 0 (tail_of delim unit from_nth n x ∷ []) (i - skipped delim unit from_nth n x)))
-      (le-ltb i (skipped delim unit from_nth n x) (omega (arith, past, same)))
-      ∙ ap (λ k. spots_from 0 (tail_of delim unit from_nth n x ∷ []) (i - k)) same
+  tail_there i past = search (rules, tail_long, le-ltb)
 
 tail_cuts : (delim : ℕ) (unit : Counted) (from_nth : Bool) (n : ℕ) → Cuts (tail_spots delim unit from_nth n) (tail_first delim unit from_nth n)
 tail_cuts delim unit from_nth n = record {
@@ -243,13 +222,7 @@ tail_agreed delim byte unit false n {x} = record {
 -- Spots are right: each of them writes one stretch of its input, and nothing else.
 
 one_spot : (bytes : List ℕ) (i : ℕ) {at : Spot} → GoesTo at (spots_from 0 (bytes ∷ []) i) → (i < length bytes) × (at ≡ spot 0 i)
-one_spot bytes i {at} goes = elim (cases_lt i (length bytes)) [
-  | inl less ↦ (less, only (subst (GoesTo at) (spot_in 0 i bytes [] less) goes))
-  | inr past ↦ absurd (subst (GoesTo at) (spot_past 0 i bytes [] past) goes)
-] where
-  only : GoesTo at (spot 0 i ∷ []) → at ≡ spot 0 i
-  only (inl is) = is
-  only (inr none) = absurd none
+one_spot bytes i {at} goes = grind (arith, common_steps, cases_lt i (length bytes), spot_in, spot_past)
 
 -- the byte at a spot
 abbrev StandsThere : List ℕ → Spot → ℕ → Type 0
@@ -269,15 +242,11 @@ writes out_of = record (head_work 0 Bytes false 0) { whole = λ x. only_out (out
 module _ {spots_of : List ℕ → ℕ → List Spot} {out_of : List ℕ → List ℕ} (stretch : IsStretch spots_of out_of) where
   goes : (x : List ℕ) (i : ℕ) {at : Spot} → GoesTo at (spots_of x i)
       → (length (stretch.before x) ≤ i) × (i - length (stretch.before x) < length (out_of x)) × (at ≡ spot 0 (i - length (stretch.before x)))
-  goes x i {at} is = elim (cases_lt i (length (stretch.before x))) [
-    | inl early ↦ absurd (subst (GoesTo at) (stretch.nowhere x i early) is)
-    | inr past ↦ (let one = one_spot (out_of x) (i - length (stretch.before x)) (subst (GoesTo at) (stretch.there x i past) is) in (past, one.0, one.1))
-  ]
+  goes x i {at} is = grind (arith, common_steps, cases_lt i (length (stretch.before x)), stretch.nowhere, stretch.there, one_spot)
 
   byte_at : (x : List ℕ) (i : ℕ) → length (stretch.before x) ≤ i → i - length (stretch.before x) < length (out_of x)
       → get_or (out_of x) (i - length (stretch.before x)) 0 ≡ get_or x i 0
-  byte_at x i past less = sym (ap (λ those. get_or those i 0) (stretch.whole x) ∙ get_or-append_right (stretch.before x) (out_of x ++ stretch.rest x) i 0 past
-      ∙ get_or_append_left (out_of x) (stretch.rest x) 0 (i - length (stretch.before x)) less)
+  byte_at x i past less = grind (arith, common_steps)
 
   filled : (x : List ℕ) (place offset : ℕ) → offset < length (output_at (only_out (out_of x)) place)
       → (i : ℕ) × (i < length x) × GoesTo (spot place offset) (spots_of x i)

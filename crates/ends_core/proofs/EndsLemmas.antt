@@ -1,6 +1,6 @@
 -- Lemmas on the stage of `head` and `tail`, and on what it uses.
 use Rattle.std.proofs.lemmas.Grind.{common_steps}
-use Rattle.std.proofs.Common.{◌≡◌, ℕ, ◌+◌, ◌-◌, ◌<◌, ◌≤◌, ◌&&◌, not, List, [], ◌∷◌, ◌++◌, ◌⊎◌, length, Bool, true, false, IsTrue, Ok, Err, Result, OnOk, nat_le, inl, inr, None, refl, sym, ◌∙◌, ap, subst, arith, length-append, ◌↔◌, replicate, lit<, zero, suc, take, drop}
+use Rattle.std.proofs.Common.{◌≡◌, ℕ, ◌+◌, ◌-◌, ◌<◌, ◌≤◌, ◌&&◌, not, List, [], ◌∷◌, ◌++◌, ◌⊎◌, length, Bool, true, false, IsTrue, Ok, Err, Result, OnOk, nat_le, inl, inr, None, refl, sym, ◌∙◌, ap, subst, arith, length-append, ◌↔◌, replicate, lit<, zero, suc, take, drop, rules}
 use Rattle.std.proofs.lemmas.Bool.{false≢true, leb-false, cases_lt, le-leb, lt-leb, leb-true}
 use Rattle.std.proofs.lemmas.List.{nil_from_length, append-nil, append_cancel_left, take-append-drop, take-append-le, take_at, length-drop, length-take}
 use Rattle.std.proofs.lemmas.List.Elements.{All-replicate}
@@ -8,8 +8,8 @@ use Rattle.ports_core.specs.Slot.{Slot, is_writable, with_written, told_of}
 use Rattle.ports_core.specs.Source.{Source}
 use Rattle.ports_core.specs.Part.{OutputsAt, StoppedBetween, only_out}
 use Rattle.ports_core.proofs.PartLemmas.{out_more}
-use Rattle.ports_core.specs.Work.{on_output, IsNeeded, IsSpare}
-use Rattle.ports_core.specs.Engine.{Loads, TakesIn, PutsOut, CutsOff, Finishes, EndsShort, EndsWith, EndsThere, IsMet, cut, MayGet}
+use Rattle.ports_core.specs.Work.{Means, Needs, on_output, IsNeeded, IsSpare}
+use Rattle.ports_core.specs.Engine.{Loads, TakesIn, PutsOut, CutsOff, Finishes, EndsShort, IsMet, cut, MayGet}
 use Rattle.ports_core.specs.inner.Engine.{OwnsNone}
 use Rattle.ports_core.specs.declared.fault.Fault.{Fault}
 use Rattle.seg_core.specs.declared.unit.Unit.{Unit as Counted}
@@ -18,15 +18,14 @@ use Rattle.ends_core.specs.declared.ends.Ends.{Ends}
 use Rattle.ends_core.specs.declared.ends.Ends.TheVariants.{First, ButLast, FromNth, Last}
 use Rattle.ends_core.specs.Ends.{measure, first_of, after_of, last_of, but_last_of}
 use Rattle.ends_core.specs.Head.{head_work, IsDone, ahead_of}
-use Rattle.ends_core.specs.Stage.{Stretch, the_first, from_the_nth, the_last, keeps, work_in, front_in, stretch_of, delim_of, unit_of, count_of, left_of, waiting_of, waiting, past_in, past_of, may_lack, work, Holds, is_done, all_but_last}
+use Rattle.ends_core.specs.Stage.{Stretch, the_first, from_the_nth, the_last, keeps, work_in, stretch_of, delim_of, unit_of, count_of, left_of, waiting_of, waiting, past_in, past_of, may_lack, work, Holds, is_done, all_but_last}
 use Rattle.ends_core.specs.inner.Stage.{is_last, due, due_at_end, left_waiting, is_full, unused_of, FullLacksNone, SameAsked, piece_for, wanted_by}
 use Rattle.ends_core.specs.Kept.{most_of, delim_of as kept_delim, unit_of as kept_unit}
 use Rattle.ends_core.specs.inner.Kept.{Passes, Stops}
 use Rattle.ends_core.specs.laws.WorkLaws.{full_head}
 use Rattle.ends_core.specs.laws.EndsLaws.{ends_together, first_then_after, measure-append, first_of-append, first_of-short, after_of-append, last_of-append, but_last_of-append, first_of-full}
-use Rattle.ends_core.proofs.KeptLemmas.{measure-delimiters, first_of-more, but_last_grows, first_of-nil}
+use Rattle.ends_core.proofs.KeptLemmas.{measure-delimiters, first_of-more, but_last_grows, first_of-nil, last_none, after-past}
 use Rattle.ends_core.proofs.KeptLemmas as stop
-use Rattle.ends_core.proofs.LoadLemmas.{last_none, after-past}
 use Rattle.ports_core.specs.Guard.{GuardState, HoldsIn}
 use Rattle.ports_core.proofs.SpareLemmas.{all_used}
 use Rattle.seg_core.specs.Line.{delimiters}
@@ -119,8 +118,7 @@ incomplete : (delim : ℕ) (unit : Counted) (but_last : Bool) (n : ℕ) (x : Lis
 incomplete delim unit false n x byte short done =
     let few : measure delim unit x < n = leb-false n (measure delim unit x) short in
     let same : x ++ 0 ∷ [] ≡ x = sym (first_of-more delim unit n x 0 few) ∙ done (0 ∷ []) (All-replicate (λ byte. byte < 256) 1 0 (lit< tt)) ∙ first_of-short delim unit n {x = x} few in
-    let longer : length x + 1 ≡ length x = sym (length-append x (0 ∷ [])) ∙ ap length same in
-    omega arith
+    omega (arith, length-append x (0 ∷ []), ap length same)
 incomplete delim unit true n x byte short done =
     but_last_grows delim unit n x (replicate (n + 1) delim) (let many = measure-delimiters delim unit {k = n + 1} in omega arith) (done (replicate (n + 1) delim) (All-replicate (λ byte. byte < 256) (n + 1) delim byte))
 
@@ -138,21 +136,18 @@ full_is (First count front) {x} holds = grind (arith, common_steps)
 full_is ends holds = refl
 
 -- where memory may be wanted, something is kept
-lacks_kept : (ends : Ends) → may_lack ends ≡ true → keeps (stretch_of ends) ≡ true
+pub lacks_kept : (ends : Ends) → may_lack ends ≡ true → keeps (stretch_of ends) ≡ true
 lacks_kept (First count front) lacking = cc
 lacks_kept ends lacking = cc
 
-pub met : (told : Bool) (ends : Ends) (piece bytes : List ℕ) (old new : List Slot) (f : Fault) → IsTrue (is_writable old 0)
-    → Stops told (may_lack ends) bytes old new f → IsMet (work ends).means (work ends).means.feeding (may_lack ends ≡ true) (EndsWith Holds work ends piece) old new f
-met told ends piece bytes old new f can stops =
-    subst (λ means. IsMet means means.feeding (may_lack ends ≡ true) (EndsWith Holds work ends piece) old new f) (sym (on_means (stretch_of ends) (delim_of ends) (unit_of ends) (count_of ends)))
-    (stop.met (on_output (keeps (stretch_of ends))) (on_output (keeps (stretch_of ends))).feeding (may_lack ends ≡ true) (EndsWith Holds work ends piece) told refl (λ lacking. (lacks_kept ends lacking, lacking)) can stops)
-
-pub end_met : (told : Bool) (ends : Ends) {bytes : List ℕ} {old new : List Slot} {f : Fault} → IsTrue (is_writable old 0)
-    → Stops told false bytes old new f → IsMet (work ends).means (work ends).means.closing (Unit {0}) (EndsThere Holds work ends) old new f
-end_met told ends {old} {new} {f} can stops =
-    subst (λ means. IsMet means means.closing (Unit {0}) (EndsThere Holds work ends) old new f) (sym (on_means (stretch_of ends) (delim_of ends) (unit_of ends) (count_of ends)))
-    (stop.met (on_output (keeps (stretch_of ends))) (on_output (keeps (stretch_of ends))).closing (Unit {0}) (EndsThere Holds work ends) told refl (λ never. absurd (false≢true never)) can stops)
+-- why a call stopped
+pub met : (told : Bool) (ends : Ends) (needs : Means → Needs) (Lacks : Type 0) (Fails : Fault → Type 0)
+    {lacks : Bool} {bytes : List ℕ} {old new : List Slot} {f : Fault}
+    → (lacks ≡ true → ((needs (on_output (keeps (stretch_of ends)))).memory ≡ true) × Lacks) → IsTrue (is_writable old 0) → Stops told lacks bytes old new f
+    → IsMet (work ends).means (needs (work ends).means) Lacks Fails old new f
+met told ends needs Lacks Fails {old = old} {new} {f} room can stops =
+    subst (λ means. IsMet means (needs means) Lacks Fails old new f) (sym (on_means (stretch_of ends) (delim_of ends) (unit_of ends) (count_of ends)))
+    (stop.met (on_output (keeps (stretch_of ends))) (needs (on_output (keeps (stretch_of ends)))) Lacks Fails told refl room can stops)
 
 -- what a call owes for its result, from what the call within it gave
 
@@ -202,16 +197,7 @@ loads told slot count ends next old new fresh same left past others passes full 
       long = passes.long;
       there = passes.there;
       passed = passes.passed;
-      holds = record {
-        byte = subst (λ delim. delim < 256) (sym same.delim) fresh.byte;
-        left = λ is. let before = sym (ap keeps same.stretch) ∙ is in
-            left ∙ fresh.left before ∙ sym (same_for (λ s d u n. front_in s n - measure d u []) same)
-            ∙ sym (ap (λ x. front_in (stretch_of next) (count_of next) - measure (delim_of next) (unit_of next) x) (none (not_last (stretch_of ends) before)));
-        waits = waits;
-        past = past ∙ fresh.past ∙ past_same (stretch_of ends) (delim_of ends) (unit_of ends) (count_of ends) none ∙ sym (same_for (λ s d u n. past_in s d u n passes.front) same);
-        none = none_lacks next;
-        full = full_lacks next passes.front waits full;
-      };
+      holds = grind (arith, common_steps, fresh, same, left, past, waits, full, none, same_for, not_last, past_same, none_lacks, full_lacks);
       ready = λ slots is. is;
       owns = λ first slots is. is;
       idle = settled_same (stretch_of ends) (delim_of ends) (unit_of ends) (count_of ends) none;
@@ -227,10 +213,7 @@ module _ (engine : GuardState Ends) (x : List ℕ) (holds : HoldsIn Holds engine
   tail_waits is = holds.within.waits ∙ ap (λ s. (work_in s (delim_of engine.stage) (unit_of engine.stage) (count_of engine.stage)).waiting x) is
 
   pub loses_nothing : stretch_of engine.stage ≡ all_but_last → ((work engine.stage).settled x).out ++ waiting_of engine.stage ≡ x
-  loses_nothing is =
-      ap (λ held. ((work engine.stage).settled x).out ++ held) (head_waits is)
-      ∙ ap (λ s. ((work_in s (delim_of engine.stage) (unit_of engine.stage) (count_of engine.stage)).settled x).out ++ last_of (delim_of engine.stage) (unit_of engine.stage) (count_of engine.stage) x) is
-      ∙ ends_together (delim_of engine.stage) (unit_of engine.stage) (count_of engine.stage) x
+  loses_nothing is = search (rules, head_waits, ends_together)
 
 first_within : (delim : ℕ) (unit : Counted) (n : ℕ) (x : List ℕ) → length (first_of delim unit n x) ≤ length x
 first_within delim unit n x = omega (arith, sym (length-append (first_of delim unit n x) (after_of delim unit n x)) ∙ ap length (first_then_after delim unit n x))
@@ -244,10 +227,13 @@ first_measures delim Bytes n x full = omega (arith, length-take n x, full)
 last_needed : (delim : ℕ) (unit : Counted) (n : ℕ) {k : ℕ} {used : List ℕ} → length used ≡ suc k → first_of delim unit n used ≡ used → measure delim unit (take k used) < n
 last_needed delim unit n {k} {used} long again = elim (cases_lt (measure delim unit (take k used)) n) [
   | inl short ↦ short
-  | inr full ↦
-      let same : used ≡ first_of delim unit n (take k used) = sym again ∙ ap (first_of delim unit n) (sym (take-append-drop k used)) ∙ first_of-full delim unit n (take k used) (drop k used) full in
-      let shorter = first_within delim unit n (take k used) in
-      absurd (omega (arith, ap length same, shorter, length-take k used, long))
+  | inr full ↦ absurd (omega (
+    arith,
+    ap length (sym again ∙ ap (first_of delim unit n) (sym (take-append-drop k used)) ∙ first_of-full delim unit n (take k used) (drop k used) full),
+    first_within delim unit n (take k used),
+    length-take k used,
+    long,
+  ))
 ]
 
 needed_by : (delim : ℕ) (unit : Counted) (n k : ℕ) {used : List ℕ} → length used ≡ k → first_of delim unit n used ≡ used → IsNeeded (head_work delim unit false n).is_complete 1 used
@@ -275,14 +261,7 @@ first_enough delim unit n x = elim (cases_lt (measure delim unit x) n) [
 
 -- a head uses the first n, and nothing that stands after them
 pub first_used : (delim : ℕ) (unit : Counted) (n : ℕ) {x : List ℕ} → IsSpare (head_work delim unit false n) x (length (after_of delim unit n x))
-first_used delim unit n {x} = record {
-  used = first_of delim unit n x;
-  rest = after_of delim unit n x;
-  joined = sym (first_then_after delim unit n x);
-  long = refl;
-  needed = first_needed delim unit n x;
-  enough = first_enough delim unit n x;
-}
+first_used delim unit n {x} = search (rules, first_then_after, first_needed, first_enough)
 
 -- what was needed to the last byte is its own first n
 needed_whole : (delim : ℕ) (unit : Counted) (n : ℕ) {used : List ℕ} → IsNeeded (head_work delim unit false n).is_complete 1 used → first_of delim unit n used ≡ used
@@ -322,13 +301,17 @@ goes_past delim x piece used rest is more = elim (cases_lt (length x) (length us
 
 few_between : (delim : ℕ) (x piece used rest : List ℕ) → x ++ piece ≡ used ++ rest → length x < length used → delimiters delim used + length x ≤ delimiters delim x + length used
 few_between delim x piece used rest is past =
-    let between : length used - length x + length x ≡ length used = omega (arith, past) in
-    let all : take (length used) (x ++ piece) ≡ used = ap (take (length used)) is ∙ take_at used rest (length used) refl in
-    let front : take (length x) (x ++ piece) ≡ x = take_at x piece (length x) refl in
-    let cut = delimiters-take-add delim (length x) (length used - length x) (x ++ piece) in
-    let few = delimiters-le-length delim (take (length used - length x) (drop (length x) (x ++ piece))) in
-    let same : delimiters delim (take (length x + (length used - length x)) (x ++ piece)) ≡ delimiters delim used = ap (λ k. delimiters delim (take k (x ++ piece))) (omega (arith, past)) ∙ ap (delimiters delim) all in
-    omega (arith, cut, few, same, ap (delimiters delim) front, length-take (length used - length x) (drop (length x) (x ++ piece)), past)
+    let all : take (length x + (length used - length x)) (x ++ piece) ≡ used
+    = ap (λ k. take k (x ++ piece)) (omega (arith, past)) ∙ ap (take (length used)) is ∙ take_at used rest (length used) refl in
+    omega (
+      arith,
+      delimiters-take-add delim (length x) (length used - length x) (x ++ piece),
+      ap (delimiters delim) all,
+      ap (delimiters delim) (take_at x piece (length x) refl),
+      delimiters-le-length delim (take (length used - length x) (drop (length x) (x ++ piece))),
+      length-take (length used - length x) (drop (length x) (x ++ piece)),
+      past,
+    )
 
 few_spare : (delim : ℕ) (unit : Counted) (count : ℕ) {left n : ℕ} (x piece : List ℕ) (spare : IsSpare (head_work delim unit false count) (x ++ piece) n) → left ≡ count - measure delim unit x → measure delim unit x < count → count ≤ measure delim unit spare.used
     → length piece ≤ piece_for unit left → n ≤ ahead_of unit

@@ -1,6 +1,6 @@
 //! The stage of `head` and `tail`: which part of an input is written.
 ghost use Rattle.std.specs.Prelude.{◌≡◌, ◌+◌, ◌-◌, ◌^◌, ◌<◌, ◌≤◌, ℕ, List, [], true, false, if◌then◌else◌, length, IsTrue, IfOk, IfErr, OnOk};
-ghost use Rattle.ports_core.specs.Slot.{is_writable, with_written, told_of};
+ghost use Rattle.ports_core.specs.Slot.{is_writable};
 ghost use Rattle.ports_core.specs.Source.{is_readable};
 ghost use Rattle.ports_core.specs.inner.Engine.{OwnsNone};
 ghost use Rattle.ports_core.specs.Guard.{HoldsIn};
@@ -10,7 +10,7 @@ ghost use Rattle.ends_core.specs.Tail.{tail_work};
 ghost use Rattle.ends_core.specs.inner.Stage.{FullLacksNone, SameAsked, due, due_at_end, is_full, is_last, left_waiting, unused_of, wanted_by};
 ghost use Rattle.ends_core.specs.Stage.{is_done, Holds, IsAsked, all_but_last, delim_of, from_the_nth, left_of, may_lack, past_of, stretch_of, the_first, the_last, unit_of, waiting, waiting_of, work};
 ghost use Rattle.ends_core.specs.laws.WorkLaws.{lawful};
-ghost use Rattle.ends_core.specs.inner.Kept.{Passes, Stops};
+ghost use Rattle.ends_core.specs.inner.Kept.{Passes, Writes};
 
 use crate::Unit;
 use crate::front::{Front, pass_after, pass_front};
@@ -153,6 +153,7 @@ impl Stage for Ends {
     /// # Errors
     ///
     /// `Write(0)` where standard output broke, `Memory` where there is no room for what waits.
+    #[tactic(auto, using(ports_core::proofs::WriteLemmas::none_written, crate::proofs::KeptLemmas::or_no_room))]
     fn pass<O: Outs>(&mut self, piece: &[u8], outs: &mut O) -> Result<(), Fault>
         requires fits { length (waiting_of self.old) + past_of self.old + length piece.now < 2 ^ 64 }
         requires writable { IsTrue (is_writable (O.slots outs.old) 0) }
@@ -162,8 +163,7 @@ impl Stage for Ends {
         ensures left { OnOk result (left_of self.new ≡ left_of self.old - measure (delim_of self.old) (unit_of self.old) piece.now) }
         ensures waits { OnOk result (waiting_of self.new ≡ left_waiting self.old piece.now) }
         ensures full { OnOk result (FullLacksNone self.new) }
-        ensures out { OnOk result (O.slots outs.new ≡ with_written 0 (told_of O.told (due self.old piece.now)) (O.slots outs.old)) }
-        ensures cut { IfErr result (Stops O.told (may_lack self.old) (due self.old piece.now) (O.slots outs.old) (O.slots outs.new)) }
+        ensures wrote { Writes O.told (may_lack self.old) (due self.old piece.now) (O.slots outs.old) (O.slots outs.new) result }
     {
         match self {
             Ends::First(_, front) => pass_front(front, piece, outs),
@@ -204,8 +204,7 @@ impl Stage for Ends {
         requires writable { IsTrue (is_writable (O.slots outs.old) 0) }
         ensures same { SameAsked self.old self.new }
         ensures bound { length (waiting_of self.new) + past_of self.new ≤ length (waiting_of self.old) + past_of self.old }
-        ensures out { OnOk result (O.slots outs.new ≡ with_written 0 (told_of O.told (due_at_end self.old)) (O.slots outs.old)) }
-        ensures cut { IfErr result (Stops O.told false (due_at_end self.old) (O.slots outs.old) (O.slots outs.new)) }
+        ensures wrote { Writes O.told false (due_at_end self.old) (O.slots outs.old) (O.slots outs.new) result }
     {
         let Ends::Last(kept) = self else {
             return Ok(());

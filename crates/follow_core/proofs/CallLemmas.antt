@@ -13,7 +13,7 @@ use Rattle.std.proofs.Math.Bool.{and-false}
 use Rattle.ports_core.specs.Write.{BrokeAfter}
 use Rattle.ports_core.specs.Text.{header_of}
 use Rattle.ports_core.specs.declared.fault.Fault.{Fault}
-use Rattle.ends_core.proofs.KeptLemmas.{nothing_written, broke_later, written_both}
+use Rattle.ports_core.proofs.WriteLemmas.{broke_later, none_written, written_both}
 use Rattle.follow_core.specs.Followed.{has_header, is_empty, is_last}
 use Rattle.follow_core.specs.Printing.{PrinterState, Short, broke as short_broke, no_room}
 use Rattle.follow_core.specs.inner.Giving.{Ends, IsGiven, Shared, given_share, printer_under, text_under, over_by, stop_in, Adds, CanGoOn, Keeps, Leads, Follows, change_between, lines_past, said_of}
@@ -57,7 +57,7 @@ tells_after told (first ∷ lines) more old mid new so_far tells = (so_far.0, so
 -- what is printed under headers
 
 pub no_memory : {told : Bool} {text : List ℕ} {slots : List Slot} → Short told text slots slots fault.Memory
-no_memory {told} {slots} = no_room 0 (omega arith) (sym (nothing_written told slots))
+no_memory {told} {slots} = no_room 0 (omega arith) (none_written told 0)
 
 pub short_more : {told : Bool} {text : List ℕ} (more : List ℕ) {old new : List Slot} {why : Fault} → Short told text old new why → Short told (text ++ more) old new why
 short_more {told} {text} more {old} (short_broke n cut) = short_broke n (record {
@@ -67,7 +67,7 @@ short_more {told} {text} more {old} (short_broke n cut) = short_broke n (record 
 short_more {told} {text} more {old} (no_room n within is) = no_room n (let a : length (text ++ more) ≡ length text + length more = length-append text more in omega (arith, within)) (is ∙ ap (λ bytes. with_written 0 (told_of told bytes) old) (sym (take-append-le n text more within)))
 
 pub short_later : {told : Bool} (first : List ℕ) {text : List ℕ} {old mid new : List Slot} {n : ℕ} → mid ≡ with_written 0 (told_of told first) old → BrokeAfter told mid new 0 text n → Short told (first ++ text) old new (fault.Write 0)
-short_later {told} first {text} {old} {mid} {new} {n} one cut = short_broke (length first + n) (subst (λ rest. BrokeAfter told old new 0 (first ++ rest) (length first + n)) (append-nil text) (broke_later told old mid new first text [] n one cut))
+short_later {told} first {text} {old} {mid} {new} {n} one cut = short_broke (length first + n) (subst (λ rest. BrokeAfter told old new 0 (first ++ rest) (length first + n)) (append-nil text) (broke_later told first text [] one cut))
 
 pub itself : (name : List ℕ) → bytes_eq name name ≡ true
 itself name = search rules
@@ -95,12 +95,12 @@ pub short_after : {told : Bool} (first : List ℕ) {second : List ℕ} {old mid 
 short_after first one (short_broke n cut) = short_later first one cut
 short_after {told} first {second} {old} {mid} {new} one (no_room n within is) = no_room (length first + n)
     (let a : length (first ++ second) ≡ length first + length second = length-append first second in omega (arith, within))
-    (written_both told old mid new first (take n second) one is ∙ ap (λ bytes. with_written 0 (told_of told bytes) old) (sym (take-append-add first second n)))
+    (written_both told 0 first (take n second) old one is ∙ ap (λ bytes. with_written 0 (told_of told bytes) old) (sym (take-append-add first second n)))
 
 -- a text after another that came whole, or a beginning of it
 text_after : (told : Bool) (first second : List ℕ) (old : List Slot) {mid : List Slot} (new : List Slot) (over : Option Fault)
     → mid ≡ with_written 0 (told_of told first) old → CameTo told second mid new over → CameTo told (first ++ second) old new over
-text_after told first second old {mid} new None one is = written_both told old mid new first second one is
+text_after told first second old {mid} new None one is = written_both told 0 first second old one is
 text_after told first second old new (Some why) one short = short_after first one short
 
 -- what standard output and standard error get

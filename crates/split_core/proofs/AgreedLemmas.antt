@@ -1,32 +1,32 @@
 -- What all continuations agree on, of files.
 use Rattle.std.proofs.lemmas.Grind.{common_steps}
 use Rattle.std.proofs.lemmas.Bool.Decides.{nat_tests}
-use Rattle.std.proofs.Common.{◌≡◌, ℕ, ◌+◌, ◌-◌, ◌<◌, zero, suc, List, [], ◌∷◌, ◌++◌, length, map, replicate, Bool, true, false, cond, inl, inr, refl, sym, ◌∙◌, ap, subst, arith, append_assoc, length-append, zero-add}
+use Rattle.std.proofs.Common.{◌≡◌, ℕ, ◌+◌, ◌-◌, ◌<◌, zero, suc, List, [], ◌∷◌, ◌++◌, length, map, drop, replicate, Bool, true, false, cond, refl, sym, ◌∙◌, ap, subst, arith, append_assoc, length-append, zero-add, rules}
+use Rattle.std.proofs.Math.Seq.{drop-append_seam}
 use Rattle.std.proofs.lemmas.Bool.{cases_lt, ne_eqb}
 use Rattle.std.proofs.lemmas.List.{append-nil, take_all, length-map, length-replicate}
-use Rattle.seg_core.specs.Line.{delimiters}
+use Rattle.seg_core.specs.Line.{delimiters, joined}
 use Rattle.ports_core.specs.Name.{Naming}
 use Rattle.ports_core.specs.Part.{File}
 use Rattle.ports_core.specs.Agreed.{CanCome, IsAgreed, file_bytes, outputs_of}
+use Rattle.ports_core.specs.declared.slot.State.{State}
 use Rattle.ports_core.specs.declared.slot.State.TheVariants.{Open, Closed}
 use Rattle.ports_core.proofs.AgreedLemmas.{none_comes, copies_come, other, other_differs, other_comes, agreed_by, agreed_now, common}
 use Rattle.seg_core.specs.declared.cut.Cut.{Cut}
 use Rattle.seg_core.specs.declared.cut.Cut.TheVariants as cut
 use Rattle.split_core.specs.declared.limit.Limit.{Limit}
 use Rattle.split_core.specs.declared.limit.Limit.TheVariants.{Lines, Bytes, LineBytes}
-use Rattle.split_core.specs.Parts.{whole_lines, most, after_first, cut_up, unless_empty, parts, settled_rest}
-use Rattle.split_core.specs.Split.{Plan, Share, share, is_named, are_named, named, settled_parts, settled_by, whole_by, split_work, dealt_files}
+use Rattle.split_core.specs.Parts.{whole_lines, most, after_first, cut_up, unless_empty, parts, settled_rest, waiting_rest}
+use Rattle.split_core.specs.Split.{Plan, Share, share, is_named, are_named, named, settled_parts, settled_by, split_work, dealt_files, bytes_in}
 use Rattle.split_core.specs.Splitter.{IsPositive}
 use Rattle.split_core.specs.PartState.{parts_work}
 use Rattle.split_core.specs.Round.{round_plan, round_work}
 use Rattle.split_core.specs.laws.CutLaws.{short_some, full_from, whole_of_none, whole_some, rest_short}
 use Rattle.split_core.specs.laws.ShareLaws.{cut_first, one_on, parts_on, settled_count}
-use Rattle.split_core.specs.laws.PartStateLaws as part_law
-use Rattle.split_core.specs.laws.RoundLaws as round_law
+use Rattle.split_core.specs.laws.WorkLaws.{parts_lawful, round_lawful}
 use Rattle.split_core.proofs.MoveLemmas.{named_before}
-use Rattle.split_core.proofs.SectionLemmas.{settled_list, settled_bytes}
-use Rattle.split_core.proofs.CutLaws.{bytes_of_shares}
-use Rattle.split_core.proofs.StepLemmas.{lines_stay}
+use Rattle.split_core.proofs.SectionLemmas.{settled_list, settled_bytes, list_all}
+use Rattle.split_core.proofs.CutLaws.{bytes_of_shares, lines_stay}
 
 -- The bytes of files that have names
 
@@ -62,16 +62,34 @@ pub each_named : (names : Naming) (those : List (List ℕ)) → are_named names 
 each_named names [] are = refl
 each_named names (one ∷ those) are = named_each names 0 one those (subst (λ n. is_named names n ≡ true) (sym (zero-add (length those))) are)
 
--- Parts that follow one another
+pub shared_bytes : (names : Naming) (state : State) (those : List (List ℕ))
+    → map (λ (file : File). file.bytes) (named names 0 (map (share state) those)) ≡ named_bytes names 0 those
+shared_bytes names state those = bytes_named names 0 (map (share state) those) ∙ ap (named_bytes names 0) (bytes_of_shares state those)
 
-pub whole_files : (limit : Limit) (names : Naming) (x : List ℕ) → file_bytes ((parts_work limit names).whole x) ≡ named_bytes names 0 (parts limit x)
-whole_files limit names x = bytes_named names 0 (map (share Closed) (parts limit x)) ∙ ap (named_bytes names 0) (bytes_of_shares Closed (parts limit x))
+-- Parts that follow one another
 
 pub settled_files : (limit : Limit) (names : Naming) (x : List ℕ) → file_bytes ((parts_work limit names).settled x) ≡ named_bytes names 0 (settled_list limit x)
 settled_files limit names x = bytes_named names 0 (settled_parts limit x) ∙ ap (named_bytes names 0) (settled_bytes limit x)
 
 pub list_count : (limit : Limit) (x : List ℕ) → length (settled_list limit x) ≡ length (parts limit x)
 list_count limit x = ap length (sym (settled_bytes limit x)) ∙ length-map (settled_parts limit x) (λ (file : Share). file.bytes) ∙ settled_count limit x
+
+-- where all files have names, what is written and what waits are all that came in
+
+abbrev pub settled_in : Limit → Naming → List ℕ → List ℕ
+settled_in limit names x = bytes_in ((parts_work limit names).settled x)
+
+pub settled_bytes_in : (limit : Limit) (names : Naming) (x : List ℕ) → are_named names (length (parts limit x)) ≡ true
+    → settled_in limit names x ≡ joined (settled_list limit x)
+settled_bytes_in limit names x are = grind (arith, common_steps, settled_files, each_named, settled_list, list_count)
+
+pub came_in : (limit : Limit) (names : Naming) {x : List ℕ} → are_named names (length (parts limit x)) ≡ true
+    → settled_in limit names x ++ waiting_rest limit (cut_up limit x).rest ≡ x
+came_in limit names {x} are = grind (arith, common_steps, settled_bytes_in, list_all)
+
+pub waiting_is : (limit : Limit) (names : Naming) (x : List ℕ) → are_named names (length (parts limit x)) ≡ true
+    → (parts_work limit names).waiting x ≡ waiting_rest limit (cut_up limit x).rest
+waiting_is limit names x are = ap (drop (length (settled_in limit names x))) (sym (came_in limit names are)) ∙ drop-append_seam (settled_in limit names x) _
 
 -- a continuation of which what is settled are parts, and perhaps others follow
 pub record Decides (limit : Limit) (x : List ℕ) : Type 0 where
@@ -99,11 +117,7 @@ filling delim n rest = replicate (n - length rest) (other delim)
 
 -- a part that is full without a further line ends with its last one
 line_ends : (delim n : ℕ) (rest : List ℕ) → 0 < n → length rest < n → 0 < delimiters delim rest → parts (LineBytes n delim) (rest ++ filling delim n rest) ≡ whole_lines delim rest ∷ parts (LineBytes n delim) (after_first (LineBytes n delim) (rest ++ filling delim n rest))
-line_ends delim n rest some short lines =
-    let size : length (rest ++ filling delim n rest) ≡ n = (omega (arith, length-append rest (filling delim n rest), length-replicate (n - length rest) (other delim), short)) in
-    ap (λ cut. cut.full ++ unless_empty cut.rest) (cut_first (LineBytes n delim) (rest ++ filling delim n rest) (full_from (LineBytes n delim) (rest ++ filling delim n rest) some (omega (arith, size))))
-    ∙ ap (λ part. part ∷ parts (LineBytes n delim) (after_first (LineBytes n delim) (rest ++ filling delim n rest)))
-    (ap (whole_lines delim) (take_all n (rest ++ filling delim n rest) (omega (arith, size))) ∙ lines_stay delim rest (filling delim n rest) lines (none_among delim (n - length rest)))
+line_ends delim n rest some short lines = search (rules, length-append, length-replicate, other, cut_first, full_from, take_all, lines_stay, none_among)
 
 pub one_of : (bytes : List ℕ) → 0 < length bytes → unless_empty bytes ≡ bytes ∷ []
 one_of [] some = absurd (omega (arith, some))
@@ -130,44 +144,40 @@ decides_lines delim n {x} some lines =
 decides : (limit : Limit) → 0 < most limit → {x : List ℕ} → Decides limit x
 decides (Lines n delim) some = decides_now refl
 decides (Bytes n) some = decides_now refl
-decides (LineBytes n delim) some {x} = elim (cases_lt 0 (delimiters delim (cut_up (LineBytes n delim) x).rest)) [
-  | inl lines ↦ decides_lines delim n some lines
-  | inr none ↦ decides_now (whole_of_none delim (cut_up (LineBytes n delim) x).rest (omega (arith, none)))
-]
+decides (LineBytes n delim) some {x} = grind (arith, common_steps, cases_lt, decides_lines, decides_now, whole_of_none)
 
 parts_agreed_by : {limit : Limit} (names : Naming) {x : List ℕ} → Decides limit x → IsAgreed (parts_work limit names) x ((parts_work limit names).settled x)
 parts_agreed_by {limit} names {x} decides =
     let further = named_more names 0 (settled_list limit x) decides.more in
-    agreed_by (parts_work limit names) x [] decides.y further.0 (common (parts_work limit names) (part_law.lawful limit names) x) none_comes decides.comes count
-    (ap (λ files. [] ∷ files) (whole_files limit names (x ++ decides.y) ∙ ap (named_bytes names 0) decides.are ∙ further.1 ∙ ap (λ files. files ++ further.0) (sym (settled_files limit names x)))) where
+    agreed_by (parts_work limit names) x [] decides.y further.0 (common (parts_work limit names) (parts_lawful limit names) x) none_comes decides.comes count
+    (ap (λ files. [] ∷ files) (shared_bytes names Closed (parts limit (x ++ decides.y)) ∙ ap (named_bytes names 0) decides.are ∙ further.1 ∙ ap
+    (λ files. files ++ further.0) (sym (settled_files limit names x)))) where
       count : length (outputs_of ((parts_work limit names).whole (x ++ []))) ≡ length (outputs_of ((parts_work limit names).settled x))
-      count = cc (whole_files limit names (x ++ []), count_named names 0 (parts limit (x ++ [])) (settled_list limit x) (ap (λ all. length (parts limit all)) (append-nil x) ∙ sym (list_count limit x)), settled_files limit names x)
+      count = cc (
+        shared_bytes names Closed (parts limit (x ++ [])),
+        count_named names 0 (parts limit (x ++ [])) (settled_list limit x)
+            (ap (λ all. length (parts limit all)) (append-nil x) ∙ sym (list_count limit x)),
+        settled_files limit names x,
+      )
 
 pub parts_agreed : (limit : Limit) (names : Naming) → 0 < most limit → {x : List ℕ} → IsAgreed (parts_work limit names) x ((parts_work limit names).settled x)
 parts_agreed limit names some = parts_agreed_by names (decides limit some)
 
 -- Lines that are dealt
 
-pub dealt_settled : (delim n : ℕ) (elide : Bool) (names : Naming) (x : List ℕ) → file_bytes (settled_by (round_plan delim n elide names) x) ≡ named_bytes names 0 (dealt_files delim elide n x)
-dealt_settled delim n elide names x = bytes_named names 0 (map (share Open) (dealt_files delim elide n x)) ∙ ap (named_bytes names 0) (bytes_of_shares Open (dealt_files delim elide n x))
-
-pub dealt_whole : (delim n : ℕ) (elide : Bool) (names : Naming) (x : List ℕ) → file_bytes (whole_by (round_plan delim n elide names) x) ≡ named_bytes names 0 (dealt_files delim elide n x)
-dealt_whole delim n elide names x = bytes_named names 0 (map (share Closed) (dealt_files delim elide n x)) ∙ ap (named_bytes names 0) (bytes_of_shares Closed (dealt_files delim elide n x))
-
 round_agreed : (delim n : ℕ) (elide : Bool) (names : Naming) {x : List ℕ} → IsAgreed (split_work (round_plan delim n elide names)) x (settled_by (round_plan delim n elide names) x)
-round_agreed delim n elide names {x} = agreed_now (split_work (round_plan delim n elide names)) x (common (round_work (round_plan delim n elide names)) (round_law.lawful delim n elide names) x)
-    (ap (λ files. [] ∷ files) (dealt_whole delim n elide names x ∙ sym (dealt_settled delim n elide names x)))
+round_agreed delim n elide names {x} = agreed_now (split_work (round_plan delim n elide names)) x
+    (common (round_work (round_plan delim n elide names)) (round_lawful delim n elide names) x)
+    (ap (λ files. [] ∷ files) (shared_bytes names Closed (dealt_files delim elide n x) ∙ sym (shared_bytes names Open (dealt_files delim elide n x))))
 
 -- All ways to cut
 
 abbrev pub plan_by : ℕ → Cut → Bool → Naming → Plan
 plan_by delim cut elide names = record { delim = delim; cut = cut; elide = elide; names = names }
 
-agreed_at : (delim : ℕ) (cut : Cut) (elide : Bool) (names : Naming) → IsPositive cut → {x : List ℕ} → IsAgreed (split_work (plan_by delim cut elide names)) x ((split_work (plan_by delim cut elide names)).settled x)
+pub agreed_at : (delim : ℕ) (cut : Cut) (elide : Bool) (names : Naming) → IsPositive cut → {x : List ℕ}
+    → IsAgreed (split_work (plan_by delim cut elide names)) x ((split_work (plan_by delim cut elide names)).settled x)
 agreed_at delim (cut.Lines n) elide names some = parts_agreed (Lines n delim) names some
 agreed_at delim (cut.Bytes n) elide names some = parts_agreed (Bytes n) names some
 agreed_at delim (cut.LineBytes n) elide names some = parts_agreed (LineBytes n delim) names some
 agreed_at delim (cut.Round n) elide names some = round_agreed delim n elide names
-
-pub split_agreed : (plan : Plan) → IsPositive plan.cut → (x : List ℕ) → IsAgreed (split_work plan) x ((split_work plan).settled x)
-split_agreed plan some x = agreed_at plan.delim plan.cut plan.elide plan.names some

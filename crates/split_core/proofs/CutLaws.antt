@@ -1,14 +1,15 @@
--- Laws of parts that follow one another, of what files get of them, and of lines that are dealt.
+-- Laws of parts that follow one another, of what files get of them, and of lines that are dealt; and what the next bytes of a piece do
+-- to the part that was begun.
 use Rattle.std.proofs.lemmas.Grind.{common_steps}
-use Rattle.std.proofs.Common.{◌≡◌, ℕ, ◌<◌, ◌≤◌, List, [], ◌∷◌, ◌++◌, length, take, drop, true, false, cond, refl, sym, ◌∙◌, ap, subst, arith, append_assoc, map, ◌⊎◌, inr, ◌+◌, ◌%◌, Bool, eqb, rules, take_all, take-append-drop, ne_eqb}
+use Rattle.std.proofs.Common.{◌≡◌, ℕ, ◌<◌, ◌≤◌, List, [], ◌∷◌, ◌++◌, length, take, drop, true, false, cond, refl, sym, ◌∙◌, ap, subst, arith, append_assoc, map, ◌⊎◌, inr, ◌+◌, ◌%◌, Bool, eqb, rules, take_all, take-append-drop, ne_eqb, ◌-◌, nat_lt, length-append, length-drop}
 use Rattle.std.proofs.lemmas.Bool.Decides.{nat_tests}
 use Rattle.std.proofs.Math.Seq.{drop-append_seam}
-use Rattle.seg_core.specs.Line.{joined, delimiters, after_lines}
-use Rattle.seg_core.proofs.FirstLines.{first_lines-is_take}
+use Rattle.seg_core.specs.Line.{joined, delimiters, after_lines, first_lines, EndsAt, FallsShort, LastEndsAt}
+use Rattle.seg_core.proofs.FirstLines.{first_lines-is_take, first_lines-append, first_lines-full, first_lines-short, delimiters-first_lines}
 use Rattle.split_core.specs.declared.limit.Limit.{Limit}
 use Rattle.split_core.specs.declared.limit.Limit.TheVariants.{Lines, Bytes, LineBytes}
 use Rattle.split_core.specs.Parts.{whole_lines, open_line, most, measure, is_full, first_part, after_first, cut_up, dealt}
-use Rattle.split_core.specs.laws.CutLaws.{whole_within, cuts_up, cut_once}
+use Rattle.split_core.specs.laws.CutLaws.{whole_within, cuts_up, cut_once, full_from, whole_of_lines, whole_of_none, whole_then_open, whole_some, has_lines}
 use Rattle.split_core.specs.inner.CutLaws.{Cuts, stops, goes, cut_so, SharesBegin, AllShut}
 use Rattle.ports_core.specs.Part.{IsBeginning}
 use Rattle.ports_core.specs.declared.slot.State.{State}
@@ -18,6 +19,12 @@ use Rattle.split_core.specs.Split.{Share, share}
 use Rattle.split_core.specs.laws.ShareLaws.{shares_after}
 use Rattle.std.proofs.Math.Nat.{mod-add-mod, mod-lt}
 use Rattle.split_core.specs.Round.{opened_by}
+use Rattle.std.proofs.lemmas.List.{append-nil, take_all, take-append-drop, append_cancel_left, length-take-le}
+use Rattle.seg_core.proofs.Delimiters.{delimiters-append, delimiters-le-length}
+use Rattle.seg_core.proofs.EndLines.{after_lines-append}
+use Rattle.split_core.specs.PartsState.{Lacks}
+use Rattle.split_core.specs.declared.step.Step.{Step}
+use Rattle.split_core.specs.inner.Step.{IsSettled, IsTurned, IsHeld, Leads}
 
 pub short_from : (limit : Limit) (x : List ℕ) → measure limit x < most limit → is_full limit x ≡ false
 short_from limit x less = search rules
@@ -107,3 +114,106 @@ pub dealt_past : (n file place : ℕ) (lines : List (List ℕ)) → 0 < n → n 
 dealt_past n file place [] some past = refl
 dealt_past n file place (line ∷ lines) some past =
     cc (ne_eqb (place % n) file (λ is. omega (arith, is, mod-lt place some)), dealt_past n file (place + 1) lines some past)
+
+-- What the next bytes of a piece do to the part that was begun
+
+after_take : (n : ℕ) (xs : List ℕ) → drop n (take n xs) ≡ []
+after_take n xs = grind (arith, common_steps)
+
+-- a part without a byte
+pub begun_none : {limit : Limit} {next : List ℕ} → next ≡ [] → 0 < most limit → IsSettled limit next (most limit - length next) false
+begun_none {limit} none some = grind (arith, common_steps)
+
+-- lines
+
+pub first_itself : {delim n : ℕ} {x : List ℕ} (end : ℕ) → EndsAt delim n x end → first_lines delim n (take end x) ≡ take end x
+first_itself {delim} {n} {x} end ends = sym (first_lines-full delim n (take end x) (drop end x) (omega (arith, ends.complete)))
+    ∙ ap (first_lines delim n) (take-append-drop end x) ∙ sym ends.lines
+
+pub lines_end : {delim : ℕ} (n : ℕ) {rest : List ℕ} {left : ℕ} {has_line : Bool} {piece : List ℕ} (end : ℕ) → 0 < left → Lacks (Lines n delim) rest left has_line → EndsAt delim left piece end → IsTurned (Lines n delim) (rest ++ take end piece) (rest ++ take end piece) (drop end (take end piece))
+lines_end {delim} n {rest} {left} {piece} end missing lacks ends =
+    search (rules, delimiters-append, full_from, first_lines-append, first_lines-short, first_itself, append-nil, after_take, begun_none)
+
+pub lines_go : {delim : ℕ} (n : ℕ) {rest : List ℕ} {left : ℕ} {has_line : Bool} {piece : List ℕ} {count : ℕ} → Lacks (Lines n delim) rest left has_line → FallsShort delim left piece count → IsSettled (Lines n delim) (rest ++ take (length piece) piece) (left - count) false
+lines_go {delim} n {rest} {left} {piece} {count} lacks falls = grind (arith, common_steps, take_all, delimiters-append, short_from)
+
+-- bytes for whole lines
+
+-- bytes without a delimiter don't change the lines
+pub lines_stay : (delim : ℕ) (x y : List ℕ) → 0 < delimiters delim x → delimiters delim y ≡ 0 → whole_lines delim (x ++ y) ≡ whole_lines delim x
+lines_stay delim x y some none = search (rules, delimiters-append, whole_of_lines, first_lines-full)
+
+open_goes_on : (delim : ℕ) (x y : List ℕ) → 0 < delimiters delim x → delimiters delim y ≡ 0 → open_line delim (x ++ y) ≡ open_line delim x ++ y
+open_goes_on delim x y some none = search (rules, delimiters-append, open_of_lines, after_lines-append)
+
+none_open : (delim : ℕ) {x : List ℕ} → whole_lines delim x ≡ x → open_line delim x ≡ []
+none_open delim {x} is = append_cancel_left (whole_lines delim x) (open_line delim x) [] (whole_then_open delim ∙ sym is ∙ sym (append-nil (whole_lines delim x)))
+
+open_plain : (delim : ℕ) (x : List ℕ) → 0 < delimiters delim x → delimiters delim (open_line delim x) ≡ 0
+open_plain delim x some =
+    let both : delimiters delim (whole_lines delim x ++ open_line delim x) ≡ delimiters delim x = ap (delimiters delim) (whole_then_open delim) in
+    let front : delimiters delim (whole_lines delim x) ≡ delimiters delim x = ap (delimiters delim) (whole_of_lines delim x some) ∙ delimiters-first_lines delim (delimiters delim x) x (omega (arith, delimiters-append delim (whole_lines delim x) (open_line delim x))) in omega (arith, delimiters-append delim (whole_lines delim x) (open_line delim x))
+
+-- a text that ends with the last delimiter of a block
+ends_whole : {delim : ℕ} (x : List ℕ) {block : List ℕ} (end : ℕ) → LastEndsAt delim block end → whole_lines delim (x ++ take end block) ≡ x ++ take end block
+ends_whole {delim} x {block} end ends =
+    search (rules, delimiters-first_lines, delimiters-append, whole_of_lines, first_lines-append, first_lines-short, first_itself)
+
+lines_at_end : {delim : ℕ} {block : List ℕ} (end : ℕ) → LastEndsAt delim block end → 0 < delimiters delim (take end block)
+lines_at_end {delim} {block} end ends = grind (arith, common_steps, delimiters-first_lines)
+
+-- a text without a delimiter that is shorter than a part
+begun_plain : (delim n : ℕ) {next : List ℕ} → delimiters delim next ≡ 0 → length next < n → IsSettled (LineBytes n delim) next (n - length next) false
+begun_plain delim n {next} none short = grind (arith, common_steps)
+
+has_some : (delim : ℕ) (rest : List ℕ) {has_line : Bool} → has_line ≡ nat_lt 0 (delimiters delim rest) → has_line ≡ true → 0 < delimiters delim rest
+has_some delim rest is has = grind (arith, common_steps)
+
+has_none : (delim : ℕ) (rest : List ℕ) {has_line : Bool} → has_line ≡ nat_lt 0 (delimiters delim rest) → has_line ≡ false → delimiters delim rest ≡ 0
+has_none delim rest is has = grind (arith, common_steps)
+
+pub block_goes : {delim : ℕ} (n : ℕ) {rest : List ℕ} {left : ℕ} {has_line : Bool} {block : List ℕ} (end : ℕ) → length block < left → Lacks (LineBytes n delim) rest left has_line → LastEndsAt delim block end → IsSettled (LineBytes n delim) (rest ++ take end block) (left - end) true
+block_goes {delim} n {rest} {left} {block} end within lacks ends = grind (arith, common_steps, length-take-le, delimiters-append, lines_at_end, short_from, ends_whole, none_open, has_lines)
+
+pub block_waits : (delim n : ℕ) {rest : List ℕ} {left : ℕ} {has_line : Bool} {block : List ℕ} → length block < left → Lacks (LineBytes n delim) rest left has_line → has_line ≡ true → delimiters delim block ≡ 0 → IsHeld (LineBytes n delim) rest block left has_line
+block_waits delim n {rest} {left} {block} within lacks has none = grind (arith, common_steps, has_some, delimiters-append, short_from, lines_stay, open_goes_on, has_lines)
+
+pub block_plain : (delim n : ℕ) {rest : List ℕ} {left : ℕ} {has_line : Bool} (block : List ℕ) → length block < left → Lacks (LineBytes n delim) rest left has_line → has_line ≡ false → delimiters delim block ≡ 0 → IsSettled (LineBytes n delim) (rest ++ take (length block) block) (left - length block) false
+block_plain delim n {rest} {left} block within lacks has none = grind (arith, common_steps, has_none, delimiters-append, take_all, begun_plain)
+
+-- the part that the block fills
+
+turned : (delim n : ℕ) {rest : List ℕ} (block : List ℕ) {first next : List ℕ} {bytes : ℕ} {has_line : Bool} → length block ≡ bytes → Lacks (LineBytes n delim) rest bytes has_line → whole_lines delim (rest ++ block) ≡ first
+    → rest ++ block ≡ first ++ next → IsSettled (LineBytes n delim) next (n - length next) false → IsTurned (LineBytes n delim) (rest ++ block) first next
+turned delim n {rest} block size lacks is both begun = grind (arith, common_steps)
+
+module _ {delim bytes : ℕ} (piece : List ℕ) (within : bytes ≤ length piece) (n : ℕ) {rest : List ℕ} {has_line : Bool} (lacks : Lacks (LineBytes n delim) rest bytes has_line) where
+  size : length (take bytes piece) ≡ bytes
+  size = length-take-le bytes piece within
+
+  pub block_ends : (end : ℕ) → LastEndsAt delim (take bytes piece) end → IsTurned (LineBytes n delim) (rest ++ take bytes piece) (rest ++ take end piece) (drop end (take bytes piece))
+  block_ends end ends = subst (λ those. IsTurned (LineBytes n delim) (rest ++ take bytes piece) (rest ++ those) (drop end (take bytes piece))) (take-take_few end bytes piece ends.within)
+      (turned delim n (take bytes piece) size lacks (ap (whole_lines delim) split ∙ lines_stay delim (rest ++ take end (take bytes piece)) (drop end (take bytes piece)) some ends.none_after ∙ ends_whole rest end ends) split
+      (begun_plain delim n ends.none_after (omega (arith, length-drop end (take bytes piece), lacks.left_is, ends.some, ends.within, size)))) where
+        split : rest ++ take bytes piece ≡ (rest ++ take end (take bytes piece)) ++ drop end (take bytes piece)
+        split = ap (λ those. rest ++ those) (sym (take-append-drop end (take bytes piece))) ∙ sym (append_assoc rest (take end (take bytes piece)) (drop end (take bytes piece)))
+
+        some : 0 < delimiters delim (rest ++ take end (take bytes piece))
+        some = omega (arith, delimiters-append delim rest (take end (take bytes piece)), lines_at_end end ends)
+
+  pub block_begins : has_line ≡ true → delimiters delim (take bytes piece) ≡ 0 → IsTurned (LineBytes n delim) (rest ++ take bytes piece) (whole_lines delim rest) (open_line delim rest ++ take bytes piece)
+  block_begins has none = turned delim n (take bytes piece) size lacks (lines_stay delim rest (take bytes piece) lines none)
+      (ap (λ those. those ++ take bytes piece) (sym (whole_then_open delim)) ∙ append_assoc (whole_lines delim rest) (open_line delim rest) (take bytes piece)) (begun_plain delim n
+      (omega (arith, open_plain delim rest lines, delimiters-append delim (open_line delim rest) (take bytes piece)))
+      (let all : length (whole_lines delim rest ++ open_line delim rest) ≡ length rest = ap length (whole_then_open delim) in
+      let some : 0 < length (whole_lines delim rest) = whole_some delim rest (omega (arith, length-append (whole_lines delim rest) (open_line delim rest), delimiters-le-length delim rest, lines)) in
+      omega (arith, length-append (whole_lines delim rest) (open_line delim rest), lacks.left_is, length-append (open_line delim rest) (take bytes piece), size))) where
+        lines : 0 < delimiters delim rest
+        lines = has_some delim rest lacks.line has
+
+  pub block_is_long : has_line ≡ false → delimiters delim (take bytes piece) ≡ 0 → IsTurned (LineBytes n delim) (rest ++ take bytes piece) (rest ++ take bytes piece) (drop bytes (take bytes piece))
+  block_is_long has none = grind (arith, common_steps, turned, size, whole_of_none, has_none, delimiters-append, append-nil, after_take, begun_none)
+
+-- the same for a limit that is equal
+pub at_limit : {limit : Limit} (other : Limit) → limit ≡ other → {left : ℕ} {has_line : Bool} (piece : List ℕ) (step : Step) → ((rest : List ℕ) → Lacks other rest left has_line → Leads other rest left has_line piece step) → (rest : List ℕ) → Lacks limit rest left has_line → Leads limit rest left has_line piece step
+at_limit other is {left} {has_line} piece step leads = grind (arith, common_steps)

@@ -1,6 +1,6 @@
 -- Delimiters that were seen ahead, and gathering the lines of a piece.
 use Rattle.std.proofs.lemmas.Bool.Decides.{nat_tests}
-use Rattle.std.proofs.Common.{◌≡◌, ◌≢◌, ℕ, ◌+◌, ◌-◌, ◌*◌, ◌/◌, ◌^◌, ◌<◌, ◌≤◌, zero, suc, min, Bool, true, false, not, cond, eqb, List, [], ◌∷◌, ◌++◌, length, take, drop, get_or, refl, sym, ◌∙◌, ap, subst, arith, length-append, replicate, ◌%◌, max, set, Result, OnOk, inl, inr, append_assoc}
+use Rattle.std.proofs.Common.{◌≡◌, ◌≢◌, ℕ, ◌+◌, ◌-◌, ◌*◌, ◌/◌, ◌^◌, ◌<◌, ◌≤◌, zero, suc, min, Bool, true, false, not, cond, eqb, List, [], ◌∷◌, ◌++◌, length, take, drop, get_or, refl, sym, ◌∙◌, ap, subst, arith, length-append, replicate, ◌%◌, max, set, Result, OnOk, append_assoc, rules}
 use Rattle.std.specs.List.{prefix_len}
 use Rattle.std.specs.Int.Count.{count_trailing_zeros}
 use Rattle.std.proofs.lemmas.Simd.{trailing_mask_l}
@@ -46,14 +46,7 @@ pub record IsFirstAt (delim : ℕ) (x : List ℕ) (at : ℕ) : Type 0 where
 
 first_step : {delim : ℕ} (is : Bool) {byte : ℕ} {x : List ℕ} → eqb byte delim ≡ is → (0 < delimiter_mask delim x → IsFirstAt delim x (before_first delim x)) → 0 < cond is 1 0 + 2 * delimiter_mask delim x → IsFirstAt delim (byte ∷ x) (cond (not is) (1 + before_first delim x) 0)
 first_step {delim} true {byte} here rest some = record { within = omega arith; none = tt; here = eqb-true byte delim here }
-first_step {delim} false {byte} {x} here rest some =
-    let later = rest (omega arith) in
-    let more : suc (before_first delim x) ≡ 1 + before_first delim x = omega arith in
-    subst (λ at. IsFirstAt delim (byte ∷ x) at) more (record {
-      within = omega (arith, later.within);
-      none = (eqb-false byte delim here, later.none);
-      here = later.here;
-    })
+first_step {delim} false {byte} {x} here rest some = search (rules, eqb-false)
 
 pub first_marked : {delim : ℕ} (x : List ℕ) → 0 < delimiter_mask delim x → IsFirstAt delim x (before_first delim x)
 first_marked [] some = absurd (omega arith)
@@ -74,12 +67,7 @@ mask_after delim (suc at) (byte ∷ x) =
 
 -- the first line, where the first delimiter is known
 first_line : {delim : ℕ} {x : List ℕ} {at : ℕ} → IsFirstAt delim x at → IsFirstLine delim x (take (at + 1) x) (drop (at + 1) x)
-first_line {delim} {x} {at} first = record {
-  whole = sym (take-append-drop (at + 1) x);
-  first = ap (lines_of delim) (sym whole) ∙ lines_of-complete delim (take at x) (drop (at + 1) x) first.none ∙ ap (λ line. line ∷ lines_of delim (drop (at + 1) x)) (sym line);
-  counted = ap (delimiters delim) (sym whole) ∙ count;
-  shorter = omega (arith, first.within, length-drop (at + 1) x);
-} where
+first_line {delim} {x} {at} first = grind (arith, common_steps, whole, line, count, first.within, lines_of-complete, length-drop, take-append-drop) where
   line : take (at + 1) x ≡ take at x ++ delim ∷ []
   line = take_more x at 0 first.within ∙ ap (λ byte. take at x ++ byte ∷ []) first.here
 
@@ -93,17 +81,11 @@ first_line {delim} {x} {at} first = record {
 
 -- none of the known bytes is a delimiter
 all_passed : {delim : ℕ} {x : List ℕ} {ahead : Ahead} → Sees delim x ahead → ahead.mask ≡ 0 → HasNone delim (take (ahead.passed + ahead.width) x)
-all_passed {delim} {x} {ahead} sees none =
-    subst (HasNone delim) (sym (take-add ahead.passed ahead.width x)) (none_append delim (take ahead.passed x) (take ahead.width (drop ahead.passed x)) sees.none (unmarked delim _ (sym sees.marked ∙ none)))
+all_passed {delim} {x} {ahead} sees none = search (rules, take-add, none_append, unmarked)
 
 pub sees_further : {delim : ℕ} {x : List ℕ} {ahead : Ahead} (passed : ℕ) {width mask : ℕ} → Sees delim x ahead → ahead.mask ≡ 0 → passed ≡ ahead.passed + ahead.width → width ≡ min 64 (length x - passed) → mask ≡ delimiter_mask delim (take 64 (drop passed x))
     → Sees delim x (record { passed = passed; width = width; mask = mask })
-sees_further {delim} {x} {ahead} passed sees none is wide marked = record {
-  within = omega (arith, sees.within);
-  narrow = omega arith;
-  none = subst (λ n. HasNone delim (take n x)) (sym is) (all_passed sees none);
-  marked = marked ∙ ap (delimiter_mask delim) (sym (take_min 64 (drop passed x)) ∙ ap (λ n. take n (drop passed x)) (sym (wide ∙ ap (min 64) (sym (length-drop passed x)))));
-}
+sees_further {delim} {x} {ahead} passed sees none is wide marked = grind (arith, common_steps, all_passed, take_min, length-drop)
 
 -- where all of the text is known and no bit is set, it has no delimiter
 pub none_seen : {delim : ℕ} {x : List ℕ} {ahead : Ahead} → Sees delim x ahead → ahead.mask ≡ 0 → ahead.passed + ahead.width ≡ length x → delimiters delim x ≡ 0
@@ -116,12 +98,7 @@ length-window k {n} x inside = length-take-le n (drop k x) (omega (arith, length
 
 -- the first delimiter of the window is the first of the text
 first_of_text : {delim : ℕ} {x : List ℕ} (k n : ℕ) {at : ℕ} → k + n ≤ length x → HasNone delim (take k x) → IsFirstAt delim (take n (drop k x)) at → IsFirstAt delim x (k + at)
-first_of_text {delim} {x} k n {at} inside none first = record {
-  within = omega (arith, first.within, length-window k x inside);
-  none = subst (HasNone delim) (ap (λ rest. take k x ++ rest) (take-take at n (drop k x) (omega (arith, first.within, length-window k x inside))) ∙ sym (take-add k at x))
-      (none_append delim (take k x) (take at (take n (drop k x))) none first.none);
-  here = sym (get_or-take n (drop k x) at 0 (omega (arith, first.within, length-window k x inside)) ∙ get_or-drop k x at 0) ∙ first.here;
-}
+first_of_text {delim} {x} k n {at} inside none first = search (rules, length-window, take-take, take-add, none_append, get_or-take, get_or-drop)
 
 -- where the lowest bit is that of the first delimiter, the line ends there, and the rest of the mask is that of what follows
 pub first_seen : {delim : ℕ} {x : List ℕ} {ahead : Ahead} {at : ℕ} → Sees delim x ahead → at ≡ before_first delim (take ahead.width (drop ahead.passed x)) → 0 < ahead.mask → IsFirstAt delim x (ahead.passed + at) × (at < ahead.width)
@@ -133,12 +110,7 @@ first_seen {delim} {x} {ahead} {at} sees is some = (
   first = subst (λ n. IsFirstAt delim (take ahead.width (drop ahead.passed x)) n) (sym is) (first_marked (take ahead.width (drop ahead.passed x)) (subst (λ n. 0 < n) sees.marked some))
 
 pub sees_rest : {delim : ℕ} {x : List ℕ} {ahead : Ahead} (at : ℕ) {mask : ℕ} → Sees delim x ahead → at < ahead.width → mask ≡ ahead.mask / 2 ^ at / 2 → Sees delim (drop (ahead.passed + at + 1) x) (record { passed = 0; width = ahead.width - (at + 1); mask = mask })
-sees_rest {delim} {x} {ahead} at sees inside is = record {
-  within = omega (arith, sees.within, length-drop (ahead.passed + at + 1) x);
-  narrow = omega (arith, sees.narrow);
-  none = tt;
-  marked = is ∙ ap (λ m. m / 2 ^ at / 2) sees.marked ∙ mask_after delim at (take ahead.width (drop ahead.passed x)) ∙ ap (delimiter_mask delim) window;
-} where
+sees_rest {delim} {x} {ahead} at sees inside is = grind (arith, common_steps, sees, length-drop, mask_after, window) where
   further : suc at + (ahead.width - (at + 1)) ≡ ahead.width
   further = omega arith
 
@@ -156,9 +128,7 @@ mask_padded delim other [] (suc n) differs = let rest : delimiter_mask delim (re
 mask_padded delim other (byte ∷ x) n differs = ap (λ rest. cond (eqb byte delim) 1 0 + 2 * rest) (mask_padded delim other x n differs)
 
 lowest_bit : {delim : ℕ} {x : List ℕ} {ahead : Ahead} → Sees delim x ahead → 0 < ahead.mask → count_trailing_zeros 64 ahead.mask ≡ before_first delim (take ahead.width (drop ahead.passed x))
-lowest_bit {delim} {x} {ahead} sees some =
-    ap (count_trailing_zeros 64) sees.marked ∙ trailing_mask_l (λ byte. eqb byte delim) 64 (take ahead.width (drop ahead.passed x))
-    (omega (arith, sees.narrow, length-window ahead.passed x sees.within)) (subst (λ n. 0 < n) sees.marked some)
+lowest_bit {delim} {x} {ahead} sees some = search (rules, trailing_mask_l, length-window)
 
 pub seen_at : {delim : ℕ} {x : List ℕ} {ahead : Ahead} → Sees delim x ahead → ahead.mask ≢ 0 → IsFirstAt delim x (ahead.passed + count_trailing_zeros 64 ahead.mask) × (count_trailing_zeros 64 ahead.mask < ahead.width)
 seen_at sees some = first_seen sees (lowest_bit sees (omega (arith, some))) (omega (arith, some))
@@ -207,13 +177,7 @@ came gets had line rest = grind (arith, nat_tests, append_assoc had line rest)
 -- a line was gathered, and the place is that of what follows
 shares_next : {n : ℕ} (next place : ℕ) (gathered : List (List ℕ)) (line : List ℕ) (lines : List (List ℕ)) (file : ℕ) → length gathered ≡ n → next < n → file < n → dealt n file place lines ≡ dealt n file (next + 1) lines
     → get_or (changed_at next (λ had. had ++ line) gathered) file [] ++ dealt n file place lines ≡ get_or gathered file [] ++ dealt n file next (line ∷ lines)
-shares_next {n} next place gathered line lines file count within inside same =
-    cc (
-      get_or-changed next line gathered file (omega arith),
-      came (eqb next file) (get_or gathered file []) line (dealt n file place lines),
-      same,
-      mod-eq_of_lt within,
-    )
+shares_next {n} next place gathered line lines file count within inside same = search (rules, get_or-changed, came, mod-eq_of_lt)
 
 counted : (delim : ℕ) (left line rest : List ℕ) → lines_of delim left ≡ line ∷ lines_of delim rest → line_count delim left ≡ suc (line_count delim rest)
 counted delim left line rest cut = ap length cut
@@ -222,25 +186,8 @@ counted delim left line rest cut = ap length cut
 complete_line : {delim n start : ℕ} {piece : List ℕ} {gathered now : List (List ℕ)} {next reached reached_now : ℕ} {left : List ℕ} (line : List ℕ) {rest : List ℕ} → Dealing delim n start piece gathered next reached left
     → lines_of delim left ≡ line ∷ lines_of delim rest → delimiters delim left ≡ delimiters delim rest + 1 → now ≡ changed_at next (λ had. had ++ line) gathered → reached_now ≡ max reached (next + 1)
     → Dealing delim n start piece now ((next + 1) % n) reached_now rest
-complete_line {delim} {n} {start} {piece} {gathered} {next} {reached} {reached_now} {left} line {rest} so_far cut more is reached_is = record {
-  count = ap length is ∙ length-changed_at next _ gathered ∙ so_far.count;
-  within = omega (arith, so_far.within);
-  shares = λ file inside. ap (λ those. get_or those file [] ++ dealt n file ((next + 1) % n) (lines_of delim rest)) is
-      ∙ shares_next next ((next + 1) % n) gathered line (lines_of delim rest) file so_far.count so_far.within inside (dealt_same n file ((next + 1) % n) (next + 1) (lines_of delim rest) (mod-mod (next + 1) n))
-      ∙ ap (λ lines. get_or gathered file [] ++ dealt n file next lines) (sym cut) ∙ so_far.shares file inside;
-  ends = mod-add-mod (next + 1) n (delimiters delim rest) ∙ ap (λ place. place % n) sum ∙ so_far.ends;
-  reaches = reaches;
-  few = omega (arith, so_far.within, so_far.few);
-  over = omega (arith, mod-le (next + 1) n);
-} where
-  sum : next + 1 + delimiters delim rest ≡ next + delimiters delim left
-  sum = omega arith
-
-  reaches : max reached_now (min n ((next + 1) % n + line_count delim rest)) ≡ min n (start + line_count delim piece)
-  reaches = elim (cases_eq (next + 1) n) [
-    | inl last ↦ (omega (arith, ap (λ place. place % n) last ∙ mod_self n, so_far.reaches, counted delim left line rest cut, so_far.few))
-    | inr other ↦ (let inside : next < n = so_far.within in let same : (next + 1) % n ≡ next + 1 = mod-eq_of_lt (omega (arith, other)) in omega (arith, so_far.reaches, counted delim left line rest cut, so_far.few))
-  ]
+complete_line {delim} {n} {start} {piece} {gathered} {next} {reached} {reached_now} {left} line {rest} so_far cut more is reached_is =
+    search (rules, length-changed_at, shares_next, dealt_same, mod-mod, mod-add-mod, mod-le, cases_eq, mod_self, counted, mod-eq_of_lt)
 
 -- the same, where the place is known by its number
 pub line_more : {delim n start : ℕ} {piece : List ℕ} {gathered now : List (List ℕ)} {next reached reached_now size place : ℕ} {left : List ℕ} (line : List ℕ) {rest : List ℕ} → Dealing delim n start piece gathered next reached left

@@ -13,14 +13,13 @@ use Rattle.ports_core.specs.Part.{File, Part, OutputsAt, StoppedBetween, FilesBe
 use Rattle.ports_core.specs.declared.slot.State.TheVariants.{Open, Closed}
 use Rattle.ports_core.specs.declared.fault.Fault.{Fault}
 use Rattle.ports_core.proofs.PartLemmas.{begins_itself, begins_trans, kept_trans, nothing_begins, marks_by, sound_at}
-use Rattle.ports_core.proofs.SlotSteps.{keeps_again, keeps_close, keeps_open, keeps_write, open_rose, rose_later, write_rose, writable_elsewhere, writable_within, writable_before, opened_writable, broken_there, written_size, short_size, broken_size}
+use Rattle.ports_core.proofs.SlotSteps.{keeps_again, keeps_close, keeps_open, keeps_write, open_rose, rose_later, write_rose, writable_elsewhere, writable_within, opened_writable, broken_there, written_size, short_size, broken_size}
 use Rattle.split_core.specs.Split.{Share, share, from_start, file_at, only_files, name_of, is_named}
 use Rattle.split_core.specs.FilesState.{FilesState}
 use Rattle.split_core.specs.Round.{AreReady, output_at}
 use Rattle.split_core.specs.laws.ShareLaws.{kept_file}
 use Rattle.split_core.proofs.MoveLemmas.{breaks_later, opens_marks, opens_at}
-use Rattle.split_core.specs.inner.Sharing.{part_by, all_open, only_at, StandAt, KeepsFiles, IsOfFiles, Adds, Leaves, Grow, IsDue, HaltedAt, closed_first, Opens, HaveClosed, ClosesAll, with_opened}
-use Rattle.std.proofs.Math.Seq.{get_or-append_seam}
+use Rattle.split_core.specs.inner.Sharing.{part_by, all_open, only_at, StandAt, KeepsFiles, IsOfFiles, Adds, Leaves, Grow, Halts, closed_first, Opens, HaveClosed, ClosesAll, with_opened}
 use Rattle.std.proofs.lemmas.Bool.{cases_lt, false≢true, eq-eqb, ne_eqb}
 use Rattle.ports_core.specs.inner.Write as short
 use Rattle.ports_core.specs.declared.slot.Mode.TheVariants.{Fresh}
@@ -45,9 +44,7 @@ pub changed_by : {X : Type 0} (change : X → X) (f g : ℕ → X) (start n plac
     → ((i : ℕ) → (i ≡ at → ⊥) → f i ≡ g i) → change (f at) ≡ g at
     → changed_at place change (map f (range_with_len start n)) ≡ map g (range_with_len start n)
 changed_by change f g start zero place is within other here = absurd (omega arith)
-changed_by change f g start (suc n) zero {at} is within other here =
-    let first : start ≡ at = omega arith in
-    cc (first, here, same_by f g (start + 1) n (λ i from to. other i (λ same. omega arith)))
+changed_by change f g start (suc n) zero {at} is within other here = search (rules, same_by)
 changed_by change f g start (suc n) (suc place) is within other here =
     cc (other start (λ same. omega arith), changed_by change f g (start + 1) n place (omega arith) (omega arith) other here)
 
@@ -82,13 +79,7 @@ grow_trans from to {low = low} {mid} {high} first second here there before after
 }
 
 pub grow_same : (from to : ℕ) (shares : ℕ → Share) (count : ℕ) → Grow from to shares count shares count
-grow_same from to shares count = record {
-  more = omega arith;
-  new = omega arith;
-  begin = λ i. inr refl;
-  bytes = λ i. begins_itself (shares i).bytes;
-  same = λ i out. refl;
-}
+grow_same from to shares count = search rules
 
 pub grow_by : (from to : ℕ) {had has : ℕ → List ℕ} (more : ℕ → List ℕ) (count : ℕ) → ((i : ℕ) → (i < from) ⊎ (to ≤ i) → more i ≡ []) → ((i : ℕ) → has i ≡ had i ++ more i)
     → Grow from to (all_open had) count (all_open has) (max count to)
@@ -102,39 +93,9 @@ grow_by from to {had} {has} more count outside are = record {
 
 -- A fault that stopped them
 
-pub halts_after : {told : Bool} {before : List Slot} {names : Naming} {low mid high : ℕ → Share} {a b few some many from to : ℕ} {why : Fault} {now : List Slot}
-    → Grow a b low few mid some → HaltedAt told before names mid some high many from to why now → a ≤ from → b ≤ suc from → HaltedAt told before names low few high many a to why now
-halts_after {a = a} grow stop less next = record {
-  place = stop.place;
-  after = omega (arith, stop.after);
-  within = stop.within;
-  part = stop.part;
-  some = stop.some;
-  inside = stop.inside;
-  above = grow_trans a (stop.place + 1) grow stop.above (omega arith) less (omega (arith, stop.after)) (omega arith);
-  below = stop.below;
-  reached = stop.reached;
-  outputs = stop.outputs;
-  marks = stop.marks;
-  came = stop.came;
-}
-
-halts_wider : {told : Bool} {before : List Slot} {names : Naming} {low mid high : ℕ → Share} {c few some many from to : ℕ} (most : ℕ) {why : Fault} {now : List Slot}
-    → HaltedAt told before names low few mid some from to why now → Grow c most mid some high many → to ≤ suc c → to ≤ most → HaltedAt told before names low few high many from most why now
-halts_wider most {why} stop grow next more = record {
-  place = stop.place;
-  after = stop.after;
-  within = omega (arith, stop.within);
-  part = stop.part;
-  some = stop.some;
-  inside = stop.inside;
-  above = stop.above;
-  below = grow_trans stop.place most stop.below grow (omega arith) (omega (arith, stop.within)) more (omega arith);
-  reached = stop.reached;
-  outputs = stop.outputs;
-  marks = marks_by _ _ why stop.reached _ (λ name due. (due.0, omega (arith, due.1, grow.more))) stop.marks;
-  came = stop.came;
-}
+-- after some files the next one of many is due, and it has this name
+abbrev pub IsDue : Naming → ℕ → ℕ → List ℕ → Type 0
+IsDue names some many name = (name ≡ name_of names some) × (some < many)
 
 next_due : (names : Naming) (part high : ℕ → Share) {some many : ℕ} (name : List ℕ) → IsDue names some many name → IsNext (part_by names part some) (part_by names high many) name
 next_due names part high {some} {many} name due = record {
@@ -150,31 +111,46 @@ next_due names part high {some} {many} name due = record {
   file : ℕ → File
   file i = file_at names i (high i)
 
--- the files are in order where the fault stopped them
-pub stops_in_order : {told : Bool} {before : List Slot} {names : Naming} {low high : ℕ → Share} {few many from to : ℕ} (why : Fault) {now : List Slot}
-    → HaltedAt told before names low few high many from to why now → StoppedBetween told before (part_by names low few) (part_by names high many) why now
-stops_in_order {before = before} {names} {low} {high} {few} {many} {to = to} why {now} stop = record {
-  part = part_by names stop.part stop.some;
-  above = grow_begins names stop.above;
-  below = grow_begins names stop.below;
-  place = stop.place;
-  order = record { done = done; untouched = untouched };
-  reached = stop.reached;
-  outputs = stop.outputs;
-  marks = marks_by (IsDue names stop.some many) _ why stop.reached now (next_due names stop.part high) stop.marks;
-  from = subst (IsAt why (length before) stop.place) (sym (length-map-range_with_len (λ i. file_at names i (stop.part i)) 0 stop.some)) stop.came;
-} where
-  done : take stop.place (map (λ i. file_at names i (stop.part i)) (range_with_len 0 stop.some)) ≡ take stop.place (map (λ i. file_at names i (high i)) (range_with_len 0 many))
-  done = take-map-range_with_len _ 0 stop.some stop.place stop.inside
-      ∙ same_by _ _ 0 stop.place (λ i past before. ap (file_at names i) (stop.below.same i (inl (omega arith))))
-      ∙ sym (take-map-range_with_len _ 0 many stop.place (omega (arith, stop.inside, stop.below.more)))
+-- The files before a place have got theirs already, and the files after it have got nothing.
+pub halts : {told : Bool} {before : List Slot} {names : Naming} {low high : ℕ → Share} {few many from to : ℕ} (place : ℕ) (part : ℕ
+    → Share) (some : ℕ) {why : Fault} {reached now : List Slot}
+    → from ≤ place → place < max 1 to → place ≤ some → Grow from (place + 1) low few part some → Grow place to part some high many
+    → OutputsAt told before (part_by names part some) reached → Marks (IsDue names some many) why reached now → IsAt why (length before) place some
+    → Halts told before names low few high many from to why now
+halts {before = before} {names} {few = few} {many} {from} {to} place part some {why} {reached} {now} after within inside above below outputs marks came =
+    record {
+      stops = λ first last fewest most end front back.
+          let risen = grow_trans 0 (place + 1) front above (omega arith) (omega arith) (omega arith) (omega arith) in
+          let left = grow_trans place (max to end) below back (omega arith) (omega arith) (omega arith) (omega arith) in record {
+            part = part_by names part some;
+            above = grow_begins names risen;
+            below = grow_begins names left;
+            place = place;
+            order = record { done = done last left; untouched = untouched first risen };
+            reached = reached;
+            outputs = outputs;
+            marks = marks_by (IsDue names some many) _ why reached now (λ name due. next_due names part last name (due.0, omega (arith, due.1, back.more))) marks;
+            from = subst (IsAt why (length before) place) (sym (length-map-range_with_len (λ i. file_at names i (part i)) 0 some)) came;
+          };
+    } where
+      done : {most end : ℕ} (last : ℕ → Share) → Grow place end part some last most
+          → take place (map (λ i. file_at names i (part i)) (range_with_len 0 some)) ≡ take place (map (λ i. file_at names i (last i)) (range_with_len 0 most))
+      done {most} last left = take-map-range_with_len _ 0 some place inside
+          ∙ same_by _ _ 0 place (λ i past before. ap (file_at names i) (left.same i (inl (omega arith))))
+          ∙ sym (take-map-range_with_len _ 0 most place (omega (arith, inside, left.more)))
 
-  untouched : drop (suc stop.place) (map (λ i. file_at names i (stop.part i)) (range_with_len 0 stop.some)) ≡ drop (suc stop.place) (map (λ i. file_at names i (low i)) (range_with_len 0 few))
-  untouched =
-      let left : stop.some - suc stop.place ≡ few - suc stop.place = omega (arith, stop.above.more, stop.above.new) in
-      drop_by _ (suc stop.place) 0 stop.some (zero-add (suc stop.place)) ∙ ap (λ n. map (λ i. file_at names i (stop.part i)) (range_with_len (suc stop.place) n)) left
-      ∙ same_by _ _ (suc stop.place) (few - suc stop.place) (λ i past in_it. ap (file_at names i) (sym (stop.above.same i (inr (omega arith)))))
-      ∙ sym (drop_by _ (suc stop.place) 0 few (zero-add (suc stop.place)))
+      untouched : {fewest : ℕ} (first : ℕ → Share) → Grow 0 (place + 1) first fewest part some
+          → drop (suc place) (map (λ i. file_at names i (part i)) (range_with_len 0 some)) ≡ drop (suc place) (map (λ i. file_at names i (first i)) (range_with_len 0 fewest))
+      untouched {fewest} first risen =
+          let left : some - suc place ≡ fewest - suc place = omega (arith, risen.more, risen.new) in
+          drop_by _ (suc place) 0 some (zero-add (suc place)) ∙ ap (λ n. map (λ i. file_at names i (part i)) (range_with_len (suc place) n)) left
+          ∙ same_by _ _ (suc place) (fewest - suc place) (λ i past in_it. ap (file_at names i) (sym (risen.same i (inr (omega arith)))))
+          ∙ sym (drop_by _ (suc place) 0 fewest (zero-add (suc place)))
+
+-- it stopped them in order
+pub stops_in_order : {told : Bool} {before : List Slot} {names : Naming} {low high : ℕ → Share} {few many from to : ℕ} {why : Fault} {now : List Slot}
+    → Halts told before names low few high many from to why now → StoppedBetween told before (part_by names low few) (part_by names high many) why now
+stops_in_order stop = stop.stops _ _ _ _ 0 (grow_same _ _ _ _) (grow_same _ _ _ _)
 
 pub stopped_as : (told : Bool) {before : List Slot} {low low' high high' : Part} {why : Fault} {now : List Slot} → low ≡ low' → high ≡ high' → StoppedBetween told before low high why now → StoppedBetween told before low' high' why now
 stopped_as told {before} {low} {high' = high'} {why} {now} is_low is_high stop =
@@ -185,9 +161,7 @@ stopped_as told {before} {low} {high' = high'} {why} {now} is_low is_high stop =
 -- the same files
 pub outputs_as : (told : Bool) {before now : List Slot} (names : Naming) {shares others : ℕ → Share} {m n : ℕ} → ((i : ℕ) → i < n → shares i ≡ others i) → m ≡ n
     → OutputsAt told before (part_by names shares m) now → OutputsAt told before (part_by names others n) now
-outputs_as told {before} {now} names {shares} {others} {n = n} same count at =
-    subst (λ files. OutputsAt told before (only_files files) now) (same_by _ _ 0 n (λ i past within. ap (file_at names i) (same i (omega arith))))
-    (subst (λ k. OutputsAt told before (part_by names shares k) now) count at)
+outputs_as told {before} {now} names {shares} {others} {n = n} same count at = search (rules, same_by)
 
 -- a fault came at a place before anything was done
 pub adds_not : (told : Bool) (files : FilesState) {names : Naming} (more : ℕ → List ℕ) {from : ℕ} (place to : ℕ) {old new : List Slot} (why : Fault) → from ≤ place → place < max 1 to → place ≤ length files.outputs
@@ -202,59 +176,41 @@ adds_not told files more {from} place to {old} why low high inside names owned c
   sound = tt;
   caused = caused;
   outside = λ i out. outside i (wider low (omega arith) out);
-  leaves = λ before had has at are. record {
-    place = place;
-    after = low;
-    within = high;
-    part = all_open had;
-    some = length files.outputs;
-    inside = inside;
-    above = grow_same from (place + 1) (all_open had) (length files.outputs);
-    below = grow_by place to more (length files.outputs) outside are;
-    reached = old;
-    outputs = at.outputs;
-    marks = marks;
-    came = came (length before);
-  };
+  leaves = λ before had has at are. halts place (all_open had) (length files.outputs) low high inside
+      (grow_same from (place + 1) (all_open had) (length files.outputs))
+      (grow_by place to more (length files.outputs) outside are) at.outputs marks (came (length before));
 }
 
 -- a later step
 pub adds_then : {told : Bool} {files between next : FilesState} {first second : ℕ → List ℕ} {from to low high : ℕ} {old mid new : List Slot} (result : Result (Unit {0}) Fault)
     → Adds told files first from to old between mid (Ok tt) → Adds told between second low high mid next new result
     → from ≤ low → to ≤ suc low → to ≤ high → Adds told files (λ i. first i ++ second i) from high old next new result
-adds_then {told} {files} {between} {next} {first} {second} {from} {to} {low} {high} {old} {mid} {new} result one other less near more = record {
-  names = other.names ∙ one.names;
-  owned = λ place owns. other.owned place (one.owned place owns);
-  ready = other.ready;
-  opened = on_ok_weaker result (λ opened. opened ∙ count) other.opened;
-  sound = on_ok_weaker result (keeps_again old mid new one.sound) other.sound;
-  caused = IfErr-weaker result _ _ (λ why caused. (breaks_later one.sound caused.0, caused.1)) other.caused;
-  outside = outside;
-  leaves = λ before had has at are. further result before had has (leaves before had has at are);
-} where
-  count : max (length between.outputs) high ≡ max (length files.outputs) high
-  count = omega (arith, one.opened)
+adds_then {told} {files} {between} {next} {first} {second} {from} {to} {low} {high} {old} {mid} {new} result one other less near more =
+    grind (arith, common_steps, one, other, on_ok_weaker, keeps_again, IfErr-weaker, breaks_later, outside, leaves, further, count) where
+      count : max (length between.outputs) high ≡ max (length files.outputs) high
+      count = omega (arith, one.opened)
 
-  outside : (i : ℕ) → (i < from) ⊎ (high ≤ i) → first i ++ second i ≡ []
-  outside i out = cc (one.outside i (wider (omega arith) more out), other.outside i (wider less (omega arith) out))
+      outside : (i : ℕ) → (i < from) ⊎ (high ≤ i) → first i ++ second i ≡ []
+      outside i out = cc (one.outside i (wider (omega arith) more out), other.outside i (wider less (omega arith) out))
 
-  leaves : (before : List Slot) (had has : ℕ → List ℕ) → StandAt told files before had old → ((i : ℕ) → has i ≡ had i ++ (first i ++ second i))
-      → Leaves told before (from_start files.names) (all_open (λ i. had i ++ first i)) (max (length files.outputs) to) (all_open has) (max (length files.outputs) high) low high new result
-  leaves before had has at are = subst (λ n. Leaves told before (from_start files.names) (all_open (λ i. had i ++ first i)) (max (length files.outputs) to) (all_open has) n low high new result) count
-      (subst (λ n. Leaves told before (from_start files.names) (all_open (λ i. had i ++ first i)) n (all_open has) (max (length between.outputs) high) low high new result) one.opened
-      (subst (λ names. Leaves told before names (all_open (λ i. had i ++ first i)) (length between.outputs) (all_open has) (max (length between.outputs) high) low high new result) one.names
-      (other.leaves before (λ i. had i ++ first i) has (record {
+      leaves : (before : List Slot) (had has : ℕ → List ℕ) → StandAt told files before had old → ((i : ℕ) → has i ≡ had i ++ (first i ++ second i))
+          → Leaves told before (from_start files.names) (all_open (λ i. had i ++ first i)) (max (length files.outputs) to) (all_open has) (max (length files.outputs) high) low high new result
+      leaves before had has at are = rw (← count, ← one.opened, ← one.names) (other.leaves before (λ i. had i ++ first i) has (record {
         owns = one.owned (length before) at.owns;
         outputs = subst (λ names. OutputsAt told before (part_by names (all_open (λ i. had i ++ first i)) (length between.outputs)) mid) (sym one.names)
             (subst (λ n. OutputsAt told before (part_by (from_start files.names) (all_open (λ i. had i ++ first i)) n) mid) (sym one.opened) (one.leaves before had _ at (λ i. refl)));
         none = λ i past. cc (at.none i (omega (arith, past, one.opened)), one.outside i (inr (omega (arith, past, one.opened))));
-      }) (λ i. are i ∙ sym (append_assoc (had i) (first i) (second i))))))
+      }) (λ i. are i ∙ sym (append_assoc (had i) (first i) (second i))))
 
-  further : (result : Result (Unit {0}) Fault) (before : List Slot) (had has : ℕ → List ℕ)
-      → Leaves told before (from_start files.names) (all_open (λ i. had i ++ first i)) (max (length files.outputs) to) (all_open has) (max (length files.outputs) high) low high new result
-      → Leaves told before (from_start files.names) (all_open had) (length files.outputs) (all_open has) (max (length files.outputs) high) from high new result
-  further (Ok done) before had has at = at
-  further (Err why) before had has stop = halts_after (grow_by from to first (length files.outputs) one.outside (λ i. refl)) stop less near
+      further : (result : Result (Unit {0}) Fault) (before : List Slot) (had has : ℕ → List ℕ)
+          → Leaves told before (from_start files.names) (all_open (λ i. had i ++ first i)) (max (length files.outputs) to) (all_open has) (max (length files.outputs) high) low high new result
+          → Leaves told before (from_start files.names) (all_open had) (length files.outputs) (all_open has) (max (length files.outputs) high) from high new result
+      further (Ok done) before had has at = at
+      further (Err why) before had has stop = record {
+        stops = λ start last fewest most end front back. stop.stops start last fewest most end
+            (grow_trans 0 (low + 1) front (grow_by from to first (length files.outputs) one.outside (λ i. refl)) (omega arith) (omega arith) (omega arith)
+            (omega arith)) back;
+      }
 
 -- a fault on the way to more than was to be added
 pub adds_wider : {told : Bool} {files next : FilesState} {some more : ℕ → List ℕ} {from to : ℕ} (low most : ℕ) (rest : ℕ → List ℕ) {old new : List Slot} {why : Fault}
@@ -268,10 +224,15 @@ adds_wider {files = files} {some} {more} {from} {to} low most rest {new = new} {
   sound = tt;
   caused = adds.caused;
   outside = λ i out. are i ∙ cc (adds.outside i (wider (omega arith) far out), none i (wider less (omega arith) out));
-  leaves = λ before had has at is. let count : max (max (length files.outputs) to) most ≡ max (length files.outputs) most = omega arith in
-      halts_wider most (adds.leaves before had _ at (λ i. refl))
-      (subst (λ n. Grow low most (all_open (λ i. had i ++ some i)) (max (length files.outputs) to) (all_open has) n) count
-      (grow_by low most rest (max (length files.outputs) to) none (λ i. is i ∙ ap (λ bytes. had i ++ bytes) (are i) ∙ sym (append_assoc (had i) (some i) (rest i))))) near far;
+  leaves = λ before had has at is. record {
+    stops = λ start last fewest all end front back.
+        let count : max (max (length files.outputs) to) most ≡ max (length files.outputs) most = omega arith in
+        (adds.leaves before had _ at (λ i. refl)).stops start last fewest all (max most end) front (grow_trans (to - 1) (max most end)
+        (subst (λ n. Grow low most (all_open (λ i. had i ++ some i)) (max (length files.outputs) to) (all_open has) n) count
+        (grow_by low most rest (max (length files.outputs) to) none
+        (λ i. is i ∙ ap (λ bytes. had i ++ bytes) (are i) ∙ sym (append_assoc (had i) (some i) (rest i))))) back
+        (omega arith) (omega arith) (omega arith) (omega arith));
+  };
 }
 
 -- what the first of the files get, one after another
@@ -302,45 +263,28 @@ sent_all {told} {files} {next} {old} {new} place {most} more none is adds = grin
 -- what is so of each output and of one more
 each_output : (P : ℕ → ℕ → Type 0) (outputs : List ℕ) (slot : ℕ) → ((place : ℕ) → place < length outputs → P place (get_or outputs place 0)) → P (length outputs) slot
     → (place : ℕ) → place < length (outputs ++ slot ∷ []) → P place (get_or (outputs ++ slot ∷ []) place 0)
-each_output P outputs slot before last place within = elim (cases_lt place (length outputs)) [
-  | inl less ↦ subst (P place) (sym (get_or_append_left outputs (slot ∷ []) 0 place less)) (before place less)
-  | inr past ↦
-      let here : length outputs ≡ place = omega (arith, past, length-append outputs (slot ∷ [])) in
-      subst (λ n. P n (get_or (outputs ++ slot ∷ []) n 0)) here (subst (P (length outputs)) (sym (get_or-append_seam outputs slot [] 0)) last)
-]
+each_output P outputs slot before last place within = grind (arith, common_steps)
 
 -- each output is one of the slots
 output_within : {files : FilesState} {slots : List Slot} (place : ℕ) → AreReady files slots → place < length files.outputs → output_at files place < length slots
 output_within {files} {slots} place ready within = writable_within (output_at files place) slots (ready.closable place within).1
 
 ready_opened : {files : FilesState} {old new : List Slot} (name : List ℕ) → AreReady files old → new ≡ old ++ opened name Fresh ∷ [] → AreReady (with_opened (length old) files) new
-ready_opened {files} {old} name ready is = rw is (record {
-  streams = omega (arith, length-append old (opened name Fresh ∷ []), ready.streams);
-  drawn = ap (λ n. n + 1) ready.drawn ∙ sym (length-append files.outputs (length old ∷ []));
-  apart = λ place other less within. each_output (λ at out. (place : ℕ) → place < at → get_or (files.outputs ++ length old ∷ []) place 0 < out) files.outputs (length old)
-      (λ other inside place less. rw (get_or_append_left files.outputs (length old ∷ []) 0 place (omega arith)) (ready.apart place other less inside))
-      (λ place less. rw (get_or_append_left files.outputs (length old ∷ []) 0 place less) (output_within place ready less)) other within place less;
-  closable = each_output (λ at out. is_closable (old ++ opened name Fresh ∷ []) out) files.outputs (length old)
-      (λ place within. ((ready.closable place within).0, writable_before old _ _ (opened name Fresh) (output_within place ready within) refl (ready.closable place within).1))
-      (ready.streams, opened_writable old _ (length old) name Fresh refl refl);
-})
+ready_opened {files} {old} name ready is = grind (arith, common_steps, length-append, each_output, get_or_append_left, output_within, opened_writable)
 
 owned_opened : {files : FilesState} {old new : List Slot} (name : List ℕ) → files.names.drawn ≡ length files.outputs → new ≡ old ++ opened name Fresh ∷ [] → KeepsFiles files old (with_opened (length old) files) new
-owned_opened {files} {old} name drawn is first owns = rw is (record {
-  stand = each_output (λ place out. out ≡ first + place) files.outputs (length old) owns.stand (sym (owns.last drawn));
-  last = λ same. (omega (arith, length-append files.outputs (length old ∷ []), length-append old (opened name Fresh ∷ []), owns.last drawn));
-})
+owned_opened {files} {old} name drawn is first owns = grind (arith, common_steps)
 
 -- the file could not be opened: then a name was drawn for it, or no output was added
 owned_unopened : (files : FilesState) (names : Naming) {old new : List Slot} {why : Fault} → files.names.drawn ≡ length files.outputs → OpensNone files.names names old new why
     → KeepsFiles files old (record files { names = names }) new
-owned_unopened files names drawn (no_memory same) first owns = record { stand = owns.stand; last = λ also. owns.last drawn ∙ sym (ap length same) }
+owned_unopened files names drawn (no_memory has same) first owns = record { stand = owns.stand; last = λ also. owns.last drawn ∙ sym (ap length same) }
 owned_unopened files names drawn (no_name has same) first owns = record { stand = owns.stand; last = λ also. owns.last drawn ∙ sym (ap length same) }
 owned_unopened files names drawn (no_file slot kept at has drew is made) first owns =
     record { stand = owns.stand; last = λ also. absurd (omega (arith, also, drawn, ap (λ (those : Naming). those.drawn) drew)) }
 
 fails_caused : {names next : Naming} {old new : List Slot} {why : Fault} → IsTrue (has_next names) → OpensNone names next old new why → CannotOpen old new why
-fails_caused has (no_memory same) = inl refl
+fails_caused has (no_memory left same) = inl refl
 fails_caused {old = old} {new} has (no_file slot kept at _ drew is made) = inr (slot, refl, open_rose slot kept old new at made)
 fails_caused has (no_name none same) = absurd (false≢true (sym none ∙ has))
 
@@ -356,20 +300,7 @@ cannot_later old mid new stay (inr (slot, is, rose)) = inr (slot, is, rose_later
 pub reached : (told : Bool) (files : FilesState) {old new : List Slot} (place : ℕ) → AreReady files old → place ≡ length files.outputs
     → new ≡ old ++ opened (next_name files.names) Fresh ∷ [] → Opens told files place (place + 1) old (with_opened (length old) files) new (Ok tt)
 reached told files {old} {new} place ready here is = record {
-  adds = record {
-    names = refl;
-    owned = owned_opened (next_name files.names) ready.drawn is;
-    ready = ready_opened (next_name files.names) ready is;
-    opened = omega (arith, length-append files.outputs (length old ∷ []), here);
-    sound = keeps_open (opened (next_name files.names) Fresh) old new is;
-    caused = tt;
-    outside = λ i out. refl;
-    leaves = λ before had has at are.
-        let count : max (length files.outputs) (place + 1) ≡ length files.outputs + 1 = omega (arith, here) in
-        subst (λ n. OutputsAt told before (part_by (from_start files.names) (all_open has) n) new) (sym count)
-        (subst (λ files. OutputsAt told before (only_files files) new) (list before had has at are)
-        (file_more told before (part_by (from_start files.names) (all_open had) (length files.outputs)) old new (name_of files.names files.names.drawn) Fresh at.outputs is));
-  };
+  adds = grind (arith, common_steps, ready.drawn, owned_opened, ready_opened, length-append files.outputs (length old ∷ []), keeps_open, leaves);
   caused = tt;
 } where
   file : (ℕ → List ℕ) → ℕ → File
@@ -382,26 +313,37 @@ reached told files {old} {new} place ready here is = record {
       sym (map-range_with_len_more (file has) 0 (length files.outputs) (length files.outputs) (zero-add (length files.outputs))
       ∙ cc (same, at.none (length files.outputs) (omega arith), ready.drawn))
 
+  leaves : (before : List Slot) (had has : ℕ → List ℕ) → StandAt told files before had old → ((i : ℕ) → has i ≡ had i ++ [])
+      → OutputsAt told before (part_by (from_start files.names) (all_open has) (max (length files.outputs) (place + 1))) new
+  leaves before had has at are =
+      let count : max (length files.outputs) (place + 1) ≡ length files.outputs + 1 = omega (arith, here) in
+      subst (λ n. OutputsAt told before (part_by (from_start files.names) (all_open has) n) new) (sym count)
+      (subst (λ files. OutputsAt told before (only_files files) new) (list before had has at are)
+      (file_more told before (part_by (from_start files.names) (all_open had) (length files.outputs)) old new
+      (name_of files.names files.names.drawn) Fresh at.outputs is))
+
 -- or it couldn't be
 pub reached_not : (told : Bool) (files : FilesState) {names : Naming} {old new : List Slot} (place : ℕ) {why : Fault} → AreReady files old → place ≡ length files.outputs → is_named files.names place ≡ true
-    → names ≡ record files.names { drawn = names.drawn } → OpensNone files.names names old new why → Opens told files place (place + 1) old (record files { names = names }) new (Err why)
-reached_not told files {names} {old} {new} place {why} ready here named same fails = record {
+    → names ≡ record files.names { drawn = names.drawn } → (IsTrue (has_next files.names) → OpensNone files.names names old new why)
+    → Opens told files place (place + 1) old (record files { names = names }) new (Err why)
+reached_not told files {names} {old} {new} place {why} ready here named same unopened = record {
   adds = adds_not told files _ place (place + 1) why (omega arith) (omega arith) (omega arith) (ap from_start same) (owned_unopened files names ready.drawn fails) (of_files caused) (λ i out. refl)
       (opens_marks _ (λ has. (ap (name_of files.names) ready.drawn, omega arith)) fails) (λ first. opens_at first here fails);
   caused = caused;
 } where
+  has : IsTrue (has_next files.names)
+  has = subst (λ n. is_named files.names n ≡ true) (here ∙ sym ready.drawn) named
+
+  fails : OpensNone files.names names old new why
+  fails = unopened has
+
   caused : CannotOpen old new why
-  caused = fails_caused (subst (λ n. is_named files.names n ≡ true) (here ∙ sym ready.drawn) named) fails
+  caused = fails_caused has fails
 
 -- Writing
 
 ready_written : {files : FilesState} (slot : ℕ) (bytes : List ℕ) {old new : List Slot} → AreReady files old → new ≡ with_written slot bytes old → AreReady files new
-ready_written {files} slot bytes {old} ready is = rw is (record {
-  streams = subst (λ n. 2 ≤ n) (sym (length-changed_at slot (adds bytes) old)) ready.streams;
-  drawn = ready.drawn;
-  apart = ready.apart;
-  closable = λ place within. ((ready.closable place within).0, writable-written old slot (output_at files place) bytes ∙ (ready.closable place within).1);
-})
+ready_written {files} slot bytes {old} ready is = search (rules, length-changed_at, writable-written)
 
 -- there are as many slots as before
 owned_same : {files : FilesState} {old new : List Slot} → length new ≡ length old → KeepsFiles files old files new
@@ -431,16 +373,8 @@ writes told {files} {had = had} {has} place bytes within is at are = changes tol
 pub written : (told : Bool) {files : FilesState} {old new : List Slot} (place : ℕ) (bytes : List ℕ) (result : Result (Unit {0}) Fault) → AreReady files old → place < length files.outputs
     → WritesTo told (output_at files place) bytes old new result
     → Adds told files (only_at place bytes) place (place + 1) old files new result
-written told {files} {old} {new} place bytes (Ok done) ready within is = record {
-  names = refl;
-  owned = owned_same (written_size (output_at files place) _ old new is);
-  ready = ready_written (output_at files place) _ ready is;
-  opened = omega arith;
-  sound = keeps_write (output_at files place) _ old new is;
-  caused = tt;
-  outside = none_outside place bytes;
-  leaves = λ before had has at are. outputs_as told (from_start files.names) (λ i inside. refl) (omega arith) (writes told place bytes within is at are);
-}
+written told {files} {old} {new} place bytes (Ok done) ready within is =
+    grind (arith, common_steps, owned_same, written_size, ready_written, keeps_write, none_outside, outputs_as, writes)
 written told {files} {old} {new} place bytes (Err _) ready within (short.broke n cut) = record {
   names = refl;
   owned = owned_same (short_size told slot bytes old new _ (short.broke n cut));
@@ -449,22 +383,15 @@ written told {files} {old} {new} place bytes (Err _) ready within (short.broke n
   sound = tt;
   caused = (breaks_write slot (ready.closable place within).0 (write_rose told slot bytes n old new (ready.closable place within).1 cut), λ named. false≢true (ap is_verdict named));
   outside = none_outside place bytes;
-  leaves = λ before had has at are. record {
-    place = place;
-    after = omega arith;
-    within = omega arith;
-    part = all_open (λ i. had i ++ only_at place (take n bytes) i);
-    some = length files.outputs;
-    inside = omega arith;
-    above = subst (λ many. Grow place (place + 1) (all_open had) (length files.outputs) (all_open (λ i. had i ++ only_at place (take n bytes) i)) many) count
-        (grow_by place (place + 1) (only_at place (take n bytes)) (length files.outputs) (none_outside place (take n bytes)) (λ i. refl));
-    below = grow_by place (place + 1) (only_at place (drop n bytes)) (length files.outputs) (none_outside place (drop n bytes))
-        (λ i. are i ∙ ap (λ those. had i ++ those) (parted i) ∙ sym (append_assoc (had i) (only_at place (take n bytes) i) (only_at place (drop n bytes) i)));
-    reached = with_written slot (told_of told (take n bytes)) old;
-    outputs = writes told place (take n bytes) within refl at (λ i. refl);
-    marks = ((omega (arith, length-changed_at slot (adds (told_of told (take n bytes))) old, output_within place ready within)), cut.slots);
-    came = inr (at.owns.stand place within);
-  };
+  leaves = λ before had has at are. halts place (all_open (λ i. had i ++ only_at place (take n bytes) i)) (length files.outputs) (omega arith) (omega arith)
+      (omega arith)
+      (subst (λ many. Grow place (place + 1) (all_open had) (length files.outputs) (all_open (λ i. had i ++ only_at place (take n bytes) i)) many) count
+      (grow_by place (place + 1) (only_at place (take n bytes)) (length files.outputs) (none_outside place (take n bytes)) (λ i. refl)))
+      (grow_by place (place + 1) (only_at place (drop n bytes)) (length files.outputs) (none_outside place (drop n bytes))
+      (λ i. are i ∙ ap (λ those. had i ++ those) (parted i) ∙ sym (append_assoc (had i) (only_at place (take n bytes) i) (only_at place (drop n bytes) i))))
+      (writes told place (take n bytes) within refl at (λ i. refl))
+      (omega (arith, length-changed_at slot (adds (told_of told (take n bytes))) old, output_within place ready within), cut.slots)
+      (inr (at.owns.stand place within));
 } where
   slot : ℕ
   slot = output_at files place
@@ -505,18 +432,12 @@ module _ (told : Bool) {files : FilesState} {place : ℕ} {old now : List Slot} 
       (ap (λ now. file_at (from_start files.names) place (share now (had place))) (sym (shut_now place (place + 1) (omega arith))))
 
   pub one_closed : {new : List Slot} → new ≡ changed_at (output_at files place) closes now → Closing told files (place + 1) old new
-  one_closed {new} is = record {
-    size = ap length is ∙ length-changed_at (output_at files place) closes now ∙ so_far.size;
-    left = λ other past inside. (let can = so_far.left other (omega arith) inside in let apart = ready.apart place other (omega arith) inside in
-        (can.0, writable_elsewhere now new (output_at files other) (output_at files place) closes (λ same. omega (arith, same, apart)) is can.1));
-    closed = λ before had at. closes_next is at;
-    sound = keeps_again old now new so_far.sound (keeps_close (output_at files place) now new is);
-  }
+  one_closed {new} is = search (rules, length-changed_at, writable_elsewhere, closes_next, keeps_again, keeps_close)
 
   pub not_closed : {new : List Slot} {slot : ℕ} {why : Fault} → slot ≡ output_at files place → (why ≡ fault.Write slot) × (new ≡ with_broken slot (changed_at slot closes now)) → ClosesAll told files old new (Err why)
   not_closed {new} {slot} {why} slot_is failed = subst (λ those. ClosesAll told files old new (Err those)) (sym (failed.0 ∙ ap fault.Write slot_is)) (record {
     closed = tt;
-    cut = λ before had at. stops_in_order _ (halted before had at);
+    cut = λ before had at. stops_in_order (halted before had at);
     caused = (output_at files place, refl, can.0, (so_far.sound (output_at files place) (sound_at (output_at files place) now can.1), risen));
     owned = owned_same (broken_size (output_at files place) now new is ∙ so_far.size);
   }) where
@@ -533,39 +454,15 @@ module _ (told : Bool) {files : FilesState} {place : ℕ} {old now : List Slot} 
     risen = ap (λ slots. (slot_at slots (output_at files place)).is_broken) is ∙ broken_there (output_at files place) _ there
 
     shut_grow : (had : ℕ → List ℕ) (from to n m : ℕ) → from ≤ n → n ≤ m → m ≤ to → Grow from to (closed_first n had) (length files.outputs) (closed_first m had) (length files.outputs)
-    shut_grow had from to n m low few high = record {
-      more = omega arith;
-      new = omega arith;
-      begin = λ i. elim (cases_lt i n) [
-        | inl less ↦ inr (closed_as had i n m (λ is. omega (arith, is)) (λ is. less))
-        | inr past ↦ inl (still_open i n past)
-      ];
-      bytes = λ i. begins_itself (had i);
-      same = λ i out. closed_as had i n m (λ is. omega (arith, is)) (λ is. omega (arith, out, is));
-    }
+    shut_grow had from to n m low few high = grind (arith, common_steps, cases_lt, closed_as, still_open, begins_itself)
 
     halted : (before : List Slot) (had : ℕ → List ℕ) → StandAt told files before had old
-        → HaltedAt told before (from_start files.names) (all_open had) (length files.outputs) (closed_first (length files.outputs) had) (length files.outputs) 0 (length files.outputs) (fault.Write (output_at files place)) new
-    halted before had at = record {
-      place = place;
-      after = omega arith;
-      within = omega arith;
-      part = closed_first (place + 1) had;
-      some = length files.outputs;
-      inside = omega arith;
-      above = record {
-        more = omega arith;
-        new = omega arith;
-        begin = λ i. inl refl;
-        bytes = λ i. begins_itself (had i);
-        same = λ i out. ap (λ now. share now (had i)) (sym (still_open i (place + 1) (omega (arith, out))));
-      };
-      below = shut_grow had place (length files.outputs) (place + 1) (length files.outputs) (omega arith) (omega arith) (omega arith);
-      reached = changed_at (output_at files place) closes now;
-      outputs = closes_next refl at;
-      marks = (there, is);
-      came = inr (at.owns.stand place within);
-    }
+        → Halts told before (from_start files.names) (all_open had) (length files.outputs) (closed_first (length files.outputs) had) (length files.outputs) 0
+        (length files.outputs) (fault.Write (output_at files place)) new
+    halted before had at = halts place (closed_first (place + 1) had) (length files.outputs) (omega arith) (omega arith) (omega arith)
+        (grind (arith, common_steps, still_open, begins_itself))
+        (shut_grow had place (length files.outputs) (place + 1) (length files.outputs) (omega arith) (omega arith) (omega arith))
+        (closes_next refl at) (there, is) (inr (at.owns.stand place within))
 
 -- A file was reached, and then written to.
 

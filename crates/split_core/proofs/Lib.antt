@@ -1,9 +1,6 @@
-pub mod StepLemmas
 pub mod RoundLemmas
 pub mod AgreedLemmas
-pub mod RoundPlacedLemmas
 pub mod CutLaws
-pub mod WaysLemmas
 pub mod UndecidedLemmas
 pub mod MoveLemmas
 pub mod FilesLemmas

@@ -1,6 +1,6 @@
 -- How the files of `split` change, as they are opened, written and closed, and how what waits is written.
 use Rattle.std.proofs.lemmas.Grind.{common_steps}
-use Rattle.std.proofs.Common.{◌≡◌, ℕ, ◌+◌, ◌≤◌, zero, suc, List, [], ◌∷◌, ◌++◌, ◌⊎◌, length, Bool, true, false, IsTrue, Option, Some, None, Result, Ok, Err, OnOk, IfErr, inl, inr, refl, sym, ap, subst, arith, length-append, rules, take, drop, ◌∙◌, append_assoc, zero-add}
+use Rattle.std.proofs.Common.{◌≡◌, ℕ, ◌+◌, ◌≤◌, zero, suc, List, [], ◌∷◌, ◌++◌, ◌⊎◌, length, Bool, true, false, IsTrue, Option, Some, None, Result, Ok, Err, OnOk, IfErr, inl, inr, refl, sym, ap, subst, arith, length-append, rules, drop, ◌∙◌, append_assoc, zero-add}
 use Rattle.std.proofs.lemmas.Bool.{cond_both, false≢true}
 use Rattle.std.proofs.lemmas.Result.{IfErr-weaker, on_ok_weaker}
 use Rattle.ports_core.specs.Name.{Naming, next_name, has_next, with_one_drawn}
@@ -9,26 +9,24 @@ use Rattle.ports_core.specs.inner.Slot.{KeepsBroken}
 use Rattle.ports_core.specs.declared.slot.Mode.TheVariants.{Fresh}
 use Rattle.ports_core.specs.declared.slot.State.TheVariants as state
 use Rattle.ports_core.specs.Part.{Part, Marks, IsAt}
-use Rattle.ports_core.specs.inner.Part.{AllClosed, InTurn, fault_in}
+use Rattle.ports_core.specs.inner.Part.{AllClosed, InTurn}
 use Rattle.ports_core.specs.Engine.{IsMet, is_verdict}
 use Rattle.ports_core.specs.declared.fault.Fault.{Fault}
 use Rattle.ports_core.specs.declared.fault.Fault.TheVariants.{Write, Suffixes}
 use Rattle.ports_core.proofs.PartLemmas.{begins_itself, begins_more, turn_last, turn_next}
 use Rattle.ports_core.proofs.PartSteps.{Becomes, with_last, becomes_again, falls_wider, halts_here, opens, writes_to, closes_last, closes_not}
 use Rattle.ports_core.specs.inner.Write.{WritesShort, broke}
-use Rattle.ports_core.proofs.SlotSteps.{keeps_again, rose_later, write_rose, open_rose}
+use Rattle.ports_core.proofs.SlotSteps.{keeps_again, rose_later, write_rose, open_rose, written_writable}
 use Rattle.split_core.specs.Split.{Share, share, split_means, is_named, are_named, from_start, only_files, file_at, named, name_of}
 use Rattle.split_core.specs.inner.CutLaws.{AllShut, SharesBegin}
 use Rattle.split_core.proofs.CutLaws.{shares_more, shares_themselves, shares_trans, last_grows}
 use Rattle.split_core.specs.laws.ShareLaws.{part_begins, one_on, shares_fewer}
-use Rattle.split_core.specs.inner.PartsState.{IsAtEnd}
 use Rattle.split_core.specs.PartsState.{PartsState, IsReady, OwnsFile}
-use Rattle.split_core.specs.inner.Moves.{part_of, Draft, written, Goes, Moves, RunsShort, Keeps, KeepsFile, Breaks, CannotClose, OpensNone, no_memory, no_file, no_name, WritesTo, wants_memory, breaks_write, breaks_open, lacks_names}
-use Rattle.std.proofs.lemmas.List.{append-nil, take-append-le}
-use Rattle.std.proofs.Math.Seq.{drop-append_seam, take-append-add}
+use Rattle.split_core.specs.inner.Moves.{IsAtEnd, part_of, Draft, written, Goes, Moves, RunsShort, Keeps, KeepsFile, Breaks, CannotClose, OpensNone, no_memory, no_file, no_name, WritesTo, wants_memory, breaks_write, breaks_open, lacks_names}
+use Rattle.std.proofs.lemmas.List.{append-nil}
+use Rattle.std.proofs.Math.Seq.{drop-append_seam}
 use Rattle.ports_core.specs.Slot as outputs
-use Rattle.ports_core.proofs.WriteLemmas.{told_of-append, told_of-nil, with_written-append, writable-written}
-use Rattle.ports_core.proofs.SlotLemmas.{with_written-nil}
+use Rattle.ports_core.proofs.WriteLemmas.{broke_later, none_written, written_both}
 
 -- names
 
@@ -96,18 +94,18 @@ pub write_breaks : (told : Bool) {slot : ℕ} {bytes : List ℕ} {old new : List
 write_breaks told {slot} {bytes} {old} {new} two can (broke n cut) = breaks_write slot two (write_rose told slot bytes n old new can cut)
 
 pub open_breaks : {names next : Naming} {old new : List Slot} {fault : Fault} → OpensNone names next old new fault → Breaks old new fault
-open_breaks (no_memory same) = wants_memory
+open_breaks (no_memory has same) = wants_memory
 open_breaks {old = old} {new} (no_file slot kept at has drew is made) = breaks_open slot (open_rose slot kept old new at made)
 open_breaks (no_name none same) = lacks_names
 
 -- what an open that failed leaves, and where it failed
 pub opens_marks : (IsName : List ℕ → Type 0) {names next : Naming} {old new : List Slot} {fault : Fault} → (IsTrue (has_next names) → IsName (next_name names)) → OpensNone names next old new fault → Marks IsName fault old new
-opens_marks IsName named (no_memory same) = same
+opens_marks IsName named (no_memory has same) = same
 opens_marks IsName {names} named (no_file slot kept at has drew is made) = grind (arith, common_steps)
 opens_marks IsName named (no_name none same) = same
 
 pub opens_at : {names next : Naming} {old new : List Slot} {fault : Fault} (first : ℕ) {place count : ℕ} → place ≡ count → OpensNone names next old new fault → IsAt fault first place count
-opens_at first here (no_memory same) = tt
+opens_at first here (no_memory has same) = tt
 opens_at first here (no_file slot kept at has drew is made) = here
 opens_at first here (no_name none same) = tt
 
@@ -154,7 +152,7 @@ owned_opened one old {new} at is first owns = grind (arith, common_steps)
 
 -- the file could not be opened
 pub owned_unopened : {names next : Naming} {old new : List Slot} {fault : Fault} → OpensNone names next old new fault → KeepsFile None old None new
-owned_unopened {old = old} {new} (no_memory same) first owns = grind (arith, common_steps)
+owned_unopened {old = old} {new} (no_memory has same) first owns = grind (arith, common_steps)
 owned_unopened {old = old} (no_file slot kept at has drew is made) first owns = grind (arith, common_steps)
 owned_unopened {old = old} {new} (no_name none same) first owns = grind (arith, common_steps)
 
@@ -171,14 +169,12 @@ pub goes_then : {told : Bool} {names : Naming} {current next : Option ℕ} {low 
 goes_then {names = names} {current} {next} {low} {mid} {high} {old} {wet} result owned one other = record {
   grows = shares_trans low mid high one.grows other.grows;
   moves = λ last. becomes_again (part_begins names low mid one.grows) (one.moves last) (other.moves (stays_last current next old wet owned last));
-  short = IfErr-weaker result _ _ (λ fault short is. let ran = short is in record {
-    those = ran.those;
-    shut = ran.shut;
-    none = ran.none;
-    begins = ran.begins;
-    fewer = ran.fewer;
-    moves = λ last before at. ran.moves (stays_last current next old wet owned last) before ((one.moves last).gets before at);
-  }) other.short;
+  short = IfErr-weaker result _ _ (λ fault short is. let ran = short is in (
+    ran.0,
+    ran.1,
+    λ last. becomes_again (part_begins names low mid one.grows) (one.moves last)
+        (ran.2 (stays_last current next old wet owned last)),
+  )) other.short;
 }
 
 -- a fault on the way to what the step was only a part of
@@ -220,40 +216,18 @@ module _ (told : Bool) (names : Naming) (shares : List Share) (begun : List ℕ)
   -- bytes were written to it, or it broke among them
   pub write_goes : (bytes : List ℕ) {slot : ℕ} {new : List Slot} (result : Result (Unit {0}) Fault) → WritesTo told slot bytes old new result
       → Goes told names (Some slot) (shares ++ share state.Open begun ∷ []) (shares ++ share state.Open (begun ++ bytes) ∷ []) old new result
-  write_goes bytes {slot} {new} result wrote = record {
-    grows = last_grows shares [] _ _ (inl refl) (begins_more begun bytes);
-    moves = λ last. becomes_as (last_one _) (last_one _)
-        (writes_to told [] (named names 0 shares) (name_of names (length shares)) begun bytes old (fault_in result) (shut_files names 0 shares shut) last wrote);
-    short = by _ result wrote;
-  } where
-    by : (P : Type 0) (result : Result (Unit {0}) Fault) → WritesTo told slot bytes old new result → IfErr result (λ fault. fault ≡ Suffixes → P)
-    by P (Ok done) wrote = tt
-    by P (Err _) (broke n cut) = λ same. absurd (false≢true (ap is_verdict same))
+  write_goes bytes {slot} {new} result wrote = search (rules, last_grows, begins_more, becomes_as, last_one, writes_to, shut_files, false≢true)
 
   -- it was closed, or it broke at that
   pub close_goes : {slot : ℕ} {new : List Slot} (result : Result (Unit {0}) Fault) → OnOk result (new ≡ changed_at slot closes old)
       → IfErr result (λ fault. (fault ≡ Write slot) × (new ≡ with_broken slot (changed_at slot closes old)))
       → Goes told names (Some slot) (shares ++ share state.Open begun ∷ []) (shares ++ share state.Closed begun ∷ []) old new result
-  close_goes (Ok done) ok err = record {
-    grows = last_grows shares [] _ _ (inl refl) (begins_itself begun);
-    moves = λ last. becomes_as (last_one _) (last_one _) (closes_last told [] (named names 0 shares) (name_of names (length shares)) begun old last ok);
-    short = tt;
-  }
-  close_goes {slot} {new} (Err fault) ok err =
-      subst (λ those. Goes told names (Some slot) (shares ++ share state.Open begun ∷ []) (shares ++ share state.Closed begun ∷ []) old new (Err those)) (sym err.0) (record {
-        grows = last_grows shares [] _ _ (inl refl) (begins_itself begun);
-        moves = λ last. becomes_as (last_one _) (last_one _)
-            (closes_not told [] (named names 0 shares) (name_of names (length shares)) begun old (shut_files names 0 shares shut) last err.1);
-        short = λ same. absurd (false≢true (ap is_verdict same));
-      })
+  close_goes (Ok done) ok err = grind (arith, common_steps, last_grows, becomes_as, last_one, closes_last)
+  close_goes {slot} {new} (Err fault) ok err = search (rules, last_grows, begins_itself, becomes_as, last_one, closes_not, shut_files, false≢true)
 
   -- the next file was opened
   pub open_goes : (current : Option ℕ) {new : List Slot} → new ≡ old ++ opened (name_of names (length shares)) Fresh ∷ [] → Goes told names current shares (shares ++ share state.Open [] ∷ []) old new (Ok tt)
-  open_goes current made = record {
-    grows = shares_more shares _;
-    moves = λ last. becomes_as refl (last_one _) (opens told [] (named names 0 shares) (name_of names (length shares)) made);
-    short = tt;
-  }
+  open_goes current made = search (rules, shares_more, becomes_as, last_one, opens)
 
 -- or it could not be opened
 pub open_stops : (told : Bool) {names next : Naming} (current : Option ℕ) (shares : List Share) (one : Share) {old new : List Slot} {fault : Fault} → AllShut shares
@@ -271,34 +245,17 @@ open_stops told {names} {next} current shares one {old} {new} shut drawn none = 
       }) none) (λ before at. opens_at (length before) refl none);
   short = λ is. ran (subst (OpensNone names next old new) is none);
 } where
-  ran : OpensNone names next old new Suffixes → RunsShort told (from_start names) current shares (shares ++ one ∷ []) old new
-  ran (no_name none same) = record {
-    those = shares;
-    shut = shut;
-    none = subst (λ n. is_named names n ≡ false) drawn none;
-    begins = shares_more shares (one ∷ []);
-    fewer = omega (arith, length-append shares (one ∷ []));
-    moves = λ last before at. rw same at;
-  }
-
-pub nothing_written : (told : Bool) (slot : ℕ) {slots : List Slot} → slots ≡ with_written slot (told_of told []) slots
-nothing_written told slot {slots} = sym (ap (λ bytes. with_written slot bytes slots) (told_of-nil told) ∙ with_written-nil slot slots)
-
--- one write after another
-pub written_both : (told : Bool) (slot : ℕ) (first more : List ℕ) (old : List Slot) {mid new : List Slot} → mid ≡ with_written slot (told_of told first) old → new ≡ with_written slot (told_of told more) mid → new ≡ with_written slot (told_of told (first ++ more)) old
-written_both told slot first more old one other = grind (arith, common_steps, with_written-append, told_of-append)
-
-pub still_writable : (told : Bool) (slot : ℕ) (bytes : List ℕ) (old : List Slot) {new : List Slot} → IsTrue (is_writable old slot) → new ≡ with_written slot (told_of told bytes) old → IsTrue (is_writable new slot)
-still_writable told slot bytes old can wrote = grind (arith, common_steps, writable-written)
+  ran : OpensNone names next old new Suffixes → (those : List Share) × RunsShort (from_start names) those (shares ++ one ∷ [])
+      × (IsAtEnd current old → Becomes told (part_of (from_start names) shares) (part_of (from_start names) those) old new None)
+  ran (no_name none same) = (
+    shares,
+    grind (arith, common_steps, shut, drawn, none, shares_more, length-append),
+    λ last. record { gets = λ before at. rw same at },
+  )
 
 -- the output broke in a later write
 pub short_later : (told : Bool) {slot : ℕ} (first more past : List ℕ) {old mid new : List Slot} {fault : Fault} → mid ≡ with_written slot (told_of told first) old → WritesShort told slot more mid new fault → WritesShort told slot (first ++ (more ++ past)) old new fault
-short_later told {slot} first more past {old} one (broke n cut) = broke (length first + n) (record {
-  within = omega (arith, cut.within, length-append first (more ++ past), length-append more past);
-  slots = cc (cut.slots, written_both told slot first (take n more) old one refl, taken);
-}) where
-  taken : take (length first + n) (first ++ (more ++ past)) ≡ first ++ take n more
-  taken = take-append-add first (more ++ past) n ∙ ap (λ z. first ++ z) (take-append-le n more past (omega (arith, cut.within)))
+short_later told first more past one (broke n cut) = broke (length first + n) (broke_later told first more past one cut)
 
 pub wrote_both : (told : Bool) (slot : ℕ) (first more : List ℕ) (old : List Slot) {mid : List Slot} (new : List Slot) (result : Result (Unit {0}) Fault) → mid ≡ with_written slot (told_of told first) old → WritesTo told slot more mid new result → WritesTo told slot (first ++ more) old new result
 wrote_both told slot first more old new (Ok done) one other = written_both told slot first more old one other
@@ -313,16 +270,16 @@ pub record Emptying (told : Bool) (slot : ℕ) (most now_most : ℕ) (held now :
   pub writable : IsTrue (is_writable slots slot)
 
 pub all_held : (told : Bool) {slot most : ℕ} {held : List ℕ} {old : List Slot} → IsTrue (is_writable old slot) → Emptying told slot most most held held old old
-all_held told {slot} can = record { gone = []; both = refl; wrote = nothing_written told slot; same = refl; writable = can }
+all_held told {slot} can = record { gone = []; both = refl; wrote = none_written told slot; same = refl; writable = can }
 
 pub empties : (told : Bool) {slot most now_most next_most : ℕ} {held now : List ℕ} (front rest : List ℕ) {next : List ℕ} {old slots new : List Slot} → Emptying told slot most now_most held now old slots → now ≡ front ++ rest → new ≡ with_written slot (told_of told front) slots
     → next_most ≡ now_most → next ≡ drop (length front) now → Emptying told slot most next_most held next old new
-empties told {slot} front rest {old} {slots} so_far is wrote same left = record {
+empties told {slot} front rest {old} {slots} {new} so_far is wrote same left = record {
   gone = so_far.gone ++ front;
   both = so_far.both ∙ ap (λ those. so_far.gone ++ those) is ∙ sym (append_assoc so_far.gone front rest) ∙ ap (λ those. (so_far.gone ++ front) ++ those) (sym (left ∙ ap (drop (length front)) is ∙ drop-append_seam front rest));
   wrote = written_both told slot so_far.gone front old so_far.wrote wrote;
   same = same ∙ so_far.same;
-  writable = still_writable told slot front slots so_far.writable wrote;
+  writable = written_writable slots new slot slot _ so_far.writable wrote;
 }
 
 pub empties_short : (told : Bool) {slot most now_most : ℕ} {held now : List ℕ} (front rest : List ℕ) {old slots new : List Slot} {fault : Fault} → Emptying told slot most now_most held now old slots → now ≡ front ++ rest → WritesShort told slot front slots new fault
@@ -333,4 +290,4 @@ empties_short told {slot} front rest {old} {new} {fault} so_far is short = grind
 pub opens_none : (names : Naming) {next : Naming} {name : List ℕ} {old new : List Slot} → name ≡ next_name names → IsTrue (has_next names) → next ≡ with_one_drawn names
     → {fault : Fault} → FailsToOpen old name new fault → OpensNone names next old new fault
 opens_none names named has drew (outputs.broke slot kept at is made) = no_file slot kept at has drew (subst (λ those. (kept ≡ those) ⊎ (kept ≡ [])) named is) made
-opens_none names named has drew (outputs.numberless full same) = no_memory same
+opens_none names named has drew (outputs.numberless full same) = no_memory has same

@@ -1,10 +1,10 @@
 -- What each call on parts leaves: a step of a piece, a piece that is taken in step by step, the end of the input, and what the stage owes.
 use Rattle.std.proofs.lemmas.Grind.{common_steps}
-use Rattle.std.proofs.Common.{◌≡◌, ℕ, ◌+◌, ◌-◌, ◌<◌, ◌≤◌, suc, List, [], ◌∷◌, ◌++◌, length, map, Bool, true, false, eqb, IsTrue, Option, Some, None, Result, Ok, Err, OnOk, IfErr, refl, sym, ◌∙◌, ap, subst, add-one, arith, length-append, rules, take, drop, IfOk, inl, append_assoc, not, cond, zero-add}
+use Rattle.std.proofs.Common.{◌≡◌, ℕ, ◌+◌, ◌-◌, ◌<◌, ◌≤◌, suc, List, [], ◌∷◌, ◌++◌, length, map, Bool, true, false, eqb, Option, Some, None, Result, Ok, Err, OnOk, IfErr, refl, sym, ◌∙◌, ap, subst, add-one, arith, length-append, rules, take, drop, IfOk, append_assoc, not, cond, zero-add}
 use Rattle.std.proofs.lemmas.List.{append-nil, drop-take, take-append-drop, length-map}
 use Rattle.std.proofs.lemmas.Bool.{false≢true}
 use Rattle.std.proofs.lemmas.Result.{IfErr-weaker, on_ok_weaker}
-use Rattle.ports_core.specs.Name.{Naming, next_name, has_next, with_one_drawn}
+use Rattle.ports_core.specs.Name.{Naming, next_name}
 use Rattle.ports_core.specs.Slot.{Slot, Rose, changed_at, opened, closes, with_broken, is_closable}
 use Rattle.ports_core.specs.declared.slot.Mode.TheVariants.{Fresh}
 use Rattle.ports_core.specs.declared.slot.State.{State}
@@ -12,22 +12,22 @@ use Rattle.ports_core.specs.declared.fault.Fault.{Fault}
 use Rattle.ports_core.specs.declared.fault.Fault.TheVariants as fault
 use Rattle.ports_core.proofs.SlotLemmas.{length-changed_at}
 use Rattle.split_core.specs.declared.limit.Limit.{Limit}
-use Rattle.split_core.specs.Parts.{most, unless_empty, CutUp, cut_up, settled_rest, waiting_rest, parts}
+use Rattle.split_core.specs.Parts.{most, unless_empty, cut_up, settled_rest, waiting_rest, parts}
 use Rattle.split_core.specs.Split.{Share, share, is_some, is_named, are_named, from_start, name_of, named, settled_parts, only_files}
 use Rattle.split_core.specs.laws.DealLaws.{is_some_of}
 use Rattle.split_core.specs.laws.ShareLaws.{shares_after, part_begins, settled_on, settled_grow, are_named_more, settled_count}
 use Rattle.split_core.proofs.CutLaws.{shut_more, cut_two, shut_map, shares_trans}
 use Rattle.split_core.specs.PartsState.{PartsState, IsReady, is_given, Lacks, Stands}
 use Rattle.split_core.specs.inner.CutLaws.{AllShut, cut_so, SharesBegin, whole_parts}
-use Rattle.split_core.specs.inner.Moves.{Keeps, KeepsFile, Breaks, Draft, draft, written, Begun, gets, turns, Moves, Found, HasNone, Extends, Turns, Shuts, WritesTo, breaks_write, numbers, Takes, Steps, Finishes, CannotClose, wants_memory, lacks_names}
+use Rattle.split_core.specs.inner.Moves.{Keeps, KeepsFile, Breaks, Draft, draft, written, Begun, gets, turns, Moves, HasFile, there, made, HasNone, Extends, Turns, Shuts, WritesTo, breaks_write, numbers, Takes, Steps, Finishes, CannotClose, wants_memory, lacks_names}
 use Rattle.split_core.proofs.MoveLemmas.{close_goes, goes_same, goes_then, goes_wider, keeps_still, keeps_then, moves_then, on_ok, open_breaks, open_goes, open_stops, owned_ended, owned_opened, owned_same, owned_unopened, write_breaks, write_goes, are_named_same, last_turn, shut_files, met_closing, met_files, owns_last, same_files}
 use Rattle.ports_core.proofs.SlotSteps as slot_steps
 use Rattle.std.proofs.Math.Seq.{take-length}
 use Rattle.ports_core.specs.inner.Part.{InTurn}
 use Rattle.ports_core.specs.inner.Write.{broke}
-use Rattle.ports_core.proofs.PartLemmas.{begins_itself, turn_next, stopped_in_turn}
+use Rattle.ports_core.proofs.PartLemmas.{turn_next, stopped_in_turn}
 use Rattle.ports_core.proofs.PartSteps.{halts_here}
-use Rattle.ports_core.proofs.SlotSteps.{keeps_same, rose_later, write_rose}
+use Rattle.ports_core.proofs.SlotSteps.{keeps_close, keeps_same, rose_later, writable_within, write_rose}
 use Rattle.ports_core.specs.declared.slot.State.TheVariants as file_state
 use Rattle.split_core.specs.declared.step.Step.{Step}
 use Rattle.split_core.specs.declared.step.Step.TheVariants.{Goes, Ends, Begins, Waits}
@@ -74,28 +74,16 @@ begun_named {names} {those = those} has some =
 -- writing to its file, whatever is left to wait
 write_keeps : (told : Bool) (parts : PartsState) (held : List ℕ) {slot : ℕ} (bytes : List ℕ) {old new : List Slot} (result : Result (Unit {0}) Fault)
     → parts.current ≡ Some slot → is_closable old slot → WritesTo told slot bytes old new result → Keeps parts old new (record parts { waiting = held }) result
-write_keeps told parts held {slot} bytes {old} {new} (Ok done) is can wrote = record {
-  limit = refl;
-  names = refl;
-  owned = owned_same parts.current old new (slot_steps.written_size slot _ old new wrote);
-  sound = slot_steps.keeps_write slot _ old new wrote;
-  ready = subst (λ current. IsReady current new) (sym is) (can.0, slot_steps.written_writable old new slot slot _ can.1 wrote);
-  breaks = tt;
-}
-write_keeps told parts held {slot} bytes {old} {new} (Err f) is can short = record {
-  limit = refl;
-  names = refl;
-  owned = owned_same parts.current old new (slot_steps.short_size told slot bytes old new f short);
-  sound = tt;
-  ready = tt;
-  breaks = write_breaks told can.0 can.1 short;
-}
+write_keeps told parts held {slot} bytes {old} {new} (Ok done) is can wrote =
+    grind (arith, common_steps, owned_same, slot_steps.written_size slot _ old new wrote, slot_steps.keeps_write, slot_steps.written_writable)
+write_keeps told parts held {slot} bytes {old} {new} (Err f) is can short =
+    grind (arith, common_steps, owned_same, slot_steps.short_size told slot bytes old new f short, write_breaks)
 
 -- closing it
 
 -- where none of it is written, nothing ends
 turn_nothing : (those : Draft) → those.begun ≡ [] → turns [] those ≡ those
-turn_nothing those none = ap (λ bytes. draft (those.shares ++ map (share file_state.Closed) (unless_empty bytes)) []) none ∙ ap (λ shares. draft shares []) (append-nil those.shares) ∙ ap (draft those.shares) (sym none)
+turn_nothing those none = search rules
 
 pub shuts_none : (told : Bool) (parts : PartsState) {slots : List Slot} → IsReady parts.current slots → parts.current ≡ None
     → Shuts told parts slots slots parts (Ok tt)
@@ -114,14 +102,7 @@ shuts_none told parts ready none = record {
 
 -- no part is begun once one was closed
 shut_begun : {names : Naming} {current : Option ℕ} {those : Draft} → Begun names current those → is_some those.begun ≡ true → Begun names None (turns [] those)
-shut_begun {names} {those = those} has some = record {
-  drawn = (begun_named has some).0 ∙ sym count;
-  enough = ap (are_named names) count ∙ (begun_named has some).1;
-  given = refl;
-  shut = subst (λ more. AllShut (those.shares ++ more)) (sym (some_share file_state.Closed those.begun some)) (shut_more those.shares _ has.shut refl);
-} where
-  count : length (written (turns [] those)) ≡ suc (length those.shares)
-  count = ap length (append-nil _ ∙ ap (λ more. those.shares ++ more) (some_share file_state.Closed those.begun some)) ∙ count_one those.shares _
+shut_begun {names} {those = those} has some = search (rules, begun_named, some_share, shut_more, append-nil, count_one)
 
 pub shuts_some : (told : Bool) (parts next : PartsState) {slot : ℕ} {old new : List Slot} (result : Result (Unit {0}) Fault) → IsReady parts.current old
     → parts.current ≡ Some slot → next ≡ record parts { current = None } → OnOk result (new ≡ changed_at slot closes old)
@@ -130,14 +111,7 @@ shuts_some told parts next {slot} {old} {new} result ready is next_is ok err = s
   same = refl;
   moves = record {
     same = on_ok result refl;
-    keeps = record {
-      limit = refl;
-      names = refl;
-      owned = subst (λ current. KeepsFile current old None new) (sym is) (owned_ended slot old new (size result ok err));
-      sound = on_ok_weaker result (slot_steps.keeps_close slot old new) ok;
-      ready = on_ok result (omega (arith, slot_steps.writable_within slot old can.1, size result ok err, can.0));
-      breaks = IfErr-weaker result _ _ (λ f why. subst (Breaks old new) (sym why.0) (breaks_write slot can.0 (rose why.1))) err;
-    };
+    keeps = grind (arith, common_steps, is, owned_ended, size result ok err, on_ok_weaker, keeps_close, can, writable_within, rose, breaks_write, ok, err);
     begun = on_ok result (λ those has. shut_begun has (some those has));
     goes = λ those has. rw (written_some those (some those has), append-nil (those.shares ++ map (share file_state.Closed) (unless_empty those.begun)), some_share file_state.Closed those.begun (some those has), is)
         (close_goes told (from_start parts.names) those.shares those.begun old has.shut (begun_named has (some those has)).1 result ok err);
@@ -160,15 +134,15 @@ shuts_some told parts next {slot} {old} {new} result ready is next_is ok err = s
 
 -- the file of the part that was begun, once it is there
 
-pub found_there : (told : Bool) (parts : PartsState) (old : List Slot) (slot : ℕ) → parts.current ≡ Some slot → IsReady parts.current old
-    → Found told parts old old parts slot
-found_there told parts old slot is ready = record {
-  same = ap (λ current. record parts { current = current }) is;
-  keeps = keeps_still ready;
-  can = subst (λ current. IsReady current old) is ready;
-  last = λ those has. begun_named has (sym has.given ∙ ap is_given is);
-  goes = λ those has. goes_same (written_some those (sym has.given ∙ ap is_given is));
-}
+-- the file of the part that was begun is there, and the next has its name, if there was none
+pub record Found (told : Bool) (parts : PartsState) (old new : List Slot) (next : PartsState) (slot : ℕ) : Type 0 where
+  pub same : next ≡ record parts { names = next.names; current = Some slot }
+  pub keeps : Keeps parts old new next (Ok tt)
+  pub can : is_closable new slot
+  pub last : (those : Draft) → Begun parts.names parts.current those
+      → (next.names.drawn ≡ suc (length those.shares)) × (is_named parts.names (length those.shares) ≡ true)
+  pub goes : (those : Draft) → Begun parts.names parts.current those
+      → run.Goes told (from_start parts.names) parts.current (written those) (those.shares ++ share file_state.Open those.begun ∷ []) old new (Ok tt)
 
 -- where no file is open, nothing of the part is written
 begun_yet : {names : Naming} {current : Option ℕ} {those : Draft} → Begun names current those → current ≡ None
@@ -177,31 +151,32 @@ begun_yet {those = those} has none =
     let no_bytes = none_begun those.begun (sym has.given ∙ ap is_given none) in
     (no_bytes, has.drawn ∙ ap (λ bytes. length (written (draft those.shares bytes))) no_bytes ∙ ap length (append-nil those.shares))
 
-pub found_made : (told : Bool) (parts : PartsState) {old new : List Slot} (next : PartsState) (slot : ℕ) → parts.current ≡ None → IsReady parts.current old
-    → slot ≡ length old → IsTrue (has_next parts.names) → next ≡ record parts { names = with_one_drawn parts.names; current = Some slot }
-    → new ≡ old ++ opened (next_name parts.names) Fresh ∷ [] → Found told parts old new next slot
-found_made told parts {old} {new} next slot none ready at has next_is made_it = subst (λ those. Found told parts old new those slot) (sym next_is) (record {
-  same = refl;
-  keeps = record {
-    limit = refl;
-    names = refl;
-    owned = subst (λ current. KeepsFile current old (Some slot) new) (sym none) (owned_opened (opened (next_name parts.names) Fresh) old at made_it);
-    sound = slot_steps.keeps_open (opened (next_name parts.names) Fresh) old new made_it;
-    ready = can;
-    breaks = tt;
-  };
-  can = can;
-  last = λ those had. (ap (λ n. n + 1) (begun_yet had none).1 ∙ add-one (length those.shares), named those had);
-  goes = λ those had. rw ((begun_yet had none).0, append-nil those.shares)
-      (open_goes told (from_start parts.names) those.shares [] old had.shut (named those had) parts.current
-      (made_it ∙ ap (λ n. old ++ opened (name_of parts.names n) Fresh ∷ []) (begun_yet had none).1));
-}) where
-  named : (those : Draft) → Begun parts.names parts.current those → is_named parts.names (length those.shares) ≡ true
-  named those had = ap (is_named parts.names) (sym (begun_yet had none).1) ∙ has
+pub found : (told : Bool) {parts : PartsState} {old new : List Slot} {next : PartsState} {slot : ℕ} → IsReady parts.current old
+    → HasFile parts old new next slot
+    → Found told parts old new next slot
+found told {parts} {old} {slot = slot} ready (there is same unchanged) = rw (same, unchanged) (record {
+  same = ap (λ current. record parts { current = current }) is;
+  keeps = keeps_still ready;
+  can = subst (λ current. IsReady current old) is ready;
+  last = λ those has. begun_named has (sym has.given ∙ ap is_given is);
+  goes = λ those has. goes_same (written_some those (sym has.given ∙ ap is_given is));
+})
+found told {parts} {old} {new} {slot = slot} ready (made none at has next_is made_it) = subst (λ those. Found told parts old new those slot) (sym next_is)
+    (record {
+      same = refl;
+      keeps = grind (arith, common_steps, none, at, made_it, can, owned_opened, slot_steps.keeps_open);
+      can = can;
+      last = λ those had. (ap (λ n. n + 1) (begun_yet had none).1 ∙ add-one (length those.shares), named those had);
+      goes = λ those had. rw ((begun_yet had none).0, append-nil those.shares)
+          (open_goes told (from_start parts.names) those.shares [] old had.shut (named those had) parts.current
+          (made_it ∙ ap (λ n. old ++ opened (name_of parts.names n) Fresh ∷ []) (begun_yet had none).1));
+    }) where
+      named : (those : Draft) → Begun parts.names parts.current those → is_named parts.names (length those.shares) ≡ true
+      named those had = ap (is_named parts.names) (sym (begun_yet had none).1) ∙ has
 
-  can : is_closable new slot
-  can = let streams : 2 ≤ length old = subst (λ current. IsReady current old) none ready in
-      (omega (arith, at, streams), slot_steps.opened_writable old new slot (next_name parts.names) Fresh at made_it)
+      can : is_closable new slot
+      can = let streams : 2 ≤ length old = subst (λ current. IsReady current old) none ready in
+          (omega (arith, at, streams), slot_steps.opened_writable old new slot (next_name parts.names) Fresh at made_it)
 
 -- more went to the part that was begun, or a fault came meanwhile
 pub extended : {told : Bool} {parts : PartsState} (more held : List ℕ) {old mid new : List Slot} {fresh next : PartsState} {slot : ℕ}
@@ -213,39 +188,23 @@ extended {told} {parts} more held {old} {mid} {new} {fresh} {next} {slot} result
       same = on_ok_weaker result (ap (λ waits. (parts.left, parts.has_line, waits))) none;
       keeps = keeps_then result (subst (λ those. Keeps parts old mid those (Ok tt)) facts.same facts.keeps)
           (write_keeps told (record parts { names = fresh.names; current = Some slot }) held more result refl facts.can wrote);
-      begun = on_ok result (λ those has. let count = written_count (gets more those) (some those has) in record {
-        drawn = (facts.last those has).0 ∙ sym count;
-        enough = ap (are_named fresh.names) count ∙ ap (λ (names : Naming). is_named names (length those.shares)) facts.keeps.names ∙ (facts.last those has).1;
-        given = sym (some those has);
-        shut = has.shut;
-      });
+      begun = on_ok result (λ those has. let count = written_count (gets more those) (some those has) in
+          grind (arith, common_steps, has, some those has, count, facts.last those has, facts.keeps.names));
       goes = λ those has. rw (written_some (gets more those) (some those has))
           (goes_then result (subst (λ (those : PartsState). KeepsFile parts.current old those.current mid) facts.same facts.keeps.owned)
           (facts.goes those has)
           (write_goes told (from_start parts.names) those.shares those.begun mid has.shut (facts.last those has).1 more result wrote));
     })
 
-some_bytes : (front bytes : List ℕ) → 0 < length bytes → is_some (front ++ bytes) ≡ true
+pub some_bytes : (front bytes : List ℕ) → 0 < length bytes → is_some (front ++ bytes) ≡ true
 some_bytes front bytes some = is_some_of (front ++ bytes) (omega (arith, some, length-append front bytes))
-
-pub some_more : (front waiting bytes : List ℕ) → 0 < length bytes → is_some (front ++ (waiting ++ bytes)) ≡ true
-some_more front waiting bytes some = some_bytes front (waiting ++ bytes) (omega (arith, some, length-append waiting bytes))
 
 -- no file could be opened
 pub no_file : (told : Bool) (parts : PartsState) (bytes : List ℕ) {old new : List Slot} {next : PartsState} (f : Fault) → 0 < length bytes
     → HasNone parts old new next f → Extends told parts bytes old new next (Err f)
 no_file told parts bytes {old} {new} {next} f some none = record {
   same = tt;
-  keeps = record {
-    limit = ap (λ (those : PartsState). those.limit) none.same;
-    names = ap from_start none.names_same;
-    owned = subst (λ current. KeepsFile current old next.current new) (sym none.none)
-        (subst (λ current. KeepsFile None old current new) (sym (ap (λ (those : PartsState). those.current) none.same ∙ none.none))
-        (owned_unopened none.opens));
-    sound = tt;
-    ready = tt;
-    breaks = open_breaks none.opens;
-  };
+  keeps = grind (arith, common_steps, none.none, none.opens, none.same, none.names_same, owned_unopened, open_breaks);
   begun = tt;
   goes = λ those has. rw (
     (begun_yet has none.none).0,
@@ -328,24 +287,11 @@ record Comes (parts : PartsState) (x taken : List ℕ) (after : Draft) (are : �
 
 module _ {parts : PartsState} {x taken : List ℕ} {after : Draft} {are : ℕ × Bool × List ℕ} (comes : Comes parts x taken after are) where
   settled_so : settled_parts parts.limit (x ++ taken) ≡ written after
-  settled_so = settled_on parts.limit x taken
-      ∙ ap (λ (cut : CutUp). full_of parts x ++ (map (share file_state.Closed) cut.full ++ map (share file_state.Open) (unless_empty (settled_rest parts.limit cut.rest)))) comes.cut
-      ∙ sym (append_assoc (full_of parts x) (map (share file_state.Closed) comes.full) _) ∙ ap written (sym comes.is)
+  settled_so = grind (arith, common_steps, settled_on)
 
   -- it can be what came in
   stands_so : (next : PartsState) → next.limit ≡ parts.limit → numbers next ≡ are → Begun next.names next.current after → Stands next (x ++ taken)
-  stands_so next limit same has = record {
-    drawn = has.drawn ∙ sym (ap length all);
-    enough = ap (λ those. are_named next.names (length those)) all ∙ has.enough;
-    lacks = rw (limit, cut, ap (λ (those : ℕ × Bool × List ℕ). those.0) same, ap (λ (those : ℕ × Bool × List ℕ). those.1) same) comes.lacks;
-    waits = ap (λ (those : ℕ × Bool × List ℕ). those.2) same ∙ comes.waits ∙ sym (rw (limit, cut));
-    opened = has.given ∙ ap (λ (those : Draft). is_some those.begun) comes.is ∙ sym (rw (limit, cut));
-  } where
-    all : settled_parts next.limit (x ++ taken) ≡ written after
-    all = ap (λ limit. settled_parts limit (x ++ taken)) limit ∙ settled_so
-
-    cut : cut_up parts.limit (x ++ taken) ≡ cut_so ((cut_up parts.limit x).full ++ comes.full) comes.rest
-    cut = cut_on parts.limit x taken ∙ ap (λ (those : CutUp). cut_so ((cut_up parts.limit x).full ++ those.full) those.rest) comes.cut
+  stands_so next limit same has = search (rules, settled_so, cut_on)
 
 -- so far that is a beginning of what the whole piece leads to
 below : {parts : PartsState} {x : List ℕ} (piece : List ℕ) (bytes : ℕ) {after : Draft} {are : ℕ × Bool × List ℕ} → Comes parts x (take bytes piece) after are
@@ -357,20 +303,12 @@ below {parts} {x} piece bytes comes = subst (λ low. SharesBegin low (settled_pa
 
 -- a part that ends begins itself, and may be closed by then
 turn_begins : (those : Draft) (past : List ℕ) → SharesBegin (written those) (written (turns past those))
-turn_begins those past = subst (SharesBegin (written those)) (sym (append_assoc those.shares _ _)) (shares_after those.shares _ _ (by those.begun)) where
-  by : (begun : List ℕ) → SharesBegin (map (share file_state.Open) (unless_empty begun)) (map (share file_state.Closed) (unless_empty begun) ++ map (share file_state.Open) (unless_empty past))
-  by [] = tt
-  by (byte ∷ begun) = (inl refl, begins_itself (byte ∷ begun), tt)
+turn_begins those past = grind (arith, common_steps, append_assoc, shares_after)
 
 -- what was taken in
 takes_so : {told : Bool} {parts next : PartsState} {taken : List ℕ} {change : Draft → Draft} {are : ℕ × Bool × List ℕ} {old new : List Slot}
     → ((x : List ℕ) → Stands parts x → Comes parts x taken (change (draft_of parts x)) are) → Moves told parts are change old new next (Ok tt) → Takes told parts taken old new next (Ok tt)
-takes_so {told} {parts} {next} {old = old} {new} comes moves = record {
-  keeps = moves.keeps;
-  stands = λ x stands. stands_so (comes x stands) next moves.keeps.limit moves.same (moves.begun (draft_of parts x) (begun_so stands));
-  goes = λ x stands. subst (λ high. run.Goes told (from_start parts.names) parts.current (settled_parts parts.limit x) high old new (Ok tt)) (sym (settled_so (comes x stands)))
-      (moves.goes (draft_of parts x) (begun_so stands));
-}
+takes_so {told} {parts} {next} {old = old} {new} comes moves = search (rules, stands_so, begun_so, settled_so)
 
 -- a fault came on the way
 takes_not : {told : Bool} {parts next : PartsState} {taken : List ℕ} {change : Draft → Draft} {are : ℕ × Bool × List ℕ} {old new : List Slot} {f : Fault}
@@ -404,14 +342,7 @@ module _ {parts : PartsState} (piece : List ℕ) (bytes left : ℕ) (has_line : 
 -- the part is full, and the next has begun
 turned_so : {parts : PartsState} {x taken first past : List ℕ} → IsTurned parts.limit (rest_of parts x ++ taken) first past
     → Comes parts x taken (draft (full_of parts x ++ map (share file_state.Closed) (unless_empty first)) past) (most parts.limit - length past, false, [])
-turned_so {parts} {x} {taken} {first} {past} led = record {
-  full = first ∷ [];
-  rest = past;
-  cut = cut_two parts.limit past led.full led.first_is led.both led.begun.short;
-  is = cc (one_of first (subst (λ part. 0 < length part) led.first_is (first_some parts.limit _ led.full)), led.begun.settled);
-  lacks = led.begun.lacks;
-  waits = sym led.begun.waits;
-}
+turned_so {parts} {x} {taken} {first} {past} led = search (rules, cut_two, one_of, first_some)
 
 -- what a step takes of a piece; where a fault comes, the piece is what was to be taken
 abbrev pub taken : ℕ → List ℕ → Result (Unit {0}) Fault → List ℕ
@@ -503,11 +434,7 @@ waited told parts next piece slots (Err f) some leads ready count waits err = rw
 -- A piece is taken in step by step.
 
 pub takes_none : (told : Bool) (parts : PartsState) {slots : List Slot} → IsReady parts.current slots → Takes told parts [] slots slots parts (Ok tt)
-takes_none told parts ready = record {
-  keeps = keeps_still ready;
-  stands = λ x stands. rw append-nil stands;
-  goes = λ x stands. goes_same (ap (settled_parts parts.limit) (sym (append-nil x)));
-}
+takes_none told parts ready = search (rules, keeps_still, append-nil, goes_same)
 
 takes_again : {told : Bool} {state mid next : PartsState} (first more : List ℕ) {old wet new : List Slot} (result : Result (Unit {0}) Fault)
     → Takes told state first old wet mid (Ok tt) → Takes told mid more wet new next result → Takes told state (first ++ more) old new next result
@@ -558,16 +485,16 @@ finishes_none told state ready none = record {
 -- what waits is written, and then the part has all that is left
 
 whole_so : (state : PartsState) {x : List ℕ} → Stands state x → written (turns [] (gets state.waiting (draft_of state x))) ≡ whole_parts state.limit x
-whole_so state {x} stands = append-nil _ ∙ ap (λ rest. full_of state x ++ map (share file_state.Closed) (unless_empty rest))
-    (ap (λ waits. begun_of state x ++ waits) stands.waits ∙ settled_then_waiting state.limit (rest_of state x)) ∙ sym (whole_is state x)
+whole_so state {x} stands = search (rules, append-nil, settled_then_waiting, whole_is)
 
 module _ (told : Bool) (state : PartsState) {slot : ℕ} {old : List Slot} (held : List ℕ) (ready : IsReady state.current old) (is : state.current ≡ Some slot) where
   pub held_moves : {wet : List Slot} {mid : PartsState} (result : Result (Unit {0}) Fault) → WritesTo told slot state.waiting old wet result → mid ≡ record state { waiting = held } → OnOk result (held ≡ [])
       → Moves told state (state.left, state.has_line, []) (gets state.waiting) old wet mid result
-  held_moves result wrote mid_is none = extended state.waiting held result (λ those has. longer those.begun (sym has.given ∙ ap is_given is)) (found_there told state old slot is ready) wrote mid_is none where
-    longer : (begun : List ℕ) → is_some begun ≡ true → is_some (begun ++ state.waiting) ≡ true
-    longer [] none = absurd (false≢true none)
-    longer (byte ∷ begun) is = refl
+  held_moves result wrote mid_is none = extended state.waiting held result (λ those has. longer those.begun (sym has.given ∙ ap is_given is))
+      (found told ready (there is refl refl)) wrote mid_is none where
+        longer : (begun : List ℕ) → is_some begun ≡ true → is_some (begun ++ state.waiting) ≡ true
+        longer [] none = absurd (false≢true none)
+        longer (byte ∷ begun) is = refl
 
   pub held_stops : {next : PartsState} {new : List Slot} {f : Fault} → WritesTo told slot state.waiting old new (Err f) → next ≡ record state { waiting = held } → Finishes told state old new next (Err f)
   held_stops {next} {new} {f} short next_is = record {
@@ -596,7 +523,8 @@ have_names : (state : PartsState) (x : List ℕ) {have : Bool} → are_named (fr
     → are_named (from_start state.names) (length (map (share Closed) (parts state.limit x))) ≡ have
 have_names state x is = grind (arith, common_steps, length-map, settled_count)
 
-all_have : {state : PartsState} {x : List ℕ} → Stands state x → are_named (from_start state.names) (length (map (share Closed) (parts state.limit x))) ≡ true
+pub all_have : {state : PartsState} {x : List ℕ} → Stands state x
+    → are_named (from_start state.names) (length (map (share Closed) (parts state.limit x))) ≡ true
 all_have {state} {x} stands = have_names state x (are_named_same state.names (from_start state.names) _ refl ∙ stands.enough)
 
 -- as long as all parts have names, more can come
@@ -613,37 +541,20 @@ module _ (told : Bool) (state next : PartsState) (piece : List ℕ) (old new : L
   settles : (f : Fault) → f ≡ Suffixes → Takes told state piece old new next (Err f) → EndsWith ways.Holds ways.work (way.Parts state) piece f
   settles f is stop x stands =
       let ran = (stop.goes x stands).short is in
-      let none = have_names state (x ++ piece) (are_named_more (from_start state.names) (suc (length ran.those)) _ ran.none ran.fewer) in
+      let none = have_names state (x ++ piece) (are_named_more (from_start state.names) (suc (length ran.0)) _ ran.1.none ran.1.fewer) in
       (ap not none, ap (λ (have : Bool). cond (not have) (Some Suffixes) None) none ∙ ap Some (sym is))
 
   cut_off : {f : Fault} → Breaks old new f → Takes told state piece old new next (Err f) → CutsOff ways.Holds ways.Owns ways.work (way.Parts state) piece told old new f
   cut_off lacks_names stop before x at =
       let ran = (stop.goes x at.holds).short refl in
       engine.judged refl new (subst (λ files. OutputsAt told before (only_files files) new)
-      (sym (same_files (from_start state.names) 0 ran.those _ ran.shut ran.begins (subst (λ n. is_named state.names n ≡ false) (sym (zero-add _)) ran.none)))
-      (ran.moves (owns_last state.current (length before) old at.owns) before at.outputs)) refl
-  cut_off {f} breaks stop before x at =
-      engine.cut refl (stopped_in_turn told before _ _ f new (((stop.goes x at.holds).moves (owns_last state.current (length before) old at.owns)).gets before at.outputs))
+      (sym (same_files (from_start state.names) 0 ran.0 _ ran.1.shut ran.1.begins (subst (λ n. is_named state.names n ≡ false) (sym (zero-add _)) ran.1.none)))
+      ((ran.2 (owns_last state.current (length before) old at.owns)).gets before at.outputs)) refl
+  cut_off {f} breaks stop before x at = search (rules, stopped_in_turn, owns_last)
 
   pub passes_by : (result : Result (Unit {0}) Fault) → Takes told state piece old new next result → PassesBy told piece old new result (way.Parts state) (way.Parts next)
-  passes_by (Ok done) takes = record {
-    same = work_by state next takes.keeps.limit takes.keeps.names;
-    holds = takes.stands;
-    outputs = λ before x at. ((takes.goes x at.holds).moves (owns_last state.current (length before) old at.owns)).gets before at.outputs;
-    ready = takes.keeps.ready;
-    owns = takes.keeps.owned;
-    cut = tt;
-    met = tt;
-  }
-  passes_by (Err f) takes = record {
-    same = work_by state next takes.keeps.limit takes.keeps.names;
-    holds = tt;
-    outputs = tt;
-    ready = tt;
-    owns = takes.keeps.owned;
-    cut = cut_off takes.keeps.breaks takes;
-    met = met_files (EndsWith ways.Holds ways.work (way.Parts state) piece) takes.keeps.breaks (λ is x stands. settles f is takes x stands);
-  }
+  passes_by (Ok done) takes = search rules
+  passes_by (Err f) takes = search (rules, work_by, cut_off, met_files, settles)
 
 -- the end
 

@@ -1,15 +1,15 @@
--- Lemmas on dealing lines in turn, as a stage.
-use Rattle.std.proofs.Common.{◌≡◌, ℕ, ◌+◌, ◌%◌, ◌<◌, ◌≤◌, zero, suc, min, max, Bool, true, false, not, cond, List, [], ◌∷◌, ◌++◌, length, map, take, drop, get_or, Some, None, inl, inr, refl, sym, ◌∙◌, ap, subst, arith, Ok, Err, OnOk, IfErr, Result}
-use Rattle.std.proofs.Math.Nat.{mod-add-mod, mod-eq_of_lt, mod-mod, mod-le, zero-add}
+-- Lemmas on dealing lines in turn, as a stage, and on what waits in the engine in each of its two ways to cut.
+use Rattle.std.proofs.Common.{◌≡◌, ℕ, ◌+◌, ◌%◌, ◌<◌, ◌≤◌, zero, suc, min, max, Bool, true, false, not, cond, List, [], ◌∷◌, ◌++◌, length, map, take, get_or, Some, None, refl, sym, ◌∙◌, ap, subst, arith, Ok, Err, OnOk, IfErr, Result, rules}
+use Rattle.std.proofs.Math.Nat.{mod-add-mod, mod-eq_of_lt, mod-mod, mod-le}
 use Rattle.std.proofs.Math.Path.{fun_ext}
 use Rattle.std.proofs.Math.Seq.{drop-length}
 use Rattle.std.specs.List.{filter, range_with_len}
 use Rattle.std.proofs.lemmas.Bool.{cases_lt}
 use Rattle.std.proofs.lemmas.List.{append-nil, length-map, get_or_past}
 use Rattle.std.proofs.lemmas.List.FromFn.{length-map-range_with_len, get_or-map-range_with_len, take-map-range_with_len}
-use Rattle.seg_core.specs.Line.{joined, lines_of, delimiters, line_count}
+use Rattle.seg_core.specs.Line.{joined, delimiters, line_count}
 use Rattle.seg_core.proofs.Delimiters.{delimiters-append}
-use Rattle.seg_core.proofs.LineCounts.{line_count-some, line_count_near, line_count-front}
+use Rattle.seg_core.proofs.LineCounts.{line_count_near, line_count-front}
 use Rattle.ports_core.specs.Name.{Naming}
 use Rattle.ports_core.specs.Slot.{Slot}
 use Rattle.ports_core.specs.Part.{Part, OutputsAt, StoppedBetween, nothing}
@@ -21,21 +21,27 @@ use Rattle.ports_core.specs.declared.slot.State.{State}
 use Rattle.ports_core.specs.declared.slot.State.TheVariants.{Open, Closed}
 use Rattle.ports_core.proofs.PartLemmas.{outputs_count}
 use Rattle.split_core.specs.Parts.{dealt, round_robin}
-use Rattle.split_core.specs.Split.{share, named, is_named, are_named, from_start, file_at, only_files, dealt_files, settled_by, whole_by, is_short, is_some, split_means, split_work, bytes_in, waiting_after}
+use Rattle.split_core.specs.Parts as cut
+use Rattle.split_core.specs.Split.{share, named, is_named, are_named, from_start, file_at, only_files, dealt_files, settled_by, is_short, is_some, split_work, bytes_in}
 use Rattle.split_core.specs.inner.Dealt.{dealt_piece, dealt_first, reached_by, share_of}
 use Rattle.split_core.specs.FilesState.{FilesState}
 use Rattle.split_core.specs.RoundState.{RoundState}
-use Rattle.split_core.specs.Round.{round_plan, plan_of, round_work, work, opened_by, Holds, OwnsFiles}
+use Rattle.split_core.specs.Round.{round_plan, round_work, work, opened_by, Holds, OwnsFiles}
 use Rattle.split_core.specs.Ways as ways
 use Rattle.split_core.specs.declared.splitter.Splitter.TheVariants as way
-use Rattle.split_core.specs.inner.Ways.{Deals, PassesBy, FinishesBy}
+use Rattle.split_core.specs.inner.Ways.{Deals, PassesBy, FinishesBy, held}
 use Rattle.split_core.specs.inner.Sharing.{part_by, all_open, closed_first, StandAt, Adds, Opens, Leaves, ClosesAll}
 use Rattle.split_core.specs.laws.DealLaws.{dealt_append, dealt_none, dealt_files_are, share_none}
-use Rattle.split_core.proofs.AgreedLemmas.{dealt_settled, each_named}
-use Rattle.split_core.proofs.CutLaws.{dealt_same, dealt_past, opened_by-most}
+use Rattle.split_core.proofs.AgreedLemmas.{each_named, shared_bytes, waiting_is}
+use Rattle.split_core.proofs.CutLaws.{dealt_same, dealt_past}
 use Rattle.split_core.proofs.FilesLemmas.{same_by, stopped_as, stops_in_order, shut_now}
-use Rattle.split_core.proofs.MoveLemmas.{are_named_same, met_closing, met_files, named_before, unjudged}
+use Rattle.split_core.proofs.MoveLemmas.{met_closing, met_files, named_before, unjudged}
 use Rattle.split_core.proofs.SectionLemmas.{all_dealt}
+use Rattle.std.proofs.lemmas.Grind.{common_steps}
+use Rattle.split_core.specs.declared.splitter.Splitter.{Splitter}
+use Rattle.split_core.proofs.PartsLemmas as part
+use Rattle.split_core.specs.PartsState.{PartsState, Stands}
+use Rattle.split_core.specs.PartState as parts_state
 
 -- Names
 
@@ -57,40 +63,24 @@ all_by names n start (suc count) state f are few = cc (named_at names n start ar
 
 filed_are : (delim : ℕ) (state : State) (names : Naming) (elide : Bool) (n : ℕ) (x : List ℕ) → are_named names n ≡ true
     → only_files (named (from_start names) 0 (map (share state) (dealt_files delim elide n x))) ≡ part_by (from_start names) (λ i. share state (share_of delim n x i)) (opened_by delim elide n x)
-filed_are delim state names elide n x are = ap (λ those. only_files (named (from_start names) 0 (map (share state) those))) (dealt_files_are delim elide n x)
-    ∙ ap only_files (all_by names n 0 (opened_by delim elide n x) state (share_of delim n x) are (omega (arith, opened_by-most delim elide n x)))
+filed_are delim state names elide n x are = grind (arith, common_steps, dealt_files_are, all_by)
 
 all_have : (delim : ℕ) (names : Naming) (elide : Bool) (n : ℕ) (x : List ℕ) → are_named names n ≡ true → are_named names (length (dealt_files delim elide n x)) ≡ true
-all_have delim names elide n x are = named_fewer names _ n are
-    (omega (arith, ap length (dealt_files_are delim elide n x) ∙ length-map-range_with_len (share_of delim n x) 0 (opened_by delim elide n x), opened_by-most delim elide n x))
+all_have delim names elide n x are = grind (arith, common_steps, named_fewer, dealt_files_are, length-map-range_with_len)
 
-never_short : (delim : ℕ) (names : Naming) (elide : Bool) (n : ℕ) (x : List ℕ) → are_named names n ≡ true → false ≡ is_short (round_plan delim n elide names) x
-never_short delim names elide n x are = sym (ap not (ap (are_named names) (length-map (dealt_files delim elide n x) (share Closed)) ∙ all_have delim names elide n x are))
+not_short : (delim : ℕ) (names : Naming) (elide : Bool) (n : ℕ) (x : List ℕ) → are_named names n ≡ true → false ≡ is_short (round_plan delim n elide names) x
+not_short delim names elide n x are = sym (ap not (ap (are_named names) (length-map (dealt_files delim elide n x) (share Closed))
+    ∙ all_have delim names elide n x are))
 
 -- One more piece
 
 -- files that aren't open yet have nothing
 pub none_yet : (delim : ℕ) (elide : Bool) (n : ℕ) (x : List ℕ) (file : ℕ) → 0 < n → opened_by delim elide n x ≤ file → share_of delim n x file ≡ []
-none_yet delim elide n x file some past = elim (cases_lt file n) [
-  | inl less ↦ by elide past less
-  | inr far ↦ dealt_past n file 0 (lines_of delim x) some far
-] where
-  by : (elide : Bool) → opened_by delim elide n x ≤ file → file < n → share_of delim n x file ≡ []
-  by true past within = share_none delim n x file (omega arith) within
-  by false past within = absurd (omega arith)
+none_yet delim elide n x file some past = search (rules, cases_lt, dealt_past, share_none)
 
 lines_after : (delim n : ℕ) (x y : List ℕ) → 0 < n → max (min n (line_count delim x)) (min n (delimiters delim x % n + line_count delim y)) ≡ min n (line_count delim (x ++ y))
-lines_after delim n x [] some =
-    let none : line_count delim [] ≡ 0 = refl in omega (arith, ap (line_count delim) (append-nil x), (line_count_near delim x).0, mod-le (delimiters delim x) n)
-lines_after delim n x (byte ∷ y) some =
-    let more = line_count-front delim x (byte ∷ y) (omega arith) in
-    let near = (line_count_near delim x).1 in
-    let low = (line_count_near delim x).0 in
-    let one = line_count-some delim (byte ∷ y) (omega arith) in
-    elim (cases_lt (delimiters delim x) n) [
-      | inl before ↦ (omega (arith, mod-eq_of_lt before))
-      | inr past ↦ omega arith
-    ]
+lines_after delim n x [] some = search (rules, append-nil, line_count_near, mod-le)
+lines_after delim n x (byte ∷ y) some = grind (arith, common_steps, line_count-front, line_count_near, cases_lt, mod-eq_of_lt)
 
 pub opened_after : (delim : ℕ) (elide : Bool) (n : ℕ) (x y : List ℕ) → 0 < n → max (opened_by delim elide n x) (reached_by delim n (delimiters delim x % n) y) ≡ opened_by delim elide n (x ++ y)
 opened_after delim true n x y some = lines_after delim n x y some
@@ -98,77 +88,45 @@ opened_after delim false n x y some = omega arith
 
 -- what a file has of a text that goes on
 share_after : (delim n : ℕ) (x y : List ℕ) → 0 < n → (i : ℕ) → share_of delim n (x ++ y) i ≡ share_of delim n x i ++ get_or (dealt_first delim n (delimiters delim x % n) y) i []
-share_after delim n x y some i = dealt_append delim n i 0 x y ∙ ap (λ more. share_of delim n x i ++ more)
-    (dealt_same n i (0 + delimiters delim x) (delimiters delim x % n) (lines_of delim y) (ap (λ place. place % n) (zero-add (delimiters delim x)) ∙ sym (mod-mod (delimiters delim x) n)) ∙ sym got) where
-      got : get_or (dealt_first delim n (delimiters delim x % n) y) i [] ≡ dealt n i (delimiters delim x % n) (lines_of delim y)
-      got = elim (cases_lt i (reached_by delim n (delimiters delim x % n) y)) [
-        | inl less ↦ get_or-map-range_with_len _ 0 (reached_by delim n (delimiters delim x % n) y) i i [] less (zero-add i)
-        | inr past ↦ get_or_past (dealt_first delim n (delimiters delim x % n) y) i []
-            (omega (arith, length-map-range_with_len (λ file. dealt n file (delimiters delim x % n) (lines_of delim y)) 0 (reached_by delim n (delimiters delim x % n) y), past))
-            ∙ sym (elim (cases_lt i n) [
-              | inl less ↦ dealt_none n i (delimiters delim x % n) (lines_of delim y) (omega (arith, past, less)) less
-              | inr far ↦ dealt_past n i (delimiters delim x % n) (lines_of delim y) some far
-            ])
-      ]
+share_after delim n x y some i =
+    grind (arith, common_steps, dealt_append, dealt_same, mod-mod, get_or-map-range_with_len, get_or_past, length-map-range_with_len, dealt_none, dealt_past)
 
 -- The gathered piece
 
 pub first_gathered : (delim n start : ℕ) {reached : ℕ} (piece : List ℕ) {gathered : List (List ℕ)} → gathered ≡ dealt_piece delim n start piece → reached ≡ reached_by delim n start piece → take reached gathered ≡ dealt_first delim n start piece
-first_gathered delim n start {reached} piece is reached_is = ap (take reached) is ∙ ap (λ count. take count (dealt_piece delim n start piece)) reached_is
-    ∙ take-map-range_with_len (λ file. dealt n file start (lines_of delim piece)) 0 n (reached_by delim n start piece) (omega arith)
+first_gathered delim n start {reached} piece is reached_is = search (rules, take-map-range_with_len)
 
 -- What a piece leaves
 
 pub same_work : (old new : RoundState) → new.delim ≡ old.delim → new.count ≡ old.count → new.elide ≡ old.elide → from_start new.files.names ≡ from_start old.files.names → work new ≡ work old
-same_work old new delim count elide names = ap round_work same where
-  same : plan_of new ≡ plan_of old
-  same = cc (delim, count, elide, names)
+same_work old new delim count elide names = cc
 
 -- what the stage has written, where it can have been fed x
 stands_is : {round : RoundState} {x : List ℕ} → Holds round x
     → part_by (from_start round.files.names) (all_open (share_of round.delim round.count x)) (length round.files.outputs) ≡ (work round).settled x
-stands_is {round} {x} holds = ap (part_by (from_start round.files.names) (all_open (share_of round.delim round.count x))) holds.opened
-    ∙ sym (filed_are round.delim Open round.files.names round.elide round.count x holds.named)
+stands_is {round} {x} holds = search (rules, filed_are)
 
 stand_at : (told : Bool) (round : RoundState) {before : List Slot} {x : List ℕ} {now : List Slot} → StandsAt ways.Holds ways.Owns (way.Round round) told before x ((work round).settled x) now
     → StandAt told round.files before (share_of round.delim round.count x) now
-stand_at told round {before} {x} {now} at = record {
-  owns = at.owns;
-  outputs = subst (λ part. OutputsAt told before part now) (sym (stands_is at.holds)) at.outputs;
-  none = λ i past. none_yet round.delim round.elide round.count x i at.holds.some (omega (arith, past, at.holds.opened));
-}
+stand_at told round {before} {x} {now} at = search (rules, stands_is, none_yet)
 
 count_is : {round : RoundState} {x : List ℕ} (piece : List ℕ) → Holds round x
     → max (length round.files.outputs) (length (dealt_first round.delim round.count round.next piece)) ≡ opened_by round.delim round.elide round.count (x ++ piece)
-count_is {round} {x} piece holds = cc (
-  length-map-range_with_len (λ file. dealt round.count file round.next (lines_of round.delim piece)) 0 (reached_by round.delim round.count round.next piece),
-  holds.opened,
-  holds.next,
-  opened_after round.delim round.elide round.count x piece holds.some,
-)
+count_is {round} {x} piece holds = search (rules, length-map-range_with_len, opened_after)
 
 module _ (told : Bool) (round : RoundState) (piece : List ℕ) {old before : List Slot} {x : List ℕ}
     (at : StandsAt ways.Holds ways.Owns (way.Round round) told before x ((work round).settled x) old) where
   made_is : part_by (from_start round.files.names) (all_open (share_of round.delim round.count (x ++ piece)))
       (max (length round.files.outputs) (length (dealt_first round.delim round.count round.next piece))) ≡ (work round).settled (x ++ piece)
-  made_is = ap (part_by (from_start round.files.names) (all_open (share_of round.delim round.count (x ++ piece)))) (count_is piece at.holds)
-      ∙ sym (filed_are round.delim Open round.files.names round.elide round.count (x ++ piece) at.holds.named)
+  made_is = search (rules, count_is, filed_are)
 
   left_by : {next : FilesState} {new : List Slot} (result : Result (Unit {0}) Fault) → Adds told round.files (λ i. get_or (dealt_first round.delim round.count round.next piece) i []) 0 (length (dealt_first round.delim round.count round.next piece)) old next new result
       → Leaves told before (from_start round.files.names) (all_open (share_of round.delim round.count x)) (length round.files.outputs) (all_open (share_of round.delim round.count (x ++ piece)))
       (max (length round.files.outputs) (length (dealt_first round.delim round.count round.next piece))) 0 (length (dealt_first round.delim round.count round.next piece)) new result
-  left_by result adds = adds.leaves before (share_of round.delim round.count x) (share_of round.delim round.count (x ++ piece)) (stand_at told round at)
-      (λ i. share_after round.delim round.count x piece at.holds.some i
-      ∙ ap (λ next. share_of round.delim round.count x i ++ get_or (dealt_first round.delim round.count next piece) i []) (sym at.holds.next))
+  left_by result adds = search (rules, stand_at, share_after)
 
 takes_in : (told : Bool) {old new : RoundState} {piece : List ℕ} {before after : List Slot} → Deals told old piece before after new (Ok tt) → TakesIn ways.Holds piece (way.Round old) (way.Round new)
-takes_in told {old} {new} {piece} deals x holds = record {
-  some = omega (arith, holds.some, deals.count);
-  named = are_named_same old.files.names new.files.names new.count deals.adds.names ∙ ap (are_named old.files.names) deals.count ∙ holds.named;
-  next = let moved = mod-add-mod (delimiters old.delim x) old.count (delimiters old.delim piece) in
-      cc (deals.next, holds.next, moved, delimiters-append old.delim x piece, deals.count, deals.delim);
-  opened = cc (deals.adds.opened, count_is piece holds, deals.elide, deals.count, deals.delim);
-}
+takes_in told {old} {new} {piece} deals x holds = grind (arith, common_steps, mod-add-mod, delimiters-append, count_is)
 
 pub passes_by : (told : Bool) (old new : RoundState) (piece : List ℕ) (before after : List Slot) (result : Result (Unit {0}) Fault)
     → Deals told old piece before after new result → PassesBy told piece before after result (way.Round old) (way.Round new)
@@ -188,7 +146,7 @@ passes_by told old new piece before after (Err why) deals = record {
   ready = tt;
   owns = deals.adds.owned;
   cut = λ start x at. cut (unjudged deals.adds.caused.0 deals.adds.caused.1)
-      (stopped_as told (stands_is at.holds) (made_is told old piece at) (stops_in_order why (left_by told old piece at (Err why) deals.adds)));
+      (stopped_as told (stands_is at.holds) (made_is told old piece at) (stops_in_order (left_by told old piece at (Err why) deals.adds)));
   met = met_files (EndsWith ways.Holds ways.work (way.Round old) piece) deals.adds.caused.0 (λ is. absurd (deals.adds.caused.1 is));
 }
 
@@ -196,20 +154,11 @@ passes_by told old new piece before after (Err why) deals = record {
 
 closed_part : {round : RoundState} {x : List ℕ} → Holds round x
     → part_by (from_start round.files.names) (closed_first (length round.files.outputs) (share_of round.delim round.count x)) (length round.files.outputs) ≡ (work round).whole x
-closed_part {round} {x} holds = ap only_files (same_by _ _ 0 (length round.files.outputs)
-    (λ i past within. ap (λ now. file_at (from_start round.files.names) i (share now (share_of round.delim round.count x i))) (shut_now i (length round.files.outputs) (omega arith))))
-    ∙ ap (part_by (from_start round.files.names) (λ i. share Closed (share_of round.delim round.count x i))) holds.opened
-    ∙ sym (filed_are round.delim Closed round.files.names round.elide round.count x holds.named)
+closed_part {round} {x} holds = search (rules, same_by, shut_now, filed_are)
 
 pub finishes_by : (told : Bool) (round : RoundState) (old new : List Slot) (result : Result (Unit {0}) Fault)
     → ClosesAll told round.files old new result → FinishesBy told old new result (way.Round round) (way.Round round)
-finishes_by told round old new (Ok u) closes = record {
-  same = refl;
-  outputs = λ before x at. (refl, subst (λ part. OutputsAt told before part new) (closed_part at.holds) (closes.closed before _ (stand_at told round at)));
-  owns = closes.owned;
-  cut = tt;
-  met = tt;
-}
+finishes_by told round old new (Ok u) closes = search (rules, closed_part, stand_at)
 finishes_by told round old new (Err why) closes = record {
   same = refl;
   outputs = tt;
@@ -250,26 +199,17 @@ module _ (told : Bool) (names : Naming) {count : ℕ} {files next : FilesState} 
     by : (result : Result (Unit {0}) Fault) → Leaves told before (from_start names) (all_open (λ i. [])) 0 (all_open (λ i. [])) (max 0 count) 0 count new result
         → (OnOk result (OutputsAt told before part new)) × (IfErr result (λ why. StoppedBetween told before nothing part why new))
     by (Ok done) leaves = (subst (λ those. OutputsAt told before those new) made leaves, tt)
-    by (Err why) leaves = (tt, stopped_as told refl made (stops_in_order why leaves))
+    by (Err why) leaves = (tt, stopped_as told refl made (stops_in_order leaves))
 
 -- where all files have names, the work is what was asked for
 pub does_all : (delim : ℕ) (names others : Naming) (elide : Bool) (n : ℕ) → names.drawn ≡ 0 → are_named names n ≡ true → from_start others ≡ from_start names → round_work (round_plan delim n elide (from_start others)) ≡ split_work (round_plan delim n elide names)
 does_all delim names others elide n fresh are same =
     ap (λ those. round_work (round_plan delim n elide those)) (same ∙ ap (λ drawn. record names { drawn = drawn }) (sym fresh)) ∙ ap work_by never where
       never : ◌≡◌ {A = List ℕ → Bool} (λ x. false) (is_short (round_plan delim n elide names))
-      never = fun_ext (λ x. never_short delim names elide n x are)
+      never = fun_ext (λ x. not_short delim names elide n x are)
 
       work_by : (List ℕ → Bool) → Work
-      work_by short = record {
-        settled = settled_by (round_plan delim n elide names);
-        whole = whole_by (round_plan delim n elide names);
-        waiting = waiting_after (settled_by (round_plan delim n elide names));
-        is_complete = short;
-        verdict = λ x. cond (short x) (Some fault.Suffixes) None;
-        clears = false;
-        means = split_means;
-        ahead = 0;
-      }
+      work_by short = record (split_work (round_plan delim n elide names)) { is_complete = short; verdict = λ x. cond (short x) (Some fault.Suffixes) None }
 
 -- nothing waits
 
@@ -285,9 +225,23 @@ joined_files delim false n x = refl
 -- all bytes are with the files
 pub dealt_all : (delim n : ℕ) (elide : Bool) (names : Naming) (x : List ℕ) → 0 < n → are_named names (length (dealt_files delim elide n x)) ≡ true
     → length (bytes_in (settled_by (round_plan delim n elide names) x)) ≡ length x
-dealt_all delim n elide names x some are = ap (λ those. length (joined those)) (dealt_settled delim n elide names x ∙ each_named names (dealt_files delim elide n x) are)
-    ∙ ap length (joined_files delim elide n x) ∙ all_dealt delim n x some
+dealt_all delim n elide names x some are = search (rules, shared_bytes, each_named, joined_files, all_dealt)
 
 pub none_waits : {round : RoundState} {x : List ℕ} → Holds round x → 0 ≡ length ((work round).waiting x)
-none_waits {round} {x} holds = sym (ap length (ap (λ count. drop count x)
-    (dealt_all round.delim round.count round.elide (from_start round.files.names) x holds.some (all_have round.delim (from_start round.files.names) round.elide round.count x holds.named)) ∙ drop-length x))
+none_waits {round} {x} holds = search (rules, dealt_all, all_have, drop-length)
+
+-- Both ways to cut
+
+-- what waits in a stage that cuts off parts
+pub parts_wait : {parts : PartsState} {x : List ℕ} → Stands parts x → length parts.waiting ≡ length ((parts_state.work parts).waiting x)
+parts_wait {parts} {x} stands = ap length (stands.waits ∙ sym (waiting_is parts.limit (from_start parts.names) x
+    (ap (are_named (from_start parts.names)) (sym (length-map (cut.parts parts.limit x) (share Closed))) ∙ part.all_have stands)))
+
+-- as long as the engine goes on, all files have names
+pub all_named : (splitter : Splitter) (x : List ℕ) → ways.Holds splitter x → (ways.work splitter).is_complete x ≡ false
+all_named (way.Parts parts) x holds = sym (part.never_done holds)
+all_named (way.Round round) x holds = refl
+
+pub held_is : (splitter : Splitter) (x : List ℕ) → ways.Holds splitter x → held splitter ≡ length ((ways.work splitter).waiting x)
+held_is (way.Parts parts) x holds = parts_wait holds
+held_is (way.Round round) x holds = none_waits holds

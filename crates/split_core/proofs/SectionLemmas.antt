@@ -244,10 +244,7 @@ nothing_between n place {left} few same = grind (arith, common_steps)
 nth_step : (n : ℕ) {file : ℕ} (place left k : ℕ) (line : List ℕ) (lines : List (List ℕ)) (gets : Bool) → left < n → (place + left) % n ≡ file → eqb (place % n) file ≡ gets
     → ((left k : ℕ) → left < n → (place + 1 + left) % n ≡ file → get_or (lines_dealt n file (place + 1) lines) k [] ≡ get_or lines (left + k * n) [])
     → get_or (cond gets (line ∷ lines_dealt n file (place + 1) lines) (lines_dealt n file (place + 1) lines)) k [] ≡ get_or (line ∷ lines) (left + k * n) []
-nth_step n {file} place left zero line lines true few at is next =
-    let none : left ≡ 0 = nothing_between n place few (at ∙ sym (eqb-true (place % n) file is)) in
-    let here : left + 0 * n ≡ 0 = omega (arith, none, zero-mul n) in
-    ap (λ place. get_or (line ∷ lines) place []) (sym here)
+nth_step n {file} place left zero line lines true few at is next = grind (arith, common_steps, nothing_between, eqb-true, zero-mul, get_or)
 nth_step n {file} place left (suc k) line lines true few at is next =
     let none : left ≡ 0 = nothing_between n place few (at ∙ sym (eqb-true (place % n) file is)) in
     let there : left + suc k * n ≡ suc (n - 1 + k * n) = omega (arith, none, suc-mul k n, few) in

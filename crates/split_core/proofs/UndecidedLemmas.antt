@@ -1,20 +1,20 @@
 -- Where the bytes of parts that follow one another go, and which of them continuations put into different files.
-use Rattle.std.proofs.Common.{take, ◌≡◌, ℕ, ◌+◌, ◌-◌, ◌<◌, zero, suc, List, [], ◌∷◌, ◌++◌, length, get_or, inl, inr, refl, sym, ◌∙◌, ap, subst, arith, append_assoc, length-append, ◌≢◌, ◌⊎◌, ◌≤◌, map, Bool, true, false, not, rules, add-suc, add-zero, zero-add}
-use Rattle.std.proofs.lemmas.Bool.{cond_both, cases_lt, false≢true}
-use Rattle.std.proofs.lemmas.List.{append-nil, drop_all}
-use Rattle.std.proofs.Math.Seq.{get_or-append_right, drop-append_seam}
-use Rattle.seg_core.specs.Line.{joined, delimiters}
+use Rattle.std.proofs.Common.{take, ◌≡◌, ℕ, ◌+◌, ◌-◌, ◌<◌, zero, suc, List, [], ◌∷◌, ◌++◌, length, get_or, inl, inr, refl, sym, ◌∙◌, ap, subst, arith, append_assoc, length-append, ◌≢◌, ◌⊎◌, ◌≤◌, map, Bool, true, false, not, rules, add-suc, add-zero, zero-add, ◌%◌, drop, cond, eqb, mod-lt}
+use Rattle.std.proofs.lemmas.Bool.{cond_both, cases_lt, false≢true, eq-eqb}
+use Rattle.std.proofs.lemmas.List.{append-nil, drop_all, take-take, take-append-drop, get_or_past, length-take-le}
+use Rattle.std.proofs.Math.Seq.{get_or-append_right, drop-cons, get_or-append_seam}
+use Rattle.seg_core.specs.Line.{joined, delimiters, lines_of}
 use Rattle.seg_core.proofs.FirstLines.{joined-append}
 use Rattle.ports_core.specs.Name.{Naming}
 use Rattle.ports_core.specs.Agreed.{Spot, spot, spots_from, GoesTo, file_bytes, ArePlaced, CanCome, IsUndecided}
 use Rattle.ports_core.proofs.AgreedLemmas.{spot_in, spot_past, none_comes, beginning_short, common, none_before}
 use Rattle.split_core.specs.declared.limit.Limit.{Limit}
-use Rattle.split_core.specs.Parts.{parts, whole_lines, most, cut_up, unless_empty, settled_rest, waiting_rest}
+use Rattle.split_core.specs.Parts.{parts, whole_lines, most, cut_up, unless_empty, settled_rest, waiting_rest, dealt}
 use Rattle.split_core.specs.laws.ShareLaws.{one_on}
-use Rattle.split_core.specs.Split.{is_named, Plan, share, are_named, named, settled_by, is_short, split_work, dealt_files, bytes_in}
+use Rattle.split_core.specs.Split.{is_named, share, are_named, named, settled_by, is_short, split_work, dealt_files, bytes_in, whole_by}
 use Rattle.split_core.specs.PartState.{parts_work}
-use Rattle.split_core.proofs.SectionLemmas.{joined_parts, settled_list, list_all}
-use Rattle.split_core.proofs.AgreedLemmas.{named_bytes, whole_files, named_more, each_named, settled_files, list_count, decides_lines, one_of, delimiters_some, plan_by}
+use Rattle.split_core.proofs.SectionLemmas.{joined_parts, settled_list}
+use Rattle.split_core.proofs.AgreedLemmas.{named_bytes, came_in, settled_bytes_in, settled_in, shared_bytes, waiting_is, named_more, each_named, list_count, decides_lines, one_of, delimiters_some, plan_by}
 use Rattle.std.proofs.lemmas.Grind.{common_steps}
 use Rattle.ports_core.specs.Part.{File, FilesBegin}
 use Rattle.ports_core.specs.Slot.{is_open}
@@ -23,12 +23,17 @@ use Rattle.seg_core.specs.declared.cut.Cut.{Cut}
 use Rattle.seg_core.specs.declared.cut.Cut.TheVariants as cut
 use Rattle.split_core.specs.declared.limit.Limit.TheVariants.{Lines, Bytes, LineBytes}
 use Rattle.split_core.specs.Splitter.{IsPositive}
-use Rattle.split_core.specs.Place.{dealt_spots, split_spots}
+use Rattle.split_core.specs.Place.{dealt_spots, split_spots, dealt_to}
 use Rattle.split_core.specs.Round.{round_plan}
 use Rattle.split_core.specs.laws.CutLaws.{whole_some}
-use Rattle.split_core.proofs.CutLaws.{open_of_none, cut_all}
-use Rattle.split_core.specs.laws.PartStateLaws as part_law
-use Rattle.split_core.proofs.RoundLemmas.{dealt_all}
+use Rattle.split_core.proofs.CutLaws.{open_of_none, cut_all, opened_by-most}
+use Rattle.split_core.specs.laws.WorkLaws.{parts_lawful}
+use Rattle.split_core.proofs.RoundLemmas.{dealt_all, none_yet}
+use Rattle.std.proofs.lemmas.Bool.Decides.{nat_tests}
+use Rattle.std.proofs.lemmas.List.FromFn.{get_or-map-range_with_len, length-map-range_with_len}
+use Rattle.split_core.specs.inner.Dealt.{share_of}
+use Rattle.split_core.specs.laws.DealLaws.{dealt_append, dealt_first, next_place, dealt_files_are}
+use Rattle.split_core.proofs.MoveLemmas.{named_before}
 
 -- Outputs that are, one after another, a text
 
@@ -103,7 +108,8 @@ files_together : (limit : Limit) (names : Naming) {x : List ℕ} → (rest : Lis
 files_together limit names {x} =
     let front = named_front names 0 (parts limit x) in (
       joined front.0,
-      sym (joined_parts limit x) ∙ ap joined front.1 ∙ joined-append (named_bytes names 0 (parts limit x)) front.0 ∙ ap (λ files. joined files ++ joined front.0) (sym (whole_files limit names x)),
+      sym (joined_parts limit x) ∙ ap joined front.1 ∙ joined-append (named_bytes names 0 (parts limit x)) front.0 ∙ ap
+          (λ files. joined files ++ joined front.0) (sym (shared_bytes names Closed (parts limit x))),
     )
 
 abbrev files_of : Limit → Naming → List ℕ → List (List ℕ)
@@ -176,20 +182,10 @@ spots_stay place i (file ∷ low) (whole ∷ high) begins last less = elim (case
 abbrev parts_spots : Limit → Naming → List ℕ → ℕ → List Spot
 parts_spots limit names x i = spots_from 1 (file_bytes ((parts_work limit names).whole x)) i
 
-abbrev settled_in : Limit → Naming → List ℕ → List ℕ
-settled_in limit names x = bytes_in ((parts_work limit names).settled x)
-
 parts_decided : (limit : Limit) (names : Naming) (x : List ℕ) (i : ℕ) → i < length (settled_in limit names x) → (y : List ℕ) → parts_spots limit names (x ++ y) i ≡ spots_from 1 (file_bytes ((parts_work limit names).settled x)) i
 parts_decided limit names x i less y =
-    spots_stay 1 i _ _ (common (parts_work limit names) (part_law.lawful limit names) x y).files (last_open names 0 (cut_up limit x).full (settled_rest limit (cut_up limit x).rest)) less
-
--- where all files have names
-
-settled_bytes_in : (limit : Limit) (names : Naming) (x : List ℕ) → are_named names (length (parts limit x)) ≡ true → settled_in limit names x ≡ joined (settled_list limit x)
-settled_bytes_in limit names x are = ap joined (settled_files limit names x ∙ each_named names (settled_list limit x) (ap (are_named names) (list_count limit x) ∙ are))
-
-came_in : (limit : Limit) (names : Naming) {x : List ℕ} → are_named names (length (parts limit x)) ≡ true → settled_in limit names x ++ waiting_rest limit (cut_up limit x).rest ≡ x
-came_in limit names {x} are = ap (λ bytes. bytes ++ waiting_rest limit (cut_up limit x).rest) (settled_bytes_in limit names x are) ∙ list_all limit x
+    spots_stay 1 i _ _ (common (parts_work limit names) (parts_lawful limit names) x y).files
+    (last_open names 0 (cut_up limit x).full (settled_rest limit (cut_up limit x).rest)) less
 
 -- what stands after a beginning
 none_wait : (limit : Limit) (names : Naming) (x : List ℕ) (i : ℕ) → are_named names (length (parts limit x)) ≡ true → waiting_rest limit (cut_up limit x).rest ≡ [] → length (settled_in limit names x) ≤ i → i < length x → ⊥
@@ -214,7 +210,7 @@ lines_here delim n names x are lines i past within =
     let full = (cut_up (LineBytes n delim) x).full in let rest = (cut_up (LineBytes n delim) x).rest in
     cc (
       append-nil x,
-      whole_files (LineBytes n delim) names x,
+      shared_bytes names Closed (parts (LineBytes n delim) x),
       each_named names (parts (LineBytes n delim) x) are,
       one_of rest (delimiters_some delim rest lines),
       spots_after 1 i full (rest ∷ []) past,
@@ -227,7 +223,7 @@ lines_there : (limit : Limit) (names : Naming) (x y : List ℕ) (next : List (Li
 lines_there limit names x y next are is i past =
     let further = named_more names 0 (settled_list limit x) next in (
       further.0,
-      ap (λ files. spots_from 1 files i) (whole_files limit names (x ++ y) ∙ ap (named_bytes names 0) is ∙ further.1
+      ap (λ files. spots_from 1 files i) (shared_bytes names Closed (parts limit (x ++ y)) ∙ ap (named_bytes names 0) is ∙ further.1
           ∙ ap (λ files. files ++ further.0) (each_named names (settled_list limit x) (ap (are_named names) (list_count limit x) ∙ are)))
           ∙ spots_after 1 i (settled_list limit x) further.0 past,
     )
@@ -261,7 +257,7 @@ parts_differ (LineBytes n delim) names {x} some are {i} past within = elim (case
 parts_undecided : (limit : Limit) (names : Naming) {x : List ℕ} → 0 < most limit → are_named names (length (parts limit x)) ≡ true → IsUndecided (parts_spots limit names) x ((parts_work limit names).waiting x)
 parts_undecided limit names {x} some are = record {
   before = settled_in limit names x;
-  are_last = cc (came_in limit names are, drop-append_seam (settled_in limit names x) (waiting_rest limit (cut_up limit x).rest));
+  are_last = cc (came_in limit names are, waiting_is limit names x are);
   differ = λ i past within. (let two = parts_differ limit names some are past within in (two.y, two.z, two.y_comes, two.z_comes, two.apart));
   decided = λ i less y z can also. parts_decided limit names x i less y ∙ sym (parts_decided limit names x i less z);
 }
@@ -286,12 +282,156 @@ round_undecided delim n elide names {x} some are =
 counted : (names : Naming) (those : List (List ℕ)) → not (are_named names (length (map (share Closed) those))) ≡ false → are_named names (length those) ≡ true
 counted names those is = grind (arith, common_steps)
 
-undecided_at : (delim : ℕ) (cut : Cut) (elide : Bool) (names : Naming) → IsPositive cut → {x : List ℕ} → is_short (plan_by delim cut elide names) x ≡ false
+pub undecided_at : (delim : ℕ) (cut : Cut) (elide : Bool) (names : Naming) → IsPositive cut → {x : List ℕ} → is_short (plan_by delim cut elide names) x ≡ false
     → IsUndecided (split_spots (plan_by delim cut elide names)) x ((split_work (plan_by delim cut elide names)).waiting x)
 undecided_at delim (cut.Lines n) elide names some {x} enough = parts_undecided (Lines n delim) names some (counted names (parts (Lines n delim) x) enough)
 undecided_at delim (cut.Bytes n) elide names some {x} enough = parts_undecided (Bytes n) names some (counted names (parts (Bytes n) x) enough)
 undecided_at delim (cut.LineBytes n) elide names some {x} enough = parts_undecided (LineBytes n delim) names some (counted names (parts (LineBytes n delim) x) enough)
 undecided_at delim (cut.Round n) elide names some {x} enough = round_undecided delim n elide names some (counted names (dealt_files delim elide n x) enough)
 
-pub split_undecided : (plan : Plan) → IsPositive plan.cut → (x : List ℕ) → is_short plan x ≡ false → IsUndecided (split_spots plan) x ((split_work plan).waiting x)
-split_undecided plan some x enough = undecided_at plan.delim plan.cut plan.elide plan.names some enough
+-- Lines that are dealt: what a file has, byte by byte
+
+-- how many bytes a file has of those before byte i
+abbrev had : ℕ → ℕ → ℕ → List ℕ → ℕ → ℕ
+had delim n file x i = length (dealt n file 0 (lines_of delim (take i x)))
+
+-- byte i follows what its file has of those before it
+pub record Follows (delim n : ℕ) (x : List ℕ) (i : ℕ) : Type 0 where
+  pub rest : List ℕ
+  pub is : share_of delim n x (dealt_to delim n x i) ≡ dealt n (dealt_to delim n x i) 0 (lines_of delim (take i x)) ++ get_or x i 0 ∷ rest
+
+follows : (delim n : ℕ) (x : List ℕ) (i : ℕ) → i < length x → Follows delim n x i
+follows delim n x i less =
+    let file = dealt_to delim n x i in
+    let byte = get_or x i 0 in
+    let place = 0 + delimiters delim (take i x) in
+    let after = dealt n file (cond (eqb byte delim) (place + 1) place) (lines_of delim (drop (suc i) x)) in record {
+      rest = after;
+      is = let parted = dealt_append delim n file 0 (take i x) (drop i x) in
+          let first = dealt_first (eqb byte delim) n file place byte (lines_of delim (drop (suc i) x)) in
+          let here = eq-eqb (place % n) file (ap (λ k. k % n) (zero-add (delimiters delim (take i x)))) in
+          cc (take-append-drop i x, parted, drop-cons x i 0 less, first, here);
+    }
+
+had_less : (delim n : ℕ) (x : List ℕ) (i : ℕ) → i < length x → had delim n (dealt_to delim n x i) x i < length (share_of delim n x (dealt_to delim n x i))
+had_less delim n x i less =
+    let next = follows delim n x i less in
+    omega (arith, ap length next.is ∙ length-append (dealt n (dealt_to delim n x i) 0 (lines_of delim (take i x))) (get_or x i 0 ∷ next.rest))
+
+had_byte : (delim n : ℕ) (x : List ℕ) (i : ℕ) → i < length x → get_or (share_of delim n x (dealt_to delim n x i)) (had delim n (dealt_to delim n x i) x i) 0 ≡ get_or x i 0
+had_byte delim n x i less =
+    let next = follows delim n x i less in
+    ap (λ those. get_or those (had delim n (dealt_to delim n x i) x i) 0) next.is ∙ get_or-append_seam (dealt n (dealt_to delim n x i) 0 (lines_of delim (take i x))) (get_or x i 0) next.rest 0
+
+-- of two bytes of a file the later one stands later in it
+had_grows : (delim n : ℕ) (x : List ℕ) (i j : ℕ) → i < j → j < length x → dealt_to delim n x i ≡ dealt_to delim n x j → had delim n (dealt_to delim n x i) x i < had delim n (dealt_to delim n x j) x j
+had_grows delim n x i j less within same =
+    let front : take i (take j x) ≡ take i x = take-take i j x (omega (arith, less)) in
+    let file : dealt_to delim n (take j x) i ≡ dealt_to delim n x i = ap (λ those. delimiters delim those % n) front in
+    let grown : had delim n (dealt_to delim n (take j x) i) (take j x) i < length (share_of delim n (take j x) (dealt_to delim n (take j x) i))
+    = had_less delim n (take j x) i (let all : length (take j x) ≡ j = length-take-le j x (omega (arith, within)) in omega (arith, less, all)) in
+    omega (arith, ap (λ k. had delim n k (take j x) i) file ∙ ap (λ those. length (dealt n (dealt_to delim n x i) 0 (lines_of delim those))) front, ap (λ k. length (share_of delim n (take j x) k)) (file ∙ same), grown)
+
+-- for each place in a file a byte is found that goes there
+
+pub record Found (delim n file place : ℕ) (x : List ℕ) (k : ℕ) : Type 0 where
+  pub i : ℕ
+  pub within : i < length x
+  pub goes : (place + delimiters delim (take i x)) % n ≡ file
+  pub at : length (dealt n file place (lines_of delim (take i x))) ≡ k
+
+found_after : {delim n file place byte k : ℕ} {x : List ℕ} {gets : Bool} → eqb (place % n) file ≡ gets → Found delim n file (cond (eqb byte delim) (place + 1) place) x k → Found delim n file place (byte ∷ x) (cond gets (suc k) k)
+found_after {delim} {n} {file} {place} {byte} {k} {x} {gets} is found = record {
+  i = suc found.i;
+  within = (omega (arith, found.within));
+  goes = ap (λ those. those % n) (sym (next_place (eqb byte delim) place (delimiters delim (take found.i x)))) ∙ found.goes;
+  at = cc (dealt_first (eqb byte delim) n file place byte (lines_of delim (take found.i x)), is, counted gets);
+} where
+  counted : (gets : Bool) → length (cond gets (byte ∷ dealt n file (cond (eqb byte delim) (place + 1) place) (lines_of delim (take found.i x))) (dealt n file (cond (eqb byte delim) (place + 1) place) (lines_of delim (take found.i x)))) ≡ cond gets (suc k) k
+  counted true = ap suc found.at
+  counted false = found.at
+
+found_by : {delim n file place byte : ℕ} (k : ℕ) {x : List ℕ} (gets : Bool) → eqb (place % n) file ≡ gets
+    → ((k : ℕ) → k < length (dealt n file (cond (eqb byte delim) (place + 1) place) (lines_of delim x)) → Found delim n file (cond (eqb byte delim) (place + 1) place) x k)
+    → k < length (cond gets (byte ∷ dealt n file (cond (eqb byte delim) (place + 1) place) (lines_of delim x)) (dealt n file (cond (eqb byte delim) (place + 1) place) (lines_of delim x)))
+    → Found delim n file place (byte ∷ x) k
+found_by {n = n} {file} {place} zero true is later less = grind (arith, common_steps)
+found_by (suc k) true is later less = found_after is (later k (omega (arith, less)))
+found_by k false is later less = found_after is (later k less)
+
+find : {delim n file : ℕ} (place : ℕ) (x : List ℕ) {k : ℕ} → k < length (dealt n file place (lines_of delim x)) → Found delim n file place x k
+find place [] less = search rules
+find {delim} {n} {file} place (byte ∷ x) {k} less = found_by k (eqb (place % n) file) refl (λ m within. find (cond (eqb byte delim) (place + 1) place) x within)
+    (subst (λ those. k < length those) (dealt_first (eqb byte delim) n file place byte (lines_of delim x)) less)
+
+-- The files
+
+file_is : (delim : ℕ) (elide : Bool) (n : ℕ) (x : List ℕ) (file : ℕ) → file < n → get_or (dealt_files delim elide n x) file [] ≡ share_of delim n x file
+file_is delim elide n x file within =
+    search (rules, dealt_files_are, cases_lt, get_or-map-range_with_len, zero-add, get_or_past, length-map-range_with_len, none_yet)
+
+named_at : (names : Naming) (place : ℕ) (those : List (List ℕ)) (k : ℕ) → get_or (named_bytes names place those) k [] ≡ cond (is_named names (place + k)) (get_or those k []) []
+named_at names place [] k = grind (arith, nat_tests)
+named_at names place (one ∷ those) zero = grind (arith, common_steps)
+named_at names place (one ∷ those) (suc k) =
+    let before = λ (is : is_named names (place + suc k) ≡ true). named_before names place (place + suc k) is (omega arith) in
+    grind (arith, nat_tests, named_at names (place + 1) those k, ap (is_named names) (one_on place k), before)
+
+-- a file that has a byte has a name, and is one of n
+there_by : (has : Bool) (these : List ℕ) {offset : ℕ} → offset < length (cond has these []) → (has ≡ true) × (offset < length these)
+there_by true these less = (refl, less)
+there_by false these less = absurd (omega (arith, less))
+
+-- Spots
+
+pub record Goes (delim n : ℕ) (names : Naming) (x : List ℕ) (i : ℕ) (at : Spot) : Type 0 where
+  pub within : i < length x
+  pub named : is_named names (dealt_to delim n x i) ≡ true
+  pub is : at ≡ spot (dealt_to delim n x i + 1) (had delim n (dealt_to delim n x i) x i)
+
+dealt_goes : {delim n : ℕ} (names : Naming) {x : List ℕ} {i : ℕ} {at : Spot} → GoesTo at (dealt_spots delim n names x i) → Goes delim n names x i at
+dealt_goes {delim} {n} names {x} {i} {at} goes = grind (arith, common_steps)
+
+abbrev dealt_files_of : ℕ → ℕ → Bool → Naming → List ℕ → List (List ℕ)
+dealt_files_of delim n elide names x = file_bytes (whole_by (round_plan delim n elide names) x)
+
+file_there : (delim n : ℕ) (elide : Bool) (names : Naming) (x : List ℕ) (file : ℕ) → file < n → is_named names file ≡ true
+    → get_or ([] ∷ dealt_files_of delim n elide names x) (file + 1) [] ≡ share_of delim n x file
+file_there delim n elide names x file within named = search
+    (rules, get_or, shared_bytes names Closed (dealt_files delim elide n x), named_at, zero-add, file_is)
+
+goes_there : (delim n : ℕ) (names : Naming) (x : List ℕ) (i : ℕ) {file offset : ℕ} → i < length x → dealt_to delim n x i ≡ file → had delim n file x i ≡ offset → is_named names file ≡ true → GoesTo (spot (suc file) offset) (dealt_spots delim n names x i)
+goes_there delim n names x i {file} {offset} less to at named = grind (arith, common_steps)
+
+dealt_filled : (delim n : ℕ) (elide : Bool) (names : Naming) (x : List ℕ) (place offset : ℕ)
+    → offset < length (get_or ([] ∷ dealt_files_of delim n elide names x) place [])
+    → (i : ℕ) × (i < length x) × GoesTo (spot place offset) (dealt_spots delim n names x i)
+dealt_filled delim n elide names x zero offset less = absurd (omega (arith, less))
+dealt_filled delim n elide names x (suc file) offset less =
+    let there = there_by (is_named names (0 + file)) (get_or (dealt_files delim elide n x) file [])
+    (subst (λ those. offset < length those) (ap (λ files. get_or files file []) (shared_bytes names Closed (dealt_files delim elide n x))
+    ∙ named_at names 0 (dealt_files delim elide n x) file) less) in
+    let within : file < n = grind (arith, common_steps, there.1, cases_lt, get_or_past, dealt_files_are, length-map-range_with_len, opened_by-most) in
+    let found = find 0 x (subst (λ those. offset < length those) (file_is delim elide n x file within) there.1) in (
+      found.i,
+      found.within,
+      goes_there delim n names x found.i found.within
+          (ap (λ k. k % n) (sym (zero-add (delimiters delim (take found.i x)))) ∙ found.goes) found.at (ap (is_named names) (sym (zero-add file)) ∙ there.0),
+    )
+
+not_before : {delim n : ℕ} {names : Naming} {x : List ℕ} {i j : ℕ} {at : Spot} → Goes delim n names x i at → Goes delim n names x j at → i < j → ⊥
+not_before {delim} {n} {x} {i} {j} one two less = grind (arith, common_steps, had_grows)
+
+pub round_placed : (delim n : ℕ) (elide : Bool) (names : Naming) → 0 < n → ArePlaced (split_work (round_plan delim n elide names)) (dealt_spots delim n names)
+round_placed delim n elide names some = record {
+  stands = λ x i at less goes. grind (arith, common_steps, goes, dealt_goes, file_there, mod-lt, get_or, had_less, had_byte);
+  filled = λ x at less. dealt_filled delim n elide names x at.place at.offset less;
+  apart = λ x i j at goes also. grind (arith, common_steps, dealt_goes names goes, dealt_goes names also, not_before);
+}
+
+pub placed_at : (delim : ℕ) (cut : Cut) (elide : Bool) (names : Naming) → IsPositive cut
+    → ArePlaced (split_work (plan_by delim cut elide names)) (split_spots (plan_by delim cut elide names))
+placed_at delim (cut.Lines n) elide names some = parts_placed (Lines n delim) names
+placed_at delim (cut.Bytes n) elide names some = parts_placed (Bytes n) names
+placed_at delim (cut.LineBytes n) elide names some = parts_placed (LineBytes n delim) names
+placed_at delim (cut.Round n) elide names some = round_placed delim n elide names some

@@ -1,5 +1,4 @@
 pub mod Moves
-pub mod PartsState
 pub mod Sharing
 pub mod Step
 pub mod Ways

@@ -18,6 +18,7 @@ use crate::Limit;
 /// Parts of n lines, or of n bytes, are runs: part i has the lines, or the bytes, at the places from i * n to less
 /// than (i + 1) * n. There are as many parts as hold all of them, and no more (POSIX.1-2017, XCU split, `-l` and
 /// `-b`).
+#[tactic(auto, using(crate::proofs::SectionLemmas::lines_are_runs, crate::proofs::SectionLemmas::bytes_are_runs, crate::proofs::SectionLemmas::part_lines, crate::proofs::SectionLemmas::part_bytes, crate::proofs::SectionLemmas::lines_count, crate::proofs::SectionLemmas::bytes_count))]
 pub fn parts_are_runs()
     ensures lines { (delim n : ℕ) (x : List ℕ) → 0 < n → parts (Lines n delim) x ≡ line_parts delim n x }
     ensures bytes { (n : ℕ) (x : List ℕ) → 0 < n → parts (Bytes n) x ≡ byte_parts n x }
@@ -75,6 +76,7 @@ pub fn agreed_is_settled()
 {}
 
 /// An engine that has returned no fault has named all files that its input needs: names that ran out are always told.
+#[tactic(auto, using(crate::proofs::RoundLemmas::all_named))]
 pub fn all_files_have_names()
     ensures { (engine : GuardState Splitter) (x : List ℕ) → HoldsIn Holds engine x → (work engine.stage).is_complete x ≡ false }
 {}

@@ -34,7 +34,7 @@ pub struct Parts {
 
 impl Model for Parts {
     ghost use Rattle.split_core.specs.PartsState.{PartsState};
-    ghost use Rattle.split_core.specs.inner.PartsState.{Fits};
+    ghost use Rattle.split_core.specs.inner.Step.{Fits};
 
     ghost Value = { PartsState };
 
@@ -79,8 +79,7 @@ impl Parts {
 
     /// The output of the part that was begun. Its file is opened if it has none.
     fn find_file<O: Outs>(&mut self, outs: &mut O) -> Result<usize, Fault>
-        requires { IsReady self.old.current (O.slots outs.old) }
-        ensures { FindsFile O.told self.old (O.slots outs.old) (O.slots outs.new) self.new result }
+        ensures { FindsFile self.old (O.slots outs.old) (O.slots outs.new) self.new result }
     {
         if let Some(slot) = self.current {
             return Ok(slot);

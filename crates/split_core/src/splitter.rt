@@ -8,7 +8,7 @@ ghost use Rattle.split_core.specs.Split.{settled_by, split_work};
 ghost use Rattle.split_core.specs.Splitter.{HasNames, IsPositive};
 ghost use Rattle.split_core.specs.Ways.{Holds, Owns, Ready, work};
 ghost use Rattle.split_core.specs.inner.Ways.{FinishesBy, PassesBy, held};
-ghost use Rattle.split_core.specs.laws.Ways.{lawful};
+ghost use Rattle.split_core.specs.laws.WorkLaws.{lawful};
 
 use crate::parts::Parts;
 use crate::round_splitter::RoundSplitter;
@@ -109,6 +109,7 @@ impl Stage for Splitter {
     }
 
     /// Always false: where the input needs more files than there are names, that is a fault.
+    #[tactic(auto, using(crate::proofs::RoundLemmas::all_named))]
     fn is_done(&self) -> bool {
         false
     }
@@ -127,6 +128,7 @@ impl Stage for Splitter {
         u64::MAX
     }
 
+    #[tactic(auto, using(ports_core::proofs::SpareLemmas::all_used, crate::proofs::RoundLemmas::all_named))]
     fn unused(&self) -> u64 {
         0
     }

@@ -23,8 +23,7 @@ use Rattle.split_core.specs.declared.limit.Limit.TheVariants as limit
 use Rattle.split_core.specs.Split.{are_named, split_work, whole_by}
 use Rattle.split_core.specs.Round.{round_plan}
 use Rattle.split_core.specs.laws.DealLaws.{dealt_files_are}
-use Rattle.split_core.specs.laws.PartStateLaws as part_law
-use Rattle.split_core.specs.laws.RoundLaws as round_law
+use Rattle.split_core.specs.laws.WorkLaws.{parts_lawful, round_lawful}
 use Rattle.split_core.proofs.AgreedLemmas.{plan_by}
 use Rattle.split_core.proofs.CutLaws.{opened_by-most}
 use Rattle.run_core.specs.Feeding.{HasAll, IsCall, Step, enough, to_end, opens, feeds, closes}
@@ -197,10 +196,10 @@ dealt_closed delim elide names all x (to_end ends is) = rw (← is) (part_begins
 dealt_closed delim {n} elide names all x (enough rest is complete) = grind (arith, common_steps, length-map, dealt_files_are, length-map-range_with_len, named_up_to, opened_by-most, false≢true)
 
 pub split_grows : (delim : ℕ) (cut : Cut) (elide : Bool) (names : Naming) {bytes : List ℕ} → AreNamed cut names.alphabet names.width → IsGrowing (split_work (plan_by delim cut elide names)) bytes
-split_grows delim (Lines n) elide names all = lawful_grows (part_law.lawful (limit.Lines n delim) names)
-split_grows delim (Bytes n) elide names all = lawful_grows (part_law.lawful (limit.Bytes n) names)
-split_grows delim (LineBytes n) elide names all = lawful_grows (part_law.lawful (limit.LineBytes n delim) names)
-split_grows delim (Round n) elide names all = record { settled = settled_whole (round_law.lawful delim n elide names); closed = dealt_closed delim elide names all }
+split_grows delim (Lines n) elide names all = lawful_grows (parts_lawful (limit.Lines n delim) names)
+split_grows delim (Bytes n) elide names all = lawful_grows (parts_lawful (limit.Bytes n) names)
+split_grows delim (LineBytes n) elide names all = lawful_grows (parts_lawful (limit.LineBytes n delim) names)
+split_grows delim (Round n) elide names all = record { settled = settled_whole (round_lawful delim n elide names); closed = dealt_closed delim elide names all }
 
 -- Each line tells a fault.
 

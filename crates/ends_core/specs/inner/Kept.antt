@@ -1,5 +1,5 @@
 -- What private calls say of what waits: how it is written, how that stops, and how it is taken in from an end.
-use Rattle.std.specs.Prelude.{◌≡◌, ◌≤◌, false, length, ℕ, Bool, true, List, ◌++◌}
+use Rattle.std.specs.Prelude.{◌≡◌, ◌≤◌, false, length, ℕ, Bool, true, List, ◌++◌, Result, OnOk, IfErr}
 use Rattle.seg_core.specs.declared.unit.Unit.TheVariants as unit
 use Rattle.ends_core.specs.declared.kept.Kept.{Kept}
 use Rattle.ends_core.specs.Kept.{unit_of, delim_of, most_of, held_of, may_lack_of}
@@ -24,6 +24,11 @@ pub record SameKept (old new : Kept) : Type 0 where
 pub data Stops (told lacks : Bool) (bytes : List ℕ) (old new : List Slot) : Fault → Type 0 where
   broke : (n : ℕ) → BrokeAfter told old new 0 bytes n → Stops told lacks bytes old new (fault.Write 0)
   no_room : lacks ≡ true → new ≡ with_written 0 (told_of told bytes) old → Stops told lacks bytes old new fault.Memory
+
+-- the bytes were written, or that stopped
+pub record Writes (told lacks : Bool) (bytes : List ℕ) (old new : List Slot) (result : Result (Unit {0}) Fault) : Type 0 where
+  pub out : OnOk result (new ≡ with_written 0 (told_of told bytes) old)
+  pub cut : IfErr result (Stops told lacks bytes old new)
 
 -- A text of this length is there, of which `Keeps` holds: where inputs tell their bytes, it is the one that is given.
 pub record HasSeen (told : Bool) (text : List ℕ) (len : ℕ) (Keeps : List ℕ → Type 0) : Type 0 where

@@ -39,11 +39,7 @@ stays delim unit but_last n x y full = let more = full_head delim unit but_last 
 }
 
 pub head_lawful : (delim : ℕ) (unit : Counted) (but_last : Bool) (n : ℕ) → IsLawful (head_work delim unit but_last n)
-head_lawful delim unit but_last n = record {
-  grows = λ x y. out_begins _ _ (head_of-grows delim unit but_last n x y);
-  ends = λ x. part_begins_itself _;
-  stays = stays delim unit but_last n;
-}
+head_lawful delim unit but_last n = search (rules, out_begins, head_of-grows, part_begins_itself, stays)
 
 tail_grows : (delim : ℕ) (unit : Counted) (from_nth : Bool) (n : ℕ) (x y : List ℕ)
     → Begins (cond from_nth (only_out (tail_of delim unit true n x)) nothing)

@@ -1,10 +1,11 @@
 -- How the files of `split` change in a step.
-use Rattle.std.specs.Prelude.{◌≡◌, ℕ, ◌-◌, ◌≤◌, ◌<◌, suc, Bool, true, false, List, [], ◌∷◌, ◌++◌, ◌⊎◌, length, take, map, IsTrue, Option, Some, None, Result, Ok, Err, OnOk, IfErr}
+use Rattle.std.specs.Prelude.{◌≡◌, ℕ, ◌-◌, ◌≤◌, ◌<◌, Bool, true, false, List, [], ◌∷◌, ◌++◌, ◌⊎◌, length, suc, take, map, IsTrue, Option, Some, None, Result, Ok, Err, OnOk, IfErr}
 use Rattle.ports_core.specs.Name.{Naming, next_name, has_next, with_one_drawn}
-use Rattle.ports_core.specs.Slot.{Slot, Rose, is_closable, unopened}
+use Rattle.ports_core.specs.Slot.{Slot, Rose, opened, unopened}
 use Rattle.ports_core.specs.inner.Slot.{KeepsBroken}
+use Rattle.ports_core.specs.declared.slot.Mode.TheVariants.{Fresh}
 use Rattle.ports_core.specs.declared.slot.State.TheVariants as state
-use Rattle.ports_core.specs.Part.{Part, OutputsAt}
+use Rattle.ports_core.specs.Part.{Part}
 use Rattle.ports_core.proofs.PartSteps.{Becomes}
 use Rattle.ports_core.specs.inner.Part.{fault_in}
 use Rattle.ports_core.specs.inner.Write.{Wrote}
@@ -14,7 +15,6 @@ use Rattle.split_core.specs.Parts.{most, unless_empty}
 use Rattle.split_core.specs.Split.{Share, share, is_some, is_named, named, are_named, from_start, only_files, settled_parts}
 use Rattle.split_core.specs.inner.CutLaws.{AllShut, SharesBegin, whole_parts}
 use Rattle.split_core.specs.PartsState.{PartsState, Stands, IsReady, OwnsFile, is_given}
-use Rattle.split_core.specs.inner.PartsState.{IsAtEnd}
 
 -- the part that these shares make
 abbrev pub part_of : Naming → List Share → Part
@@ -23,6 +23,11 @@ part_of names shares = only_files (named names 0 shares)
 -- the file of the part that was begun stays the last of the outputs from a place on
 abbrev pub KeepsFile : Option ℕ → List Slot → Option ℕ → List Slot → Type 0
 KeepsFile current old next new = (first : ℕ) → OwnsFile current first old → OwnsFile next first new
+
+-- that file is the last output
+abbrev pub IsAtEnd : Option ℕ → List Slot → Type 0
+IsAtEnd None slots = Unit {0}
+IsAtEnd (Some slot) slots = suc slot ≡ length slots
 
 -- the faults of files: a slot broke in the call where the fault names one, and none of the streams by a write
 pub data Breaks (old new : List Slot) : Fault → Type 0 where
@@ -35,9 +40,10 @@ pub data Breaks (old new : List Slot) : Fault → Type 0 where
 abbrev pub WritesTo : Bool → ℕ → List ℕ → List Slot → List Slot → Result (Unit {0}) Fault → Type 0
 WritesTo told slot bytes old new result = Wrote told slot bytes old new (fault_in result)
 
--- why the next file wasn't opened; a name was drawn for one that can't be
+-- why the next file wasn't opened: where there was no memory a name had been left, and one was drawn for a file that
+-- can't be opened
 pub data OpensNone (names next : Naming) (old new : List Slot) : Fault → Type 0 where
-  no_memory : new ≡ old → OpensNone names next old new Memory
+  no_memory : IsTrue (has_next names) → new ≡ old → OpensNone names next old new Memory
   no_file : (slot : ℕ) (kept : List ℕ) → slot ≡ length old → IsTrue (has_next names) → next ≡ with_one_drawn names
       → (kept ≡ next_name names) ⊎ (kept ≡ []) → new ≡ old ++ unopened kept ∷ [] → OpensNone names next old new (Open slot)
   no_name : has_next names ≡ false → new ≡ old → OpensNone names next old new Suffixes
@@ -53,25 +59,21 @@ pub record Keeps (parts : PartsState) (old new : List Slot) (next : PartsState) 
   pub ready : OnOk result (IsReady next.current new)
   pub breaks : IfErr result (Breaks old new)
 
--- Names ran out on the way from the shares `low` to the shares `high`, after all of those that have names. Those are
--- written, where the file of the part that was begun was the last output.
-pub record RunsShort (told : Bool) (names : Naming) (current : Option ℕ) (low high : List Share) (old new : List Slot)
-    : Type 0 where
-  pub those : List Share
+-- names ran out on the way to the shares `high`, after all of those that have names
+pub record RunsShort (names : Naming) (those high : List Share) : Type 0 where
   pub shut : AllShut those
   pub none : is_named names (length those) ≡ false
   pub begins : SharesBegin those high
   pub fewer : length those < length high
-  pub moves : IsAtEnd current old → (before : List Slot) → OutputsAt told before (part_of names low) old
-      → OutputsAt told before (part_of names those) new
 
--- Outputs that had the shares `low` have the shares `high`, or a fault stopped them between the two; where the file of
--- the part that was begun was the last output.
+-- Outputs that had the shares `low` have the shares `high`, or a fault stopped them between the two, where the file of the
+-- part that was begun was the last output; where names ran out, they have the shares that have names.
 pub record Goes (told : Bool) (names : Naming) (current : Option ℕ) (low high : List Share) (old new : List Slot)
     (result : Result (Unit {0}) Fault) : Type 0 where
   pub grows : SharesBegin low high
   pub moves : IsAtEnd current old → Becomes told (part_of names low) (part_of names high) old new (fault_in result)
-  pub short : IfErr result (λ fault. fault ≡ Suffixes → RunsShort told names current low high old new)
+  pub short : IfErr result (λ fault. fault ≡ Suffixes → (those : List Share) × RunsShort names those high
+      × (IsAtEnd current old → Becomes told (part_of names low) (part_of names those) old new None))
 
 -- the shares of closed files, and what is written of the part that was begun
 pub record Draft : Type 0 where
@@ -114,16 +116,12 @@ pub record Moves (told : Bool) (parts : PartsState) (are : ℕ × Bool × List �
   pub goes : (those : Draft) → Begun parts.names parts.current those
       → Goes told (from_start parts.names) parts.current (written those) (written (change those)) old new result
 
--- the file of the part that was begun is there, and the next has its name, if there was none
-pub record Found (told : Bool) (parts : PartsState) (old new : List Slot) (next : PartsState) (slot : ℕ) : Type 0 where
-  pub same : next ≡ record parts { names = next.names; current = Some slot }
-  pub keeps : Keeps parts old new next (Ok tt)
-  pub can : is_closable new slot
-  pub last : (those : Draft) → Begun parts.names parts.current those
-      → (next.names.drawn ≡ suc (length those.shares)) × (is_named parts.names (length those.shares) ≡ true)
-  pub goes : (those : Draft) → Begun parts.names parts.current those
-      → Goes told (from_start parts.names) parts.current (written those)
-      (those.shares ++ share state.Open those.begun ∷ []) old new (Ok tt)
+-- the file of the part that was begun: it was there, or it was opened now
+pub data HasFile (parts : PartsState) (old new : List Slot) (next : PartsState) (slot : ℕ) : Type 0 where
+  there : parts.current ≡ Some slot → next ≡ parts → new ≡ old → HasFile parts old new next slot
+  made : parts.current ≡ None → slot ≡ length old → IsTrue (has_next parts.names)
+      → next ≡ record parts { names = with_one_drawn parts.names; current = Some slot }
+      → new ≡ old ++ opened (next_name parts.names) Fresh ∷ [] → HasFile parts old new next slot
 
 -- the file of the part that was begun couldn't be opened
 pub record HasNone (parts : PartsState) (old new : List Slot) (next : PartsState) (fault : Fault) : Type 0 where
@@ -132,9 +130,9 @@ pub record HasNone (parts : PartsState) (old new : List Slot) (next : PartsState
   pub same : next ≡ record parts { names = next.names }
   pub names_same : next.names ≡ record parts.names { drawn = next.names.drawn }
 
-abbrev pub FindsFile : Bool → PartsState → List Slot → List Slot → PartsState → Result ℕ Fault → Type 0
-FindsFile told parts old new next (Ok slot) = Found told parts old new next slot
-FindsFile told parts old new next (Err fault) = HasNone parts old new next fault
+abbrev pub FindsFile : PartsState → List Slot → List Slot → PartsState → Result ℕ Fault → Type 0
+FindsFile parts old new next (Ok slot) = HasFile parts old new next slot
+FindsFile parts old new next (Err fault) = HasNone parts old new next fault
 
 -- what waits and these bytes went to the part that was begun, or a fault came meanwhile
 abbrev pub Extends : Bool → PartsState → List ℕ → List Slot → List Slot → PartsState → Result (Unit {0}) Fault → Type 0

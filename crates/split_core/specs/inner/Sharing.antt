@@ -1,13 +1,13 @@
 -- What private calls say: how files in order get more bytes, and how more of them are opened.
-use Rattle.std.specs.Prelude.{◌≡◌, ℕ, ◌+◌, ◌<◌, ◌≤◌, max, Bool, List, [], ◌∷◌, ◌++◌, ◌⊎◌, length, map, Result, Ok, Err, OnOk, IfErr, nat_lt, ◌==◌, if◌then◌else◌}
+use Rattle.std.specs.Prelude.{◌≡◌, ℕ, ◌+◌, ◌-◌, ◌<◌, ◌≤◌, max, Bool, List, [], ◌∷◌, ◌++◌, ◌⊎◌, length, map, Result, Ok, Err, OnOk, IfErr, nat_lt, ◌==◌, if◌then◌else◌}
 use Rattle.std.specs.List.{range_with_len}
 use Rattle.ports_core.specs.Name.{Naming, with_one_drawn}
 use Rattle.ports_core.specs.Slot.{Slot}
-use Rattle.ports_core.specs.Part.{Part, OutputsAt, IsBeginning, Marks, IsAt, StoppedBetween}
+use Rattle.ports_core.specs.Part.{Part, OutputsAt, IsBeginning, StoppedBetween}
 use Rattle.ports_core.specs.declared.fault.Fault.{Fault}
 use Rattle.ports_core.specs.declared.fault.Fault.TheVariants.{Suffixes}
 use Rattle.ports_core.specs.declared.slot.State.TheVariants as state
-use Rattle.split_core.specs.Split.{Share, share, name_of, from_start, file_at, only_files}
+use Rattle.split_core.specs.Split.{Share, share, from_start, file_at, only_files}
 use Rattle.ports_core.specs.inner.Slot.{KeepsBroken}
 use Rattle.split_core.specs.inner.Moves.{Breaks, CannotClose}
 use Rattle.split_core.specs.Sharing.{CannotOpen}
@@ -50,33 +50,21 @@ pub record Grow (from to : ℕ) (low : ℕ → Share) (few : ℕ) (high : ℕ �
   pub bytes : (place : ℕ) → IsBeginning (low place).bytes (high place).bytes
   pub same : (place : ℕ) → (place < from) ⊎ (to ≤ place) → low place ≡ high place
 
--- after some files the next one of many is due, and it has this name
-abbrev pub IsDue : Naming → ℕ → ℕ → List ℕ → Type 0
-IsDue names some many name = (name ≡ name_of names some) × (some < many)
-
--- A fault stopped the files at a place from one on and before another, or at the first before any was reached. The files
--- before it have got theirs already, and the files after it have got nothing.
-pub record HaltedAt (told : Bool) (before : List Slot) (names : Naming) (low : ℕ → Share) (few : ℕ) (high : ℕ → Share)
+-- A fault stopped the files at a place from one on and before another, or at the first before any was reached, on the way from some
+-- shares to others: in order, also where files up to the first of these places had got more before, or those from the last on were
+-- to get more.
+pub record Halts (told : Bool) (before : List Slot) (names : Naming) (low : ℕ → Share) (few : ℕ) (high : ℕ → Share)
     (many from to : ℕ) (fault : Fault) (now : List Slot) : Type 0 where
-  pub place : ℕ
-  pub after : from ≤ place
-  pub within : place < max 1 to
-  pub part : ℕ → Share
-  pub some : ℕ
-  pub inside : place ≤ some
-  pub above : Grow from (place + 1) low few part some
-  pub below : Grow place to part some high many
-  pub reached : List Slot
-  pub outputs : OutputsAt told before (part_by names part some) reached
-  pub marks : Marks (IsDue names some many) fault reached now
-  pub came : IsAt fault (length before) place some
+  pub stops : (first last : ℕ → Share) (fewest most end : ℕ) → Grow 0 (from + 1) first fewest low few
+      → Grow (to - 1) end high many last most
+      → StoppedBetween told before (part_by names first fewest) (part_by names last most) fault now
 
 -- they have got it all, or a fault stopped them
 abbrev pub Leaves : Bool → List Slot → Naming → (ℕ → Share) → ℕ → (ℕ → Share) → ℕ → ℕ → ℕ → List Slot
     → Result (Unit {0}) Fault → Type 0
 Leaves told before names low few high many from to new (Ok done) = OutputsAt told before (part_by names high many) new
 Leaves told before names low few high many from to new (Err fault) =
-    HaltedAt told before names low few high many from to fault new
+    Halts told before names low few high many from to fault new
 
 -- the faults of files that have names
 abbrev pub IsOfFiles : List Slot → List Slot → Fault → Type 0

@@ -1,10 +1,18 @@
 -- What the next bytes of a piece do to the part that was begun, and to what is left after the full parts.
 use Rattle.std.specs.Prelude.{◌≡◌, ℕ, ◌+◌, ◌-◌, ◌<◌, ◌≤◌, Bool, true, false, List, [], ◌++◌, length, take, drop}
+use Rattle.seg_core.specs.Window.{ByteWindowState}
 use Rattle.split_core.specs.declared.limit.Limit.{Limit}
 use Rattle.split_core.specs.declared.step.Step.{Step}
 use Rattle.split_core.specs.declared.step.Step.TheVariants.{Goes, Ends, Begins, Waits}
 use Rattle.split_core.specs.Parts.{most, is_full, first_part, settled_rest, waiting_rest}
 use Rattle.split_core.specs.PartsState.{Lacks}
+
+-- what waits fits into the window
+pub record Fits (limit : Limit) (left : ℕ) (has_line : Bool) (window : ByteWindowState) : Type 0 where
+  pub some : 0 < left
+  pub room : window.most + 1 ≡ most limit
+  pub within : length window.held + left ≤ most limit
+  pub after_line : has_line ≡ true → length window.held + left < most limit
 
 -- the numbers of a step are within the piece, and what is still missing shrinks
 abbrev pub IsWithin : ℕ → Bool → List ℕ → Step → Type 0

@@ -30,9 +30,6 @@ measure-append limit x y = length-append x y
 pub full-append : (limit : Limit) (x y : List ℕ) → is_full limit x ≡ true → is_full limit (x ++ y) ≡ true
 full-append limit x y full = grind (arith, common_steps, full_some, full_from, measure-append)
 
-pub nothing_short : (limit : Limit) (x : List ℕ) → length x ≡ 0 → is_full limit x ≡ false
-nothing_short limit x none = grind (arith, common_steps)
-
 pub has_lines : (n : ℕ) → 0 < n → nat_lt 0 n ≡ true
 has_lines n some = search rules
 
@@ -90,7 +87,7 @@ after_less limit x bound full within =
     omega (arith, first_some limit x full, length-drop (length (first_part limit x)) x)
 
 cuts_within : {limit : Limit} (bound : ℕ) {x : List ℕ} → length x ≤ bound → Cuts limit x (cut_within bound limit x).full (cut_within bound limit x).rest
-cuts_within {limit} zero {x} within = stops x (nothing_short limit x (omega arith))
+cuts_within {limit} zero {x} within = stops x (grind (arith, common_steps))
 cuts_within {limit} (suc bound) {x} within =
     by (is_full limit x) refl (λ full. cuts_within bound (after_less limit x bound full within)) where
       by : (full : Bool) → is_full limit x ≡ full

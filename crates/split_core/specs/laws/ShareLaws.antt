@@ -144,9 +144,7 @@ rest_begins_by limit rest y true full short = subst (λ cut. SharesBegin (map (s
           → SharesBegin (map (share Open) (unless_empty low)) (share Closed (first_part limit (rest ++ y)) ∷ more)
       in_first [] more begins = tt
       in_first (byte ∷ low) more begins = (inl refl, begins, tt)
-rest_begins_by limit rest y false full short = subst (λ cut. SharesBegin (map (share Open) (unless_empty (settled_rest limit rest)))
-    (map (share Closed) cut.full ++ map (share Open) (unless_empty (settled_rest limit cut.rest)))) (sym (cut_none limit (rest ++ y) full))
-    (opens_more Open (settled_rest limit rest) (settled_rest limit (rest ++ y)) (settled_in_rest limit rest y))
+rest_begins_by limit rest y false full short = search (rules, cut_none, opens_more, settled_in_rest)
 
 pub rest_begins : (limit : Limit) (rest y : List ℕ) → is_full limit rest ≡ false
     → SharesBegin (map (share Open) (unless_empty (settled_rest limit rest))) (settled_parts limit (rest ++ y))

@@ -1,7 +1,7 @@
 use Rattle.std.proofs.Common.{◌≡◌, ◌≤◌, ◌++◌, ◌∙◌, ap, length, drop, arith, length-append, length-take}
 use Rattle.seg_core.specs.Window.{ByteWindowState}
 use Rattle.ports_core.specs.Source.{source_at}
-use Rattle.ends_core.proofs.LoadLemmas.{between_more, between_last, still_grown, now_grown, was_ok}
+use Rattle.ends_core.proofs.KeptLemmas.{between_more, between_last, still_grown, now_grown, was_ok}
 use Rattle.ends_core.proofs.load.load_bytes.Goals as goal
 
 pub loop-at-preserved : goal.loop-at-preserved

@@ -1,6 +1,6 @@
 use Rattle.std.proofs.Common.{◌≡◌, ◌<◌, ◌≤◌, ◌-◌, length, true}
 use Rattle.ports_core.specs.Source.{source_at}
-use Rattle.ends_core.proofs.LoadLemmas.{HoldsBetween}
+use Rattle.ends_core.proofs.KeptLemmas.{HoldsBetween}
 use Rattle.ends_core.proofs.load.load_bytes.Given as goal
 
 abbrev pub invariant-loop-at : goal.invariant-loop-at

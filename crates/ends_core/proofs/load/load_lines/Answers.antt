@@ -1,7 +1,7 @@
 use Rattle.std.proofs.Common.{◌++◌, ◌∙◌, ap, arith}
 use Rattle.std.proofs.lemmas.Grind.{common_steps}
 use Rattle.seg_core.specs.Line.{last_lines}
-use Rattle.ends_core.proofs.LoadLemmas.{holds_more, holds_last}
+use Rattle.ends_core.proofs.KeptLemmas.{holds_more, holds_last}
 use Rattle.ends_core.proofs.load.load_lines.Goals as goal
 
 pub loop-end-init : goal.loop-end-init

@@ -1,6 +1,6 @@
 use Rattle.std.proofs.Common.{◌≡◌}
 use Rattle.ports_core.specs.Source.{source_at}
-use Rattle.ends_core.proofs.LoadLemmas.{HoldsFrom}
+use Rattle.ends_core.proofs.KeptLemmas.{HoldsFrom}
 use Rattle.ends_core.proofs.load.load_lines.Given as goal
 
 abbrev pub invariant-loop-end : goal.invariant-loop-end

@@ -1,7 +1,10 @@
-use Rattle.split_core.proofs.AgreedLemmas.{split_agreed}
-use Rattle.split_core.proofs.RoundPlacedLemmas.{split_placed}
-use Rattle.split_core.proofs.UndecidedLemmas.{split_undecided}
+use Rattle.split_core.proofs.AgreedLemmas.{agreed_at}
+use Rattle.split_core.proofs.UndecidedLemmas.{placed_at, undecided_at}
 use Rattle.split_core.proofs.laws.agreed_is_settled.Goals as goal
 
 pub returns : goal.returns
-returns c = record { outputs = split_agreed; waits = split_undecided; placed = split_placed }
+returns c = record {
+  outputs = λ plan some x. agreed_at plan.delim plan.cut plan.elide plan.names some;
+  waits = λ plan some x. undecided_at plan.delim plan.cut plan.elide plan.names some;
+  placed = λ plan. placed_at plan.delim plan.cut plan.elide plan.names;
+}

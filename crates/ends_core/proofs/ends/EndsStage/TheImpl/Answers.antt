@@ -1,12 +1,12 @@
 use Rattle.std.proofs.lemmas.Grind.{common_steps}
 use Rattle.std.proofs.Common.{◌<◌, sym, subst, arith, rules}
+use Rattle.std.proofs.lemmas.Bool.{false≢true}
 use Rattle.std.proofs.lemmas.Result.{on_ok_weaker, IfErr-weaker}
 use Rattle.ports_core.specs.Work.{IsSpare}
-use Rattle.ports_core.specs.Engine.{MayGet}
+use Rattle.ports_core.specs.Engine.{EndsThere, EndsWith, MayGet}
 use Rattle.ends_core.specs.Stage.{Holds, work}
-use Rattle.ends_core.specs.inner.Stage.{due, due_at_end}
-use Rattle.ends_core.proofs.KeptLemmas.{writable_still}
-use Rattle.ends_core.proofs.EndsLemmas.{on_ok_each, same_work, takes_in, puts_out, cuts_off, met, finishes, ends_short, end_met, loads, waits_within, full_is, done_is_exact, may_get, spare_here, wants_some}
+use Rattle.ports_core.proofs.SlotSteps.{written_writable}
+use Rattle.ends_core.proofs.EndsLemmas.{on_ok_each, same_work, takes_in, puts_out, cuts_off, lacks_kept, met, finishes, ends_short, loads, waits_within, full_is, done_is_exact, may_get, spare_here, wants_some}
 use Rattle.ends_core.proofs.ends.EndsStage.TheImpl.Goals as goal
 
 pub pass-tells : goal.pass-tells
@@ -16,12 +16,13 @@ pass-tells g c =
       same = same_work c.ensures.same;
       size = c.ensures.bound;
       holds = on_ok_each c.result (λ left waits full. takes_in ends piece c.ensures.same c.ensures.past left waits full) c.ensures.left c.ensures.waits c.ensures.full;
-      outputs = on_ok_weaker c.result (λ wrote. puts_out g.O.Outs.told ends piece wrote) c.ensures.out;
-      ready = on_ok_weaker c.result (λ wrote. writable_still g.O.Outs.told _ (due ends piece) c.requires.ready wrote) c.ensures.out;
+      outputs = on_ok_weaker c.result (λ wrote. puts_out g.O.Outs.told ends piece wrote) c.ensures.wrote.out;
+      ready = on_ok_weaker c.result (λ wrote. written_writable _ _ 0 0 _ c.requires.ready wrote) c.ensures.wrote.out;
       owns = λ first own. tt;
       there = λ are. tt;
-      cut = IfErr-weaker c.result _ _ (λ fault stops. cuts_off g.O.Outs.told ends piece stops) c.ensures.cut;
-      met = IfErr-weaker c.result _ _ (λ fault stops. met g.O.Outs.told ends piece _ _ _ fault c.requires.ready stops) c.ensures.cut;
+      cut = IfErr-weaker c.result _ _ (λ fault stops. cuts_off g.O.Outs.told ends piece stops) c.ensures.wrote.cut;
+      met = IfErr-weaker c.result _ _ (λ fault stops. met g.O.Outs.told ends (λ means. means.feeding) _ (EndsWith Holds work ends piece)
+          (λ lacking. (lacks_kept ends lacking, lacking)) c.requires.ready stops) c.ensures.wrote.cut;
     }
 
 pub finish-tells : goal.finish-tells
@@ -29,12 +30,13 @@ finish-tells g c =
     let ends = c.args.self.now in record {
       same = same_work c.ensures.same;
       size = c.ensures.bound;
-      outputs = on_ok_weaker c.result (λ wrote. finishes g.O.Outs.told ends wrote) c.ensures.out;
-      writable = on_ok_weaker c.result (λ wrote output. writable_still g.O.Outs.told _ (due_at_end ends) c.requires.ready wrote) c.ensures.out;
+      outputs = on_ok_weaker c.result (λ wrote. finishes g.O.Outs.told ends wrote) c.ensures.wrote.out;
+      writable = on_ok_weaker c.result (λ wrote output. written_writable _ _ 0 0 _ c.requires.ready wrote) c.ensures.wrote.out;
       owns = λ first own. tt;
       there = λ are. tt;
-      cut = IfErr-weaker c.result _ _ (λ fault stops. ends_short g.O.Outs.told ends stops) c.ensures.cut;
-      met = IfErr-weaker c.result _ _ (λ fault stops. end_met g.O.Outs.told ends c.requires.ready stops) c.ensures.cut;
+      cut = IfErr-weaker c.result _ _ (λ fault stops. ends_short g.O.Outs.told ends stops) c.ensures.wrote.cut;
+      met = IfErr-weaker c.result _ _ (λ fault stops. met g.O.Outs.told ends (λ means. means.closing) _ (EndsThere Holds work ends)
+          (λ never. absurd (false≢true never)) c.requires.ready stops) c.ensures.wrote.cut;
     }
 
 pub load-tells : goal.load-tells

@@ -1,6 +1,6 @@
 use Rattle.std.proofs.lemmas.Grind.{common_steps}
 use Rattle.std.proofs.Common.{◌∙◌, arith}
-use Rattle.split_core.proofs.WaysLemmas.{held_is}
+use Rattle.split_core.proofs.RoundLemmas.{held_is}
 use Rattle.split_core.proofs.splitter.SplitterStage.TheImpl.Goals as goal
 
 pub pass-tells : goal.pass-tells

@@ -1,8 +1,8 @@
 use Rattle.std.proofs.Common.{ap, sym, ◌∙◌, ◌++◌, arith}
 use Rattle.ports_core.specs.Work.{Work}
 use Rattle.ports_core.proofs.SpareLemmas.{none_spare}
-use Rattle.split_core.specs.laws.Ways.{lawful}
-use Rattle.split_core.proofs.WaysLemmas.{all_named}
+use Rattle.split_core.specs.laws.WorkLaws.{lawful}
+use Rattle.split_core.proofs.RoundLemmas.{all_named}
 use Rattle.split_core.proofs.splitter.SplitterStage.wanted.Goals as goal
 
 pub returns-clause-few : goal.returns-clause-few

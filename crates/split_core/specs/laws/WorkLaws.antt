@@ -1,18 +1,26 @@
--- The laws of the work of dealing lines in turn.
+-- Laws that traits cite: those of the work of `split`, in each of its two ways to cut.
 use Rattle.std.proofs.lemmas.Grind.{common_steps}
-use Rattle.std.proofs.Common.{◌≡◌, ℕ, ◌+◌, ◌≤◌, zero, suc, List, [], ◌∷◌, ◌++◌, map, Bool, true, false, cond, refl, arith}
+use Rattle.std.proofs.Common.{◌≡◌, ℕ, ◌+◌, ◌≤◌, zero, suc, List, [], ◌∷◌, ◌++◌, map, Bool, true, false, cond, refl, arith, length, sym, ◌∙◌, ap, rules}
 use Rattle.std.specs.List.{range_with_len}
-use Rattle.std.proofs.lemmas.Bool.{false≢true}
+use Rattle.std.proofs.lemmas.Bool.{false≢true, not-true}
 use Rattle.ports_core.specs.Name.{Naming}
 use Rattle.ports_core.specs.Part.{File, IsBeginning, FilesBegin, Begins}
-use Rattle.ports_core.specs.Work.{IsLawful}
+use Rattle.ports_core.specs.Work.{IsLawful, IsComplete}
 use Rattle.ports_core.specs.declared.slot.State.{State}
 use Rattle.ports_core.specs.declared.slot.State.TheVariants.{Open, Closed}
 use Rattle.ports_core.proofs.PartLemmas.{begins_itself, nothing_begins}
-use Rattle.split_core.specs.Split.{share, named, is_named, file_at, only_files, dealt_files}
+use Rattle.split_core.specs.Split.{share, named, is_named, file_at, only_files, dealt_files, are_named, settled_parts, from_start}
 use Rattle.split_core.specs.Round.{round_plan, round_work, opened_by}
 use Rattle.split_core.specs.inner.Dealt.{share_of}
 use Rattle.split_core.specs.laws.DealLaws.{dealt_append, dealt_files_are, opened_by-grows}
+use Rattle.std.proofs.lemmas.List.{append-nil, length-map}
+use Rattle.split_core.specs.declared.limit.Limit.{Limit}
+use Rattle.split_core.specs.Parts.{cut_up, parts}
+use Rattle.split_core.specs.laws.ShareLaws.{part_begins, settled_grow, settled_end, files_settled, files_whole, parts_grow, are_named_more}
+use Rattle.split_core.specs.PartState.{parts_work}
+use Rattle.split_core.specs.declared.splitter.Splitter.{Splitter}
+use Rattle.split_core.specs.declared.splitter.Splitter.TheVariants.{Parts, Round}
+use Rattle.split_core.specs.Ways.{work}
 
 begin_step : (is : Bool) (file high : File) (files wholes : List File) → file.name ≡ high.name → file.mode ≡ high.mode
     → file.is_broken ≡ high.is_broken → file.state ≡ Open → IsBeginning file.bytes high.bytes → FilesBegin files wholes
@@ -35,9 +43,31 @@ dealt_begin : (delim : ℕ) (elide : Bool) (n : ℕ) (names : Naming) (high : St
     → Begins (only_files (named names 0 (map (share Open) (dealt_files delim elide n x)))) (only_files (named names 0 (map (share high) (dealt_files delim elide n z))))
 dealt_begin delim elide n names high x z begin few = grind (arith, common_steps, nothing_begins, dealt_files_are, files_begin)
 
-pub lawful : (delim count : ℕ) (elide : Bool) (names : Naming) → IsLawful (round_work (round_plan delim count elide names))
-lawful delim count elide names = record {
+pub round_lawful : (delim count : ℕ) (elide : Bool) (names : Naming) → IsLawful (round_work (round_plan delim count elide names))
+round_lawful delim count elide names = record {
   grows = λ x y. dealt_begin delim elide count names Open x (x ++ y) (λ file. (_, dealt_append delim count file 0 x y)) (opened_by-grows delim elide count x y);
   ends = λ x. dealt_begin delim elide count names Closed x x (λ file. begins_itself _) (omega arith);
   stays = λ x y never. absurd (false≢true never);
 }
+
+-- Parts that follow one another
+
+stays : (limit : Limit) (names : Naming) (x y : List ℕ) → (parts_work limit names).is_complete x ≡ true → IsComplete (parts_work limit names) x y
+stays limit names x y short = grind (arith, common_steps, none, more, here, files_settled, files_whole, not-true) where
+  none : are_named names (length (parts limit x)) ≡ false
+  none = sym (ap (are_named names) (length-map (parts limit x) (share Closed))) ∙ not-true _ short
+
+  more : are_named names (length (map (share Closed) (parts limit (x ++ y)))) ≡ false
+  more = ap (are_named names) (length-map (parts limit (x ++ y)) (share Closed)) ∙ are_named_more names (length (parts limit x)) _ none (parts_grow limit x y)
+
+  here : named names 0 (settled_parts limit x) ≡ named names 0 (map (share Closed) (cut_up limit x).full)
+  here = ap (λ all. named names 0 (settled_parts limit all)) (sym (append-nil x)) ∙ files_settled names limit x [] none
+
+pub parts_lawful : (limit : Limit) (names : Naming) → IsLawful (parts_work limit names)
+parts_lawful limit names = search (rules, part_begins, settled_grow, settled_end, stays)
+
+-- Both ways
+
+pub lawful : (way : Splitter) → IsLawful (work way)
+lawful (Parts state) = parts_lawful state.limit (from_start state.names)
+lawful (Round state) = round_lawful state.delim state.count state.elide (from_start state.files.names)

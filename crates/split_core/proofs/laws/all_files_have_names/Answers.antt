@@ -1,5 +1,0 @@
-use Rattle.split_core.proofs.WaysLemmas.{never_short}
-use Rattle.split_core.proofs.laws.all_files_have_names.Goals as goal
-
-pub returns : goal.returns
-returns c = never_short
