@@ -1,11 +1,11 @@
 -- What is found by tables is what the pattern's tests say.
 use Rattle.std.proofs.Common.{◌≡◌, ℕ, suc, zero, ◌+◌, ◌<◌, ◌≤◌, Bool, nat_le, ◌&&◌, List, [], ◌∷◌, ◌++◌, length, Option, Some, arith, refl, rules, ap, sym, ◌∙◌, drop, slice_index_or, subst}
 use Rattle.std.proofs.lemmas.Grind.{common_steps}
-use Rattle.std.proofs.lemmas.List.{get_or_read_under}
+use Rattle.std.proofs.lemmas.List.{get_or_read_under, same_from_push}
 use Rattle.bre_core.specs.Search.{any_below, has_parts, is_at_most, matches, contains}
 use Rattle.bre_core.specs.Pattern.{Pattern}
 use Rattle.bre_core.specs.Flat.{tree_of, read_on, group_closed}
-use Rattle.bre_core.proofs.Existence.{no_end, same_end}
+use Rattle.bre_core.proofs.Existence.{no_end}
 use Rattle.bre_core.specs.declared.token.Token.{Token}
 use Rattle.plain_core.specs.declared.plain.Plain.{Plain}
 use Rattle.plain_core.specs.inner.Plain.{FrameIs, Means}
@@ -71,7 +71,7 @@ pub closed_is : {line : List ℕ} (current : Pattern) (around : List Pattern) {o
     → (outer : List (List Bool)) {inner : List (List Bool)} → Means line current around old → old.around.items ≡ below ++ outer ∷ [] → IsTable (length line) (matches current line) inner
     → new.around.items ≡ below → new.before ≡ outer → new.last ≡ Some inner → Means line (group_closed current around) (drop 1 around) new
 closed_is current [] below outer m e is a b l = absurd (no_end below outer (sym e ∙ m.outer))
-closed_is current (pattern ∷ around) below outer m e is a b l = search (rules, same_end)
+closed_is current (pattern ∷ around) below outer m e is a b l = search (rules, same_from_push)
 
 pub found_is : (line : List ℕ) (pattern : Pattern) {rows : List (List Bool)} → IsTable (length line) (matches pattern line) rows
     → any_below (suc (length line)) (λ to. any_below (suc to) (λ from. at rows from to)) ≡ contains pattern line
