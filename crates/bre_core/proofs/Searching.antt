@@ -92,13 +92,9 @@ few_parts Kind f low high (suc count) from to l h p = elim (cases_lt (suc count)
   | inr large ↦ few_parts Kind f low high count from to (omega (arith, large)) (at_most_less high count h) (fewer Kind f count from to (omega (arith, large)) p)
 ]
 
-at_most_yes : (high : Option ℕ) (count : ℕ) → is_at_most high count ≡ true → IsAtMost high count
-at_most_yes None count e = tt
-at_most_yes (Some high) count e = leb-true count high e
-
-at_most_no : (high : Option ℕ) (count : ℕ) → IsAtMost high count → is_at_most high count ≡ true
-at_most_no None count h = refl
-at_most_no (Some high) count h = le-leb count high h
+at_most_tells : (high : Option ℕ) (count : ℕ) → (is_at_most high count ≡ true) ↔ IsAtMost high count
+at_most_tells None count = (λ e. tt, λ h. refl)
+at_most_tells (Some high) count = (leb-true count high, le-leb count high)
 
 mutual
   tells : (pattern : Pattern) (line : List ℕ) → Tells (matches pattern line) (Matches pattern line)
@@ -125,11 +121,11 @@ mutual
         let found = any_found (suc (low + to)) (λ count. leb low count && (is_at_most high count && has_parts (matches_item item line) count from to)) e in
         let a = and_parts (leb low found.0) _ found.2 in
         let b = and_parts (is_at_most high found.0) _ a.1 in
-        (found.0, leb-true low found.0 a.0, at_most_yes high found.0 b.0, (parts_tell (MatchesItem item line) one found.0).yes from to b.1);
+        (found.0, leb-true low found.0 a.0, (at_most_tells high found.0).0 b.0, (parts_tell (MatchesItem item line) one found.0).yes from to b.1);
     no = λ from to m.
         let few = few_parts (MatchesItem item line) one.forward low high m.0 from to m.1 m.2 m.3 in
         any_there (suc (low + to)) (λ count. leb low count && (is_at_most high count && has_parts (matches_item item line) count from to)) few.0 few.1
-        (and_from _ _ (le-leb low few.0 few.2) (and_from _ _ (at_most_no high few.0 few.3) ((parts_tell (MatchesItem item line) one few.0).no from to few.4)));
+        (and_from _ _ (le-leb low few.0 few.2) (and_from _ _ ((at_most_tells high few.0).1 few.3) ((parts_tell (MatchesItem item line) one few.0).no from to few.4)));
     forward = λ from to m. parts_forward (MatchesItem item line) one.forward m.0 from to m.3;
   }
 

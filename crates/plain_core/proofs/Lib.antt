@@ -1,1 +1,1 @@
-pub mod Exactness
+pub mod Tables

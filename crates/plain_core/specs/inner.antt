@@ -1,3 +1,2 @@
 pub mod Plain
-pub mod PlainState
-pub mod Spans
+pub mod Table

@@ -2,8 +2,7 @@
 //! fast one is compared.
 #![tactic(auto)]
 
-mod ends;
 mod plain;
-mod spans;
+mod table;
 
 pub use plain::{matches_expression, matches_plain};

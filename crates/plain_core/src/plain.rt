@@ -1,15 +1,14 @@
-//! The plain matcher: it goes over a pattern with sets of end places.
+//! The plain matcher: it goes over a pattern with tables of which stretches there are.
 
-ghost use Rattle.std.specs.Prelude.{◌≡◌, ◌+◌, [], length, None, IfOk, OnOk, IfErr, IfSome};
-ghost use Rattle.bre_core.specs.Flat.{IsBounded};
-ghost use Rattle.plain_core.specs.inner.Plain.{IsSettled, Advances};
-ghost use Rattle.bre_core.specs.Search.{contains};
-ghost use Rattle.plain_core.specs.inner.Spans.{AreLeaf};
+ghost use Rattle.std.specs.Prelude.{◌≡◌, List, [], None, IfOk, OnOk, IfErr, length};
+ghost use Rattle.bre_core.specs.Flat.{current_after, around_after};
+ghost use Rattle.bre_core.specs.Pattern.{Pattern, nothing};
+ghost use Rattle.bre_core.specs.Search.{contains, matches};
+ghost use Rattle.plain_core.specs.inner.Plain.{FrameIs, Means};
+ghost use Rattle.plain_core.specs.inner.Table.{IsTable};
 ghost use Rattle.bre_core.specs.declared.fault.BreFault.TheVariants.{Memory};
-ghost use Rattle.bre_core.specs.declared.token.Token.TheVariants.{Open};
 
-use crate::ends::Times;
-use crate::spans::Spans;
+use crate::table::Table;
 use bre_core::{BreFault, Expression, Token};
 use scan_core::Bre;
 use std::alloc::Global;
@@ -18,22 +17,18 @@ use std::mem;
 /// The stretches of the concatenation that is gone over, its last item apart, and of those around it, the innermost last.
 #[derive(Drop)]
 struct Plain {
-    around: Vec<Spans>,
-    before: Spans,
-    last: Option<Spans>,
+    around: Vec<Table>,
+    before: Table,
+    last: Option<Table>,
 }
 
 impl Plain {
-    ghost use Rattle.plain_core.specs.inner.PlainState.{state_of};
-
     /// Before the first token: the empty concatenation.
     fn new(alloc: Global, line: &[u8]) -> Result<Plain, BreFault>
-        ensures around { IfOk result (λ plain. plain.around.items ≡ []) }
-        ensures before { IfOk result (λ plain. AreLeaf Open line.now plain.before) }
-        ensures last { IfOk result (λ plain. plain.last ≡ None) }
+        ensures ok { IfOk result (Means line.now nothing []) }
         ensures err { IfErr result (λ fault. fault ≡ Memory) }
     {
-        let before = Spans::of_token(alloc, &Token::Open, line)?;
+        let before = Table::of_token(alloc, &Token::Open, line)?;
         Ok(Plain {
             around: Vec::new(alloc),
             before,
@@ -42,60 +37,62 @@ impl Plain {
     }
 
     /// Appends the last item to those before it.
-    fn settle(&mut self, alloc: Global) -> Result<(), BreFault>
-        requires { IfSome self.old.last (λ item. length self.old.before ≡ length item) }
+    fn settle(&mut self, alloc: Global, line: &[u8]) -> Result<(), BreFault>
         ensures around { OnOk result (self.new.around ≡ self.old.around) }
-        ensures before { OnOk result (IsSettled self.old.before self.old.last self.new.before) }
+        ensures before { (current : Pattern) → FrameIs line.now current self.old.before self.old.last
+            → OnOk result (IsTable (length line.now) (matches current line.now) self.new.before) }
         ensures last { OnOk result (self.new.last ≡ None) }
         ensures err { IfErr result (λ fault. fault ≡ Memory) }
     {
         if let Some(item) = self.last.take() {
-            self.before = self.before.with_after(alloc, Times::Once, &item)?;
+            self.before = self.before.with_after(alloc, line, &item)?;
         }
         Ok(())
     }
 
     /// Goes on by one token.
     fn take(&mut self, alloc: Global, token: &Token, line: &[u8]) -> Result<(), BreFault>
-        requires before { length self.old.before ≡ length line.now + 1 }
-        requires last { IfSome self.old.last (λ item. length item ≡ length line.now + 1) }
-        requires order { IsBounded token.now }
-        ensures ok { OnOk result (Advances token.now line.now (state_of self.old) (state_of self.new)) }
+        ensures ok { (current : Pattern) (around : List Pattern) → Means line.now current around self.old
+            → OnOk result (Means line.now (current_after token.now current around) (around_after token.now current around) self.new) }
         ensures err { IfErr result (λ fault. fault ≡ Memory) }
     {
         match token {
             Token::Set(_) | Token::Front | Token::End => {
-                self.settle(alloc)?;
-                self.last = Some(Spans::of_token(alloc, token, line)?);
+                self.settle(alloc, line)?;
+                self.last = Some(Table::of_token(alloc, token, line)?);
+                Ok(())
             }
             Token::Open => {
-                self.settle(alloc)?;
-                let inner = Spans::of_token(alloc, token, line)?;
+                self.settle(alloc, line)?;
+                let inner = Table::of_token(alloc, token, line)?;
                 let outer = mem::replace(&mut self.before, inner);
-                self.around.push(outer)?;
+                Ok(self.around.push(outer)?)
             }
             Token::Close => {
-                if let Some(outer) = self.around.pop() {
-                    self.settle(alloc)?;
-                    let inner = mem::replace(&mut self.before, outer);
-                    self.last = Some(inner);
-                }
+                let Some(outer) = self.around.pop() else {
+                    return Ok(());
+                };
+                self.settle(alloc, line)?;
+                let inner = mem::replace(&mut self.before, outer);
+                self.last = Some(inner);
+                Ok(())
             }
             Token::Repeat(low, high) => {
-                if let Some(item) = self.last.take() {
-                    self.last = Some(item.repeated(alloc, line, *low, *high)?);
-                }
+                let Some(item) = self.last.take() else {
+                    return Ok(());
+                };
+                self.last = Some(item.repeated(alloc, line, *low, *high)?);
+                Ok(())
             }
         }
-        Ok(())
     }
 }
 
 /// Whether some stretch of the line, taken without its newline, matches the pattern (XBD 9.1).
 ///
-/// For a line of n bytes it keeps (n + 1) times (n + 1) flags for what it has gone over and for each open group, and each
-/// token takes up to n to the power of 3 steps, an interval as many times as its bound says: this is the plain program that
-/// a faster one is compared with.
+/// For a line of n bytes it keeps (n + 1) times (n + 1) flags for what it has gone over and for each open group, and while an
+/// item is repeated for each number of parts, of which n are tried beyond the least one. Each token takes up to n to the power
+/// of 3 steps, a duplication as many for each number of parts: this is the plain program that a faster one is compared with.
 ///
 /// # Errors
 ///
@@ -112,8 +109,8 @@ pub fn matches_expression(
     for token in expression.tokens() {
         plain.take(alloc, token, line)?;
     }
-    plain.settle(alloc)?;
-    Ok(plain.before.has_any())
+    plain.settle(alloc, line)?;
+    Ok(plain.before.has_any(line))
 }
 
 /// Whether some stretch of the line, taken without its newline, matches the pattern (XBD 9.1), as `matches_expression`

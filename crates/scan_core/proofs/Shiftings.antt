@@ -350,22 +350,15 @@ pub shifted_is : {table : Table} {shifts : ShiftTable} {rows : List ℕ} {noted 
 shifted_is {table} {shifts} {noted} er en few complete words weights states stop = search rules
 
 pub at_starts : {code : List Node} {shifts : ShiftTable} (line : List ℕ) → IsShiftTable code shifts → IsAt code shifts line 0 0 0
-at_starts line t = (
-  t.0,
-  t.1,
-  t.2,
-  (
-    0,
-    refl,
-    record {
+at_starts {code} line t =
+    let starts : IsStateAt code t.0 line 0 0 0 = record {
       within = omega arith;
       known = omega arith;
       going = λ h. (t.1.0, t.1.1, walked_starts line t.1.1);
       over = λ e. absurd (let s = t.1.1.states in let m = t.1.1.some in omega (arith, e, s, m));
       bound = omega arith;
-    },
-  ),
-)
+    } in
+    (t.0, t.1, t.2, (0, refl, starts))
 
 -- the positions of a state, as the words have them
 weight_read : {table : Table} {shifts : ShiftTable} (word : ℕ) {added : ℕ} (e : ℕ) → IsShifted table shifts → added ≡ get_or shifts.weights.items (word % 256) e → IsWeight table.states.items (word % 64) added

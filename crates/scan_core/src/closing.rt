@@ -35,6 +35,7 @@ fn follow(words: &mut [u64], hop: &Hop, numbers: u64, on: usize) -> usize
 }
 
 /// Enters what the hops of a word lead to from some of its numbers.
+#[tactic(auto, using(crate::proofs::Closings::hopped_more))]
 #[inline(always)]
 fn hop(
     words: &mut [u64],

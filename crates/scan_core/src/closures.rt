@@ -116,6 +116,7 @@ fn peers_of(nodes: &[Node], number: usize) -> u64
 }
 
 /// A number's bit, if it stands in this word.
+#[tactic(auto, using(crate::proofs::Insides::bit_is))]
 fn bit_in(at: usize, number: usize) -> u64
     ensures { (bit : ℕ) → bit < 64 → (bit_at result bit ≡ 1) ↔ (number ≡ at * 64 + bit) }
 {
@@ -157,6 +158,7 @@ fn inside_of(nodes: &[Node], at: usize, word: u64) -> u64
 }
 
 /// The numbers that are led to in a word, if each follows the only one that leads to it there, and leads nowhere in the word.
+#[tactic(auto, using(crate::proofs::Insides::next_more, crate::proofs::Insides::next_ends))]
 fn nexts_in(nodes: &[Node], at: usize) -> Option<u64>
     requires code { IsCode nodes.now }
     requires at { at < width nodes.now }
@@ -206,6 +208,7 @@ pub fn closed(closures: &Closures, nodes: &[Node], at: usize, word: u64) -> u64
 
 /// What one choice from eight numbers leads to in their word: what its lower and its higher four lead to is in the table
 /// before it, if there are both.
+#[tactic(auto, using(crate::proofs::Insides::entry_of_halves))]
 fn inside_at(inside: &[u64], nodes: &[Node], place: usize) -> u64
     requires inside { AreEach 0 (IsInside nodes.now) place inside.now }
     requires code { IsCode nodes.now }

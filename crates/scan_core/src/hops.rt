@@ -44,6 +44,7 @@ fn leads_to(nodes: &[Node], number: usize, to: usize) -> bool
 }
 
 /// The numbers of a word that lead to a number.
+#[tactic(auto, using(crate::proofs::Insides::bits_more, crate::proofs::Insides::flag_one))]
 fn from_of(nodes: &[Node], at: usize, to: usize) -> u64
     requires code { IsCode nodes.now }
     requires at { at < width nodes.now }
@@ -124,6 +125,7 @@ fn hop_of(nodes: &[Node], hops: &[Hop], at: usize) -> Hop
 }
 
 /// The hops of each word.
+#[tactic(auto, using(crate::proofs::Enterings::each_more))]
 pub fn hops_of(alloc: Global, nodes: &[Node]) -> Result<Vec<Hop>, BreFault>
     requires { IsCode nodes.now }
     ensures ok { IfOk result (λ hops. AreHops nodes.now hops.items) }

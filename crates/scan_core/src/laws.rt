@@ -12,6 +12,7 @@ pub fn end_is_entered()
 {}
 
 /// The positions of a pattern's code, with its end, are those that are counted for the pattern.
+#[tactic(auto, using(crate::proofs::Codes::weighs))]
 pub fn code_has_positions()
     ensures { (pattern : Pattern) → IsOrdered pattern → weight (code_of pattern) + 1 ≡ positions_of pattern }
 {}

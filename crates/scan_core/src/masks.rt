@@ -44,6 +44,7 @@ fn passes(nodes: &[Node], number: usize, byte: u8) -> bool
 }
 
 /// Whether a number is a position.
+#[tactic(auto, using(crate::proofs::Enterings::node_here, crate::proofs::Countings::counted_in, crate::proofs::Countings::counted_out))]
 fn counts(nodes: &[Node], number: usize) -> bool
     ensures { IsTrue result ↔ IsOf nodes.now Counts number }
 {

@@ -43,6 +43,7 @@ fn positions_of_places(positions: usize, places: usize) -> u128
 }
 
 /// The end of the stretch from a place on in which the state stays: at once the line's end where no byte can change it.
+#[tactic(auto, using(crate::proofs::Shiftings::fixed_stays))]
 #[inline(always)]
 fn stretch_end(table: &Table, nodes: &[Node], line: &[u8], from: usize, state: usize) -> usize
     requires table { IsTable nodes.now table.now }

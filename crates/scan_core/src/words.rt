@@ -11,6 +11,7 @@ use crate::node::Node;
 use crate::way::{is_open, way_of};
 
 /// Whether a number is in a set.
+#[tactic(auto, using(crate::proofs::Insides::has_tests))]
 #[inline(always)]
 pub fn has(words: &[u64], number: usize) -> bool
     requires { number < 64 * length words.now }

@@ -1,56 +1,24 @@
--- Going over a pattern's tokens with the stretches of a line: what one token does.
-use Rattle.std.specs.Prelude.{◌≡◌, ◌⊎◌, ℕ, Bool, List, [], ◌∷◌, ◌++◌, Option, Some, None, MatchOption}
-use Rattle.plain_core.specs.declared.ends.Times.TheVariants.{Once}
-use Rattle.bre_core.specs.declared.token.Token.{Token}
-use Rattle.bre_core.specs.declared.token.Token.TheVariants.{Set, Front, End, Open, Close, Repeat}
-use Rattle.plain_core.specs.inner.Spans.{StandAfter, AreLeaf, AreRepeated}
+-- Going over a pattern's tokens with the stretches of a line.
+use Rattle.std.specs.Prelude.{◌≡◌, ℕ, Bool, List, [], ◌∷◌, ◌++◌, length, Option, Some, None}
+use Rattle.bre_core.specs.Pattern.{Pattern, nothing, append, Item}
+use Rattle.bre_core.specs.Search.{matches, matches_item}
+use Rattle.plain_core.specs.declared.plain.Plain.{Plain}
+use Rattle.plain_core.specs.inner.Table.{IsTable}
 
--- the stretches of a concatenation, its last item apart, and those of the concatenations around, the innermost last
-pub record State : Type 0 where
-  pub around : List (List (List Bool))
-  pub before : List (List Bool)
-  pub last : Option (List (List Bool))
+-- the stretches of a concatenation, its last item apart
+abbrev pub FrameIs : List ℕ → Pattern → List (List Bool) → Option (List (List Bool)) → Type 0
+FrameIs line current before None = (current ≡ nothing) × IsTable (length line) (matches nothing line) before
+FrameIs line current before (Some last) = (pattern : Pattern) × (item : Item) × (current ≡ append pattern item)
+    × IsTable (length line) (matches pattern line) before × IsTable (length line) (matches_item item line) last
 
--- the stretches of the whole concatenation
-abbrev pub IsSettled : List (List Bool) → Option (List (List Bool)) → List (List Bool) → Type 0
-IsSettled before None whole = whole ≡ before
-IsSettled before (Some item) whole = StandAfter Once before item whole
+-- the concatenations around, the innermost last
+abbrev pub AroundAre : List ℕ → List (List (List Bool)) → List Pattern → Type 0
+AroundAre line tables [] = tables ≡ []
+AroundAre line tables (outer ∷ around) = (below : List (List (List Bool))) × (innermost : List (List Bool))
+    × (tables ≡ below ++ innermost ∷ []) × IsTable (length line) (matches outer line) innermost
+    × AroundAre line below around
 
--- an item of one token follows the others
-pub record TookLeaf (token : Token) (line : List ℕ) (old new : State) : Type 0 where
-  pub around : new.around ≡ old.around
-  pub before : IsSettled old.before old.last new.before
-  pub item : List (List Bool)
-  pub last : new.last ≡ Some item
-  pub leaf : AreLeaf token line item
-
--- a group begins
-pub record TookOpen (line : List ℕ) (old new : State) : Type 0 where
-  pub outer : List (List Bool)
-  pub around : new.around ≡ old.around ++ outer ∷ []
-  pub settled : IsSettled old.before old.last outer
-  pub before : AreLeaf Open line new.before
-  pub last : new.last ≡ None
-
--- a group ends, and is the last item of the concatenation around it
-pub record TookClose (old new : State) : Type 0 where
-  pub around : old.around ≡ new.around ++ new.before ∷ []
-  pub inner : List (List Bool)
-  pub settled : IsSettled old.before old.last inner
-  pub last : new.last ≡ Some inner
-
--- the last item is repeated
-pub record TookRepeat (low : ℕ) (high : Option ℕ) (item : List (List Bool)) (old new : State) : Type 0 where
-  pub around : new.around ≡ old.around
-  pub before : new.before ≡ old.before
-  pub all : List (List Bool)
-  pub last : new.last ≡ Some all
-  pub repeated : AreRepeated item low high all
-
-abbrev pub Advances : Token → List ℕ → State → State → Type 0
-Advances (Set bytes) line old new = TookLeaf (Set bytes) line old new
-Advances Front line old new = TookLeaf Front line old new
-Advances End line old new = TookLeaf End line old new
-Advances Open line old new = TookOpen line old new
-Advances Close line old new = ((old.around ≡ []) × (new ≡ old)) ⊎ TookClose old new
-Advances (Repeat low high) line old new = MatchOption old.last (new ≡ old) (λ item. TookRepeat low high item old new)
+-- what is found so far is what the tokens so far mean
+pub record Means (line : List ℕ) (current : Pattern) (around : List Pattern) (plain : Plain) : Type 0 where
+  pub frame : FrameIs line current plain.before plain.last
+  pub outer : AroundAre line plain.around.items around
