@@ -16,8 +16,6 @@ use Rattle.csplit_core.specs.Place.{Place, in_section, left_out, nowhere, place_
 use Rattle.csplit_core.proofs.WholeLemmas.{between_rest, after_within, ends_after_all}
 use Rattle.std.proofs.lemmas.Grind.{common_steps}
 
--- What is settled is what all continuations agree on.
-
 -- One more line that every operand finds.
 
 search_past_cut : (suppress : Bool) (total : ℕ) (state : State) (cut : ℕ) → state.current ≡ line_after suppress cut → cut ≤ total → state.matched ≤ total → search_line suppress state ≤ suc total
@@ -217,8 +215,6 @@ settled_is_agreed suppress operands x = record {
   fewest = ([], none_comes, fewest suppress operands x);
   longest = longest suppress operands x (decides (end_waits suppress operands x));
 }
-
--- Where lines go: those that wait are those that two continuations put into different places, and each section has the lines that go into it.
 
 -- The lines that wait are those that two continuations put into different places.
 

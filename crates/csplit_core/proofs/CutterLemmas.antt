@@ -37,8 +37,6 @@ use Rattle.ports_core.specs.declared.fault.Fault.TheVariants.{Memory}
 use Rattle.ports_core.proofs.PartLemmas.{part_begins_itself, turn_last, turn_next}
 use Rattle.csplit_core.proofs.WriterCalls.{goes_again, goes_wider, open_part, part_none, closed_files}
 
--- Lemmas on the cutter of lines, and on what is settled of complete lines, by where the plan over them ends.
-
 -- What is settled of complete lines, by where the plan over them ends.
 
 -- the last section is kept as the next operand says
@@ -97,8 +95,6 @@ aims_live aim ending aims differs = refl
 pub aims_past : (ending : Ending) → AimsAt Below ending → is_final ending ≡ true
 aims_past (below operand repetition) aims = refl
 aims_past ending aims = absurd aims
-
--- Lemmas on the cutter of lines.
 
 -- one call after another
 pub keeps_on : {one two three : CutterState} {old mid new : List Slot} {fault : Option Fault} → Keeps one two old mid None → Keeps two three mid new fault → Keeps one three old new fault
@@ -183,8 +179,6 @@ at_held cutter writer x left bytes held n some at same within bytes_is held_is w
 pub taken_all : (taken lines current : ℕ) {left : ℕ} (most : ℕ) → 1 ≤ current → current + taken ≤ lines + 1 → left ≡ lines - (current + taken - 1) → (taken ≡ 0) ⊎ (most ≤ left) → taken + (left - most) ≡ lines + 1 - current - most
 taken_all taken lines current most some few is (inl none) = omega (arith, some, few, is, none)
 taken_all taken lines current most some few is (inr enough) = omega (arith, some, few, is, enough)
-
--- Lines that wait go to the open section, and what `hold` leaves: all that is settled of the lines that came in is written, and the others wait.
 
 -- Writing lines that wait to the open section.
 

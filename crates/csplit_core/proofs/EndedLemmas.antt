@@ -10,7 +10,7 @@ use Rattle.ports_core.proofs.PartLemmas.{nothing_begins_part}
 use Rattle.csplit_core.proofs.CutterLemmas.{in_turn, draft_is, settled_part_is, draft_to, runs_to, live_part, goes_as}
 use Rattle.csplit_core.specs.Csplit.{settled_of, whole_of, verdict_of}
 use Rattle.csplit_core.specs.Draft.{draft_part, Draft}
-use Rattle.csplit_core.specs.inner.Writer.{first_draft, with_kept, new_writer, BegunNot, Goes, with_bytes, with_section, Reaches}
+use Rattle.csplit_core.specs.inner.Writer.{first_draft, with_kept, new_writer, paused, BegunNot, Goes, with_bytes, with_section, Reaches}
 use Rattle.csplit_core.specs.Input.{newline, all_lines}
 use Rattle.csplit_core.specs.Operand.{Operand, Line}
 use Rattle.csplit_core.specs.Output.{Style, contents_of, part_by}
@@ -140,7 +140,7 @@ next_seen [] = refl
 next_seen (operand ∷ operands) = refl
 
 pub opened_at : (told : Bool) {style : Style} {suppress : Bool} {operands : List Operand} {next : Option Operand} {kept : Bool} {old new : List Slot} {first writer : WriterState} {progress : Progress} {aim : Turn} {window : Window} {sought : Option Pattern}
-    → next ≡ slice_get operands 0 → window ≡ record { most = most_next next; delim = newline; held = [] } → sought ≡ pattern_next next → kept ≡ kept_next next → suppress ≡ style.suppress → first ≡ new_writer style → 2 ≤ length old → Goes told first (with_kept kept) old new writer None → size_of writer.current ≡ 0 → progress ≡ first_progress
+    → next ≡ slice_get operands 0 → window ≡ record { most = most_next next; delim = newline; held = [] } → sought ≡ pattern_next next → kept ≡ kept_next next → suppress ≡ style.suppress → first ≡ new_writer style → 2 ≤ length old → Goes told (paused first) (with_kept kept) old new writer None → size_of writer.current ≡ 0 → progress ≡ first_progress
     → ((lines : List Line) → AreSeen suppress lines 0 (state_of operands progress) false → Turns suppress lines (state_of operands progress) aim) → (progress.matched ≤ 0 → MovesOn operands 0 progress aim)
     → Opened told style operands old new (opened operands writer progress aim window sought)
 opened_at told {style} {suppress} {operands} {kept = kept} {old} {new} {writer = writer} {aim = aim} {window} {sought} next_is window_is sought_is kept_is suppress_is made two begun none start_is says moves =
@@ -154,14 +154,14 @@ opened_at told {style} {suppress} {operands} {kept = kept} {old} {new} {writer =
     subst (λ (p : Progress). Opened told style operands old new (opened operands writer p aim window sought)) (sym start_is)
     (subst (λ w. Opened told style operands old new (opened operands writer first_progress aim w sought)) window_first
     (subst (λ s. Opened told style operands old new (opened operands writer first_progress aim (first_window operands) s)) sought_first
-    (first_opened told aim two (subst (λ k. Goes told (new_writer style) (with_kept k) old new writer None) kept_first (subst (λ w. Goes told w (with_kept kept) old new writer None) made begun)) none says_first moves_first)))
+    (first_opened told aim two (subst (λ k. Goes told (new_writer style) (with_kept k) old new writer None) kept_first (subst (λ w. Goes told (paused w) (with_kept kept) old new writer None) made begun)) none says_first moves_first)))
 
 pub opened_not : (told : Bool) {style : Style} (operands : List Operand) {next : Option Operand} {kept : Bool} {old new : List Slot} {first writer : WriterState} {fault : Fault} → next ≡ slice_get operands 0 → kept ≡ kept_next next → first ≡ new_writer style → 2 ≤ length old
-    → Goes told first (with_kept kept) old new writer (Some fault) → writer.files ≡ first.files → BegunNot told style (settled_of style operands []) old new fault
+    → Goes told (paused first) (with_kept kept) old new writer (Some fault) → writer.files ≡ first.files → BegunNot told style (settled_of style operands []) old new fault
 opened_not told {style} operands {kept = kept} {old} {new} {writer = writer} {fault} next_is kept_is made two begun same =
     subst (λ part. BegunNot told style part old new fault) (first_part style operands)
     (subst (λ k. BegunNot told style (draft_part style (first_draft k)) old new fault) (kept_is ∙ ap kept_next (next_is ∙ next_seen operands))
-    (begun_not two (subst (λ w. Goes told w (with_kept kept) old new writer (Some fault)) made begun) (same ∙ ap (λ (w : WriterState). w.files) made)))
+    (begun_not two (subst (λ w. Goes told (paused w) (with_kept kept) old new writer (Some fault)) made begun) (same ∙ ap (λ (w : WriterState). w.files) made)))
 
 -- where there is no memory, nothing was done
 pub opened_lacks : (told : Bool) {style : Style} (operands : List Operand) {slots : List Slot} {fault : Fault} → fault ≡ Memory → BegunNot told style (settled_of style operands []) slots slots fault
@@ -172,8 +172,6 @@ opened_lacks told {style} operands {slots} lacks = subst (BegunNot told style (s
 })
 
 -- What ending the cutter leaves: all lines that waited belong to the last section, which ends; and the fault with which the work ends.
-
--- What ending the cutter leaves: all lines that waited belong to the last section, which ends.
 
 whole_part_is : (style : Style) (operands : List Operand) (lines : List Line) → draft_part style (with_section false (draft_to whole_end style.suppress operands lines)) ≡ whole_of style operands lines
 whole_part_is style operands lines =

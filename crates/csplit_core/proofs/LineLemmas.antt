@@ -16,8 +16,6 @@ use Rattle.seg_core.proofs.LastLines.{first_lines-whole}
 use Rattle.csplit_core.specs.CsplitState.{whole_lines}
 use Rattle.std.proofs.lemmas.Grind.{common_steps}
 
--- Lines of a text as operands see them, and their bytes.
-
 -- the lines of complete lines and of what follows them
 pub lines-append : {x : List ℕ} (t : List ℕ) → Joins x t → lines_of newline (x ++ t) ≡ lines_of newline x ++ lines_of newline t
 lines-append t (inl (inl none)) = grind (arith, common_steps)

@@ -24,8 +24,6 @@ use Rattle.csplit_core.proofs.TryLemmas.{NoneFrom, StaysOver, ends_over, found_i
 use Rattle.scan_core.specs.Clear.{IsClear}
 use Rattle.seg_core.proofs.LinesOf.{AreLines-lines_of, joined-lines_of}
 
--- Lines over which the next operand stands as it does.
-
 -- What stays so of a state when more lines come
 
 aim_more : (cutter : CutterState) (text : List ℕ) (lines : ℕ) (aim : Turn) → cutter.lines ≤ lines → AimHolds cutter.operands cutter.lines cutter.progress aim → StaysOver cutter text lines aim → AimHolds cutter.operands lines cutter.progress aim

@@ -41,8 +41,6 @@ use Rattle.std.proofs.lemmas.Grind.{common_steps}
 
 -- How many bytes wait.
 
--- How many bytes wait in the stage that takes in bytes.
-
 -- the lines after the first ones, as bytes
 after_bytes : (first n : ℕ) (x : List ℕ) → 1 ≤ first → bytes_of (drop n (drop (first - 1) (all_lines x))) ≡ text_from (first + n) x
 after_bytes first n x some =
@@ -95,8 +93,6 @@ held_is {stage} {x} {result} holds few is = by holds.stands where
       let rest_none : length stage.rest ≡ 0 = ap length (holds.past past.aim) in
       is ∙ min-eq_left (omega (arith, none, rest_none))
       ∙ (let e : length stage.cutter.window.held + length stage.rest ≡ 0 = omega (arith, none, rest_none) in e) ∙ sym (ap length (ap (λ lines. waiting_of lines (plan (suppress_in stage.cutter) stage.cutter.operands lines) (open_line x)) (sym (all_complete x)) ∙ ap (λ final. cond final [] (bytes_of (waiting_lines (all_lines (whole_lines x)) (plan (suppress_in stage.cutter) stage.cutter.operands (all_lines (whole_lines x)))) ++ open_line x)) past.past))
-
--- What the stage that takes in bytes does with the cutter of lines, and what it owes.
 
 -- What the stage that takes in bytes does with the cutter of lines.
 

@@ -32,10 +32,6 @@ use Rattle.ports_core.proofs.PartLemmas.{part_trans}
 use Rattle.csplit_core.specs.inner.PlanLaws.{needed}
 use Rattle.ports_core.specs.inner.Part.{fault_in}
 
--- Taking lines in, one by one and stretch by stretch.
-
--- Taking lines in.
-
 -- The lines that were left begin no later than a cut.
 
 live_before : {cutter : CutterState} {x : List ℕ} (t : List ℕ) (live : IsLive cutter x) {operand : Operand} {operands : List Operand} (matched cut : ℕ) → (state_in cutter).operands ≡ operand ∷ operands
@@ -311,8 +307,6 @@ found_next {next = next} {left} passed more = grind (arith, common_steps)
 pub takes_fewer : {told : Bool} {now next : CutterState} {left : List ℕ} {size : ℕ} (passed : Passed) {mid new : List Slot} → 0 < size → Stretches told now left size mid new next (Ok passed) → length (take (length left - passed.size) (drop passed.size left)) < length left
 takes_fewer {left = left} passed some more = grind (arith, common_steps)
 
--- Cutting as often as operands cut the lines that are left, and then taking in the lines after them that aren't cut.
-
 -- Cutting as often as operands cut the lines that are left.
 
 -- What is said of the sections and of where the run stands doesn't depend on the aim or the lines that wait.
@@ -565,8 +559,6 @@ pub cut_not_on : {told : Bool} {cutter mid next : CutterState} {cut : Cut} {line
     → kept ≡ length left → tail ≡ left ++ rest → GoesOn told mid (take kept tail) (drop kept tail) between new next (Err fault) → CutsOn told cutter cut line rest old new next (Err fault)
 cut_not_on complete spread kept_is tail_is goes =
     let gone = gone_left kept_is tail_is goes in record { n = gone.n; within = gone.over.within; whole = gone.over.whole; all = spread_passes spread complete gone.over gone.held; size = tt; found = tt }
-
--- a fault at the cut
 
 -- What `stretch` owes. The first line isn't cut.
 

@@ -24,8 +24,6 @@ use Rattle.seg_core.specs.Line.{line_count}
 use Rattle.csplit_core.proofs.LineLemmas.{all_lines-append, all_lines-line, length-all_lines, count-append, count-line, whole-append}
 use Rattle.std.proofs.lemmas.Grind.{common_steps}
 
--- What stays of a plan when more lines come, and which lines have to be looked at.
-
 -- `count` lines come before these, and none of these has the operand's pattern, from the line on of number `from`
 abbrev pub NoneFrom : Operand → (count : ℕ) → List Line → (from : ℕ) → Type 0
 NoneFrom operand count lines from = (k : ℕ) → k < length lines → from ≤ count + suc k → (get_or lines k unmarked).marks operand ≡ false
@@ -66,8 +64,6 @@ stays suppress operands a b so =
     let here = plan_runs suppress operands a in
     plan_once suppress operands (a ++ b) _ _ _ (goes_on b _ _ here (ends_still b here so))
     ∙ ap (λ (steps : List Step). record (plan suppress operands a) { steps = steps }) (append-nil (plan suppress operands a).steps)
-
--- What a turn says of the plan, and how a run goes on after a cut.
 
 -- What a turn says of the plan.
 

@@ -7,7 +7,7 @@ use Rattle.ports_core.specs.declared.slot.State.TheVariants as state
 use Rattle.csplit_core.specs.Input.{newline}
 use Rattle.csplit_core.specs.Output.{Style, Contents, makes_file, file_at, files_of, size_line, size_lines, part_by, is_empty}
 use Rattle.csplit_core.specs.Draft.{Draft, draft_part, last_contents, AreClosed}
-use Rattle.csplit_core.specs.inner.Writer.{with_section, KeepsFiles, MakesNone, unnamed, failed, Made, next_name, Appends, Makes, with_bytes, with_kept, first_draft, Goes, KeepsOrBreaks, Leaves, BegunNot, new_writer}
+use Rattle.csplit_core.specs.inner.Writer.{with_section, KeepsFiles, MakesNone, unnamed, failed, Made, next_name, Appends, Makes, with_bytes, with_kept, first_draft, Goes, KeepsOrBreaks, Leaves, BegunNot, new_writer, paused}
 use Rattle.ports_core.specs.inner.Write.{Wrote, WritesShort}
 use Rattle.csplit_core.specs.laws.SectionLaws.{size_lines-append}
 use Rattle.csplit_core.proofs.WriterLemmas.{more_files, reaches_as, reaches_by, where_well, leaves_again, file_begins, opens_not, reaches_again, stops_wider, section_begins, in_any, line_begins, tells_line}
@@ -264,8 +264,6 @@ line_breaks told style line {old} {new} said_so can (short.broke n cut) = grind 
 pub close_breaks : (style : Style) (slot : ℕ) (old : List Slot) {new : List Slot} → 2 ≤ slot → IsTrue (is_writable old slot) → new ≡ with_broken slot (changed_at slot closes old) → Breaks style old new (fault.Write slot)
 close_breaks style slot old {new} streams can is = (λ none. absurd (omega (arith, streams, none)), close_rose slot old new can (writable_within slot old can) is)
 
--- What the calls of the writer of sections do.
-
 -- The line with a file's size.
 
 one_left : (n all : ℕ) → n < all → take 1 (drop n (replicate all newline)) ≡ newline ∷ []
@@ -290,8 +288,6 @@ not_opened {old} {new} {fault} is fails = failed fault (subst (λ those. FailsTo
 
 abbrev pub state_of : Style → List ℕ → Current → WriterState
 state_of style files current = record { style = style; files = files; current = current }
-
--- More bytes of the open section
 
 -- What the open section is
 
@@ -380,8 +376,6 @@ some_bytes [] is = grind (arith, common_steps)
 some_bytes (byte ∷ bytes) is = refl
 
 -- A file is made for the open section, and a section begins.
-
--- The next file
 
 made_becomes : {told : Bool} {writer next : WriterState} (ended : List Contents) {slot : ℕ} {old new : List Slot} → length writer.files ≡ length (files_of writer.style 0 ended) → Made writer old new next slot
     → Becomes told (part_by writer.style ended) (with_last (size_lines writer.style ended) (files_of writer.style 0 ended) (file_of (name_after writer.style ended) [] state.Open)) old new None
@@ -480,30 +474,35 @@ put_unmade bytes is some makes = goes_unmade (λ draft writes. unwritten bytes i
 abbrev pub begun : Bool → Contents
 begun kept = record { is_kept = kept; is_closed = false; bytes = [] }
 
+paused_ready : {writer : WriterState} {slots : List Slot} → IsReady writer slots → IsReady (paused writer) slots
+paused_ready ready = record { streams = ready.streams; output = ready.output; files = ready.files; current = tt }
+
 -- one without a file
-pub begun_none : {told : Bool} {writer : WriterState} {kept : Bool} (current : Current) {slots : List Slot} → writer.current ≡ Skipped → makes_file writer.style (begun kept) ≡ false → IsCurrent writer.style kept [] current → IsOpenAt current slots → IsLast current slots
-    → IsReady writer slots → Goes told writer (with_kept kept) slots slots (record writer { current = current }) None
-begun_none {writer = writer} current is none is_current at last ready = goes_still current ready at (λ before. last)
-    (λ draft writes. (parts_none writer.style draft.ended _ _ (skips_file writer.style (last_contents false draft) (now_is is writes)) none, writes.closed, is_current))
+pub begun_none : {told : Bool} {writer : WriterState} {kept : Bool} (current : Current) {slots : List Slot} → makes_file writer.style (begun kept) ≡ false → IsCurrent writer.style kept [] current → IsOpenAt current slots → IsLast current slots
+    → IsReady writer slots → Goes told (paused writer) (with_kept kept) slots slots (record writer { current = current }) None
+begun_none {writer = writer} current none is_current at last ready = goes_still current (paused_ready ready) at (λ before. last)
+    (λ draft writes. (parts_none writer.style draft.ended _ _ (skips_file writer.style (last_contents false draft) writes.current) none, writes.closed, is_current))
 
 -- one with a file
-begun_file : {writer : WriterState} {kept : Bool} → writer.current ≡ Skipped → kept ≡ true → writer.style.elide ≡ false → (draft : Draft) → Writes writer draft → Unwritten writer draft (with_kept kept draft)
-begun_file {writer} is kept_is elide draft writes = grind (arith, common_steps)
+begun_file : (writer : WriterState) {kept : Bool} → kept ≡ true → writer.style.elide ≡ false → (draft : Draft) → Writes (paused writer) draft → Unwritten (paused writer) draft (with_kept kept draft)
+begun_file writer kept_is elide draft writes = grind (arith, common_steps)
 
-pub begin_made : {told : Bool} {writer next : WriterState} {kept : Bool} {slot : ℕ} {old new : List Slot} → writer.current ≡ Skipped → kept ≡ true → writer.style.elide ≡ false → IsReady writer old → Made writer old new next slot → Goes told writer (with_kept kept) old new next None
-begin_made {writer = writer} {kept = kept} {slot} is kept_is elide ready made = record {
-  leaves = made_leaves ready made;
-  reaches = λ draft writes. let so = begun_file is kept_is elide draft writes in reaches_as (part_none writer.style draft.ended (last_contents false draft) so.none) (open_part writer.style (with_kept kept draft) so.makes)
-      (reaches_by (owned_opened ready.streams made) (λ last. made_becomes draft.ended (made_count so.none writes) made));
-  writes = λ draft writes. let so = begun_file is kept_is elide draft writes in subst (λ those. Writes those (with_kept kept draft)) (sym made.same) (record {
+pub begin_made : {told : Bool} {writer next : WriterState} {kept : Bool} {slot : ℕ} {old new : List Slot} → kept ≡ true → writer.style.elide ≡ false → IsReady writer old → Made writer old new next slot → Goes told (paused writer) (with_kept kept) old new next None
+begin_made {writer = writer} {next} {kept} {slot} {old} {new} kept_is elide ready made = record {
+  leaves = made_leaves (paused_ready ready) made_so;
+  reaches = λ draft writes. let so = begun_file writer kept_is elide draft writes in reaches_as (part_none writer.style draft.ended (last_contents false draft) so.none) (open_part writer.style (with_kept kept draft) so.makes)
+      (reaches_by (owned_opened ready.streams made_so) (λ last. made_becomes draft.ended (made_count so.none writes) made_so));
+  writes = λ draft writes. let so = begun_file writer kept_is elide draft writes in subst (λ those. Writes those (with_kept kept draft)) (sym made.same) (record {
     closed = writes.closed;
     made = length-append writer.files (slot ∷ []) ∙ ap (λ n. n + 1) (made_count so.none writes) ∙ sym (count_made writer.style draft.ended (begun kept) so.makes);
     current = (so.makes, refl);
   });
-}
+} where
+  made_so : Made (paused writer) old new next slot
+  made_so = record { place = made.place; added = made.added; same = made.same }
 
-pub begin_not : {told : Bool} {writer next : WriterState} {kept : Bool} {old new : List Slot} {f : Fault} → writer.current ≡ Skipped → kept ≡ true → writer.style.elide ≡ false → Makes writer old new next (Err f) → Goes told writer (with_kept kept) old new next (Some f)
-begin_not is kept_is elide makes = goes_unmade (begun_file is kept_is elide) makes
+pub begin_not : {told : Bool} (writer : WriterState) {next : WriterState} {kept : Bool} {old new : List Slot} {f : Fault} → kept ≡ true → writer.style.elide ≡ false → Makes writer old new next (Err f) → Goes told (paused writer) (with_kept kept) old new next (Some f)
+begin_not writer kept_is elide makes = goes_unmade (begun_file writer kept_is elide) makes
 
 -- The first section
 
@@ -529,9 +528,6 @@ begun_not {style = style} {old = old} two goes none = record {
 
 -- A section without a file
 
-abbrev pub ended_writer : WriterState → WriterState
-ended_writer writer = record writer { current = Skipped }
-
 pub end_none : {told : Bool} {writer : WriterState} (current : Current) {slots : List Slot} → current ≡ Skipped → ((draft : Draft) → Writes writer draft → (closed : Bool) → makes_file writer.style (last_contents closed draft) ≡ false) → IsReady writer slots
     → Goes told writer (with_section false) slots slots (record writer { current = current }) None
 end_none {writer = writer} current {slots} is none ready = goes_still current ready (subst (λ now. IsOpenAt now slots) (sym is) tt) (λ last. subst (λ now. IsLast now slots) (sym is) tt) (λ draft writes. (
@@ -542,7 +538,7 @@ end_none {writer = writer} current {slots} is none ready = goes_still current re
 
 -- A section with one
 
-file_ends : {writer : WriterState} {draft : Draft} (slot size : ℕ) → writer.current ≡ File slot size → Writes writer draft → Writes (ended_writer writer) (with_section false draft)
+file_ends : {writer : WriterState} {draft : Draft} (slot size : ℕ) → writer.current ≡ File slot size → Writes writer draft → Writes (paused writer) (with_section false draft)
 file_ends {writer} {draft} slot size is writes = record {
   closed = all_closed draft.ended (last_contents true draft) writes.closed refl;
   made = writes.made ∙ count_made writer.style draft.ended (last_contents false draft) (now_is is writes).0
@@ -550,10 +546,10 @@ file_ends {writer} {draft} slot size is writes = record {
   current = refl;
 }
 
-file_closed : {writer : WriterState} {old new : List Slot} → KeepsMade old new → KeepsFiles writer (ended_writer writer) old new
+file_closed : {writer : WriterState} {old new : List Slot} → KeepsMade old new → KeepsFiles writer (paused writer) old new
 file_closed keeps = owned_same refl (λ last. tt) keeps
 
-closed_ready : {writer : WriterState} (slot size : ℕ) {old new : List Slot} → writer.current ≡ File slot size → IsReady writer old → new ≡ changed_at slot closes old → IsReady (ended_writer writer) new
+closed_ready : {writer : WriterState} (slot size : ℕ) {old new : List Slot} → writer.current ≡ File slot size → IsReady writer old → new ≡ changed_at slot closes old → IsReady (paused writer) new
 closed_ready {writer} slot size {old} {new} is ready closed =
     let keeps = made_close slot old new (at_file is ready).1 closed in record {
       streams = (let size = keeps.size in let two = ready.streams in omega (arith, size, two));
@@ -562,12 +558,12 @@ closed_ready {writer} slot size {old} {new} is ready closed =
       current = tt;
     }
 
-closed_leaves : {writer : WriterState} (slot size : ℕ) {old new : List Slot} → writer.current ≡ File slot size → IsReady writer old → new ≡ changed_at slot closes old → Leaves writer (ended_writer writer) old new None
+closed_leaves : {writer : WriterState} (slot size : ℕ) {old new : List Slot} → writer.current ≡ File slot size → IsReady writer old → new ≡ changed_at slot closes old → Leaves writer (paused writer) old new None
 closed_leaves slot size {old} {new} is ready closed =
     record { style = refl; owns = file_closed (made_close slot old new (at_file is ready).1 closed); slots = keeps_close slot old new closed; ready = closed_ready slot size is ready closed }
 
 -- the same of the size line
-line_leaves : (told : Bool) (writer : WriterState) (line : List ℕ) {old new : List Slot} (fault : Option Fault) → writer.style.quiet ≡ false → IsReady (ended_writer writer) old → Wrote told 0 line old new fault → Leaves (ended_writer writer) (ended_writer writer) old new fault
+line_leaves : (told : Bool) (writer : WriterState) (line : List ℕ) {old new : List Slot} (fault : Option Fault) → writer.style.quiet ≡ false → IsReady (paused writer) old → Wrote told 0 line old new fault → Leaves (paused writer) (paused writer) old new fault
 line_leaves told writer line {old} {new} None said_so ready wrote = let keeps = made_write 0 (told_of told line) old new wrote in record {
   style = refl;
   owns = owned_same refl (λ last. tt) keeps;
@@ -595,7 +591,7 @@ quiet_part {writer} {draft} slot size is quiet writes =
     closed_part writer.style draft [] (now_is is writes).0 (line_of writer.style draft true (now_is is writes).0 quiet)
     ∙ ap (λ out. with_last out (files_of writer.style 0 draft.ended) (file_of (name_after writer.style draft.ended) draft.bytes state.Closed)) (append-nil (size_lines writer.style draft.ended))
 
-pub end_quiet : {told : Bool} {writer : WriterState} (slot size : ℕ) {old new : List Slot} → writer.current ≡ File slot size → IsReady writer old → writer.style.quiet ≡ true → new ≡ changed_at slot closes old → Goes told writer (with_section false) old new (ended_writer writer) None
+pub end_quiet : {told : Bool} {writer : WriterState} (slot size : ℕ) {old new : List Slot} → writer.current ≡ File slot size → IsReady writer old → writer.style.quiet ≡ true → new ≡ changed_at slot closes old → Goes told writer (with_section false) old new (paused writer) None
 end_quiet {told} {writer} slot size {old} {new} is ready quiet closed = record {
   leaves = closed_leaves slot size is ready closed;
   reaches = λ draft writes. reaches_as (open_part writer.style draft (now_is is writes).0) (quiet_part slot size is quiet writes) (reaches_by (closed_leaves slot size is ready closed).owns
@@ -605,15 +601,15 @@ end_quiet {told} {writer} slot size {old} {new} is ready quiet closed = record {
 
 -- the file breaks as it is closed
 pub close_not : {told : Bool} {writer : WriterState} (slot size : ℕ) {old new : List Slot} {f : Fault} → writer.current ≡ File slot size → IsReady writer old → f ≡ fault.Write slot → new ≡ with_broken slot (changed_at slot closes old)
-    → Goes told writer (with_section false) old new (ended_writer writer) (Some f)
-close_not {told} {writer} slot size {old} {new} is ready which broken = subst (λ f. Goes told writer (with_section false) old new (ended_writer writer) (Some f)) (sym which) (record {
+    → Goes told writer (with_section false) old new (paused writer) (Some f)
+close_not {told} {writer} slot size {old} {new} is ready which broken = subst (λ f. Goes told writer (with_section false) old new (paused writer) (Some f)) (sym which) (record {
   leaves = record { style = refl; owns = owns; slots = close_breaks writer.style slot old (at_file is ready).0 (at_file is ready).1 broken; ready = tt };
   reaches = λ draft writes. reaches_as (open_part writer.style draft (now_is is writes).0) (closed_part writer.style draft (size_line writer.style (last_contents true draft)) (now_is is writes).0 refl)
       (reaches_by owns (λ last. falls_wider (closes_not told (size_lines writer.style draft.ended) (files_of writer.style 0 draft.ended) (name_after writer.style draft.ended) draft.bytes old
       (closed_files writer.style 0 draft.ended writes.closed) (last_file writer old is last) broken) (line_begins (size_line writer.style (last_contents true draft)))));
   writes = tt;
 }) where
-  owns : KeepsFiles writer (ended_writer writer) old new
+  owns : KeepsFiles writer (paused writer) old new
   owns = file_closed (made_again old (changed_at slot closes old) new (made_close slot old _ (at_file is ready).1 refl) (made_break slot _ new broken))
 
 last_closed : (files : List PartFile) (file : PartFile) → AllClosed files → file.state ≡ state.Closed → AllClosed (files ++ file ∷ [])
@@ -622,7 +618,7 @@ last_closed (first ∷ files) file closed is = (closed.0, last_closed files file
 
 -- the size is written, or standard output breaks
 pub end_sized : {told : Bool} {writer : WriterState} (slot size : ℕ) {old mid new : List Slot} {fault : Option Fault} → writer.current ≡ File slot size → IsReady writer old → writer.style.quiet ≡ false → mid ≡ changed_at slot closes old
-    → Wrote told 0 (decimal size ++ newline ∷ []) mid new fault → Goes told writer (with_section false) old new (ended_writer writer) fault
+    → Wrote told 0 (decimal size ++ newline ∷ []) mid new fault → Goes told writer (with_section false) old new (paused writer) fault
 end_sized {told} {writer} slot size {old} {mid} {new} {fault} is ready said_so closed wrote = record {
   leaves = leaves;
   reaches = λ draft writes. reaches_as (open_part writer.style draft (now_is is writes).0) (size_part slot size is said_so writes) (reaches_by leaves.owns (λ last. becomes_again
@@ -633,7 +629,7 @@ end_sized {told} {writer} slot size {old} {mid} {new} {fault} is ready said_so c
       (let two = (closed_ready slot size is ready closed).streams in omega (arith, two)) wrote)));
   writes = in_any fault (λ draft writes. file_ends slot size is writes);
 } where
-  leaves : Leaves writer (ended_writer writer) old new fault
+  leaves : Leaves writer (paused writer) old new fault
   leaves = leaves_again (closed_leaves slot size is ready closed) (line_leaves told writer (decimal size ++ newline ∷ []) fault said_so (closed_ready slot size is ready closed) wrote)
 
 -- One change after another
@@ -661,8 +657,10 @@ next_begins style kept draft =
 pub next_not_ended : {told : Bool} {writer next : WriterState} (kept : Bool) {old new : List Slot} {f : Fault} → Goes told writer (with_section false) old new next (Some f) → Goes told writer (with_section kept) old new next (Some f)
 next_not_ended {writer = writer} kept ended = goes_wider (with_section kept) (next_begins writer.style kept) ended
 
-pub next_begun : {told : Bool} {writer mid next : WriterState} {kept : Bool} {old between new : List Slot} {fault : Option Fault} → Goes told writer (with_section false) old between mid None → Goes told mid (with_kept kept) between new next fault → Goes told writer (with_section kept) old new next fault
-next_begun {writer = writer} {kept = kept} ended start = goes_again (with_section kept) (λ draft. refl) (section_begins writer.style false) ended start
+pub next_begun : {told : Bool} {writer mid next : WriterState} {kept : Bool} {old between new : List Slot} {fault : Option Fault} → Goes told writer (with_section false) old between mid None → mid.current ≡ Skipped → Goes told (paused mid) (with_kept kept) between new next fault
+    → Goes told writer (with_section kept) old new next fault
+next_begun {told} {writer} {mid} {next} {kept} {between = between} {new} {fault} ended none start = goes_again (with_section kept) (λ draft. refl) (section_begins writer.style false) ended
+    (subst (λ current. Goes told (record mid { current = current }) (with_kept kept) between new next fault) (sym none) start)
 
 -- The files are removed.
 

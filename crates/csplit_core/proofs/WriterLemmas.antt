@@ -61,8 +61,6 @@ module _ (told : Bool) (out : List ℕ) (front : List File) where
       (turn_next front closed) (let size : length (with_written 0 (told_of told (take n line)) old) ≡ length old = length-changed_at 0 _ old in omega (arith, some), cut.slots)
       (λ before at. inl refl))
 
--- Lemmas on the writer of sections.
-
 -- a `?` handed a fault on
 pub stop_is : {T : Type 0} (P : Option Fault → Type 0) (result : Result T Fault) (fault : Fault) → IsErrAnd result (λ given. given ≡ fault) → P (Some fault) → P (fault_in result)
 stop_is P result fault handed holds = subst (λ given. P (fault_in given)) (sym (handed_on result fault handed)) holds
@@ -77,8 +75,6 @@ reaches_again {told} {high = high} {new = new} {fault} {three = three} begins fi
 pub stops_wider : {told : Bool} {low middle high : Part} {old new : List Slot} {fault : Fault} {writer next : WriterState} → Reaches told writer next low middle old new (Some fault) → Begins middle high → Reaches told writer next low high old new (Some fault)
 stops_wider {told} {low} {middle} {high} {new = new} {fault = fault} stops begins =
     record { there = λ before at. turn_between told before low low middle high fault new (part_begins_itself low) (stops.there before at) begins }
-
--- which writer is left then doesn't matter
 
 -- a step that is known of the outputs alone, as long as the file of the open section is the last
 pub reaches_by : {told : Bool} {low high : Part} {old new : List Slot} {fault : Option Fault} {writer next : WriterState} → KeepsFiles writer next old new → (IsLast writer.current old → Becomes told low high old new fault) → Reaches told writer next low high old new fault

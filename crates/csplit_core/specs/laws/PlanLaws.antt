@@ -12,8 +12,6 @@ use Rattle.std.proofs.lemmas.Bool.Decides.{nat_tests}
 use Rattle.bre_core.specs.Pattern.{Pattern}
 use Rattle.csplit_core.specs.Measure.{Moves}
 
--- Laws that traits cite: laws of the first match of an operand.
-
 matched_on : (operand : Operand) (lines : List Line) {from : ℕ} (has : Bool) → is_match operand lines from ≡ has → from ≤ length lines
     → (matched : Option ℕ) → MatchesAs operand lines (suc from) matched → MatchesAs operand lines from (cond has (Some from) matched)
 matched_on operand lines true is within matched rest = grind (arith, common_steps)
