@@ -1,5 +1,5 @@
 -- What opening the cutter leaves, and what ending it does.
-use Rattle.std.proofs.Common.{◌≡◌, inl, inr, ◌+◌, ◌-◌, ◌≤◌, length, max, Bool, true, false, List, [], ◌∷◌, None, Option, Some, slice_get, refl, sym, ◌∙◌, ap, subst, arith, ℕ, suc, ◌++◌, map, take, ◌<◌, nat_lt, get_or}
+use Rattle.std.proofs.Common.{◌≡◌, inl, inr, ◌+◌, ◌-◌, ◌≤◌, length, max, Bool, true, false, List, [], ◌∷◌, None, Option, Some, refl, sym, ◌∙◌, ap, subst, arith, ℕ, suc, ◌++◌, map, take, ◌<◌, nat_lt, get_or}
 use Rattle.std.proofs.lemmas.Bool.{false≢true}
 use Rattle.bre_core.specs.Pattern.{Pattern}
 use Rattle.seg_core.specs.Window.{Window}
@@ -135,19 +135,14 @@ first_opened told {style} {operands} {old} {new} {writer} aim two begun none say
 
 -- What `open` returns, where the next operand was looked up.
 
-next_seen : (operands : List Operand) → slice_get operands 0 ≡ next_of operands
-next_seen [] = refl
-next_seen (operand ∷ operands) = refl
-
 pub opened_at : (told : Bool) {style : Style} {suppress : Bool} {operands : List Operand} {next : Option Operand} {kept : Bool} {old new : List Slot} {first writer : WriterState} {progress : Progress} {aim : Turn} {window : Window} {sought : Option Pattern}
-    → next ≡ slice_get operands 0 → window ≡ record { most = most_next next; delim = newline; held = [] } → sought ≡ pattern_next next → kept ≡ kept_next next → suppress ≡ style.suppress → first ≡ new_writer style → 2 ≤ length old → Goes told (paused first) (with_kept kept) old new writer None → size_of writer.current ≡ 0 → progress ≡ first_progress
+    → next ≡ next_of operands → window ≡ record { most = most_next next; delim = newline; held = [] } → sought ≡ pattern_next next → kept ≡ kept_next next → suppress ≡ style.suppress → first ≡ new_writer style → 2 ≤ length old → Goes told (paused first) (with_kept kept) old new writer None → size_of writer.current ≡ 0 → progress ≡ first_progress
     → ((lines : List Line) → AreSeen suppress lines 0 (state_of operands progress) false → Turns suppress lines (state_of operands progress) aim) → (progress.matched ≤ 0 → MovesOn operands 0 progress aim)
     → Opened told style operands old new (opened operands writer progress aim window sought)
 opened_at told {style} {suppress} {operands} {kept = kept} {old} {new} {writer = writer} {aim = aim} {window} {sought} next_is window_is sought_is kept_is suppress_is made two begun none start_is says moves =
-    let first = next_is ∙ next_seen operands in
-    let window_first : first_window operands ≡ window = sym (window_is ∙ ap (λ (o : Option Operand). record { most = most_next o; delim = newline; held = [] }) first) in
-    let sought_first : pattern_by operands ≡ sought = sym (sought_is ∙ ap pattern_next first) in
-    let kept_first : kept ≡ kept_by operands = kept_is ∙ ap kept_next first in
+    let window_first : first_window operands ≡ window = sym (window_is ∙ ap (λ (o : Option Operand). record { most = most_next o; delim = newline; held = [] }) next_is) in
+    let sought_first : pattern_by operands ≡ sought = sym (sought_is ∙ ap pattern_next next_is) in
+    let kept_first : kept ≡ kept_by operands = kept_is ∙ ap kept_next next_is in
     let says_first : SaysFirst style.suppress operands aim = subst (λ s. SaysFirst s operands aim) suppress_is
     (subst (λ (p : Progress). (lines : List Line) → AreSeen suppress lines 0 (state_of operands p) false → Turns suppress lines (state_of operands p) aim) start_is says) in
     let moves_first : MovesOn operands 0 first_progress aim = subst (λ (p : Progress). p.matched ≤ 0 → MovesOn operands 0 p aim) start_is moves (omega arith) in
@@ -156,11 +151,11 @@ opened_at told {style} {suppress} {operands} {kept = kept} {old} {new} {writer =
     (subst (λ s. Opened told style operands old new (opened operands writer first_progress aim (first_window operands) s)) sought_first
     (first_opened told aim two (subst (λ k. Goes told (new_writer style) (with_kept k) old new writer None) kept_first (subst (λ w. Goes told (paused w) (with_kept kept) old new writer None) made begun)) none says_first moves_first)))
 
-pub opened_not : (told : Bool) {style : Style} (operands : List Operand) {next : Option Operand} {kept : Bool} {old new : List Slot} {first writer : WriterState} {fault : Fault} → next ≡ slice_get operands 0 → kept ≡ kept_next next → first ≡ new_writer style → 2 ≤ length old
+pub opened_not : (told : Bool) {style : Style} (operands : List Operand) {next : Option Operand} {kept : Bool} {old new : List Slot} {first writer : WriterState} {fault : Fault} → next ≡ next_of operands → kept ≡ kept_next next → first ≡ new_writer style → 2 ≤ length old
     → Goes told (paused first) (with_kept kept) old new writer (Some fault) → writer.files ≡ first.files → BegunNot told style (settled_of style operands []) old new fault
 opened_not told {style} operands {kept = kept} {old} {new} {writer = writer} {fault} next_is kept_is made two begun same =
     subst (λ part. BegunNot told style part old new fault) (first_part style operands)
-    (subst (λ k. BegunNot told style (draft_part style (first_draft k)) old new fault) (kept_is ∙ ap kept_next (next_is ∙ next_seen operands))
+    (subst (λ k. BegunNot told style (draft_part style (first_draft k)) old new fault) (kept_is ∙ ap kept_next next_is)
     (begun_not two (subst (λ w. Goes told (paused w) (with_kept kept) old new writer (Some fault)) made begun) (same ∙ ap (λ (w : WriterState). w.files) made)))
 
 -- where there is no memory, nothing was done

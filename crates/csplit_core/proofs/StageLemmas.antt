@@ -162,23 +162,24 @@ lacks_at {told} {stage = stage} t {slots} is sound ready = subst (λ (s : Csplit
 
 -- the first of the lines was taken in, and then the others
 
-rest_of_lines : (rest : List ℕ) {lines : List ℕ} (end others : List ℕ) → lines ≡ end ++ others → (rest ++ end) ++ others ≡ rest ++ lines
-rest_of_lines rest end others is = append_assoc rest end others ∙ ap (λ those. rest ++ those) (sym is)
+lines_from : {told : Bool} {before stage : CsplitState} {next : CutterState} {lines : List ℕ} (end others : List ℕ) {old new : List Slot} {fault : Option Fault} → before ≡ stage → lines ≡ end ++ others
+    → Takes told before.cutter ((before.rest ++ end) ++ others) old new next fault → Takes told stage.cutter (stage.rest ++ lines) old new next fault
+lines_from {told} {before} {next = next} {lines} end others {old} {new} {fault} same is takes = subst (λ (s : CsplitState). Takes told s.cutter (s.rest ++ lines) old new next fault) same
+    (subst (λ text. Takes told before.cutter text old new next fault) (append_assoc before.rest end others ∙ ap (λ those. before.rest ++ those) (sym is)) takes)
 
 -- no line was open
 pub lines_alone : {told : Bool} {before stage : CsplitState} {next : CutterState} {lines : List ℕ} {n : ℕ} {old new : List Slot} {fault : Option Fault} → before ≡ stage → n ≡ length before.rest → eqb n 0 ≡ true → Takes told before.cutter lines old new next fault → Takes told stage.cutter (stage.rest ++ lines) old new next fault
 lines_alone {told} {before} {next = next} {lines} {old = old} {new} {fault} is size empty takes = grind (arith, common_steps)
 
-pub lines_stop : {told : Bool} {one two : CutterState} (rest : List ℕ) {lines : List ℕ} (end : List ℕ) {others : List ℕ} {old new : List Slot} {fault : Fault} → lines ≡ end ++ others → (ends_with newline end ≡ false → others ≡ []) → ends_with newline lines ≡ true
-    → Takes told one (rest ++ end) old new two (Some fault) → Takes told one (rest ++ lines) old new two (Some fault)
-lines_stop {told} {one} {two} rest end {others} {old} {new} {fault} is last whole stopped =
-    subst (λ text. Takes told one text old new two (Some fault)) (rest_of_lines rest end others is) (takes_wider others (open_complete rest end (first_complete end last is whole)) stopped)
+pub lines_stop : {told : Bool} {before stage : CsplitState} {next : CutterState} {lines text : List ℕ} (end : List ℕ) {others : List ℕ} {old new : List Slot} {fault : Fault} → before ≡ stage → text ≡ before.rest ++ end
+    → lines ≡ end ++ others → (ends_with newline end ≡ false → others ≡ []) → ends_with newline lines ≡ true → Takes told before.cutter text old new next (Some fault) → Takes told stage.cutter (stage.rest ++ lines) old new next (Some fault)
+lines_stop {told} {before} {next = next} end {others} {old} {new} {fault} same text_is is last whole stopped =
+    lines_from end others same is (takes_wider others (open_complete before.rest end (first_complete end last is whole)) (subst (λ those. Takes told before.cutter those old new next (Some fault)) text_is stopped))
 
-pub lines_after : {told : Bool} {one three : CutterState} {before mid : CsplitState} (rest : List ℕ) {lines : List ℕ} (end : List ℕ) {others : List ℕ} {old between new : List Slot} {fault : Option Fault} → before ≡ mid → lines ≡ end ++ others → (ends_with newline end ≡ false → others ≡ [])
-    → ends_with newline lines ≡ true → Takes told one (rest ++ end) old between mid.cutter None → Takes told before.cutter others between new three fault → Takes told one (rest ++ lines) old new three fault
-lines_after {told} {one} {three} rest end {others} {old} {between} {new} {fault} same is last whole first second =
-    subst (λ text. Takes told one text old new three fault) (rest_of_lines rest end others is)
-    (takes_again (open_complete rest end (first_complete end last is whole)) (subst (λ (s : CsplitState). Takes told one (rest ++ end) old between s.cutter None) (sym same) first) second)
+pub lines_after : {told : Bool} {before stage : CsplitState} {mid next : CutterState} {lines text : List ℕ} (end : List ℕ) {others : List ℕ} {old between new : List Slot} {fault : Option Fault} → before ≡ stage → text ≡ before.rest ++ end
+    → lines ≡ end ++ others → (ends_with newline end ≡ false → others ≡ []) → ends_with newline lines ≡ true → Takes told before.cutter text old between mid None → Takes told mid others between new next fault → Takes told stage.cutter (stage.rest ++ lines) old new next fault
+lines_after {told} {before} {mid = mid} end {others} {old} {between} same text_is is last whole first second =
+    lines_from end others same is (takes_again (open_complete before.rest end (first_complete end last is whole)) (subst (λ those. Takes told before.cutter those old between mid None) text_is first) second)
 
 -- A piece
 

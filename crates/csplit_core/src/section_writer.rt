@@ -141,7 +141,14 @@ impl SectionWriter {
                 self.current = Current::Skipped;
                 Ok(())
             }
-            Current::File { slot, size } => self.end_file(slot, size, outs),
+            Current::File { slot, size } => {
+                self.current = Current::Skipped;
+                outs.close(slot)?;
+                if self.style().quiet {
+                    return Ok(());
+                }
+                write_size(size, outs)
+            }
             Current::Unopened => Err(Fault::Failed),
         }
     }
@@ -195,21 +202,6 @@ impl SectionWriter {
             size: size + bytes.len() as u64,
         };
         Ok(())
-    }
-
-    /// Closes the file of the open section, and writes its size.
-    fn end_file<O: Outs>(&mut self, slot: usize, size: u64, outs: &mut O) -> Result<(), Fault>
-        requires ready { IsReady (seen_writer self.old) (O.slots outs.old) }
-        requires file { self.old.current ≡ File slot size }
-        ensures goes { Goes O.told (seen_writer self.old) (with_section false) (O.slots outs.old) (O.slots outs.new) (seen_writer self.new) (fault_in result) }
-        ensures none { self.new.current ≡ Skipped }
-    {
-        self.current = Current::Skipped;
-        outs.close(slot)?;
-        if self.style().quiet {
-            return Ok(());
-        }
-        write_size(size, outs)
     }
 }
 
