@@ -1,5 +1,5 @@
 -- What is settled is what all continuations agree on, and where lines go.
-use Rattle.std.proofs.Common.{◌≡◌, inl, inr, ℕ, suc, ◌+◌, ◌-◌, ◌<◌, ◌≤◌, ◌&&◌, Bool, true, false, cond, List, [], ◌∷◌, ◌++◌, length, get_or, refl, sym, ◌∙◌, ap, subst, arith, length-append, zero, map, take, drop, append_assoc, nat_lt, nat_le, min, length-take, ◌⊎◌, ne_eqb, eq-eqb, length-drop, length-take-le, take_all, rules, ◌≢◌}
+use Rattle.std.proofs.Common.{◌≡◌, inl, inr, ℕ, suc, ◌+◌, ◌-◌, ◌<◌, ◌≤◌, ◌&&◌, Bool, true, false, cond, List, [], ◌∷◌, ◌++◌, length, get_or, refl, sym, ◌∙◌, ap, subst, arith, length-append, zero, map, take, drop, append_assoc, nat_lt, nat_le, min, length-take, ◌⊎◌, ne_eqb, eq-eqb, length-drop, length-take-le, rules, ◌≢◌}
 use Rattle.csplit_core.specs.Agreed.{CanCome, kept_lines, whole_outputs, settled_outputs, IsFront, AreFronts, output_at, IsAgreed}
 use Rattle.std.proofs.lemmas.Bool.{cases_lt, false≢true}
 use Rattle.bre_core.specs.Pattern.{Pattern}
@@ -19,12 +19,10 @@ use Rattle.std.proofs.lemmas.Grind.{common_steps}
 -- One more line that every operand finds.
 
 search_past_cut : (suppress : Bool) (total : ℕ) (state : State) (cut : ℕ) → state.current ≡ line_after suppress cut → cut ≤ total → state.matched ≤ total → search_line suppress state ≤ suc total
-search_past_cut true total state cut is within matched = grind (arith, common_steps)
-search_past_cut false total state cut is within matched = grind (arith, common_steps)
+search_past_cut suppress total state cut is within matched = grind (arith, common_steps)
 
 matched_within : (suppress : Bool) (lines : List Line) (state : State) (operand : Operand) (target : Target) (matched cut : ℕ) → CutsAt suppress lines state operand target matched cut → state.matched ≤ length lines → matched ≤ length lines
-matched_within suppress lines state operand (Number n) matched cut at within = search rules
-matched_within suppress lines state operand (Search pattern kept offset) matched cut at within = at.0.within
+matched_within suppress lines state operand target matched cut at within = grind (arith, common_steps)
 
 search_within : {suppress : Bool} {lines : List Line} {first : State} {steps : List Step} {last : State} {ending : Ending} → Runs suppress lines first steps last ending → first.matched ≤ length lines → search_line suppress first ≤ suc (length lines)
     → search_line suppress last ≤ suc (length lines)
@@ -34,8 +32,7 @@ search_within {suppress} {lines} (cuts state operand operands matched' cut steps
 search_within run matched within = within
 
 search_at_start : (suppress : Bool) (operands : List Operand) (total : ℕ) → search_line suppress (start operands) ≤ suc total
-search_at_start true operands total = omega arith
-search_at_start false operands total = omega arith
+search_at_start suppress operands total = grind (arith, common_steps)
 
 -- a line that each operand finds
 abbrev pub matching_line : Line
@@ -93,8 +90,7 @@ end_waits suppress operands x =
 -- Outputs
 
 kept_by : (has : Bool) (lines : List Line) (low high : List (List Line)) → AreFronts low high → AreFronts (cond has (lines ∷ low) low) (cond has (lines ∷ high) high)
-kept_by true lines low high fronts = search rules
-kept_by false lines low high fronts = fronts
+kept_by has lines low high fronts = grind (arith, common_steps)
 
 kept_grow : (front : List Section) (begun other : Section) (more : List Section) → begun.is_kept ≡ other.is_kept → IsFront begun.lines other.lines → AreFronts (kept_lines (front ++ begun ∷ [])) (kept_lines (front ++ other ∷ more))
 kept_grow [] begun other more same begins = grind (arith, common_steps)
@@ -111,14 +107,10 @@ kept-append (one ∷ a) b = by one.is_kept (kept-append a b) where
   by false is = is
 
 kept_length : (has : Bool) (one other : List Line) (front : List (List Line)) → length (front ++ cond has (one ∷ []) []) ≡ length (front ++ cond has (other ∷ []) [])
-kept_length true one other front = grind (arith, common_steps)
-kept_length false one other front = refl
+kept_length has one other front = grind (arith, common_steps)
 
 fewest : (suppress : Bool) (operands : List Operand) (x : List Line) → length (whole_outputs suppress operands (x ++ [])) ≡ length (settled_outputs suppress operands x)
-fewest suppress operands x =
-    ap length (ap (whole_outputs suppress operands) (append-nil x) ∙ kept-append (map (section_of x) (plan suppress operands x).steps) _)
-    ∙ kept_length (is_last_kept (plan suppress operands x).ending) _ _ (kept_lines (map (section_of x) (plan suppress operands x).steps))
-    ∙ sym (ap length (kept-append (map (section_of x) (plan suppress operands x).steps) _))
+fewest suppress operands x = search (rules, append-nil, kept-append, kept_length)
 
 -- no front is longer than the whole
 front_short : (front whole : List Line) → IsFront front whole → length front ≤ length whole
@@ -136,8 +128,7 @@ pub record Decides (suppress : Bool) (operands : List Operand) (x : List Line) :
 
 short_by : (has : Bool) (front : List (List Line)) (one other : List Line) (more : List (List Line)) (place : ℕ) → length other ≤ length one → place < length (front ++ cond has (one ∷ []) [])
     → length (output_at (front ++ cond has (other ∷ more) more) place) ≤ length (output_at (front ++ cond has (one ∷ []) []) place)
-short_by true front one other more place short less = grind (arith, common_steps)
-short_by false front one other more place short less = grind (arith, common_steps)
+short_by has front one other more place short less = grind (arith, common_steps)
 
 longest : (suppress : Bool) (operands : List Operand) (x : List Line) → Decides suppress operands x → (place : ℕ) → place < length (settled_outputs suppress operands x) → (y : List Line) × (z : List Line) × CanCome y × CanCome z
     × ((front : List Line) → IsFront front (output_at (whole_outputs suppress operands (x ++ y)) place) → IsFront front (output_at (whole_outputs suppress operands (x ++ z)) place) → length front ≤ length (output_at (settled_outputs suppress operands x) place))
@@ -220,16 +211,14 @@ settled_is_agreed suppress operands x = record {
 
 -- a line after a cut is after the one that is left out there
 pub left_by : (suppress : Bool) (line cut : ℕ) → nat_lt line cut ≡ false → (suppress && nat_le line cut) ≡ false → line_after suppress cut ≤ line
-left_by true line cut is are = search rules
-left_by false line cut is are = search rules
+left_by suppress line cut is are = grind (arith, common_steps)
 
 pub not_left : (suppress : Bool) (line cut : ℕ) → line_after suppress cut ≤ line → (suppress && nat_le line cut) ≡ false
 not_left true line cut rest' = grind (arith, nat_tests, rest')
 not_left false line cut rest' = refl
 
 same_by : (lt le : Bool) (index : ℕ) (one other : Place) → (lt ≡ false → le ≡ false → one ≡ other) → cond lt (in_section index) (cond le (left_out index) one) ≡ cond lt (in_section index) (cond le (left_out index) other)
-same_by false false index one other same = same refl refl
-same_by lt le index one other same = refl
+same_by lt le index one other same = grind (arith, common_steps)
 
 -- before the current line all plans that go on agree
 place_front : {suppress : Bool} {lines : List Line} {first : State} {steps : List Step} {last : State} {ending : Ending} → Runs suppress lines first steps last ending
@@ -308,13 +297,10 @@ place_here suppress operands x y line some within not =
 -- Two places for each that does
 
 rest_later : {index : ℕ} (other : ℕ) → index < other → (has : Bool) → cond has (in_section other) nowhere ≡ in_section index → ⊥
-rest_later {index} other less true same = grind (arith, common_steps)
-rest_later other less false same = cc
+rest_later other less has same = grind (arith, common_steps)
 
 step_later : {index : ℕ} (other : ℕ) {rest' : Place} → index < other → (rest' ≡ in_section index → ⊥) → (lt le : Bool) → cond lt (in_section other) (cond le (left_out other) rest') ≡ in_section index → ⊥
-step_later {index} other less later true le same = grind (arith, common_steps)
-step_later other less later false true same = cc
-step_later other less later false false same = later same
+step_later other less later lt le same = grind (arith, common_steps)
 
 -- what comes after a section isn't in it
 pub in_later : (suppress : Bool) (total : ℕ) {index : ℕ} (other line : ℕ) (steps : List Step) (how : Ending) → index < other → place_from suppress total other steps how line ≡ in_section index → ⊥
@@ -326,20 +312,7 @@ in_later suppress total other line (step ∷ steps) how less is =
 
 turned_away : {suppress : Bool} {x : List Line} {state : State} {operand : Operand} (k line : ℕ) → Turned suppress x state operand (suc (length x) - k) → suc (length x) - k ≤ line
     → (steps : List Step) × (end : State) × (how : Ending) × Runs suppress (x ++ matching_line ∷ []) state steps end how × ((index : ℕ) → place_from suppress (length (x ++ matching_line ∷ [])) index steps how line ≡ in_section index → ⊥)
-turned_away {state} {operand} k line (too_low low rest) from = (
-  [],
-  state,
-  below operand state.repetition,
-  rest,
-  λ index is. let none : nowhere ≡ in_section index = sym (ap (λ has. cond has (in_section index) nowhere) (not_less_test line 0 (omega arith))) ∙ is in cc,
-)
-turned_away {suppress} {x} {state} {operand} k line (turns least steps end how rest) from = (
-  step_of state operand (suc (length x)) (suc (length x) - k) ∷ steps,
-  end,
-  how,
-  rest,
-  λ index is. (grind (arith, common_steps, not_less_test, in_later)),
-)
+turned_away k line fact from = grind (arith, common_steps, not_less_test, in_later)
 
 -- the rest as it is puts the line into its section
 
@@ -362,7 +335,7 @@ differ_line suppress operands x line (live, from, past, within) (some_wait k kep
 
 same_line : (suppress : Bool) (operands : List Operand) (x y z : List Line) (line : ℕ) → 1 ≤ line → line ≤ length x → (WaitsAt (length x) (plan suppress operands x) line → ⊥)
     → place_of suppress operands (x ++ y) line ≡ place_of suppress operands (x ++ z) line
-same_line suppress operands x y z line some within not = place_here suppress operands x y line some within not ∙ sym (place_here suppress operands x z line some within not)
+same_line suppress operands x y z line some within not = grind (arith, common_steps, place_here)
 
 -- how many of the lines don't wait, where more may follow
 abbrev gone : ℕ → Plan → ℕ
@@ -394,8 +367,7 @@ waiting_is_undecided suppress operands x =
 -- Which lines go into a section
 
 into_step : (has : Bool) (line : Line) (whole front rest : List Line) → whole ≡ front ++ rest → cond has (line ∷ whole) whole ≡ cond has (line ∷ front) front ++ rest
-into_step true line whole front rest is = cc
-into_step false line whole front rest is = is
+into_step has line whole front rest is = grind (arith, common_steps)
 
 into-append : (s : ℕ) (places : ℕ → Place) (n : ℕ) (a b : List Line) → lines_into s places n (a ++ b) ≡ lines_into s places n a ++ lines_into s places (n + length a) b
 into-append s places n [] b = ap (λ m. lines_into s places m b) (let e : n ≡ n + 0 = omega arith in e)
@@ -422,8 +394,7 @@ into_same s places others n (line ∷ a) same =
     ∙ ap (λ those. cond (is_in s (others n)) (line ∷ those) those) (into_same s places others (n + 1) a (λ k from within. same k (omega (arith, from)) (omega (arith, within))))
 
 goes_elsewhere : {s : ℕ} (place : Place) → (place ≡ in_section s → ⊥) → is_in s place ≡ false
-goes_elsewhere {s} (in_section other) differs = grind (arith, common_steps)
-goes_elsewhere place differs = refl
+goes_elsewhere place differs = grind (arith, common_steps)
 
 -- The last section
 
@@ -431,21 +402,11 @@ abbrev rest_places : ℕ → ℕ → ℕ → Place
 rest_places end index line = cond (nat_lt line end) (in_section index) nowhere
 
 rest_elsewhere : (s index : ℕ) (has : Bool) → index < s → is_in s (cond has (in_section index) nowhere) ≡ false
-rest_elsewhere s index true less = grind (arith, common_steps)
-rest_elsewhere s index false less = refl
+rest_elsewhere s index has less = grind (arith, common_steps)
 
 rest_placed : (lines : List Line) (current end index : ℕ) → 1 ≤ current → (end ≡ suc (length lines)) ⊎ (end ≡ 0) → (k : ℕ) {s : ℕ} → s ≡ index + k
     → get_or (lines_between current end lines ∷ []) k [] ≡ lines_into s (rest_places end index) current (drop (current - 1) lines)
-rest_placed lines current end index some (inl is) zero {s} at =
-    let long : length (drop (current - 1) lines) ≡ length lines - (current - 1) = length-drop (current - 1) lines in
-    take_all (end - current) (drop (current - 1) lines) (omega (arith, long, is, some))
-    ∙ sym (into_all (rest_places end index) current (drop (current - 1) lines)
-    (λ line from within. ap (λ has. cond has (in_section index) nowhere) (less_test line end (omega (arith, within, long, is, some, from))) ∙ ap in_section (let e : index ≡ s = omega (arith, at) in e)))
-rest_placed lines current end index some (inr is) zero {s} at =
-    ap (λ n. take n (drop (current - 1) lines)) (let e : end - current ≡ 0 = omega (arith, is) in e)
-    ∙ sym (into_none s (rest_places end index) current (drop (current - 1) lines) (λ line from within. ap (λ has. is_in s (cond has (in_section index) nowhere)) (not_less_test line end (omega (arith, is)))))
-rest_placed lines current end index some which (suc k) {s} at =
-    sym (into_none s (rest_places end index) current (drop (current - 1) lines) (λ line from within. rest_elsewhere s index (nat_lt line end) (omega (arith, at))))
+rest_placed lines current end index some which k at = grind (arith, common_steps, into_all, less_test, into_none, not_less_test, rest_elsewhere)
 
 end_is : {total : ℕ} (ending : Ending) → (whole_end total ending ≡ suc total) ⊎ (whole_end total ending ≡ 0)
 end_is (below operand repetition) = inr refl
@@ -518,8 +479,7 @@ record LeftAt (suppress : Bool) (index cut line : ℕ) (steps : List Step) : Typ
   is : get_or (map (λ (step : Step). step.cut) steps) k 0 ≡ line
 
 rest_not_left : (has : Bool) (index cut : ℕ) → cond has (in_section index) nowhere ≡ left_out cut → ⊥
-rest_not_left true index cut same = cc
-rest_not_left false index cut same = cc
+rest_not_left has index cut same = grind (arith, common_steps)
 
 left_by_step : {suppress : Bool} {index : ℕ} (cut line : ℕ) {step : Step} {steps : List Step} {later : Place} (lt le : Bool) → nat_lt line step.cut ≡ lt → (suppress && nat_le line step.cut) ≡ le → (later ≡ left_out cut → LeftAt suppress (index + 1) cut line steps)
     → cond lt (in_section index) (cond le (left_out index) later) ≡ left_out cut → LeftAt suppress index cut line (step ∷ steps)
@@ -534,8 +494,7 @@ left_at suppress total index cut line (step ∷ steps) ending same =
     left_by_step {suppress = suppress} {index = index} cut line {step = step} {steps = steps} {later = place_from suppress total (index + 1) steps ending line} (nat_lt line step.cut) (suppress && nat_le line step.cut) refl refl (left_at suppress total (index + 1) cut line steps ending) same
 
 nowhere_by_step : (lt le : Bool) (index : ℕ) {later : Place} (A : Type 0) → (lt ≡ false → le ≡ false → later ≡ nowhere → A) → cond lt (in_section index) (cond le (left_out index) later) ≡ nowhere → A
-nowhere_by_step false false index A rest same = rest refl refl same
-nowhere_by_step lt le index A rest same = absurd (cc)
+nowhere_by_step lt le index A rest same = grind (arith, common_steps)
 
 nowhere_at : {suppress : Bool} {lines : List Line} {first : State} {steps : List Step} {last : State} {ending : Ending} → Runs suppress lines first steps last ending → (index line : ℕ) → first.current ≤ line → line ≤ length lines
     → place_from suppress (length lines) index steps ending line ≡ nowhere → (is_final ending ≡ true) × (last.current ≤ line)

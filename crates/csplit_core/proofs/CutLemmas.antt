@@ -13,13 +13,13 @@ use Rattle.csplit_core.specs.Draft.{Draft, draft_part}
 use Rattle.csplit_core.specs.inner.Writer.{with_bytes, with_section, Goes, Leaves, Reaches}
 use Rattle.csplit_core.specs.Input.{newline, all_lines}
 use Rattle.csplit_core.specs.Operand.{Operand, Line, is_kept}
-use Rattle.csplit_core.specs.Output.{Style, contents_of, part_by, part_of}
+use Rattle.csplit_core.specs.Output.{Style, contents_of, part_by}
 use Rattle.csplit_core.specs.Plan.{State, start, Step, Ending, search_line, line_after, state_after, step_of, Runs, is_used_up, misses, is_above, is_below, cuts}
-use Rattle.csplit_core.specs.Planned.{Plan, plan_within}
+use Rattle.csplit_core.specs.Planned.{plan_within}
 use Rattle.csplit_core.specs.inner.PlanLaws.{needed}
 use Rattle.csplit_core.specs.laws.PlanLaws.{plan_once, runs}
 use Rattle.csplit_core.specs.inner.Cutter.{GoesPast, settled_part, part_at, search_after, CutsNow, WentOn, PassesCut, IsAfter, CutAt, CutsAll, WillCut, IsEnd}
-use Rattle.csplit_core.specs.Section.{Section, section, section_of, lines_between, bytes_of, is_last_kept, settled_end, settled_sections}
+use Rattle.csplit_core.specs.Section.{Section, section, section_of, lines_between, bytes_of, is_last_kept, settled_end}
 use Rattle.csplit_core.specs.laws.SectionLaws.{part_grows, ends_as}
 use Rattle.csplit_core.specs.Writer.{WriterState, Writes, size_of}
 use Rattle.csplit_core.specs.declared.line_cutter.Cut.{Cut}
@@ -36,7 +36,7 @@ first_kept (cuts state' operand operands matched cut steps' last' ending' are at
 
 settled_by_plan : (style : Style) (operands : List Operand) {lines : List Line} {steps : List Step} {last : State} {ending : Ending} → Runs style.suppress lines (start operands) steps last ending
     → settled_of style operands lines ≡ part_by style (map contents_of (map (section_of lines) steps ++ section (is_last_kept ending) false (lines_between last.current (settled_end (length lines) ending) lines) ∷ []))
-settled_by_plan style operands {lines} {steps} {last} {ending} runs = ap (λ (p : Plan). part_of style (settled_sections lines p)) (plan_once style.suppress operands lines steps last ending runs)
+settled_by_plan style operands {lines} {steps} {last} {ending} runs = grind (arith, common_steps, plan_once, runs)
 
 -- one section, and those after it
 begins_with : (style : Style) (front : List Section) (one : Section) (more : List Section) (kept : Bool) → kept ≡ one.is_kept → Begins (draft_part style (record { ended = map contents_of front; is_kept = kept; bytes = [] })) (part_by style (map contents_of (front ++ one ∷ more)))
@@ -107,11 +107,6 @@ cut_begins {cutter} {x} {left} line {at} cut now fit will before_is =
 abbrev draft_at : (cutter : CutterState) (x left : List ℕ) → IsAt cutter x left → Draft
 draft_at cutter x left at = draft_by (all_lines x) at.steps (kept_by (state_in cutter).operands) at.written
 
-pub before_begins : {cutter : CutterState} {x left : List ℕ} (line : List ℕ) {before : List ℕ} {at : IsAt cutter x left} (cut : Cut) {place : ℕ} (now : CutsNow cutter x left line cut place at) → IsFit cutter → WillCut cutter cut → before ≡ first_lines newline (cut.line - place) left
-    → Begins (draft_part cutter.writer.style (with_bytes before (draft_at cutter x left at))) (settled_part cutter x)
-before_begins {cutter} {x} {left} line {before} {at} cut now fit will before_is =
-    part_trans (draft_part cutter.writer.style (with_bytes before (draft_at cutter x left at))) _ (settled_part cutter x) (section_begins cutter.writer.style _ (with_bytes before (draft_at cutter x left at))) (cut_begins line cut now fit will before_is)
-
 pub cut_stopped : {told : Bool} {cutter next : CutterState} {cut : Cut} {place : ℕ} {left line : List ℕ} {old new : List Slot} {fault : Fault} → next.operands ≡ cutter.operands → Leaves cutter.writer next.writer old new (Some fault)
     → ((x : List ℕ) (at : IsAt cutter x left) → CutsNow cutter x left line cut place at → Reaches told cutter.writer next.writer (part_at cutter x left at) (settled_part cutter x) old new (Some fault))
     → CutsAll told cutter cut place left line [] old new next (Some fault)
@@ -130,7 +125,8 @@ began_there {told} cutter {next = next} {kept = kept} {old} {new} {fault} passed
 module _ {cutter : CutterState} {cut : Cut} {place : ℕ} {left before : List ℕ} (fit : IsFit cutter) (will : WillCut cutter cut) (before_is : before ≡ first_lines newline (cut.line - place) left) where
   pub cut_put_stopped : {told : Bool} {next : CutterState} {old new : List Slot} {fault : Fault} (line : List ℕ) → next.operands ≡ cutter.operands → Goes told cutter.writer (with_bytes before) old new next.writer (Some fault)
       → CutsAll told cutter cut place left line [] old new next (Some fault)
-  cut_put_stopped line operands goes = cut_stopped operands goes.leaves (λ x at now. stops_wider (goes.reaches (draft_at cutter x left at) at.writes) (before_begins line cut now fit will before_is))
+  cut_put_stopped line operands goes = cut_stopped operands goes.leaves (λ x at now. stops_wider (goes.reaches (draft_at cutter x left at) at.writes)
+      (part_trans _ _ _ (section_begins cutter.writer.style _ (with_bytes before (draft_at cutter x left at))) (cut_begins line cut now fit will before_is)))
 
   pub cut_pass_stopped : {told : Bool} {mid : CutterState} {writer : WriterState} {old new : List Slot} {fault : Fault} (line : List ℕ) → Goes told cutter.writer (with_bytes before) old new writer None
       → PassesCut (record cutter { writer = writer }) cut mid (Some fault) → CutsAll told cutter cut place left line [] old new mid (Some fault)
@@ -153,8 +149,7 @@ module _ {cutter : CutterState} {cut : Cut} {place : ℕ} {left before : List �
 -- the next section began
 
 search_same : (suppress : Bool) (a b : State) → a.current ≡ b.current → a.matched ≡ b.matched → search_line suppress a ≡ search_line suppress b
-search_same true a b current matched = grind (arith, common_steps)
-search_same false a b current matched = grind (arith, common_steps)
+search_same suppress a b current matched = grind (arith, common_steps)
 
 leads_as : {suppress suppress' : Bool} {lines : List Line} {operands operands' : List Operand} (steps : List Step) {state state' : State} → suppress' ≡ suppress → operands' ≡ operands → state' ≡ state → Leads suppress lines operands steps state → Leads suppress' lines operands' steps state'
 leads_as {suppress} {lines} {operands} {operands'} steps {state'} one two three leads = grind (arith, common_steps)

@@ -1,17 +1,17 @@
 -- Lemmas on the cutter of lines: what is settled, and what holding lines leaves.
 use Rattle.std.proofs.lemmas.Grind.{common_steps}
-use Rattle.std.proofs.Common.{◌≡◌, ℕ, ◌+◌, ◌-◌, ◌≤◌, Bool, true, false, List, [], ◌++◌, length, map, refl, sym, ◌∙◌, ap, arith, ◌⊎◌, inl, inr, Option, None, subst, ◌<◌, min, Some, Result, Ok, Err, OnOk, IfErr, take, drop, IfNone}
-use Rattle.std.proofs.lemmas.Bool.{false≢true, cases_lt}
+use Rattle.std.proofs.Common.{◌≡◌, ℕ, ◌+◌, ◌-◌, ◌≤◌, Bool, true, false, List, [], ◌++◌, length, refl, sym, ◌∙◌, ap, arith, ◌⊎◌, inl, inr, Option, None, subst, ◌<◌, min, Some, Result, Ok, Err, OnOk, IfErr, take, drop, IfNone, rules}
+use Rattle.std.proofs.lemmas.Bool.{cases_lt}
 use Rattle.std.proofs.lemmas.List.{append-nil, length-take-le, length-drop, take-append-le, take_all, drop_all, drop-drop}
 use Rattle.seg_core.specs.Line.{line_count, first_lines, after_lines, but_last_lines, last_lines}
 use Rattle.csplit_core.specs.Csplit.{settled_of}
 use Rattle.csplit_core.specs.Draft.{draft_part, Draft, last_contents, AreClosed}
 use Rattle.csplit_core.specs.Input.{newline, all_lines}
 use Rattle.csplit_core.specs.Operand.{Operand, Line}
-use Rattle.csplit_core.specs.Output.{Style, contents_of, makes_file, files_of}
-use Rattle.csplit_core.specs.Plan.{State, start, Step, Ending, used_up, missed, above, below, Runs}
+use Rattle.csplit_core.specs.Output.{Style, makes_file, files_of}
+use Rattle.csplit_core.specs.Plan.{State, start, Step, Ending, Runs}
 use Rattle.csplit_core.specs.Planned.{Plan, plan}
-use Rattle.csplit_core.specs.Section.{section_of, lines_between, is_last_kept, settled_end, is_final, most_waiting, bytes_of}
+use Rattle.csplit_core.specs.Section.{lines_between, is_last_kept, settled_end, is_final, most_waiting, bytes_of}
 use Rattle.csplit_core.specs.Progress.{AimsAt}
 use Rattle.csplit_core.specs.declared.progress.Turn.{Turn}
 use Rattle.csplit_core.specs.declared.progress.Turn.TheVariants.{Below}
@@ -25,7 +25,7 @@ use Rattle.ports_core.specs.Slot.{Slot}
 use Rattle.ports_core.specs.declared.fault.Fault.{Fault}
 use Rattle.csplit_core.specs.inner.Writer.{with_bytes, Goes, Reaches}
 use Rattle.ports_core.specs.inner.Part.{fault_in, InTurn}
-use Rattle.csplit_core.specs.Writer.{WriterState, Writes, IsCurrent, IsReady, size_of}
+use Rattle.csplit_core.specs.Writer.{WriterState, Writes, IsReady, size_of}
 use Rattle.csplit_core.proofs.WriterLemmas.{leaves_again, bytes_begin, leaves_lacking, leaves_still, reaches_again, reaches_as, reaches_still, where_three}
 use Rattle.std.proofs.Math.Nat.{min-eq_left, min-eq_right}
 use Rattle.std.proofs.Math.Seq.{take-add, take-append-add}
@@ -41,10 +41,7 @@ use Rattle.csplit_core.proofs.WriterCalls.{goes_again, goes_wider, open_part, pa
 
 -- the last section is kept as the next operand says
 pub last_kept : (suppress : Bool) (lines : List Line) (state : State) (ending : Ending) → EndsAs suppress lines state ending → kept_by state.operands ≡ is_last_kept ending
-last_kept suppress lines state used_up none = ap kept_by none
-last_kept suppress lines state (missed operand repetition) (operands, is, none, often) = ap kept_by is
-last_kept suppress lines state (above operand repetition matched cut) (operands, is, at, far, often) = ap kept_by is
-last_kept suppress lines state (below operand repetition) (operands, matched, cut, is, at, within, low, often) = ap kept_by is
+last_kept suppress lines state ending none = grind (arith, common_steps)
 
 -- the sections of the plan, and of the last one what stands before the line that this says
 abbrev pub draft_to : (ℕ → Ending → ℕ) → Bool → List Operand → List Line → Draft
@@ -56,45 +53,30 @@ draft_to past suppress operands lines =
 pub draft_is : (past : ℕ → Ending → ℕ) {suppress : Bool} (operands : List Operand) (x : List ℕ) {steps : List Step} {state : State} {ending : Ending} (taken : ℕ) {written : List ℕ} → Runs suppress (all_lines x) (start operands) steps state ending
     → taken ≡ past (line_count newline x) ending - state.current → written ≡ first_lines newline taken (text_from state.current x)
     → draft_by (all_lines x) steps (kept_by state.operands) written ≡ draft_to past suppress operands (all_lines x)
-draft_is past {suppress} operands x {steps} {state} {ending} taken {written} runs taken_is written_is =
-    let kept = last_kept suppress (all_lines x) state ending (ends_as suppress (all_lines x) (start operands) steps state ending runs) in
-    let count : past (length (all_lines x)) ending - state.current ≡ taken = ap (λ n. past n ending - state.current) (length-all_lines x) ∙ sym taken_is in
-    let bytes = bytes_between state.current (past (length (all_lines x)) ending) x ∙ ap (λ n. first_lines newline n (text_from state.current x)) count ∙ sym written_is in
-    ap (λ k. draft_by (all_lines x) steps k written) kept ∙ ap (λ bytes. draft_by (all_lines x) steps (is_last_kept ending) bytes) (sym bytes)
-    ∙ ap (λ (p : Plan). draft_by (all_lines x) p.steps (is_last_kept p.ending) (bytes_of (lines_between p.last.current (past (length (all_lines x)) p.ending) (all_lines x)))) (sym (plan_once suppress operands (all_lines x) steps state ending runs))
+draft_is past {suppress} operands x {steps} {state} {ending} taken {written} runs taken_is written_is = search (rules, last_kept, ends_as, length-all_lines, taken_is, bytes_between, plan_once)
 
 -- and what is written of it is what is settled
 pub settled_part_is : (style : Style) (operands : List Operand) (lines : List Line) → draft_part style (settled_draft style.suppress operands lines) ≡ settled_of style operands lines
 settled_part_is style operands lines = grind (arith, common_steps)
 
 pub final_count : (total current : ℕ) (ending : Ending) → is_final ending ≡ true → 0 ≡ settled_end total ending - current
-final_count total current (below operand repetition) past = omega arith
-final_count total current _ past = absurd (false≢true past)
+final_count total current ending past = grind (arith, common_steps)
 
 -- the sections that ended stay, whatever comes
 pub ended_still : (style : Style) (operands : List Operand) {x : List ℕ} (t : List ℕ) {steps : List Step} {state : State} {ending : Ending} (kept : Bool) (written : List ℕ) → Joins x t → Runs style.suppress (all_lines x) (start operands) steps state ending
     → draft_by (all_lines x) steps kept written ≡ draft_by (all_lines (x ++ t)) steps kept written
-ended_still style operands {x} t {steps} {state} {ending} kept written whole runs =
-    let within = (are_within style.suppress (all_lines x) (start operands) steps state ending runs (omega arith)).0 in
-    ap (λ ended. record { ended = map contents_of ended; is_kept = kept; bytes = written })
-    (sym (ap (λ lines. map (section_of lines) steps) (all_lines-append t whole) ∙ closed_still (all_lines x) (all_lines t) steps within))
+ended_still style operands {x} t {steps} {state} {ending} kept written whole runs = search (rules, are_within, all_lines-append, closed_still)
 
 -- as many lines may wait as the next operand says
 pub most_is : (suppress : Bool) (lines : List Line) (state : State) (ending : Ending) → EndsAs suppress lines state ending → is_final ending ≡ false → most_by state.operands ≡ most_waiting ending
-most_is suppress lines state used_up none live = ap most_by none
-most_is suppress lines state (missed operand repetition) (operands, is, none, often) live = ap most_by is
-most_is suppress lines state (above operand repetition matched cut) (operands, is, at, far, often) live = grind (arith, common_steps)
-most_is suppress lines state (below operand repetition) those live = absurd (false≢true (sym live))
+most_is suppress lines state ending none live = grind (arith, common_steps)
 
 -- an aim that isn't below a cut doesn't end for good
 pub aims_live : (aim : Turn) (ending : Ending) → AimsAt aim ending → (aim ≡ Below → ⊥) → is_final ending ≡ false
-aims_live Below (below operand repetition) aims differs = absurd (differs refl)
-aims_live aim (below operand repetition) aims differs = absurd aims
-aims_live aim ending aims differs = refl
+aims_live aim ending aims differs = grind (arith, common_steps)
 
 pub aims_past : (ending : Ending) → AimsAt Below ending → is_final ending ≡ true
-aims_past (below operand repetition) aims = refl
-aims_past ending aims = absurd aims
+aims_past ending aims = grind (arith, common_steps)
 
 -- one call after another
 pub keeps_on : {one two three : CutterState} {old mid new : List Slot} {fault : Option Fault} → Keeps one two old mid None → Keeps two three mid new fault → Keeps one three old new fault
@@ -136,8 +118,7 @@ part_more {cutter} aim t whole some at ends count =
 
 -- where the plan isn't final, all lines of the last section are settled but the last ones
 pub settled_count : {cutter : CutterState} {x left : List ℕ} (at : IsAt cutter x left) (ending : Ending) → is_final ending ≡ false → cutter.lines + 1 - cutter.progress.current - most_waiting ending ≡ settled_end (line_count newline x) ending - cutter.progress.current
-settled_count at (below operand repetition) live = absurd (false≢true (sym live))
-settled_count at _ live = omega (arith, at.counted)
+settled_count at ending live = grind (arith, common_steps)
 
 -- what is written of the open section, where all but the last lines that may wait are taken, is what is settled
 pub live_taken : {cutter : CutterState} {x : List ℕ} (live : IsLive cutter x) → live.at.taken ≡ settled_end (line_count newline x) live.ends.ending - cutter.progress.current
@@ -150,7 +131,7 @@ live_part {cutter} {x} live =
 
 -- how many lines are left
 pub left_count : {cutter : CutterState} {x left : List ℕ} (at : IsAt cutter x left) → line_count newline left ≡ cutter.lines - (cutter.progress.current + at.taken - 1)
-left_count {cutter} {x} at = ap (line_count newline) at.left_is ∙ count_from (cutter.progress.current + at.taken) x ∙ ap (λ n. n - (cutter.progress.current + at.taken - 1)) (sym at.counted)
+left_count {cutter} {x} at = grind (arith, common_steps, count_from)
 
 pub few_taken : {cutter : CutterState} {x left : List ℕ} (at : IsAt cutter x left) → cutter.progress.current + at.taken ≤ cutter.lines + 1
 few_taken {cutter} {x} at = grind (arith, common_steps)
@@ -177,27 +158,14 @@ at_held cutter writer x left bytes held n some at same within bytes_is held_is w
 
 -- how many lines are taken once as many wait as may
 pub taken_all : (taken lines current : ℕ) {left : ℕ} (most : ℕ) → 1 ≤ current → current + taken ≤ lines + 1 → left ≡ lines - (current + taken - 1) → (taken ≡ 0) ⊎ (most ≤ left) → taken + (left - most) ≡ lines + 1 - current - most
-taken_all taken lines current most some few is (inl none) = omega (arith, some, few, is, none)
-taken_all taken lines current most some few is (inr enough) = omega (arith, some, few, is, enough)
+taken_all taken lines current most some few is fact = grind (arith, common_steps)
 
 -- Writing lines that wait to the open section.
 
 -- want of memory leaves the outputs as they are
 
 pub in_turn : {told : Bool} {part : Part} (place : ℕ) {slots : List Slot} {writer next : WriterState} → InTurn part.files place → Reaches told writer next part part slots slots (Some Memory)
-in_turn {part = part} place {slots} turn = record {
-  there = λ before at. record {
-    part = part;
-    above = part_begins_itself part;
-    below = part_begins_itself part;
-    place = place;
-    turn = turn;
-    reached = slots;
-    outputs = at.outputs;
-    marks = refl;
-    from = tt;
-  };
-}
+in_turn {part = part} place {slots} turn = search (rules, part_begins_itself)
 
 draft_turn : (style : Style) (draft : Draft) → AreClosed draft.ended → (makes : Bool) → makes_file style (last_contents false draft) ≡ makes → (place : ℕ) × InTurn (draft_part style draft).files place
 draft_turn style draft closed true is = (
@@ -243,20 +211,14 @@ front_within {held} front rest is = grind (arith, common_steps)
 module _ {told : Bool} {writer now : WriterState} {window left_in : Window} {n left : ℕ} {old mid : List Slot} (so_far : Emptying told writer now window left_in n left old mid) where
   -- what is still to go is held
   pub left_within : n ≤ length window.held → left ≤ length left_in.held
-  left_within enough =
-      let long : length left_in.held ≡ length window.held - (n - left) = ap (λ (w : Window). length w.held) so_far.rest ∙ length-drop (n - left) window.held in
-      let few = so_far.few in omega (arith, long, few, enough)
+  left_within enough = grind (arith, common_steps)
 
   pub fits_front : (bytes most : ℕ) (front rest : List ℕ) → left_in.held ≡ front ++ rest → bytes ≤ length front → size_of writer.current + length window.held < most → size_of now.current + length (take bytes front) < most
-  fits_front bytes most front rest is within fits =
-      let long : length (take bytes front) ≡ bytes = length-take-le bytes front within in
-      let less : length front ≤ length left_in.held = front_within front rest is in
-      let size = so_far.size in omega (arith, long, less, size, within, fits)
+  fits_front bytes most front rest is within fits = grind (arith, common_steps)
 
   -- what went, with more bytes of what stands at the front
   taken_more : (bytes : ℕ) (front rest : List ℕ) → left_in.held ≡ front ++ rest → bytes ≤ length front → take (n - left) window.held ++ take bytes front ≡ take (n - left + bytes) window.held
-  taken_more bytes front rest is within =
-      ap (λ those. take (n - left) window.held ++ those) ((grind (arith, common_steps)) ∙ ap (λ (w : Window). take bytes w.held) so_far.rest) ∙ sym (take-add (n - left) bytes window.held)
+  taken_more bytes front rest is within = grind (arith, common_steps, take-add)
 
   pub empties : (bytes : ℕ) (front rest : List ℕ) {next : WriterState} {after : Window} {new : List Slot} → left_in.held ≡ front ++ rest → bytes ≤ length front → bytes ≤ left → after ≡ without_first left_in bytes
       → Goes told now (with_bytes (take bytes front)) mid new next None → size_of next.current ≤ size_of now.current + length (take bytes front) → Emptying told writer next window after n (left - bytes) old new
@@ -339,8 +301,7 @@ goes_lacking {bytes = bytes} {fault = fault} ready lacks = stops_among [] bytes 
 
 pub kept_window : {window mid : Window} (new : Window) {over front : ℕ} {text : List ℕ} (result : Result (Unit {0}) Fault) → Parted window.delim window.most over front window.held text → mid ≡ without_first window front
     → OnOk result (new ≡ record { most = mid.most; delim = mid.delim; held = mid.held ++ drop (over - front) text }) → OnOk result (new ≡ record { most = window.most; delim = window.delim; held = last_lines window.delim window.most (window.held ++ text) })
-kept_window {window} new {over = over} {front} {text} (Ok done) parts dropped put = grind (arith, common_steps)
-kept_window new (Err fault) parts dropped put = tt
+kept_window new result parts dropped put = grind (arith, common_steps)
 
 -- What `hold` leaves: all that is settled of the lines that came in is written, and the others wait.
 

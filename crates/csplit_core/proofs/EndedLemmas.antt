@@ -1,6 +1,5 @@
 -- What opening the cutter leaves, and what ending it does.
-use Rattle.std.proofs.Common.{◌≡◌, inl, inr, ◌+◌, ◌-◌, ◌≤◌, length, max, Bool, true, false, List, [], ◌∷◌, None, Option, Some, refl, sym, ◌∙◌, ap, subst, arith, ℕ, suc, ◌++◌, map, take, ◌<◌, nat_lt, get_or}
-use Rattle.std.proofs.lemmas.Bool.{false≢true}
+use Rattle.std.proofs.Common.{◌≡◌, inl, ◌+◌, ◌-◌, ◌≤◌, length, max, Bool, true, false, List, [], ◌∷◌, None, Option, Some, refl, sym, ◌∙◌, ap, subst, arith, ℕ, suc, ◌++◌, take, ◌<◌, nat_lt, get_or, rules}
 use Rattle.bre_core.specs.Pattern.{Pattern}
 use Rattle.seg_core.specs.Window.{Window}
 use Rattle.ports_core.specs.Slot.{Slot}
@@ -13,26 +12,25 @@ use Rattle.csplit_core.specs.Draft.{draft_part, Draft}
 use Rattle.csplit_core.specs.inner.Writer.{first_draft, with_kept, new_writer, paused, BegunNot, Goes, with_bytes, with_section, Reaches}
 use Rattle.csplit_core.specs.Input.{newline, all_lines}
 use Rattle.csplit_core.specs.Operand.{Operand, Line}
-use Rattle.csplit_core.specs.Output.{Style, contents_of, part_by}
-use Rattle.csplit_core.specs.Plan.{State, start, Step, Ending, used_up, below, Runs, cuts, missed, above}
-use Rattle.csplit_core.specs.Planned.{Plan, plan}
+use Rattle.csplit_core.specs.Output.{Style}
+use Rattle.csplit_core.specs.Plan.{State, start, Step, Ending, below, Runs, missed, above}
+use Rattle.csplit_core.specs.Planned.{plan}
 use Rattle.csplit_core.specs.laws.PlanLaws.{plan_runs, plan_once}
 use Rattle.csplit_core.specs.Progress.{state_of, AimsAt, EndsHere}
 use Rattle.csplit_core.specs.inner.Cutter.{AreSeen, Turns, MovesOn, IsNoCut, Opened, settled_part, whole_part, IsJudged, EndsAll}
-use Rattle.csplit_core.specs.Section.{settled_end, is_final, section, section_of, lines_between, is_last_kept, whole_end}
+use Rattle.csplit_core.specs.Section.{settled_end, is_final, whole_end}
 use Rattle.csplit_core.specs.declared.progress.Progress.{Progress}
 use Rattle.csplit_core.specs.declared.progress.Turn.{Turn}
-use Rattle.csplit_core.specs.declared.progress.Turn.TheVariants.{Below, Cuts, UsedUp, Missed, Above}
+use Rattle.csplit_core.specs.declared.progress.Turn.TheVariants.{Below, Missed, Above}
 use Rattle.csplit_core.specs.Writer.{WriterState, Writes, size_of}
 use Rattle.csplit_core.specs.Cutter.{CutterState, most_next, pattern_next, kept_next, next_of, most_by, pattern_by, kept_by, settled_draft, IsFit, Stands, suppress_in, state_in, text_from, draft_by, IsLive, IsPast}
 use Rattle.csplit_core.proofs.TryLemmas.{turn_ends, no_cut_aims, left_is}
 use Rattle.ports_core.proofs.SlotSteps.{none_past}
 use Rattle.csplit_core.proofs.WriterCalls.{begun_not, new_owns, new_writes, no_draft, ended_part}
 use Rattle.csplit_core.proofs.WriterLemmas.{reaches_as, stops_wider, bytes_begin, section_begins, in_any, leaves_again, reaches_again}
-use Rattle.std.proofs.lemmas.List.{map-append, take_all, drop_all}
-use Rattle.seg_core.specs.Line.{lines_of, line_count, joined, first_lines, after_lines}
-use Rattle.seg_core.proofs.LinesOf.{joined-lines_of}
-use Rattle.seg_core.proofs.FirstLines.{first_lines_then_rest}
+use Rattle.std.proofs.lemmas.List.{map-append, drop_all}
+use Rattle.seg_core.specs.Line.{line_count, first_lines, after_lines}
+use Rattle.seg_core.proofs.FirstLines.{first_lines-all, first_lines_then_rest}
 use Rattle.csplit_core.specs.inner.PlanLaws.{EndsAs}
 use Rattle.csplit_core.specs.laws.SectionLaws.{ends_as}
 use Rattle.csplit_core.proofs.LineLemmas.{count_from, from_further}
@@ -45,12 +43,10 @@ use Rattle.std.proofs.lemmas.Grind.{common_steps}
 -- Over no line a plan has no step.
 
 first_only : {suppress : Bool} {first : State} {steps : List Step} {last : State} {ending : Ending} → Runs suppress [] first steps last ending → 1 ≤ first.current → Runs suppress [] first [] first ending
-first_only (cuts state operand operands matched cut steps' last' ending' is at from within rest) some = grind (arith, common_steps)
-first_only run some = run
+first_only run some = grind (arith, common_steps)
 
 none_settled : (ending : Ending) → 0 ≡ settled_end 0 ending - 1
-none_settled used_up = omega arith
-none_settled ending = omega arith
+none_settled ending = grind (arith, common_steps)
 
 -- the first section, without a byte, is what is settled
 first_settled : (suppress : Bool) (operands : List Operand) → first_draft (kept_by operands) ≡ settled_draft suppress operands []
@@ -66,8 +62,7 @@ abbrev pub first_progress : Progress
 first_progress = record { done = 0; repetition = 0; current = 1; matched = 0 }
 
 first_no_cut : (operands : List Operand) (turn : Turn) → MovesOn operands 0 first_progress turn → IsNoCut turn
-first_no_cut operands (Cuts matched line) moves = grind (arith, common_steps)
-first_no_cut operands _ moves = tt
+first_no_cut operands turn moves = grind (arith, common_steps)
 
 abbrev SaysFirst : Bool → List Operand → Turn → Type 0
 SaysFirst suppress operands turn = (lines : List Line) → AreSeen suppress lines 0 (start operands) false → Turns suppress lines (start operands) turn
@@ -77,9 +72,7 @@ first_ends {suppress} operands {turn} says moves =
     turn_ends turn (first_no_cut operands turn moves) (says [] (grind (arith, common_steps)))
 
 final_below : (turn : Turn) (ending : Ending) → AimsAt turn ending → is_final ending ≡ true → turn ≡ Below
-final_below Below (below operand repetition) aims past = refl
-final_below turn (below operand repetition) aims past = absurd aims
-final_below turn ending aims past = cc
+final_below turn ending aims past = grind (arith, common_steps)
 
 -- The cutter that was opened
 
@@ -109,14 +102,7 @@ first_stands operands writes ends false live = inl (record {
   live = live;
   settled = omega arith;
 })
-first_stands operands {writer} {aim} writes ends true past =
-    let is = plan_once writer.style.suppress operands [] [] (start operands) ends.ending ends.runs in inr (record {
-      aim = final_below aim ends.ending ends.aims past;
-      past = ap (λ (p : Plan). is_final p.ending) is ∙ past;
-      last = sym (ap (λ (p : Plan). p.last) is);
-      none = refl;
-      writes = subst (Writes writer) (first_settled writer.style.suppress operands) writes;
-    })
+first_stands operands {writer} {aim} writes ends true past = search (rules, plan_once, final_below, first_settled)
 
 first_opened : (told : Bool) {style : Style} {operands : List Operand} {old new : List Slot} {writer : WriterState} (aim : Turn) → 2 ≤ length old → Goes told (new_writer style) (with_kept (kept_by operands)) old new writer None → size_of writer.current ≡ 0 → SaysFirst style.suppress operands aim → MovesOn operands 0 first_progress aim
     → Opened told style operands old new (first_cutter operands writer aim)
@@ -160,24 +146,14 @@ opened_not told {style} operands {kept = kept} {old} {new} {writer = writer} {fa
 
 -- where there is no memory, nothing was done
 pub opened_lacks : (told : Bool) {style : Style} (operands : List Operand) {slots : List Slot} {fault : Fault} → fault ≡ Memory → BegunNot told style (settled_of style operands []) slots slots fault
-opened_lacks told {style} operands {slots} lacks = subst (BegunNot told style (settled_of style operands []) slots slots) (sym lacks) (record {
-  reaches = stops_wider (in_turn 0 (record { closed = tt; within = omega arith; last = omega arith })) (nothing_begins_part (settled_of style operands []));
-  breaks = tt;
-  none = none_past slots;
-})
+opened_lacks told {style} operands {slots} lacks = search (rules, stops_wider, in_turn, nothing_begins_part, none_past)
 
 -- What ending the cutter leaves: all lines that waited belong to the last section, which ends; and the fault with which the work ends.
 
 whole_part_is : (style : Style) (operands : List Operand) (lines : List Line) → draft_part style (with_section false (draft_to whole_end style.suppress operands lines)) ≡ whole_of style operands lines
-whole_part_is style operands lines =
-    let p = plan style.suppress operands lines in
-    ended_part style (draft_to whole_end style.suppress operands lines)
-    ∙ ap (part_by style) (sym (map-append contents_of (map (section_of lines) p.steps) (section (is_last_kept p.ending) true (lines_between p.last.current (whole_end (length lines) p.ending) lines) ∷ [])))
+whole_part_is style operands lines = search (rules, ended_part, draft_to, map-append)
 
 -- The last section has all lines that are left, and none where the cut is below the current line.
-
-all_first : (n : ℕ) {y : List ℕ} → line_count newline y ≤ n → first_lines newline n y ≡ y
-all_first n {y} few = ap joined (take_all n (lines_of newline y) few) ∙ joined-lines_of newline y
 
 all_written : (x : List ℕ) {written held : List ℕ} (current taken : ℕ) (ending : Ending) → 1 ≤ current → is_final ending ≡ false → written ≡ first_lines newline taken (text_from current x) → held ≡ text_from (current + taken) x
     → written ++ held ≡ first_lines newline (whole_end (line_count newline x) ending - current) (text_from current x)
@@ -187,7 +163,7 @@ all_written x {held} current taken ending some live written_is held_is =
     let count : line_count newline (text_from current x) ≡ line_count newline x - (current - 1) = count_from current x in
     ap (λ those. those ++ held) written_is
     ∙ ap (λ those. first_lines newline taken (text_from current x) ++ those) (held_is ∙ sym (from_further current taken x some))
-    ∙ all ∙ sym (all_first (whole_end (line_count newline x) ending - current) (omega (arith, end, count, some)))
+    ∙ all ∙ sym (first_lines-all newline (whole_end (line_count newline x) ending - current) (omega (arith, end, count, some)))
 
 -- What is written before the end, and with the lines that wait, is what is settled and the whole.
 record LastDraft (cutter : CutterState) (x : List ℕ) : Type 0 where
@@ -210,40 +186,21 @@ past_whole : {cutter : CutterState} {x : List ℕ} → IsPast cutter x → with_
 past_whole {cutter} {x} past = grind (arith, common_steps)
 
 past_draft : {cutter : CutterState} {x : List ℕ} → IsPast cutter x → LastDraft cutter x
-past_draft {cutter} {x} past = record {
-  draft = settled_draft (suppress_in cutter) cutter.operands (all_lines x);
-  writes = past.writes;
-  settled = settled_part_is cutter.writer.style cutter.operands (all_lines x);
-  whole = ap (λ draft. draft_part cutter.writer.style (with_section false draft)) (past_whole past) ∙ whole_part_is cutter.writer.style cutter.operands (all_lines x);
-}
+past_draft {cutter} {x} past = search (rules, settled_part_is, past_whole, whole_part_is)
 
 last_draft : {cutter : CutterState} {x : List ℕ} → IsFit cutter → Stands cutter x → LastDraft cutter x
-last_draft fit (inl live) = live_draft fit live
-last_draft fit (inr past) = past_draft past
+last_draft fit fact = grind (arith, common_steps, live_draft, past_draft)
 
 -- how the plan ends
 
 final_aims : (ending : Ending) → is_final ending ≡ true → AimsAt Below ending
-final_aims (below operand repetition) past = tt
-final_aims ending past = absurd (false≢true past)
+final_aims ending past = grind (arith, common_steps)
 
 judged_now : {cutter : CutterState} {x : List ℕ} → Stands cutter x → IsJudged cutter x
-judged_now {cutter} {x} (inl live) =
-    let is = plan_once (suppress_in cutter) cutter.operands (all_lines x) live.at.steps (state_in cutter) live.ends.ending (runs_to live.at live.ends) in record {
-      last = sym (ap (λ (p : Plan). p.last) is);
-      aims = subst (λ (p : Plan). AimsAt cutter.aim p.ending) (sym is) live.ends.aims;
-    }
-judged_now {cutter} {x} (inr past) = record {
-  last = past.last;
-  aims = subst (λ aim. AimsAt aim (plan (suppress_in cutter) cutter.operands (all_lines x)).ending) (sym past.aim) (final_aims (plan (suppress_in cutter) cutter.operands (all_lines x)).ending past.past);
-}
+judged_now fact = grind (arith, common_steps, plan_once, runs_to, final_aims)
 
 judged_later : {cutter : CutterState} {writer : WriterState} {window : Window} {x : List ℕ} → writer.style ≡ cutter.writer.style → Stands cutter x → IsJudged (record cutter { writer = writer; window = window }) x
-judged_later {cutter} {x} same stands =
-    let judged = judged_now stands in record {
-      last = subst (λ (style : Style). state_in cutter ≡ (plan style.suppress cutter.operands (all_lines x)).last) (sym same) judged.last;
-      aims = subst (λ (style : Style). AimsAt cutter.aim (plan style.suppress cutter.operands (all_lines x)).ending) (sym same) judged.aims;
-    }
+judged_later {cutter} {x} same stands = search (rules, judged_now)
 
 -- What `end` does: the lines that wait are written, and then the section ends.
 
@@ -283,10 +240,7 @@ of_it {cutter} {x} judged =
 
 -- where no operand is left
 none_of : (suppress : Bool) (lines : List Line) (state : State) (ending : Ending) → EndsAs suppress lines state ending → state.operands ≡ [] → None ≡ verdict_of ending
-none_of suppress lines state used_up ends none = refl
-none_of suppress lines state (below operand repetition) ends none = absurd (cc ends.3)
-none_of suppress lines state (missed operand repetition) ends none = absurd (cc ends.1)
-none_of suppress lines state (above operand repetition matched cut) ends none = absurd (cc ends.1)
+none_of suppress lines state ending ends none = grind (arith, common_steps)
 
 -- the fault of the next operand, by what it did
 abbrev pub verdict_at : Turn → Operand → ℕ → Option Fault
@@ -297,21 +251,14 @@ verdict_at turn operand repetition = None
 
 verdict_is : (suppress : Bool) (lines : List Line) (state : State) {operand : Operand} {operands : List Operand} (aim : Turn) (ending : Ending) → EndsAs suppress lines state ending → state.operands ≡ operand ∷ operands → AimsAt aim ending
     → verdict_at aim operand state.repetition ≡ verdict_of ending
-verdict_is suppress lines state UsedUp used_up ends are aims = refl
-verdict_is suppress lines state Missed (missed other repetition) (rest, is, none, often) are aims = grind (arith, common_steps)
-verdict_is suppress lines state (Above matched line) (above other repetition matched' cut) (rest, is, at, far, often) are aims = grind (arith, common_steps)
-verdict_is suppress lines state Below (below other repetition) (rest, matched, cut, is, at, within, low, often) are aims = grind (arith, common_steps)
-verdict_is suppress lines state aim ending ends are aims = absurd aims
+verdict_is suppress lines state aim ending ends are aims = grind (arith, common_steps)
 
 -- What `verdict` returns
 
 pub judged_none : {cutter : CutterState} {result : Option Fault} {x : List ℕ} → false ≡ nat_lt cutter.progress.done (length cutter.operands) → result ≡ None → IsJudged cutter x → result ≡ verdict_of (ending_in cutter x)
-judged_none {cutter} {x = x} over none judged =
-    let beyond : length cutter.operands ≤ cutter.progress.done = grind (arith, nat_tests, over) in
-    none ∙ none_of (suppress_in cutter) (all_lines x) (state_in cutter) (ending_in cutter x) (of_it judged) (drop_all cutter.progress.done cutter.operands beyond)
+judged_none {cutter} {x = x} over none judged = search (rules, nat_tests, none_of, of_it, drop_all)
 
 -- the operand that was looked up is the next
 pub judged_next : {cutter : CutterState} {operand : Operand} {aim : Turn} {result : Option Fault} {x : List ℕ} → cutter.progress.done < length cutter.operands → operand ≡ get_or cutter.operands cutter.progress.done operand
     → cutter.aim ≡ aim → result ≡ verdict_at aim operand cutter.progress.repetition → IsJudged cutter x → result ≡ verdict_of (ending_in cutter x)
-judged_next {cutter} {aim = aim} {x = x} within here aimed made judged =
-    made ∙ verdict_is (suppress_in cutter) (all_lines x) (state_in cutter) aim (ending_in cutter x) (of_it judged) (left_is cutter.operands cutter.progress.done within here) (subst (λ a. AimsAt a (ending_in cutter x)) aimed judged.aims)
+judged_next {cutter} {aim = aim} {x = x} within here aimed made judged = grind (arith, common_steps, verdict_is, of_it, left_is)

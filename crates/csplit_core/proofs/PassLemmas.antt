@@ -1,6 +1,6 @@
 -- Lines over which the next operand stands as it does, and those that are seen to have no match.
 use Rattle.std.proofs.lemmas.Grind.{common_steps}
-use Rattle.std.proofs.Common.{◌≡◌, inl, inr, ℕ, zero, suc, ◌+◌, ◌-◌, ◌^◌, ◌<◌, ◌≤◌, Bool, true, false, cond, List, [], ◌∷◌, ◌++◌, length, take, drop, get_or, refl, sym, ◌∙◌, ap, subst, arith, Some, None, append_assoc, length-append}
+use Rattle.std.proofs.Common.{◌≡◌, inl, inr, ℕ, zero, suc, ◌+◌, ◌-◌, ◌^◌, ◌<◌, ◌≤◌, Bool, true, false, cond, List, [], ◌∷◌, ◌++◌, length, take, drop, get_or, refl, sym, ◌∙◌, ap, subst, arith, Some, None, append_assoc, length-append, rules}
 use Rattle.std.proofs.lemmas.Bool.{cases_lt, eq-eqb, eqb-true, ne_eqb, false≢true}
 use Rattle.std.proofs.lemmas.List.{get_or-map, drop_at, take_all, take_at, take-append-drop, length-take-le, append-nil}
 use Rattle.memchr.specs.Find.{Nowhere, Passes, is_byte}
@@ -13,12 +13,12 @@ use Rattle.seg_core.proofs.LineCounts.{line_count-le-length, line_count_near, en
 use Rattle.csplit_core.specs.Cutter.{CutterState, suppress_in, state_in, pattern_in, AimHolds, IsSound}
 use Rattle.csplit_core.specs.inner.Cutter.{AreClear, IsWhole, IsLine, IsFound, IsNextFound, PassesClear, PassesOver, StopsAt}
 use Rattle.csplit_core.specs.Input.{newline, without_newline, is_match_of, marked, all_lines}
-use Rattle.csplit_core.specs.Operand.{Target, Number, Search, Operand, Line, unmarked}
+use Rattle.csplit_core.specs.Operand.{Target, Operand, Line, unmarked}
 use Rattle.csplit_core.specs.Plan.{search_line}
 use Rattle.csplit_core.specs.Progress.{WillMove}
 use Rattle.csplit_core.specs.declared.line_cutter.Passed.{Passed}
 use Rattle.csplit_core.specs.declared.progress.Turn.{Turn}
-use Rattle.csplit_core.specs.declared.progress.Turn.TheVariants.{UsedUp, Missed, Above, Cuts}
+use Rattle.csplit_core.specs.declared.progress.Turn.TheVariants.{UsedUp, Missed, Above}
 use Rattle.csplit_core.proofs.LineLemmas.{whole_drop, all_lines-append, all_lines-line, count-append, count-line, length-all_lines, whole_count, whole-append, whole_by, line_by}
 use Rattle.csplit_core.proofs.TryLemmas.{NoneFrom, StaysOver, ends_over, found_is}
 use Rattle.scan_core.specs.Clear.{IsClear}
@@ -27,9 +27,7 @@ use Rattle.seg_core.proofs.LinesOf.{AreLines-lines_of, joined-lines_of}
 -- What stays so of a state when more lines come
 
 aim_more : (cutter : CutterState) (text : List ℕ) (lines : ℕ) (aim : Turn) → cutter.lines ≤ lines → AimHolds cutter.operands cutter.lines cutter.progress aim → StaysOver cutter text lines aim → AimHolds cutter.operands lines cutter.progress aim
-aim_more cutter text lines (Above matched line) less will stays = grind (arith, common_steps)
-aim_more cutter text lines (Cuts matched line) less holds stays = holds
-aim_more cutter text lines _ less holds stays = tt
+aim_more cutter text lines aim less will stays = grind (arith, common_steps)
 
 pub passes : {cutter : CutterState} {text : List ℕ} {lines n : ℕ} → IsSound cutter → n ≤ length text → IsWhole (take n text) → lines ≡ cutter.lines + line_count newline (take n text) → StaysOver cutter (take n text) lines cutter.aim
     → PassesOver cutter text (record cutter { lines = lines }) n
@@ -66,10 +64,7 @@ passes_used_up {cutter} {text} {n} sound whole counted aim = passes_all sound wh
 
 -- the lines that end there
 count_ends : {n : ℕ} {x : List ℕ} (end : ℕ) → EndsAt newline n x end → line_count newline (take end x) ≡ n
-count_ends {n} {x} end ends =
-    let enough : n ≤ delimiters newline x = EndsAt-enough newline n x end ends in
-    let near : delimiters newline x ≤ line_count newline x = (line_count_near newline x).0 in
-    ap (line_count newline) ends.lines ∙ ap length (lines_of-first_lines newline n x) ∙ length-take-le n (lines_of newline x) (omega (arith, enough, near))
+count_ends {n} {x} end ends = grind (arith, common_steps, EndsAt-enough, line_count_near, lines_of-first_lines, length-take-le)
 
 pub passes_below : {cutter : CutterState} {text : List ℕ} (line end : ℕ) → IsSound cutter → (matched : ℕ) × (cutter.aim ≡ Above matched line) → EndsAt newline (line - 1 - cutter.lines) text end → PassesOver cutter text (record cutter { lines = line - 1 }) end
 passes_below {cutter} {text} line end sound (matched, aim) ends =
@@ -81,10 +76,7 @@ passes_below {cutter} {text} line end sound (matched, aim) ends =
 
 pub passes_short : {cutter : CutterState} {text : List ℕ} (line : ℕ) {count : ℕ} → IsSound cutter → IsWhole text → (matched : ℕ) × (cutter.aim ≡ Above matched line) → FallsShort newline (line - 1 - cutter.lines) text count
     → PassesOver cutter text (record cutter { lines = cutter.lines + count }) (length text)
-passes_short {cutter} {text} line {count} sound whole (matched, aim) short =
-    let fewer : count < line - 1 - cutter.lines = short.fewer in
-    let less : cutter.lines + count < line = omega (arith, fewer) in
-    passes_all sound whole short.counted (subst (StaysOver cutter text (cutter.lines + count)) (sym aim) less)
+passes_short {cutter} {text} line {count} sound whole (matched, aim) short = search (rules, passes_all, StaysOver)
 
 -- Lines without the pattern that is searched for
 
@@ -124,8 +116,7 @@ none_more : (operand : Operand) (count : ℕ) (a b : List Line) (from : ℕ) →
 none_more operand count a b from those others k less near = grind (arith, common_steps)
 
 none_one : (operand : Operand) (count : ℕ) (line : Line) (from : ℕ) → (from ≤ count + 1 → line.marks operand ≡ false) → NoneFrom operand count (line ∷ []) from
-none_one operand count line from here zero less near = here near
-none_one operand count line from here (suc k) less near = absurd (omega (arith, less))
+none_one operand count line from here k less near = grind (arith, common_steps)
 
 one_more : {cutter : CutterState} {text left rest : List ℕ} {next : CutterState} (number end : ℕ) → Unmatched cutter text left next → number ≡ next.lines + 1 → end < length left → Passes (is_byte newline) left end
     → Nowhere (Passes (is_byte newline) left) 0 end → IsFound next (take end left) number false → rest ≡ drop (suc end) left → Unmatched cutter text rest (record next { lines = number })
@@ -149,10 +140,7 @@ one_more {cutter} {left} {rest} {next} number end so is within here none found r
 -- the numbers are small
 
 pub few_counted : {cutter : CutterState} {text left : List ℕ} {next : CutterState} → Unmatched cutter text left next → next.lines + length left ≤ cutter.lines + length text
-few_counted {cutter} {text} {left} {next} so =
-    let long : length text ≡ length so.front + length left = ap length so.all ∙ length-append so.front left in
-    let less : line_count newline so.front ≤ length so.front = line_count-le-length newline so.front in
-    let c : next.lines ≡ cutter.lines + line_count newline so.front = so.count in omega (arith, long, less, c)
+few_counted {cutter} {text} {left} {next} so = grind (arith, common_steps, line_count-le-length)
 
 -- what is left of a slice
 pub all_left : (left : List ℕ) {n : ℕ} (end : ℕ) → n ≡ length left → take (n - (end + 1)) (drop (end + 1) left) ≡ drop (suc end) left
@@ -161,8 +149,7 @@ all_left left {n} end is = grind (arith, common_steps)
 -- the same of a cutter that looked at the line
 pub one_more_at : {cutter : CutterState} {text left rest : List ℕ} {next now : CutterState} (end : ℕ) {found : Bool} → Unmatched cutter text left next → now ≡ next → end < length left → Passes (is_byte newline) left end → Nowhere (Passes (is_byte newline) left) 0 end
     → IsFound next (take end left) (next.lines + 1) found → found ≡ false → rest ≡ drop (suc end) left → Unmatched cutter text rest (record now { lines = now.lines + 1 })
-one_more_at {cutter} {text} {left} {rest} {next} end so is within here none finds not rest_is = subst (λ (those : CutterState). Unmatched cutter text rest (record those { lines = those.lines + 1 })) (sym is)
-    (one_more (next.lines + 1) end so refl within here none (subst (IsFound next (take end left) (next.lines + 1)) not finds) rest_is)
+one_more_at {cutter} {text} {left} {rest} {next} end so is within here none finds not rest_is = search (rules, one_more)
 
 -- all that were looked at are passed over
 pub all_passed_at : {cutter : CutterState} {text left : List ℕ} {next now : CutterState} → IsSound cutter → cutter.aim ≡ Missed → Unmatched cutter text left next → now ≡ next → PassesOver cutter text now (length text - length left)
@@ -177,8 +164,7 @@ all_passed_at {cutter} {text} {left} {next} sound aim so is =
 -- Lines that are seen to have no match
 
 mark_clear : (line : List ℕ) (target : Target) → ((pattern : Pattern) → pattern_in target ≡ Some pattern → contains pattern (without_newline line) ≡ false) → is_match_of line target ≡ false
-mark_clear line (Number n) clear = refl
-mark_clear line (Search pattern kept offset) clear = clear pattern refl
+mark_clear line target clear = grind (arith, common_steps)
 
 marks_clear : (operand : Operand) (x : List ℕ) → ((pattern : Pattern) → pattern_in operand.target ≡ Some pattern → AreClear pattern x) → (k : ℕ) → k < length (all_lines x) → (get_or (all_lines x) k unmarked).marks operand ≡ false
 marks_clear operand x clear k less =
@@ -201,13 +187,7 @@ more_clear {cutter} {left} {rest} {next} {after} {n} so clear rest_is =
 
 pub counts_clear : {cutter now : CutterState} {text : List ℕ} {n count : ℕ} → cutter ≡ now → n ≤ length text → IsWhole (take n text) → count ≡ delimiters newline (take n text) → ((pattern : Pattern) → now.sought ≡ Some pattern → AreClear pattern (take n text))
     → PassesClear now text (record cutter { lines = cutter.lines + count }) n
-counts_clear {cutter} {text} {n} {count} is within whole counted clear = subst (λ (those : CutterState). PassesClear those text (record cutter { lines = cutter.lines + count }) n) is (record {
-  same = refl;
-  within = within;
-  whole = whole;
-  count = (let e : line_count newline (take n text) ≡ delimiters newline (take n text) = whole_count whole in omega (arith, e, counted));
-  clear = λ pattern same. clear pattern (ap (λ (those : CutterState). those.sought) (sym is) ∙ same);
-})
+counts_clear {cutter} {text} {n} {count} is within whole counted clear = search (rules, whole_count)
 
 -- what is left is complete lines
 pub left_whole : {cutter : CutterState} {text left : List ℕ} {next : CutterState} → IsWhole text → Unmatched cutter text left next → IsWhole left
@@ -215,11 +195,7 @@ left_whole {left} whole so = subst IsWhole (ap (drop (length so.front)) so.all �
 
 -- the numbers are small
 pub fits_clear : {cutter now : CutterState} (text : List ℕ) {n count : ℕ} → cutter ≡ now → now.lines + length text < 2 ^ 64 → n ≤ length text → count ≡ delimiters newline (take n text) → cutter.lines + count < 2 ^ 64
-fits_clear {cutter} {now} text {n} is fits within counted =
-    let same : cutter.lines ≡ now.lines = ap (λ (those : CutterState). those.lines) is in
-    let less : delimiters newline (take n text) ≤ length (take n text) = delimiters-le-length newline (take n text) in
-    let long : length (take n text) ≡ n = length-take-le n text within in
-    omega (arith, same, less, long, fits, within, counted)
+fits_clear {cutter} {now} text {n} is fits within counted = search (rules, delimiters-le-length, length-take-le)
 
 pub stops_unfound : {cutter : CutterState} {text : List ℕ} {next : CutterState} {n : ℕ} (passed : Passed) → PassesOver cutter text next n → passed.size ≡ n → passed.found ≡ None → StopsAt cutter text next passed
 stops_unfound {cutter} {text} {next} passed over size_is found_is = grind (arith, common_steps)
@@ -269,16 +245,13 @@ line_clear pattern {text} place front line more rest clear all within (bytes, is
     ap (contains pattern) (ap without_newline is ∙ without_last bytes none) ∙ clear front bytes after parts (omega (arith, long, longer, within))
 
 line_some : (line : List ℕ) (lines : List (List ℕ)) → AreLines newline (line ∷ lines) → 0 < length (joined (line ∷ lines))
-line_some line [] (inl (bytes, is, none)) = grind (arith, common_steps)
-line_some line [] (inr unended) = grind (arith, common_steps)
-line_some line (next ∷ lines) ((bytes, is, none), others) = grind (arith, common_steps)
+line_some line lines fact = grind (arith, common_steps)
 
 each_clear : (pattern : Pattern) {text : List ℕ} (place : ℕ) (front : List ℕ) (lines : List (List ℕ)) (rest : List ℕ) → IsClear pattern text place → text ≡ front ++ joined lines ++ rest → length front + length (joined lines) ≤ place → AreLines newline lines
     → (0 < length lines → ends_with newline (joined lines) ≡ true) → (k : ℕ) → k < length lines → contains pattern (without_newline (get_or lines k [])) ≡ false
 each_clear pattern place front [] rest clear all within are ends k less = absurd (omega (arith, less))
 each_clear pattern place front (line ∷ []) rest clear all within (inl complete) ends zero less = line_clear pattern place front line [] rest clear all within complete
-each_clear pattern place front (line ∷ []) rest clear all within (inr unended) ends zero less =
-    absurd (false≢true (sym (ends_none line unended.1) ∙ ap (ends_with newline) (sym (append-nil line)) ∙ ends (omega arith)))
+each_clear pattern place front (line ∷ []) rest clear all within (inr unended) ends zero less = grind (arith, common_steps, false≢true, ends_none, append-nil)
 each_clear pattern place front (line ∷ []) rest clear all within are ends (suc k) less = absurd (omega (arith, less))
 each_clear pattern place front (line ∷ next ∷ lines) rest clear all within are ends zero less = line_clear pattern place front line (joined (next ∷ lines)) rest clear all within are.0
 each_clear pattern place front (line ∷ next ∷ lines) rest clear all within are ends (suc k) less =
@@ -289,8 +262,7 @@ each_clear pattern place front (line ∷ next ∷ lines) rest clear all within a
     (λ some. sym (ends_with-append newline line (joined (next ∷ lines)) (line_some next lines are.1)) ∙ ends (omega arith)) k (omega (arith, less))
 
 whole_ends : {x : List ℕ} → IsWhole x → 0 < length (lines_of newline x) → ends_with newline (joined (lines_of newline x)) ≡ true
-whole_ends {x} (inl none) some = grind (arith, common_steps)
-whole_ends {x} (inr ends) some = ap (ends_with newline) (joined-lines_of newline x) ∙ ends
+whole_ends fact some = grind (arith, common_steps, joined-lines_of)
 
 pub clear_front : (pattern : Pattern) (text : List ℕ) (place n : ℕ) → IsClear pattern text place → n ≤ place → n ≤ length text → IsWhole (take n text) → AreClear pattern (take n text)
 clear_front pattern text place n clear low within whole =
@@ -306,8 +278,7 @@ one_line : (line : List ℕ) → IsLine line → AreLines newline (line ∷ [])
 one_line line one = subst (AreLines newline) one (AreLines-lines_of newline line)
 
 last_is : (bytes : List ℕ) {byte : ℕ} (d : ℕ) → get_or (bytes ++ byte ∷ []) (length bytes) d ≡ byte
-last_is [] d = refl
-last_is (first ∷ bytes) d = last_is bytes d
+last_is bytes d = grind (arith, common_steps)
 
 none_at : (text : List ℕ) (n d : ℕ) → n < length text → HasNone newline text → get_or text n d ≡ newline → ⊥
 none_at [] n d less none is = absurd (omega (arith, less))
@@ -315,30 +286,12 @@ none_at (byte ∷ text) zero d less none is = none.0 is
 none_at (byte ∷ text) (suc n) d less none is = none_at text n d (omega (arith, less)) none.1 is
 
 pub text_ended : (line : List ℕ) {last : ℕ} (d : ℕ) → IsLine line → last ≡ get_or line (length line - 1) d → last ≡ newline → take (length line - 1) line ≡ without_newline line
-text_ended line d one read is = by (one_line line one) where
-  by : AreLines newline (line ∷ []) → take (length line - 1) line ≡ without_newline line
-  by (inl (bytes, whole, none)) =
-      let long : length line ≡ length bytes + 1 = ap length whole ∙ length-append bytes (newline ∷ []) in
-      ap (take (length line - 1)) whole ∙ take_at bytes (newline ∷ []) (length line - 1) (omega (arith, long)) ∙ sym (ap without_newline whole ∙ without_last bytes none)
-  by (inr unended) = absurd (none_at line (length line - 1) d (let some = unended.0 in omega (arith, some)) unended.1 (sym read ∙ is))
+text_ended line d one read is = grind (arith, common_steps, one_line, take_at, without_last, none_at)
 
 pub text_open : (line : List ℕ) {last : ℕ} (d : ℕ) → IsLine line → last ≡ get_or line (length line - 1) d → (last ≡ newline → ⊥) → line ≡ without_newline line
-text_open line d one read differs = by (one_line line one) where
-  by : AreLines newline (line ∷ []) → line ≡ without_newline line
-  by (inl (bytes, whole, none)) =
-      let long : length line ≡ length bytes + 1 = ap length whole ∙ length-append bytes (newline ∷ []) in
-      absurd (differs (read ∙ ap (λ n. get_or line n d) (let e : length line - 1 ≡ length bytes = omega (arith, long) in e) ∙ ap (λ those. get_or those (length bytes) d) whole ∙ last_is bytes d))
-  by (inr unended) = sym (without_none line unended.1)
+text_open line d one read differs = grind (arith, common_steps, one_line, last_is, without_none)
 
 -- where a text ends after a newline, lines end
 
 pub ends_there : (text : List ℕ) (n : ℕ) → n ≤ length text → (0 < n → Passes (is_byte newline) text (n - 1)) → IsWhole (take n text)
-ends_there text n within here = elim (cases_lt 0 n) [
-  | inl some ↦
-      let one : suc (n - 1) ≡ n = omega (arith, some) in
-      inr (subst (λ k. ends_with newline (take k text) ≡ true) one (first_ends text (n - 1) (omega (arith, some, within)) (here some)))
-  | inr none ↦ inl (ap (λ k. take k text) (let e : n ≡ 0 = omega (arith, none) in e) ∙ none_taken text)
-] where
-  none_taken : (x : List ℕ) → take 0 x ≡ []
-  none_taken [] = refl
-  none_taken (byte ∷ x) = refl
+ends_there text n within here = search (rules, cases_lt, first_ends)

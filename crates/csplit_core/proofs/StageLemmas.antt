@@ -1,26 +1,25 @@
 -- How many bytes wait, what the stage that takes in bytes does with the cutter of lines, and what it owes.
-use Rattle.std.proofs.Common.{◌≡◌, ℕ, ◌+◌, ◌-◌, ◌≤◌, cond, List, [], length, drop, sym, ◌∙◌, ap, arith, inl, inr, ◌<◌, ◌^◌, min, false, ◌++◌, length-append, ◌⊎◌, Bool, true, ◌∷◌, map, Option, Some, None, Result, Ok, Err, IfErr, refl, subst, append_assoc, eqb, OnOk, take, not, IsTrue, rules}
+use Rattle.std.proofs.Common.{◌≡◌, ℕ, ◌+◌, ◌-◌, ◌≤◌, cond, List, [], length, drop, sym, ◌∙◌, ap, arith, inl, inr, ◌<◌, ◌^◌, min, false, ◌++◌, length-append, ◌⊎◌, Bool, true, ◌∷◌, map, Option, Some, None, Result, Ok, Err, IfErr, refl, subst, eqb, OnOk, take, not, IsTrue, rules}
 use Rattle.std.proofs.lemmas.List.{drop-map, append-nil, take-append-drop}
-use Rattle.seg_core.specs.Line.{lines_of, joined, after_lines, first_lines, delimiters, ends_with, LastEndsAt}
-use Rattle.csplit_core.specs.Input.{newline, marked, all_lines, open_line}
-use Rattle.csplit_core.specs.Plan.{start, Step, Ending, below}
+use Rattle.seg_core.specs.Line.{after_lines, first_lines, delimiters, ends_with, LastEndsAt}
+use Rattle.csplit_core.specs.Input.{newline, all_lines, open_line}
+use Rattle.csplit_core.specs.Plan.{start, Step, Ending}
 use Rattle.csplit_core.specs.Planned.{Plan, plan}
 use Rattle.csplit_core.specs.laws.PlanLaws.{plan_once, plan_runs}
-use Rattle.csplit_core.specs.Section.{bytes_of, settled_end, waiting_lines, is_final, section, section_of, lines_between, is_last_kept, whole_end, whole_sections}
+use Rattle.csplit_core.specs.Section.{bytes_of, waiting_lines, is_final, section_of, lines_between, whole_end, whole_sections}
 use Rattle.csplit_core.specs.laws.SectionLaws.{are_within, closed_still, ends_with as whole_grows}
-use Rattle.csplit_core.specs.Cutter.{CutterState, IsLive, state_in, suppress_in, text_from, IsPast, Stands, settled_draft, IsSound, load}
+use Rattle.csplit_core.specs.Cutter.{CutterState, IsLive, suppress_in, text_from, IsPast, Stands, settled_draft, IsSound, load}
 use Rattle.csplit_core.proofs.CutterLemmas.{runs_to, live_taken, lacks_memory, settled_part_is, keeps_on, same_by, settled_same}
-use Rattle.csplit_core.proofs.LineLemmas.{bytes_marked, from_further, length-all_lines, all_complete, lines_then_open, all_lines-append, joined_line, open_is_line, open_complete, first_complete, none_lines, none_open, no_newline, piece_lines, piece_open, lines_whole, lines_more, open_more}
+use Rattle.csplit_core.proofs.LineLemmas.{bytes_marked, from_further, length-all_lines, all_complete, lines_then_open, all_lines-append, joined_line, open_is_line, open_complete, first_complete, front_is, no_newline, tail_is, piece_lines, piece_open, lines_whole, lines_more, open_more}
 use Rattle.seg_core.proofs.FirstLines.{lines_of-after_lines, first_lines_then_rest}
 use Rattle.std.proofs.Math.Nat.{min-eq_left}
-use Rattle.csplit_core.specs.Csplit.{waiting, waiting_of, whole_of, verdict_of, csplit_means, csplit_work, settled_of, settled_by, verdict_by}
+use Rattle.csplit_core.specs.Csplit.{waiting, waiting_of, whole_of, verdict_of, csplit_work, settled_of, settled_by, verdict_by}
 use Rattle.csplit_core.specs.CsplitState.{CsplitState, Holds, whole_lines, IsReady, Owns, files, work}
 use Rattle.csplit_core.proofs.TakeLemmas.{past_not_live, past_plan, past_part, is_past, still_past, more_settled, takes_again, takes_none, takes_wider, took_past, none_there}
-use Rattle.std.proofs.lemmas.Bool.{false≢true}
 use Rattle.ports_core.specs.Part.{Begins, OutputsAt, StoppedBetween, nothing}
 use Rattle.ports_core.specs.Slot.{Slot, is_writable}
 use Rattle.ports_core.specs.declared.fault.Fault.{Fault}
-use Rattle.ports_core.specs.declared.fault.Fault.TheVariants.{Memory, Write, Open, Suffixes, NoMatch, Range}
+use Rattle.ports_core.specs.declared.fault.Fault.TheVariants.{Memory}
 use Rattle.csplit_core.specs.Draft.{AreClosed}
 use Rattle.csplit_core.specs.Operand.{Line, Operand}
 use Rattle.csplit_core.specs.Output.{contents_of, part_of, Style}
@@ -35,7 +34,8 @@ use Rattle.ports_core.specs.Engine.{is_verdict, TakesIn, PutsOut, CutsOff, EndsS
 use Rattle.csplit_core.specs.declared.progress.Turn.{Turn}
 use Rattle.ports_core.specs.Swept.{AreThere, Swept}
 use Rattle.ports_core.proofs.PartLemmas.{outputs_count, stopped_in_turn}
-use Rattle.csplit_core.proofs.WriterCalls.{new_owns, files_cleared, files_left}
+use Rattle.csplit_core.proofs.WriterCalls.{new_owns, files_left}
+use Rattle.ports_core.proofs.SweepLemmas.{all_cleared}
 use Rattle.ports_core.specs.Engine as engine
 use Rattle.std.proofs.lemmas.Grind.{common_steps}
 
@@ -43,21 +43,10 @@ use Rattle.std.proofs.lemmas.Grind.{common_steps}
 
 -- the lines after the first ones, as bytes
 after_bytes : (first n : ℕ) (x : List ℕ) → 1 ≤ first → bytes_of (drop n (drop (first - 1) (all_lines x))) ≡ text_from (first + n) x
-after_bytes first n x some =
-    ap (λ those. bytes_of (drop n those)) (drop-map marked (first - 1) (lines_of newline x))
-    ∙ ap bytes_of (drop-map marked n (drop (first - 1) (lines_of newline x))) ∙ bytes_marked (drop n (drop (first - 1) (lines_of newline x)))
-    ∙ ap (λ those. joined (drop n those)) (sym (lines_of-after_lines newline (first - 1) x)) ∙ from_further first n x some
+after_bytes first n x some = grind (arith, common_steps, drop-map, bytes_marked, lines_of-after_lines, from_further)
 
 pub waiting_live : {cutter : CutterState} {x : List ℕ} (live : IsLive cutter x) → bytes_of (waiting_lines (all_lines x) (plan (suppress_in cutter) cutter.operands (all_lines x))) ≡ cutter.window.held
-waiting_live {cutter} {x} live =
-    let runs = runs_to live.at live.ends in
-    let some : 1 ≤ cutter.progress.current = (are_within (suppress_in cutter) (all_lines x) (start cutter.operands) live.at.steps (state_in cutter) live.ends.ending runs (omega arith)).1 in
-    let taken : settled_end (length (all_lines x)) live.ends.ending - cutter.progress.current ≡ live.at.taken =
-    ap (λ n. settled_end n live.ends.ending - cutter.progress.current) (length-all_lines x) ∙ sym (live_taken live) in
-    ap (λ (p : Plan). bytes_of (waiting_lines (all_lines x) p)) (plan_once (suppress_in cutter) cutter.operands (all_lines x) live.at.steps (state_in cutter) live.ends.ending runs)
-    ∙ ap (λ final. bytes_of (cond final [] (drop (settled_end (length (all_lines x)) live.ends.ending - cutter.progress.current) (drop (cutter.progress.current - 1) (all_lines x))))) live.live
-    ∙ ap (λ n. bytes_of (drop n (drop (cutter.progress.current - 1) (all_lines x)))) taken ∙ after_bytes cutter.progress.current live.at.taken x some
-    ∙ sym live.at.left_is
+waiting_live {cutter} {x} live = search (rules, runs_to, are_within, length-all_lines, live_taken, plan_once, after_bytes)
 
 -- How many bytes wait.
 
@@ -69,14 +58,10 @@ held_within {cutter} {x} live =
     let same : length cutter.window.held ≡ length (text_from (cutter.progress.current + live.at.taken) x) = ap length live.at.left_is in omega (arith, long, same)
 
 live_ending : {cutter : CutterState} {x : List ℕ} → IsLive cutter x → is_final (plan (suppress_in cutter) cutter.operands (all_lines x)).ending ≡ false
-live_ending {cutter} {x} live =
-    ap (λ (p : Plan). is_final p.ending) (plan_once (suppress_in cutter) cutter.operands (all_lines x) live.at.steps (state_in cutter) live.ends.ending (runs_to live.at live.ends)) ∙ live.live
+live_ending {cutter} {x} live = grind (arith, common_steps, plan_once, runs_to)
 
 live_waiting : (stage : CsplitState) (x : List ℕ) (live : IsLive stage.cutter (whole_lines x)) → stage.rest ≡ open_line x → waiting stage.cutter.writer.style stage.cutter.operands x ≡ stage.cutter.window.held ++ stage.rest
-live_waiting stage x live rest_is =
-    ap (λ lines. waiting_of lines (plan (suppress_in stage.cutter) stage.cutter.operands lines) (open_line x)) (sym (all_complete x))
-    ∙ ap (λ final. cond final [] (bytes_of (waiting_lines (all_lines (whole_lines x)) (plan (suppress_in stage.cutter) stage.cutter.operands (all_lines (whole_lines x)))) ++ open_line x)) (live_ending live)
-    ∙ ap (λ those. those ++ open_line x) (waiting_live live) ∙ ap (λ those. stage.cutter.window.held ++ those) (sym rest_is)
+live_waiting stage x live rest_is = search (rules, all_complete, live_ending, waiting_live)
 
 pub held_is : {stage : CsplitState} {x : List ℕ} {result : ℕ} → Holds stage x → length x < 2 ^ 63 → result ≡ min (length stage.cutter.window.held + length stage.rest) (2 ^ 64 - 1) → result ≡ length (waiting stage.cutter.writer.style stage.cutter.operands x)
 held_is {stage} {x} {result} holds few is = by holds.stands where
@@ -131,13 +116,10 @@ closed_short {stage = stage} stopped = record { keeps = stopped.keeps; reaches =
 -- Where later input goes nowhere, it changes nothing of the end either.
 
 no_lines : (current total : ℕ) (ending : Ending) (lines : List Line) → is_final ending ≡ true → lines_between current (whole_end total ending) lines ≡ []
-no_lines current total (below operand repetition) lines final = grind (arith, common_steps)
-no_lines current total _ lines final = cc
+no_lines current total ending lines final = grind (arith, common_steps)
 
 final_sections : (a b : List Line) (p : Plan) → AreWithin (length a) p.steps → is_final p.ending ≡ true → whole_sections (a ++ b) p ≡ whole_sections a p
-final_sections a b p within final =
-    ap (λ sections. sections ++ section (is_last_kept p.ending) true (lines_between p.last.current (whole_end (length (a ++ b)) p.ending) (a ++ b)) ∷ []) (closed_still a b p.steps within)
-    ∙ ap (λ lines. map (section_of a) p.steps ++ section (is_last_kept p.ending) true lines ∷ []) (no_lines p.last.current (length (a ++ b)) p.ending (a ++ b) final ∙ sym (no_lines p.last.current (length a) p.ending a final))
+final_sections a b p within final = search (rules, closed_still, no_lines)
 
 pub past_end : {cutter : CutterState} {x : List ℕ} (t : List ℕ) → IsWhole x → IsPast cutter x → whole_part cutter (x ++ t) ≡ whole_part cutter x
 past_end {cutter} {x} t whole past =
@@ -148,14 +130,14 @@ past_end {cutter} {x} t whole past =
     (are_within (suppress_in cutter) (all_lines x) (start cutter.operands) _ _ _ (plan_runs (suppress_in cutter) cutter.operands (all_lines x)) (omega arith)).0 past.past)
 
 pub past_verdict : {cutter : CutterState} {x : List ℕ} (t : List ℕ) → IsWhole x → IsPast cutter x → verdict_of (plan (suppress_in cutter) cutter.operands (all_lines (x ++ t))).ending ≡ verdict_of (plan (suppress_in cutter) cutter.operands (all_lines x)).ending
-past_verdict {cutter} t whole past = ap (λ (p : Plan). verdict_of p.ending) (past_plan (suppress_in cutter) cutter.operands t whole past.past)
+past_verdict {cutter} t whole past = grind (arith, common_steps, past_plan)
 
 -- The steps of the stage that takes in bytes. A stage is known by its fields and by its value.
 
 -- the open line and its end
 
 pub line_at : {before stage : CsplitState} {text : List ℕ} (end : List ℕ) → before ≡ stage → text ≡ before.rest ++ end → delimiters newline stage.rest ≡ 0 → IsLine end → IsLine text
-line_at {before} end is text_is none line = subst IsLine (sym text_is) (joined_line before.rest end (ap (λ (s : CsplitState). delimiters newline s.rest) is ∙ none) line)
+line_at {before} end is text_is none line = grind (arith, common_steps, joined_line)
 
 pub lacks_at : {told : Bool} {before stage : CsplitState} (t : List ℕ) {slots : List Slot} → before ≡ stage → IsSound stage.cutter → CanWrite stage.cutter.writer slots → Takes told stage.cutter t slots slots before.cutter (Some Memory)
 lacks_at {told} {stage = stage} t {slots} is sound ready = subst (λ (s : CsplitState). Takes told stage.cutter t slots slots s.cutter (Some Memory)) (sym is) (takes_wider t (inl refl) (takes_lacking (takes_none sound ready)))
@@ -164,8 +146,7 @@ lacks_at {told} {stage = stage} t {slots} is sound ready = subst (λ (s : Csplit
 
 lines_from : {told : Bool} {before stage : CsplitState} {next : CutterState} {lines : List ℕ} (end others : List ℕ) {old new : List Slot} {fault : Option Fault} → before ≡ stage → lines ≡ end ++ others
     → Takes told before.cutter ((before.rest ++ end) ++ others) old new next fault → Takes told stage.cutter (stage.rest ++ lines) old new next fault
-lines_from {told} {before} {next = next} {lines} end others {old} {new} {fault} same is takes = subst (λ (s : CsplitState). Takes told s.cutter (s.rest ++ lines) old new next fault) same
-    (subst (λ text. Takes told before.cutter text old new next fault) (append_assoc before.rest end others ∙ ap (λ those. before.rest ++ those) (sym is)) takes)
+lines_from {told} {before} {next = next} {lines} end others {old} {new} {fault} same is takes = grind (arith, common_steps)
 
 -- no line was open
 pub lines_alone : {told : Bool} {before stage : CsplitState} {next : CutterState} {lines : List ℕ} {n : ℕ} {old new : List Slot} {fault : Option Fault} → before ≡ stage → n ≡ length before.rest → eqb n 0 ≡ true → Takes told before.cutter lines old new next fault → Takes told stage.cutter (stage.rest ++ lines) old new next fault
@@ -193,22 +174,20 @@ past_passes {told} {stage = stage} {piece} {slots} is aim ready sound unbroken =
     })
 
 pub below_or_not : (turn : Turn) → (turn ≡ Below) ⊎ (turn ≡ Below → ⊥)
-below_or_not Below = inl refl
-below_or_not turn = inr (λ is. cc)
+below_or_not turn = grind (arith, common_steps)
 
 on_both : {A B C : Type 0} (result : Result (Unit {0}) Fault) → OnOk result A → OnOk result B → (A → B → C) → OnOk result C
-on_both (Ok done) one other follows = follows one other
-on_both (Err fault) one other follows = tt
+on_both result one other follows = grind (arith, common_steps)
 
 -- no newline came: the piece is more of the open line
 pub none_passes : {told : Bool} {view stage : CsplitState} (next : CsplitState) {piece : List ℕ} {slots : List Slot} (result : Result (Unit {0}) Fault) → view ≡ stage → (view.cutter.aim ≡ Below → ⊥) → delimiters newline piece ≡ 0 → CanWrite stage.cutter.writer slots → IsSound stage.cutter
     → delimiters newline stage.rest ≡ 0 → next.cutter ≡ view.cutter → OnOk result ((view.cutter.aim ≡ Below → ⊥) → next.rest ≡ view.rest ++ piece) → IfErr result (λ fault. fault ≡ Memory) → Passes told stage piece slots slots next result
 none_passes {told} {view} {stage} next {piece} {slots} result is differs none ready sound unbroken cutter rest lacks = subst (λ (s : CsplitState). Passes told s piece slots slots next result) is (record {
   took = takes_or_lacks result (subst (λ (c : CutterState). Takes told view.cutter (whole_lines (view.rest ++ piece)) slots slots c None) (sym cutter)
-      (subst (λ text. Takes told view.cutter text slots slots view.cutter None) (sym (none_lines view.rest piece here none))
+      (subst (λ text. Takes told view.cutter text slots slots view.cutter None) (sym (front_is [] (view.rest ++ piece) (inl refl) (no_newline view.rest piece here none)))
       (takes_none (subst (λ (s : CsplitState). IsSound s.cutter) (sym is) sound) (subst (λ (s : CsplitState). CanWrite s.cutter.writer slots) (sym is) ready)))) lacks;
   passed = on_both result rest rest (λ rest same. record {
-    live = λ also. rest differs ∙ sym (none_open view.rest piece here none);
+    live = λ also. rest differs ∙ sym (tail_is [] (inl refl) (no_newline view.rest piece here none));
     past = λ is_below was. absurd (differs (ap (λ (c : CutterState). c.aim) (sym cutter) ∙ is_below));
     still = λ is_below. absurd (differs is_below);
     unbroken = ap (delimiters newline) (rest differs) ∙ no_newline view.rest piece here none;
@@ -257,15 +236,14 @@ some_stopped {told} {view} next {piece} end {old} {new} {fault} is last lines_is
 -- The last line
 
 some_by : (items : List ℕ) → eqb (length items) 0 ≡ false → 0 < length items
-some_by [] is = search rules
-some_by (byte ∷ items) is = omega arith
+some_by items is = grind (arith, common_steps)
 
 pub last_none : {told : Bool} {before stage : CsplitState} {n : ℕ} {slots : List Slot} → before ≡ stage → n ≡ length before.rest → eqb n 0 ≡ true → CanWrite stage.cutter.writer slots → IsSound stage.cutter → Takes told stage.cutter stage.rest slots slots stage.cutter None
 last_none {told} {stage = stage} {slots = slots} is size empty ready sound =
     subst (λ text. Takes told stage.cutter text slots slots stage.cutter None) (sym (ap (λ (s : CsplitState). s.rest) (sym is) ∙ none_there (ap (λ k. eqb k 0) size) empty)) (takes_none sound ready)
 
 pub last_line : {before stage : CsplitState} {n : ℕ} {text : List ℕ} → before ≡ stage → text ≡ before.rest → n ≡ length before.rest → eqb n 0 ≡ false → delimiters newline stage.rest ≡ 0 → IsLine text
-last_line {before} is text_is size some unbroken = subst IsLine (sym text_is) (open_is_line before.rest (some_by before.rest (ap (λ k. eqb k 0) (sym size) ∙ some)) (ap (λ (s : CsplitState). delimiters newline s.rest) is ∙ unbroken))
+last_line {before} is text_is size some unbroken = grind (arith, common_steps, open_is_line, some_by)
 
 -- the work ends with a fault of its own, and the files are removed then
 pub judged_by : {told : Bool} {stage mid next : CsplitState} {reached new old : List Slot} {verdict : Option Fault} {fault : Fault} → Closed told stage old reached mid None → verdict ≡ Some fault → Judges mid.cutter verdict → is_verdict fault ≡ true → Sweeps mid reached new next
@@ -287,22 +265,19 @@ settled_by_cases {stage} {x} piece holds (inl is_below) =
     sym (past_part (whole_lines (stage.rest ++ piece)) (lines_whole x) (is_past is_below holds.stands))
     ∙ past_part (whole_lines (open_line x ++ piece)) (lines_whole x) (is_past is_below holds.stands)
     ∙ ap (settled_part stage.cutter) (sym (lines_more x piece)) ∙ settled_is stage (x ++ piece)
-settled_by_cases {stage} {x} piece holds (inr differs) = ap (settled_part stage.cutter) (lines_in stage.rest x piece (holds.live differs)) ∙ settled_is stage (x ++ piece)
+settled_by_cases {stage} {x} piece holds (inr differs) = grind (arith, common_steps, lines_in, settled_is)
 
 settled_then : {stage : CsplitState} {x : List ℕ} (piece : List ℕ) → Holds stage x → settled_part stage.cutter (whole_lines x ++ whole_lines (stage.rest ++ piece)) ≡ (work stage).settled (x ++ piece)
 settled_then {stage} piece holds = settled_by_cases piece holds (below_or_not stage.cutter.aim)
 
 -- the outputs at it, which are the writer's own
 stands_so : (told : Bool) {before : List Slot} {stage : CsplitState} {x : List ℕ} {now : List Slot} → StandsAt Holds Owns stage told before x ((work stage).settled x) now → At told stage.cutter.writer before (settled_part stage.cutter (whole_lines x)) now
-stands_so told {before} {stage} {x} {now} at = record { owns = at.owns; outputs = subst (λ part. OutputsAt told before part now) (sym (settled_is stage x)) at.outputs }
+stands_so told {before} {stage} {x} {now} at = grind (arith, common_steps, settled_is)
 
 -- faults
 
 not_verdict : (style : Style) (old new : List Slot) (fault : Fault) → Breaks style old new fault → is_verdict fault ≡ false
-not_verdict style old new Memory breaks = refl
-not_verdict style old new (Write slot) breaks = refl
-not_verdict style old new (Open slot) breaks = refl
-not_verdict style old new fault breaks = absurd breaks
+not_verdict style old new fault breaks = grind (arith, common_steps)
 
 -- a piece
 
@@ -320,11 +295,6 @@ holds_by {stage = stage} {next} {piece} {x} passed holds (inr differs) = record 
 }
 
 -- why a fault came
-met_by : (style : Style) (Lacks : Type 0) (Ends : Fault → Type 0) (old new : List Slot) (fault : Fault) → Lacks → Breaks style old new fault → IsMet (csplit_means style) (record { memory = true; files = true }) Lacks Ends old new fault
-met_by style Lacks Ends old new Memory lacks breaks = (refl, lacks)
-met_by style Lacks Ends old new (Write slot) lacks breaks = grind (arith, common_steps)
-met_by style Lacks Ends old new (Open slot) lacks breaks = (refl, refl, breaks)
-met_by style _ _ old new _ lacks breaks = absurd breaks
 
 module _ (told : Bool) (stage next : CsplitState) (piece : List ℕ) (old new : List Slot) where
   pub takes_in : (result : Result (Unit {0}) Fault) → Passes told stage piece old new next result → OnOk result (TakesIn Holds piece stage next)
@@ -344,19 +314,10 @@ module _ (told : Bool) (stage next : CsplitState) (piece : List ℕ) (old new : 
       (stopped_in_turn told before _ _ fault new ((stopped.took.reaches (whole_lines x) (lines_whole x) at.holds.stands).there before (stands_so told at)))))
 
   pub pass_ready : (result : Result (Unit {0}) Fault) → Passes told stage piece old new next result → IsReady stage old → next.taken ≡ stage.taken + length piece → stage.taken + length piece < 2 ^ 63 → OnOk result (IsReady next new)
-  pass_ready (Ok done) passes ready taken fits =
-      let size = passes.passed.size in let room = ready.room in record {
-        writer = passes.took.keeps.writer.ready;
-        sound = passes.took.went.sound;
-        unbroken = passes.passed.unbroken;
-        room = omega (arith, size, room, taken);
-        few = omega (arith, taken, fits);
-      }
-  pass_ready (Err fault) stopped ready taken fits = tt
+  pass_ready result passes ready taken fits = grind (arith, common_steps)
 
   pub pass_met : (result : Result (Unit {0}) Fault) → Passes told stage piece old new next result → IfErr result (IsMet (work stage).means (work stage).means.feeding (true ≡ true) (EndsWith Holds work stage piece) old new)
-  pass_met (Ok done) passed = tt
-  pass_met (Err fault) stopped = met_by stage.cutter.writer.style (true ≡ true) (EndsWith Holds work stage piece) old new fault refl stopped.took.keeps.writer.slots
+  pass_met result passed = grind (arith, common_steps)
 
 -- the end
 
@@ -400,10 +361,7 @@ module _ (told : Bool) (stage next : CsplitState) (old new : List Slot) where
       (subst (λ (style : Style). Swept (not style.keep) (length before) new cleared) closed.keeps.writer.style (swept (length before) (closed.keeps.writer.owns.owns (length before) at.owns)))
 
   met_there : (fault : Fault) → is_verdict fault ≡ true → (slots : List Slot) → EndsThere Holds work stage fault → IsMet (work stage).means (work stage).means.closing (Unit {0}) (EndsThere Holds work stage) old slots fault
-  met_there Suffixes kind slots ends = ends
-  met_there (NoMatch operand repetition) kind slots ends = ends
-  met_there (Range operand repetition) kind slots ends = ends
-  met_there fault kind slots ends = absurd (false≢true kind)
+  met_there fault kind slots ends = grind (arith, common_steps)
 
 -- what the end owes, however it went
 module _ (told : Bool) (stage next : CsplitState) (old new : List Slot) where
@@ -418,8 +376,7 @@ module _ (told : Bool) (stage next : CsplitState) (old new : List Slot) where
   end_outputs closes = tt
 
   pub end_writable : {result : Result (Unit {0}) Fault} → Closes told stage old new next result → OnOk result ((work stage).means.output ≡ true → IsTrue (is_writable new 0))
-  end_writable (ended_well closed none) = λ output. closed.keeps.writer.ready.output
-  end_writable closes = tt
+  end_writable closes = grind (arith, common_steps)
 
   pub end_own : {result : Result (Unit {0}) Fault} → Closes told stage old new next result → KeepsOwn Owns stage next old new
   end_own (ended_well closed none) first own = closed.keeps.writer.owns.owns first own
@@ -427,9 +384,7 @@ module _ (told : Bool) (stage next : CsplitState) (old new : List Slot) where
   end_own (ended_so fault mid reached closed some kind swept) first own = swept.owns first (closed.keeps.writer.owns.owns first own)
 
   pub end_there : (result : Result (Unit {0}) Fault) → Closes told stage old new next result → AreThere (files stage) old → AreThere (files next) new
-  end_there _ (ended_well closed none) are = closed.keeps.writer.owns.there are
-  end_there _ (ended_short fault stopped) are = stopped.keeps.writer.owns.there are
-  end_there _ (ended_so fault mid reached closed some kind swept) are = swept.there
+  end_there result fact are = grind (arith, common_steps)
 
   pub end_cut : {result : Result (Unit {0}) Fault} → Closes told stage old new next result → IfErr result (EndsShort Holds Owns work stage told old new)
   end_cut (ended_well closed none) = tt
@@ -438,7 +393,7 @@ module _ (told : Bool) (stage next : CsplitState) (old new : List Slot) where
 
   pub end_met : {result : Result (Unit {0}) Fault} → Closes told stage old new next result → IfErr result (IsMet (work stage).means (work stage).means.closing (Unit {0}) (EndsThere Holds work stage) old new)
   end_met (ended_well closed none) = tt
-  end_met (ended_short fault stopped) = met_by stage.cutter.writer.style (Unit {0}) (EndsThere Holds work stage) old new fault tt stopped.keeps.writer.slots
+  end_met (ended_short fault stopped) = grind (arith, common_steps)
   end_met (ended_so fault mid reached closed some kind swept) =
       met_there told stage mid old reached fault kind new (ends_there told stage mid old reached closed some refl)
 
@@ -466,14 +421,8 @@ module _ (view : CutterState) (stage : CsplitState) (next : CutterState) (old ne
   clears : Clears stage.cutter old new next
   clears = subst (λ (cutter : CutterState). Clears cutter old new next) is clears_view
 
-  files_kept : KeepsFiles stage.cutter.writer next.writer old new
+  pub files_kept : KeepsFiles stage.cutter.writer next.writer old new
   files_kept = files_left (ap (λ (c : CutterState). c.writer.current) clears.same) clears.removes
 
-  pub cleared_own : (first : ℕ) → Owns stage first old → OwnsFiles next.writer first new
-  cleared_own first own = files_kept.owns first own
-
-  pub cleared_there : AreThere (files stage) old → AreThere next.writer.files new
-  cleared_there are = files_kept.there are
-
   pub cleared_swept : (keep : Bool) → keep ≡ false → (first : ℕ) → Owns stage first old → Swept (not keep) first old new
-  cleared_swept keep none first own = subst (λ k. Swept (not k) first old new) (sym none) (files_cleared clears.removes own)
+  cleared_swept keep none first own = subst (λ k. Swept (not k) first old new) (sym none) (all_cleared first stage.cutter.writer.files next.writer.files old new clears.removes own.there own.from own.own)

@@ -1,19 +1,19 @@
 -- What stays of a plan when more lines come, what a turn says of it, and what trying the next operand with the last line says.
-use Rattle.std.proofs.Common.{◌≡◌, inl, inr, ℕ, suc, ◌+◌, ◌-◌, ◌<◌, ◌≤◌, Bool, true, false, List, [], ◌∷◌, ◌++◌, length, get_or, refl, ◌∙◌, ap, arith, length-append, zero, ◌*◌, ◌^◌, drop, sym, subst, None, Result, Ok, Err, OnOk, IfErr, Option, Some, rules, append-nil, min}
+use Rattle.std.proofs.Common.{◌≡◌, inl, inr, ℕ, suc, ◌+◌, ◌-◌, ◌<◌, ◌≤◌, Bool, true, false, List, [], ◌∷◌, ◌++◌, length, get_or, refl, ◌∙◌, ap, arith, length-append, zero, ◌*◌, ◌^◌, drop, sym, subst, None, Result, OnOk, IfErr, Option, Some, rules, append-nil, min}
 use Rattle.csplit_core.specs.Operand.{Target, Number, Search, Operand, Line, unmarked, is_match, Offset, moved, has_more}
-use Rattle.csplit_core.specs.Plan.{State, Step, Ending, missed, above, search_line, IsFirst, MatchesNone, Misses, line_after, Runs, is_used_up, misses, is_above, is_below, cuts, used_up, below, CutsAt, operands_after, repetition_after, state_after}
+use Rattle.csplit_core.specs.Plan.{State, Step, Ending, missed, above, search_line, IsFirst, MatchesNone, Misses, line_after, Runs, is_used_up, misses, is_above, is_below, cuts, below, CutsAt, operands_after, repetition_after, state_after}
 use Rattle.csplit_core.specs.Planned.{plan}
 use Rattle.csplit_core.specs.laws.PlanLaws.{cuts_still, goes_on, plan_runs, plan_once, line_some, fewer_left, fewer_moves}
 use Rattle.bre_core.specs.Pattern.{Pattern}
 use Rattle.csplit_core.specs.Progress.{state_of, EndsHere, AimsAt}
-use Rattle.csplit_core.specs.inner.Cutter.{AreSeen, Turns, FallsAt, MovesOn, GoesPast, WillCut, PassesOn, WentOn, PassesCut, IsWhole, IsLine, Joins, Looked, IsFound, IsNoCut, search_after, StaysNear, Tries, TriesNext}
+use Rattle.csplit_core.specs.inner.Cutter.{AreSeen, Turns, FallsAt, MovesOn, GoesPast, WillCut, PassesOn, PassesCut, IsWhole, IsLine, Joins, Looked, IsFound, IsNoCut, search_after, StaysNear, Tries, TriesNext}
 use Rattle.csplit_core.specs.declared.progress.Turn.{Turn}
-use Rattle.csplit_core.specs.declared.progress.Turn.TheVariants.{UsedUp, Missed, Above, Below, Cuts}
+use Rattle.csplit_core.specs.declared.progress.Turn.TheVariants.{Missed, Above, Below, Cuts}
 use Rattle.csplit_core.specs.Measure.{Moves, IsRepeatedBy, IsRepeated, Fits}
 use Rattle.csplit_core.specs.declared.progress.Progress.{Progress}
 use Rattle.csplit_core.specs.inner.PlanLaws.{needed, EndsAs}
 use Rattle.csplit_core.proofs.WholeLemmas.{after_within}
-use Rattle.csplit_core.specs.laws.SectionLaws.{front_of, ends_as}
+use Rattle.csplit_core.specs.laws.SectionLaws.{ends_as}
 use Rattle.ports_core.specs.declared.fault.Fault.{Fault}
 use Rattle.csplit_core.specs.Input.{newline, without_newline, marked, all_lines, is_match_of}
 use Rattle.csplit_core.specs.declared.line_cutter.Cut.{Cut}
@@ -29,8 +29,7 @@ abbrev pub NoneFrom : Operand → (count : ℕ) → List Line → (from : ℕ) �
 NoneFrom operand count lines from = (k : ℕ) → k < length lines → from ≤ count + suc k → (get_or lines k unmarked).marks operand ≡ false
 
 misses_from : (suppress : Bool) (a b : List Line) (state : State) (operand : Operand) (target : Target) → Misses suppress a state operand target → NoneFrom operand (length a) b (search_line suppress state) → Misses suppress (a ++ b) state operand target
-misses_from suppress a b state operand (Number n) none those = none
-misses_from suppress a b state operand (Search pattern kept offset) none those = grind (arith, common_steps)
+misses_from suppress a b state operand target none those = grind (arith, common_steps)
 
 -- After a cut, no line before the last one has to be looked at again
 
@@ -81,15 +80,7 @@ falls suppress all state {operand} {operands} matched real {most} count are at_c
 falls suppress all {total} state {operand} {operands} matched real {most} count are at_cut is few Below at =
     let same : most ≡ real = capped real (2 ^ 64 - 1) most total is at.0 few in
     record { ending = below operand state.repetition; runs = is_below state operand operands matched real are at_cut (omega (arith, same, at.0, count)) (omega (arith, same, at.1)); aims = tt }
-falls suppress all {total} state {operand} {operands} matched real {most} count are at_cut is few (Cuts line cut) at =
-    let same : most ≡ real = capped real (2 ^ 64 - 1) most total is at.3 few in record {
-      operand = operand;
-      operands = operands;
-      are = are;
-      cuts = subst (λ f. CutsAt suppress all state operand operand.target f cut) (sym at.0) (subst (CutsAt suppress all state operand operand.target matched) (sym (at.1 ∙ same)) at_cut);
-      from = omega (arith, at.1, at.2);
-      within = omega (arith, at.1, at.3, count);
-    }
+falls suppress all {total} state {operand} {operands} matched real {most} count are at_cut is few (Cuts line cut) at = grind (arith, common_steps)
 falls suppress all state matched real count are at_cut is few turn at = absurd at
 
 pub falls_number : (suppress : Bool) (all : List Line) {total : ℕ} (state : State) {found : Bool} {operand : Operand} {operands : List Operand} (number : ℕ) {most : ℕ} → state.operands ≡ operand ∷ operands → operand.target ≡ Number number → AreSeen suppress all total state found
@@ -120,9 +111,6 @@ misses_search {suppress} all {total} {state} {operand = operand} {operands} are 
   aims = tt;
 }
 
-pub used_up_here : {suppress : Bool} {lines : List Line} {state : State} → state.operands ≡ [] → EndsHere suppress lines state UsedUp
-used_up_here {state = state} none = record { ending = used_up; runs = is_used_up state none; aims = tt }
-
 pub left_is : (operands : List Operand) (at : ℕ) {operand : Operand} → at < length operands → operand ≡ get_or operands at operand → drop at operands ≡ operand ∷ drop (at + 1) operands
 left_is operands at {operand} within is = grind (arith, common_steps)
 
@@ -134,11 +122,7 @@ drop_next (one ∷ operands) (suc at) are = drop_next operands at are
 
 pub passes_on : (suppress : Bool) (operands : List Operand) {rest : List Operand} {operand : Operand} (at repetition matched cut : ℕ) {current next : ℕ} → drop at operands ≡ operand ∷ rest → has_more operand.times repetition ≡ false → current ≡ line_after suppress cut → next ≡ at + 1
     → state_of operands (record { done = next; repetition = 0; current = current; matched = matched }) ≡ state_after suppress operand rest repetition matched cut
-passes_on suppress operands {rest} {operand} at repetition matched cut {current} {next} are none is on =
-    ap (λ n. record { operands = drop n operands; repetition = 0; current = current; matched = matched }) (let e : next ≡ suc at = omega (arith, on) in e)
-    ∙ ap (λ (those : List Operand). record { operands = those; repetition = 0; current = current; matched = matched }) (drop_next operands at are)
-    ∙ ap (λ c. record { operands = rest; repetition = 0; current = c; matched = matched }) is
-    ∙ ap (λ b. record { operands = operands_after b operand rest; repetition = repetition_after b repetition; current = line_after suppress cut; matched = matched }) (sym none)
+passes_on suppress operands {rest} {operand} at repetition matched cut {current} {next} are none is on = search (rules, drop_next, at, are)
 
 -- A cut moves on, and the numbers stay small.
 
@@ -171,7 +155,7 @@ module _ {cutter : CutterState} {cut : Cut} {operand : Operand} (progress : Prog
   are = left_is cutter.operands cutter.progress.done will.some here
 
   at : Moves cutter.lines (state_in cutter) operand.target cut.matched cut.line
-  at = subst (λ (o : Operand). Moves cutter.lines (state_in cutter) o.target cut.matched cut.line) (front_of will.operand operand (sym will.left ∙ are)) will.moves
+  at = grind (arith, common_steps)
 
   fits : Fits cutter.lines (state_of cutter.operands progress)
   fits = subst (Fits cutter.lines) (sym (next cutter.operands _ are)) (fits_after suppress cut.matched cut.line fit.fits are at will.matched will.from will.within)
@@ -181,51 +165,33 @@ module _ {cutter : CutterState} {cut : Cut} {operand : Operand} (progress : Prog
       (fewer_moves suppress cutter.lines (state_in cutter) cut.matched cut.line are at (omega (arith, fit.fits.some, will.from)) will.within)
 
   state : PassesOn cutter cut (record cutter { progress = progress })
-  state one more is = subst (λ o. state_of cutter.operands progress ≡ state_after (suppress_in cutter) o more cutter.progress.repetition cut.matched cut.line) (front_of operand one (sym are ∙ is))
-      (next cutter.operands more (subst (λ o. drop cutter.progress.done cutter.operands ≡ o ∷ more) (front_of one operand (sym is ∙ are)) is) ∙ ap (λ s. state_after s operand more cutter.progress.repetition cut.matched cut.line) by)
+  state one more is = grind (arith, common_steps)
 
   -- the same operand is performed again
   pub passes_again : progress.done ≡ cutter.progress.done → PassesCut cutter cut (record cutter { progress = progress }) None
-  passes_again done = record {
-    same = refl;
-    held = none;
-    fit = record {
-      fits = fits;
-      most = fit.most ∙ ap (λ at. most_by (drop at cutter.operands)) (sym done);
-      delim = fit.delim;
-      sought = fit.sought ∙ ap (λ at. pattern_by (drop at cutter.operands)) (sym done);
-    };
-    fewer = fewer;
-    state = state;
-  }
+  passes_again done = search (rules, fits, at, fewer, state)
 
   -- the next operand has got what it needs
   pub passes_next : (new : CutterState) (result : Result (Unit {0}) Fault)
       → OnOk result (new ≡ record cutter { progress = progress; window = record { most = most_by (drop progress.done cutter.operands); delim = newline; held = [] }; sought = pattern_by (drop progress.done cutter.operands) })
       → IfErr result (λ fault. (fault ≡ Memory) × (new.writer ≡ cutter.writer) × (new.operands ≡ cutter.operands)) → PassesCut cutter cut new (fault_in result)
-  passes_next new (Ok done) is lacks = subst (WentOn cutter cut) (sym is) (record { same = refl; held = refl; fit = record { fits = fits; most = refl; delim = refl; sought = refl }; fewer = fewer; state = state })
-  passes_next new (Err fault) is lacks = lacks
+  passes_next new result is lacks = grind (arith, common_steps, fits, fewer, state)
 
 -- What trying the next operand with the last line says.
 
 pub found_is : {cutter : CutterState} (line : List ℕ) {text : List ℕ} (number : ℕ) {found : Bool} (target : Target) → text ≡ without_newline line → cutter.sought ≡ pattern_in target → IsFound cutter text number found
     → search_line (suppress_in cutter) (state_in cutter) ≤ number → is_match_of line target ≡ found
-found_is line number (Number n) is sought says near = sym (says.none sought)
-found_is line number (Search pattern kept offset) is sought says near = grind (arith, common_steps)
+found_is line number target is sought says near = grind (arith, common_steps)
 
 pub turn_ends : {suppress : Bool} {lines : List Line} {state : State} (turn : Turn) → IsNoCut turn → Turns suppress lines state turn → EndsHere suppress lines state turn
-turn_ends (Cuts matched line) no_cut ends = absurd no_cut
-turn_ends _ no_cut ends = ends
+turn_ends turn no_cut ends = grind (arith, common_steps)
 
 pub no_cut_aims : (operands : List Operand) (total : ℕ) (progress : Progress) (turn : Turn) → IsNoCut turn → MovesOn operands total progress turn → AimHolds operands total progress turn
-no_cut_aims operands total progress (Above matched line) no_cut moves = moves
-no_cut_aims operands total progress (Cuts matched line) no_cut moves = absurd no_cut
-no_cut_aims operands total progress _ no_cut moves = tt
+no_cut_aims operands total progress turn no_cut moves = grind (arith, common_steps)
 
 -- a search after a cut begins at the cut or after it, and after the line that was matched last
 pub after_cut : (suppress : Bool) (cut : Cut) → cut.line ≤ search_after suppress cut
-after_cut true cut = grind (arith, common_steps)
-after_cut false cut = grind (arith, common_steps)
+after_cut suppress cut = grind (arith, common_steps)
 
 pub cut_near : {cutter : CutterState} {x : List ℕ} (line : List ℕ) (cut : Cut) {turn : Turn} → turn ≡ Cuts cut.matched cut.line → IsFit cutter → Looked cutter x line → Turns (suppress_in cutter) (all_lines x) (state_in cutter) turn → StaysNear cutter cut
 cut_near {cutter} {x} line cut is fit looked turns = search rules
@@ -254,11 +220,7 @@ StaysOver cutter text lines turn = Unit {0}
 -- that is so where the next operand stands as it did
 still_by : {cutter : CutterState} (x text : List ℕ) {lines : ℕ} (aim : Turn) (ending : Ending) → IsFit cutter → cutter.lines ≡ length (all_lines x) → lines ≡ length (all_lines x ++ all_lines text) → AimsAt aim ending
     → StaysOver cutter text lines aim → EndsStill (suppress_in cutter) (length (all_lines x)) (all_lines text) (length (all_lines x ++ all_lines text)) (state_in cutter) ending
-still_by x text aim used_up fit count all aims stays = tt
-still_by x text aim (below operand repetition) fit count all aims stays = tt
-still_by {cutter} x text Missed (missed operand repetition) fit count all aims stays = grind (arith, common_steps)
-still_by x text (Above last line) (above operand repetition matched cut) fit count all aims stays = grind (arith, common_steps)
-still_by x text _ _ fit count all aims stays = absurd aims
+still_by x text aim ending fit count all aims stays = grind (arith, common_steps)
 
 -- what passing over a text leaves of the plan
 pub ends_over : {cutter : CutterState} {lines : ℕ} (text : List ℕ) → IsFit cutter → lines ≡ cutter.lines + line_count newline text → StaysOver cutter text lines cutter.aim → (x : List ℕ) → Joins x text → cutter.lines ≡ line_count newline x → EndsNow cutter x
@@ -289,8 +251,7 @@ lines_are {x} live = grind (arith, common_steps)
 -- the line of a cut that was above the last one came in
 above_cuts : {suppress : Bool} (lines : List Line) (line : Line) {state : State} {total matched at : ℕ} (ending : Ending) → length lines ≡ total → state.current ≤ total + 1 → EndsAs suppress lines state ending → AimsAt (Above matched at) ending → at ≤ total + 1 → total + 1 < 2 ^ 64 - 1
     → GoesPast suppress (lines ++ line ∷ []) state matched at × (at ≡ total + 1)
-above_cuts {suppress} lines line {state} {total} {at} (above operand repetition matched' cut) count within (operands, are, at_cut, far, often) aims near few = grind (arith, common_steps)
-above_cuts lines line _ count within ends aims near few = absurd aims
+above_cuts lines line ending count within ends aims near few = grind (arith, common_steps)
 
 pub next_cut : {cutter : CutterState} {x : List ℕ} (line : List ℕ) {matched at : ℕ} → IsFit cutter → IsLive cutter x → IsWhole x → IsLine line → cutter.aim ≡ Above matched at → at ≤ cutter.lines + 1 → cutter.lines < 2 ^ 63
     → GoesPast (suppress_in cutter) (all_lines (x ++ line)) (state_in cutter) matched at × (cutter.lines + 1 ≤ search_after (suppress_in cutter) (record { matched = matched; line = at }))
@@ -300,8 +261,7 @@ next_cut {cutter} {x} line {matched} {at} fit live whole one aim near few = grin
 
 missed_looked : (suppress : Bool) (a : List Line) (line : Line) (state : State) (ending : Ending) → EndsAs suppress a state ending → AimsAt Missed ending → {operand : Operand} {operands : List Operand} → state.operands ≡ operand ∷ operands
     → (other : ℕ) → search_line suppress state ≤ other → other ≤ length a → is_match operand (a ++ line ∷ []) other ≡ false
-missed_looked suppress a line state (missed operand' repetition) (operands', is, none, often) aims {operand} are other from within = grind (arith, common_steps)
-missed_looked suppress a line state _ ends aims are other from within = absurd aims
+missed_looked suppress a line state ending ends aims are other from within = grind (arith, common_steps)
 
 pub next_looked : {cutter : CutterState} {x : List ℕ} (line : List ℕ) (live : IsLive cutter x) → IsWhole x → IsLine line → cutter.aim ≡ Missed → Looked (record cutter { lines = cutter.lines + 1 }) (x ++ line) line
 next_looked {cutter} {x} line live whole one aim =

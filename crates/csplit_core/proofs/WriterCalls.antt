@@ -1,5 +1,5 @@
 -- What is written of a draft, whose the files are, and what the calls of the writer of sections do.
-use Rattle.std.proofs.Common.{◌≡◌, ℕ, ◌+◌, suc, Bool, true, false, cond, not, ◌&&◌, List, [], ◌∷◌, ◌++◌, length, decimal, refl, sym, ◌∙◌, ap, subst, arith, length-append, ◌⊎◌, inl, inr, ◌<◌, ◌≤◌, eqb, eq-eqb, ne_eqb, ◌||◌, IsTrue, zero, take, drop, replicate, Option, Some, None, Err, append-nil, IfNone}
+use Rattle.std.proofs.Common.{◌≡◌, ℕ, ◌+◌, suc, Bool, true, false, cond, not, ◌&&◌, List, [], ◌∷◌, ◌++◌, length, decimal, refl, sym, ◌∙◌, ap, subst, arith, length-append, ◌<◌, ◌≤◌, eqb, eq-eqb, ne_eqb, ◌||◌, IsTrue, zero, take, drop, replicate, Option, Some, None, Err, append-nil, IfNone, rules}
 use Rattle.ports_core.specs.Name.{numbered_name}
 use Rattle.ports_core.specs.Part.{Part, Begins, IsBeginning, OutputsAt, IsNext, File as PartFile}
 use Rattle.ports_core.specs.inner.Part.{AllClosed}
@@ -13,8 +13,8 @@ use Rattle.csplit_core.specs.laws.SectionLaws.{size_lines-append}
 use Rattle.csplit_core.proofs.WriterLemmas.{more_files, reaches_as, reaches_by, where_well, leaves_again, file_begins, opens_not, reaches_again, stops_wider, section_begins, in_any, line_begins, tells_line}
 use Rattle.ports_core.proofs.PartSteps.{file_of, with_last, writes_to, Becomes, becomes_again, opens, falls_wider, close_begins, closes_last, closes_not}
 use Rattle.std.proofs.lemmas.Bool.{false≢true, cases_lt, eq-eqb}
-use Rattle.ports_core.specs.Slot.{Slot, has_file, slot_at, changed_at, opened, closes, with_broken, is_writable, broke, numberless, FailsToOpen, told_of}
-use Rattle.ports_core.specs.Swept.{AreThere, is_among, SweptFrom, Removes}
+use Rattle.ports_core.specs.Slot.{Slot, has_file, slot_at, changed_at, opened, closes, with_broken, is_writable, broke, numberless}
+use Rattle.ports_core.specs.Swept.{AreThere, is_among, Removes}
 use Rattle.ports_core.specs.declared.fault.Fault.{Fault}
 use Rattle.ports_core.specs.declared.fault.Fault.TheVariants as fault
 use Rattle.ports_core.specs.declared.slot.Mode.TheVariants.{Fresh}
@@ -22,8 +22,10 @@ use Rattle.csplit_core.specs.Writer.{WriterState, IsReady, IsOpenAt, IsLast, Bre
 use Rattle.ports_core.specs.inner.Write as short
 use Rattle.csplit_core.specs.declared.section_writer.Current.TheVariants.{File, Unopened, Skipped, Unmade}
 use Rattle.ports_core.proofs.SlotSteps.{KeepsMade, none_past, file_before, at_end, opened_last, writable_within, write_rose, close_rose, keeps_write, made_write, written_writable, made_short, keeps_open, writable_before, opened_writable, made_again, made_close, made_break, keeps_close, writable_elsewhere}
-use Rattle.ports_core.proofs.SweepLemmas.{by_place, all_cleared, left_apart, left_has, left_there, same_size}
+use Rattle.ports_core.proofs.SweepLemmas.{by_place, left_apart, left_has, left_there, same_size}
+use Rattle.std.proofs.Math.Bool.{or-false}
 use Rattle.std.proofs.Math.Seq.{take-append-add}
+use Rattle.std.proofs.lemmas.List.Recursion.{or_push}
 use Rattle.ports_core.specs.declared.fault.Fault.TheVariants.{Memory}
 use Rattle.csplit_core.specs.declared.section_writer.Current.{Current}
 use Rattle.std.proofs.lemmas.Grind.{common_steps}
@@ -36,10 +38,7 @@ files_by : (style : Style) (place : ℕ) (one : Contents) (a b : List Contents) 
     → files_of style place (a ++ b) ≡ files_of style place a ++ files_of style (place + length (files_of style place a)) b
     → cond makes (file_at style place one ∷ files_of style (place + 1) (a ++ b)) (files_of style place (a ++ b))
     ≡ cond makes (file_at style place one ∷ files_of style (place + 1) a) (files_of style place a) ++ files_of style (place + length (cond makes (file_at style place one ∷ files_of style (place + 1) a) (files_of style place a))) b
-files_by style place one a b true rest other =
-    let moved : place + 1 + length (files_of style (place + 1) a) ≡ place + suc (length (files_of style (place + 1) a)) = omega arith in
-    ap (λ those. file_at style place one ∷ those) rest ∙ ap (λ n. file_at style place one ∷ (files_of style (place + 1) a ++ files_of style n b)) moved
-files_by style place one a b false rest other = other
+files_by style place one a b makes rest other = grind (arith, common_steps)
 
 pub files_of-append : (style : Style) (place : ℕ) (a b : List Contents) → files_of style place (a ++ b) ≡ files_of style place a ++ files_of style (place + length (files_of style place a)) b
 files_of-append style place [] b = ap (λ n. files_of style n b) (let e : place ≡ place + 0 = omega arith in e)
@@ -47,9 +46,7 @@ files_of-append style place (one ∷ a) b = files_by style place one a b (makes_
 
 -- the files of one more section
 files_with : (style : Style) (ended : List Contents) (one : Contents) → files_of style 0 (ended ++ one ∷ []) ≡ files_of style 0 ended ++ cond (makes_file style one) (file_at style (length (files_of style 0 ended)) one ∷ []) []
-files_with style ended one =
-    files_of-append style 0 ended (one ∷ []) ∙ ap (λ n. files_of style 0 ended ++ cond (makes_file style one) (file_at style n one ∷ []) [])
-    (let e : 0 + length (files_of style 0 ended) ≡ length (files_of style 0 ended) = omega arith in e)
+files_with style ended one = search (rules, files_of-append)
 
 abbrev pub name_after : Style → List Contents → List ℕ
 name_after style ended = numbered_name style.prefix style.digits (length (files_of style 0 ended))
@@ -66,9 +63,7 @@ no_size : {makes : Bool} (other : Bool) (line : List ℕ) → makes ≡ false �
 no_size other line is = ap (λ m. cond (m && other) line []) is
 
 pub part_none : (style : Style) (ended : List Contents) (one : Contents) → makes_file style one ≡ false → part_by style (ended ++ one ∷ []) ≡ part_by style ended
-part_none style ended one none = both
-    (size_lines-append style ended (one ∷ []) ∙ ap (λ line. size_lines style ended ++ (line ++ [])) (no_size (one.is_closed && not style.quiet) _ none) ∙ append-nil (size_lines style ended))
-    (files_with style ended one ∙ ap (λ makes. files_of style 0 ended ++ cond makes (file_at style (length (files_of style 0 ended)) one ∷ []) []) none ∙ append-nil (files_of style 0 ended))
+part_none style ended one none = search (rules, both, size_lines-append, no_size, files_with)
 
 pub parts_none : (style : Style) (ended : List Contents) (one other : Contents) → makes_file style one ≡ false → makes_file style other ≡ false → part_by style (ended ++ one ∷ []) ≡ part_by style (ended ++ other ∷ [])
 parts_none style ended one other none also = part_none style ended one none ∙ sym (part_none style ended other also)
@@ -76,23 +71,18 @@ parts_none style ended one other none also = part_none style ended one none ∙ 
 -- a section with one
 
 pub part_made : (style : Style) (ended : List Contents) (one : Contents) → makes_file style one ≡ true → part_by style (ended ++ one ∷ []) ≡ with_last (size_lines style ended ++ size_line style one) (files_of style 0 ended) (file_at style (length (files_of style 0 ended)) one)
-part_made style ended one makes = both
-    (size_lines-append style ended (one ∷ []) ∙ ap (λ line. size_lines style ended ++ line) (append-nil (size_line style one)))
-    (files_with style ended one ∙ ap (λ made. files_of style 0 ended ++ cond made (file_at style (length (files_of style 0 ended)) one ∷ []) []) makes)
+part_made style ended one makes = search (rules, both, size_lines-append, files_with)
 
 pub open_part : (style : Style) (draft : Draft) → makes_file style (last_contents false draft) ≡ true → draft_part style draft ≡ with_last (size_lines style draft.ended) (files_of style 0 draft.ended) (file_of (name_after style draft.ended) draft.bytes state.Open)
-open_part style draft makes = part_made style draft.ended (last_contents false draft) makes
-    ∙ ap (λ out. with_last out (files_of style 0 draft.ended) (file_of (name_after style draft.ended) draft.bytes state.Open))
-    (ap (λ made. size_lines style draft.ended ++ cond (made && (false && not style.quiet)) (decimal (length draft.bytes) ++ newline ∷ []) []) makes ∙ append-nil (size_lines style draft.ended))
+open_part style draft makes = search (rules, part_made, with_last, file_of)
 
 -- once it ended, no section is open
 pub ended_part : (style : Style) (draft : Draft) → draft_part style (with_section false draft) ≡ part_by style (draft.ended ++ last_contents true draft ∷ [])
-ended_part style draft = part_none style (draft.ended ++ last_contents true draft ∷ []) (last_contents false (with_section false draft)) refl
+ended_part style draft = grind (arith, common_steps, part_none)
 
 pub closed_part : (style : Style) (draft : Draft) (line : List ℕ) → makes_file style (last_contents true draft) ≡ true → size_line style (last_contents true draft) ≡ line
     → draft_part style (with_section false draft) ≡ with_last (size_lines style draft.ended ++ line) (files_of style 0 draft.ended) (file_of (name_after style draft.ended) draft.bytes state.Closed)
-closed_part style draft line makes is = ended_part style draft ∙ part_made style draft.ended (last_contents true draft) makes
-    ∙ ap (λ those. with_last (size_lines style draft.ended ++ those) (files_of style 0 draft.ended) (file_of (name_after style draft.ended) draft.bytes state.Closed)) is
+closed_part style draft line makes is = search (rules, ended_part, part_made, with_last, file_of)
 
 pub line_of : (style : Style) (draft : Draft) (quiet : Bool) → makes_file style (last_contents true draft) ≡ true → style.quiet ≡ quiet
     → size_line style (last_contents true draft) ≡ cond (not quiet) (decimal (length draft.bytes) ++ newline ∷ []) []
@@ -106,8 +96,7 @@ count_made style ended one makes = ap (λ (part : Part). length part.files) (par
 -- the files of sections that ended are closed
 
 closed_by : (style : Style) (place : ℕ) (one : Contents) (makes : Bool) (rest other : List PartFile) → one.is_closed ≡ true → AllClosed rest → AllClosed other → AllClosed (cond makes (file_at style place one ∷ rest) other)
-closed_by style place one true rest other closed all also = grind (arith, common_steps)
-closed_by style place one false rest other closed all also = also
+closed_by style place one makes rest other closed all also = grind (arith, common_steps)
 
 pub closed_files : (style : Style) (place : ℕ) (ended : List Contents) → AreClosed ended → AllClosed (files_of style place ended)
 closed_files style place [] closed = tt
@@ -144,36 +133,17 @@ pub there_same : (files : List ℕ) {old new : List Slot} → KeepsMade old new 
 there_same files {old} {new} keeps are = there_still files old new keeps.same are
 
 pub owned_same : {writer next : WriterState} {old new : List Slot} → next.files ≡ writer.files → (IsLast writer.current old → IsLast next.current new) → KeepsMade old new → KeepsFiles writer next old new
-owned_same {writer} {old} {new} same last keeps = record {
-  owns = λ first own. record {
-    streams = own.streams;
-    within = (let size : length new ≡ length old = keeps.size in let within = own.within in omega (arith, size, within));
-    from = λ place among. own.from place (subst (λ files. is_among place files ≡ true) same among);
-    own = λ place above. keeps.same place ∙ own.own place above ∙ sym (ap (is_among place) same);
-    there = subst (λ files. AreThere files new) (sym same) (there_same writer.files keeps own.there);
-    last = last own.last;
-  };
-  there = λ are. subst (λ files. AreThere files new) (sym same) (there_same writer.files keeps are);
-}
+owned_same {writer} {old} {new} same last keeps = search (rules, there_same)
 
 -- one file more
 
-with_none : (b : Bool) → (b || false) ≡ b
-with_none true = refl
-with_none false = refl
-
 among_more : (place slot : ℕ) (files : List ℕ) → is_among place (files ++ slot ∷ []) ≡ (is_among place files || eqb place slot)
-among_more place slot [] = with_none (eqb place slot)
-among_more place slot (one ∷ files) = ap (λ b. eqb place one || b) (among_more place slot files) ∙ regroup (eqb place one) (is_among place files) (eqb place slot) where
-  regroup : (a b c : Bool) → (a || (b || c)) ≡ ((a || b) || c)
-  regroup true b c = refl
-  regroup false b c = refl
+among_more place slot files = or_push (is_among place) (eqb place) refl (λ one others. refl) files slot
 
 -- a file that is there stands before the end
 
 there_more : (files : List ℕ) (slots : List Slot) (name : List ℕ) {slot : ℕ} → slot ≡ length slots → 2 ≤ length slots → AreThere files slots → AreThere (files ++ slot ∷ []) (slots ++ opened name Fresh ∷ [])
-there_more [] slots name at two are =
-    ((omega (arith, at, two), subst (λ (one : Slot). IsTrue (has_file one.state)) (sym (ap (slot_at (slots ++ opened name Fresh ∷ [])) at ∙ at_end slots (opened name Fresh))) refl), refl, tt)
+there_more [] slots name at two are = grind (arith, common_steps)
 there_more (place ∷ files) slots name {slot} at two are =
     let within : place < length slots = (grind (arith, common_steps)) in (
       (are.0.0, subst IsTrue (sym (file_before slots (opened name Fresh) place within)) are.0.1),
@@ -183,47 +153,10 @@ there_more (place ∷ files) slots name {slot} at two are =
 
 own_more : (files : List ℕ) (slots : List Slot) (name : List ℕ) {slot : ℕ} (place : ℕ) → slot ≡ length slots → has_file (slot_at slots place).state ≡ is_among place files
     → has_file (slot_at (slots ++ opened name Fresh ∷ []) place).state ≡ is_among place (files ++ slot ∷ [])
-own_more files slots name {slot} place at own = by (cases_lt place (length slots)) where
-  none_among : length slots ≤ place → is_among place files ≡ false
-  none_among past = sym own ∙ none_past slots place past
-
-  by : (place < length slots) ⊎ (length slots ≤ place) → has_file (slot_at (slots ++ opened name Fresh ∷ []) place).state ≡ is_among place (files ++ slot ∷ [])
-  by (inl less) =
-      file_before slots (opened name Fresh) place less ∙ own
-      ∙ sym (among_more place slot files ∙ ap (λ b. is_among place files || b) (ne_eqb place slot (λ same. omega (arith, less, at, same))) ∙ with_none (is_among place files))
-  by (inr past) = by_place place slot
-      (λ same. ap (λ n. has_file (slot_at (slots ++ opened name Fresh ∷ []) n).state) (same ∙ at) ∙ ap (λ (one : Slot). has_file one.state) (at_end slots (opened name Fresh))
-      ∙ sym (among_more place slot files ∙ ap (λ b. b || eqb place slot) (none_among past) ∙ eq-eqb place slot same))
-      (λ other. none_past (slots ++ opened name Fresh ∷ []) place
-      (let size : length (slots ++ opened name Fresh ∷ []) ≡ length slots + 1 = length-append slots (opened name Fresh ∷ []) in
-      let differs : place ≡ slot → ⊥ = (λ same. false≢true (sym other ∙ eq-eqb place slot same)) in
-      elim (cases_lt (length slots) place) [ inl less ↦ omega (arith, size, less) | inr few ↦ absurd (differs (omega (arith, few, past, at))) ])
-      ∙ sym (among_more place slot files ∙ ap (λ b. b || eqb place slot) (none_among past) ∙ other))
+own_more files slots name {slot} place at own = grind (arith, common_steps, cases_lt, none_past, file_before, among_more, or-false, by_place, at_end, eq-eqb, false≢true)
 
 pub owned_opened : {writer next : WriterState} {slot : ℕ} {old new : List Slot} → 2 ≤ length old → Made writer old new next slot → KeepsFiles writer next old new
-owned_opened {writer} {next} {slot} {old} {new} two made = record {
-  owns = λ first own. record {
-    streams = own.streams;
-    within = (let within = own.within in omega (arith, size, within));
-    from = λ place among. by_place place slot (λ same. let within = own.within in omega (arith, same, at, within))
-        (λ other. own.from place (sym (ap (λ b. is_among place writer.files || b) other ∙ with_none (is_among place writer.files)) ∙ sym (among_more place slot writer.files) ∙ subst (λ files. is_among place files ≡ true) files among));
-    own = λ place above. ap (λ slots. has_file (slot_at slots place).state) made.added ∙ own_more writer.files old (next_name writer) place at (own.own place above) ∙ sym (ap (is_among place) files);
-    there = there own.there;
-    last = subst (λ current. IsLast current new) (sym (ap (λ (those : WriterState). those.current) made.same)) (opened_last old new slot (next_name writer) Fresh at made.added);
-  };
-  there = there;
-} where
-  at : slot ≡ length old
-  at = made.place
-
-  size : length new ≡ length old + 1
-  size = ap length made.added ∙ length-append old (opened (next_name writer) Fresh ∷ [])
-
-  files : next.files ≡ writer.files ++ slot ∷ []
-  files = ap (λ (those : WriterState). those.files) made.same
-
-  there : AreThere writer.files old → AreThere next.files new
-  there are = subst (λ those. AreThere those new) (sym files) (subst (AreThere (writer.files ++ slot ∷ [])) (sym made.added) (there_more writer.files old (next_name writer) at two are))
+owned_opened {writer} {next} {slot} {old} {new} two made = search (rules, by_place, or-false, among_more, own_more, opened_last, there_more)
 
 unmade_keeps : {name : List ℕ} {old new : List Slot} {f : Fault} → MakesNone old name new f → (place : ℕ) → has_file (slot_at new place).state ≡ has_file (slot_at old place).state
 unmade_keeps (unnamed same) place = grind (arith, common_steps)
@@ -231,22 +164,10 @@ unmade_keeps {old} (failed _ (broke slot kept number is added)) place = grind (a
 unmade_keeps (failed _ (numberless full same)) place = grind (arith, common_steps)
 
 unmade_size : {name : List ℕ} {old new : List Slot} {f : Fault} → MakesNone old name new f → length old ≤ length new
-unmade_size {old} {new} (unnamed same) = grind (arith, common_steps)
-unmade_size {old} {new} (failed _ (broke slot kept number is added)) = grind (arith, common_steps)
-unmade_size {old} {new} (failed _ (numberless full same)) = grind (arith, common_steps)
+unmade_size fact = grind (arith, common_steps)
 
 pub owned_unopened : {writer : WriterState} {name : List ℕ} {old new : List Slot} {f : Fault} → MakesNone old name new f → KeepsFiles writer (record writer { current = Unopened }) old new
-owned_unopened {writer} {old} {new} none = record {
-  owns = λ first own. record {
-    streams = own.streams;
-    within = (let within = own.within in let size = unmade_size none in omega (arith, size, within));
-    from = own.from;
-    own = λ place above. unmade_keeps none place ∙ own.own place above;
-    there = there_still writer.files old new (unmade_keeps none) own.there;
-    last = tt;
-  };
-  there = there_still writer.files old new (unmade_keeps none);
-}
+owned_unopened {writer} {old} {new} none = search (rules, unmade_size, unmade_keeps, there_still)
 
 -- Which faults come
 
@@ -255,14 +176,8 @@ make_breaks style (unnamed same) = tt
 make_breaks style {old} {new} (failed _ (broke slot kept number is added)) = grind (arith, common_steps)
 make_breaks style (failed _ (numberless full same)) = tt
 
-pub write_breaks : (told : Bool) (style : Style) {slot : ℕ} {bytes : List ℕ} {old new : List Slot} {f : Fault} → 2 ≤ slot → IsTrue (is_writable old slot) → WritesShort told slot bytes old new f → Breaks style old new f
-write_breaks told style {slot} {bytes} {old} {new} streams can (short.broke n cut) = (λ none. absurd (omega (arith, streams, none)), write_rose told slot bytes n old new can cut)
-
 pub line_breaks : (told : Bool) (style : Style) (line : List ℕ) {old new : List Slot} {f : Fault} → style.quiet ≡ false → IsTrue (is_writable old 0) → WritesShort told 0 line old new f → Breaks style old new f
 line_breaks told style line {old} {new} said_so can (short.broke n cut) = grind (arith, common_steps)
-
-pub close_breaks : (style : Style) (slot : ℕ) (old : List Slot) {new : List Slot} → 2 ≤ slot → IsTrue (is_writable old slot) → new ≡ with_broken slot (changed_at slot closes old) → Breaks style old new (fault.Write slot)
-close_breaks style slot old {new} streams can is = (λ none. absurd (omega (arith, streams, none)), close_rose slot old new can (writable_within slot old can) is)
 
 -- The line with a file's size.
 
@@ -273,18 +188,7 @@ one_left n all less = absurd (omega arith)
 
 -- of a row of newlines the front was replaced by the digits, and one more is taken
 pub line_is : (size all : ℕ) {digits : List ℕ} (copied : List ℕ) → copied ≡ digits → digits ≡ decimal size → length digits < all → take (length digits + 1) (copied ++ drop (length digits) (replicate all newline)) ≡ decimal size ++ newline ∷ []
-line_is size all {digits} copied same is fits =
-    ap (λ front. take (length digits + 1) (front ++ drop (length digits) (replicate all newline))) same
-    ∙ take-append-add digits (drop (length digits) (replicate all newline)) 1 ∙ ap (λ rest. digits ++ rest) (one_left (length digits) all fits)
-    ∙ ap (λ front. front ++ newline ∷ []) is
-
--- Why a file wasn't made.
-
-pub not_named : {slots : List Slot} {name : List ℕ} {fault : Fault} → fault ≡ Memory → MakesNone slots name slots fault
-not_named {slots} {name} is = subst (MakesNone slots name slots) (sym is) (unnamed refl)
-
-pub not_opened : {old : List Slot} {given name : List ℕ} {new : List Slot} {fault : Fault} → given ≡ name → FailsToOpen old given new fault → MakesNone old name new fault
-not_opened {old} {new} {fault} is fails = failed fault (subst (λ those. FailsToOpen old those new fault) is fails)
+line_is size all {digits} copied same is fits = search (rules, take-append-add, one_left)
 
 abbrev pub state_of : Style → List ℕ → Current → WriterState
 state_of style files current = record { style = style; files = files; current = current }
@@ -325,35 +229,19 @@ file_now {size = size} {bytes} None is appends = (size + length bytes, appends.c
 file_now {size = size} (Some why) is appends = (size, appends.still ∙ is)
 
 pub wrote_made : (told : Bool) (slot : ℕ) (bytes : List ℕ) {old new : List Slot} (fault : Option Fault) → Wrote told slot bytes old new fault → KeepsMade old new
-wrote_made told slot bytes {old} {new} None wrote = made_write slot _ old new wrote
-wrote_made told slot bytes {old} {new} (Some why) cut = made_short told slot bytes old new why cut
+wrote_made told slot bytes fault wrote = grind (arith, common_steps, made_write, made_short)
 
 wrote_slots : (told : Bool) (style : Style) (slot : ℕ) (bytes : List ℕ) (old new : List Slot) (fault : Option Fault) → (2 ≤ slot) × IsTrue (is_writable old slot) → Wrote told slot bytes old new fault → KeepsOrBreaks style old new fault
 wrote_slots told style slot bytes old new None at wrote = keeps_write slot _ old new wrote
-wrote_slots told style slot bytes old new (Some why) at cut = write_breaks told style at.0 at.1 cut
+wrote_slots told style slot bytes old new (Some _) at (short.broke n cut) = (λ none. absurd (omega (arith, at.0, none)), write_rose told slot bytes n old new at.1 cut)
 
 appends_ready : {told : Bool} {writer next : WriterState} {slot size : ℕ} {bytes : List ℕ} {old new : List Slot} (fault : Option Fault) → (2 ≤ slot) × IsTrue (is_writable old slot) → IsReady writer old → Appends told writer slot size bytes old new next fault
     → IfNone fault (IsReady next new)
-appends_ready {told} {writer} {slot = slot} {bytes = bytes} {old} {new} None at ready appends =
-    let made = made_write slot _ old new appends.wrote in
-    subst (λ those. IsReady those new) (sym (appends.same ∙ ap (λ current. record writer { current = current }) appends.current)) (record {
-      streams = (let size = made.size in let two = ready.streams in omega (arith, size, two));
-      output = written_writable old new 0 slot (told_of told bytes) ready.output appends.wrote;
-      files = there_same writer.files made ready.files;
-      current = (at.0, written_writable old new slot slot (told_of told bytes) at.1 appends.wrote);
-    })
-appends_ready (Some why) at ready appends = tt
+appends_ready fault at ready appends = grind (arith, common_steps, made_write, written_writable, there_same)
 
 pub appends_leaves : {told : Bool} {writer next : WriterState} {slot size : ℕ} {bytes : List ℕ} {old new : List Slot} {fault : Option Fault} → writer.current ≡ File slot size → IsReady writer old → Appends told writer slot size bytes old new next fault
     → Leaves writer next old new fault
-appends_leaves {told} {writer} {slot = slot} {bytes = bytes} {old} {new} {fault} is ready appends =
-    let made = wrote_made told slot bytes fault appends.wrote in record {
-      style = ap (λ (those : WriterState). those.style) appends.same;
-      owns = owned_same (ap (λ (those : WriterState). those.files) appends.same)
-          (λ last. subst (λ current. IsLast current new) (sym (file_now fault is appends).1) (last_file writer old is last ∙ sym made.size)) made;
-      slots = wrote_slots told writer.style slot bytes old new fault (at_file is ready) appends.wrote;
-      ready = appends_ready fault (at_file is ready) ready appends;
-    }
+appends_leaves {told} {writer} {slot = slot} {bytes = bytes} {old} {new} {fault} is ready appends = search (rules, wrote_made, owned_same, file_now, last_file, wrote_slots, at_file, appends_ready)
 
 pub put_file : {told : Bool} {writer next : WriterState} {slot size : ℕ} (bytes : List ℕ) {old new : List Slot} {fault : Option Fault} → writer.current ≡ File slot size → IsReady writer old → Appends told writer slot size bytes old new next fault
     → Goes told writer (with_bytes bytes) old new next fault
@@ -372,25 +260,16 @@ put_file {told} {writer} bytes {old} {fault = fault} is ready appends = record {
 }
 
 pub some_bytes : (bytes : List ℕ) → false ≡ eqb (length bytes) 0 → is_empty bytes ≡ false
-some_bytes [] is = grind (arith, common_steps)
-some_bytes (byte ∷ bytes) is = refl
+some_bytes bytes is = grind (arith, common_steps)
 
 -- A file is made for the open section, and a section begins.
 
 made_becomes : {told : Bool} {writer next : WriterState} (ended : List Contents) {slot : ℕ} {old new : List Slot} → length writer.files ≡ length (files_of writer.style 0 ended) → Made writer old new next slot
     → Becomes told (part_by writer.style ended) (with_last (size_lines writer.style ended) (files_of writer.style 0 ended) (file_of (name_after writer.style ended) [] state.Open)) old new None
-made_becomes {told} {writer} ended {old = old} count made = opens told (size_lines writer.style ended) (files_of writer.style 0 ended) (name_after writer.style ended)
-    (made.added ∙ ap (λ n. old ++ opened (numbered_name writer.style.prefix writer.style.digits n) Fresh ∷ []) count)
+made_becomes {told} {writer} ended {old = old} count made = search (rules, opens)
 
 next_file : (style : Style) (ended : List Contents) (one : Contents) → makes_file style one ≡ true → IsNext (part_by style ended) (part_by style (ended ++ one ∷ [])) (name_after style ended)
-next_file style ended one makes = record {
-  front = files_of style 0 ended;
-  file = file_at style (length (files_of style 0 ended)) one;
-  rest = [];
-  files = ap (λ (part : Part). part.files) (part_made style ended one makes);
-  place = refl;
-  name_is = refl;
-}
+next_file style ended one makes = search (rules, part_made)
 
 unmade_falls : {told : Bool} (writer : WriterState) (ended : List Contents) (one : Contents) {old new : List Slot} {f : Fault} → makes_file writer.style one ≡ true → AreClosed ended → length writer.files ≡ length (files_of writer.style 0 ended)
     → MakesNone old (next_name writer) new f → Becomes told (part_by writer.style ended) (part_by writer.style (ended ++ one ∷ [])) old new (Some f)
@@ -413,21 +292,15 @@ made_ready {writer} {slot} {old} {new} ready made = record {
 }
 
 made_leaves : {writer next : WriterState} {slot : ℕ} {old new : List Slot} → IsReady writer old → Made writer old new next slot → Leaves writer next old new None
-made_leaves {old = old} {new} ready made =
-    record { style = ap (λ (those : WriterState). those.style) made.same; owns = owned_opened ready.streams made; slots = keeps_open _ old new made.added; ready = made_ready ready made }
+made_leaves {old = old} {new} ready made = grind (arith, common_steps, owned_opened, keeps_open, made_ready)
 
 unmade_leaves : {writer next : WriterState} {old new : List Slot} {f : Fault} → Makes writer old new next (Err f) → Leaves writer next old new (Some f)
-unmade_leaves {writer} {old = old} {new} (same, none) = record {
-  style = ap (λ (those : WriterState). those.style) same;
-  owns = subst (λ those. KeepsFiles writer those old new) (sym same) (owned_unopened none);
-  slots = make_breaks writer.style none;
-  ready = tt;
-}
+unmade_leaves {writer} {old = old} {new} (same, none) = search (rules, owned_unopened, make_breaks)
 
 -- The first bytes of a section whose file isn't made before them
 
 -- what is known where a draft has no file of the open section, and one is made of it for another
-record Unwritten (writer : WriterState) (draft next : Draft) : Type 0 where
+pub record Unwritten (writer : WriterState) (draft next : Draft) : Type 0 where
   same : next.ended ≡ draft.ended
   none : makes_file writer.style (last_contents false draft) ≡ false
   makes : makes_file writer.style (last_contents false next) ≡ true
@@ -435,11 +308,11 @@ record Unwritten (writer : WriterState) (draft next : Draft) : Type 0 where
 made_count : {writer : WriterState} {draft : Draft} → makes_file writer.style (last_contents false draft) ≡ false → Writes writer draft → length writer.files ≡ length (files_of writer.style 0 draft.ended)
 made_count {writer} {draft} none writes = writes.made ∙ (ap (λ (part : Part). length part.files) (part_none writer.style draft.ended (last_contents false draft) none))
 
-unwritten : {writer : WriterState} (bytes : List ℕ) {draft : Draft} → writer.current ≡ Unmade → is_empty bytes ≡ false → Writes writer draft → Unwritten writer draft (with_bytes bytes draft)
+pub unwritten : {writer : WriterState} (bytes : List ℕ) {draft : Draft} → writer.current ≡ Unmade → is_empty bytes ≡ false → Writes writer draft → Unwritten writer draft (with_bytes bytes draft)
 unwritten {writer} bytes {draft} is some writes = grind (arith, common_steps)
 
 -- it could not be made
-goes_unmade : {told : Bool} {writer next : WriterState} {change : Draft → Draft} {old new : List Slot} {f : Fault} → ((draft : Draft) → Writes writer draft → Unwritten writer draft (change draft)) → Makes writer old new next (Err f) → Goes told writer change old new next (Some f)
+pub goes_unmade : {told : Bool} {writer next : WriterState} {change : Draft → Draft} {old new : List Slot} {f : Fault} → ((draft : Draft) → Writes writer draft → Unwritten writer draft (change draft)) → Makes writer old new next (Err f) → Goes told writer change old new next (Some f)
 goes_unmade {told} {writer} {change = change} {old} {new} {f} of makes = record {
   leaves = unmade_leaves makes;
   reaches = λ draft writes. let so = of draft writes in reaches_as (part_none writer.style draft.ended (last_contents false draft) so.none) (ap (λ ended. part_by writer.style (ended ++ last_contents false (change draft) ∷ [])) so.same)
@@ -466,9 +339,6 @@ put_first {told} {writer} {made} {next} {slot} bytes {old} {mid} {new} {fault} i
   leaves : Leaves writer next old new fault
   leaves = leaves_again (made_leaves ready makes) (appends_leaves (current_made makes) (made_ready ready makes) appends)
 
-pub put_unmade : {told : Bool} {writer next : WriterState} (bytes : List ℕ) {old new : List Slot} {f : Fault} → writer.current ≡ Unmade → is_empty bytes ≡ false → Makes writer old new next (Err f) → Goes told writer (with_bytes bytes) old new next (Some f)
-put_unmade bytes is some makes = goes_unmade (λ draft writes. unwritten bytes is some writes) makes
-
 -- A section begins, where none is open
 
 abbrev pub begun : Bool → Contents
@@ -484,7 +354,7 @@ begun_none {writer = writer} current none is_current at last ready = goes_still 
     (λ draft writes. (parts_none writer.style draft.ended _ _ (skips_file writer.style (last_contents false draft) writes.current) none, writes.closed, is_current))
 
 -- one with a file
-begun_file : (writer : WriterState) {kept : Bool} → kept ≡ true → writer.style.elide ≡ false → (draft : Draft) → Writes (paused writer) draft → Unwritten (paused writer) draft (with_kept kept draft)
+pub begun_file : (writer : WriterState) {kept : Bool} → kept ≡ true → writer.style.elide ≡ false → (draft : Draft) → Writes (paused writer) draft → Unwritten (paused writer) draft (with_kept kept draft)
 begun_file writer kept_is elide draft writes = grind (arith, common_steps)
 
 pub begin_made : {told : Bool} {writer next : WriterState} {kept : Bool} {slot : ℕ} {old new : List Slot} → kept ≡ true → writer.style.elide ≡ false → IsReady writer old → Made writer old new next slot → Goes told (paused writer) (with_kept kept) old new next None
@@ -500,9 +370,6 @@ begin_made {writer = writer} {next} {kept} {slot} {old} {new} kept_is elide read
 } where
   made_so : Made (paused writer) old new next slot
   made_so = record { place = made.place; added = made.added; same = made.same }
-
-pub begin_not : {told : Bool} (writer : WriterState) {next : WriterState} {kept : Bool} {old new : List Slot} {f : Fault} → kept ≡ true → writer.style.elide ≡ false → Makes writer old new next (Err f) → Goes told (paused writer) (with_kept kept) old new next (Some f)
-begin_not writer kept_is elide makes = goes_unmade (begun_file writer kept_is elide) makes
 
 -- The first section
 
@@ -550,13 +417,7 @@ file_closed : {writer : WriterState} {old new : List Slot} → KeepsMade old new
 file_closed keeps = owned_same refl (λ last. tt) keeps
 
 closed_ready : {writer : WriterState} (slot size : ℕ) {old new : List Slot} → writer.current ≡ File slot size → IsReady writer old → new ≡ changed_at slot closes old → IsReady (paused writer) new
-closed_ready {writer} slot size {old} {new} is ready closed =
-    let keeps = made_close slot old new (at_file is ready).1 closed in record {
-      streams = (let size = keeps.size in let two = ready.streams in omega (arith, size, two));
-      output = writable_elsewhere old new 0 slot closes (λ same. (let at = (at_file is ready).0 in omega (arith, same, at))) closed ready.output;
-      files = there_same writer.files keeps ready.files;
-      current = tt;
-    }
+closed_ready {writer} slot size {old} {new} is ready closed = search (rules, made_close, at_file, writable_elsewhere, there_same)
 
 closed_leaves : {writer : WriterState} (slot size : ℕ) {old new : List Slot} → writer.current ≡ File slot size → IsReady writer old → new ≡ changed_at slot closes old → Leaves writer (paused writer) old new None
 closed_leaves slot size {old} {new} is ready closed =
@@ -564,26 +425,12 @@ closed_leaves slot size {old} {new} is ready closed =
 
 -- the same of the size line
 line_leaves : (told : Bool) (writer : WriterState) (line : List ℕ) {old new : List Slot} (fault : Option Fault) → writer.style.quiet ≡ false → IsReady (paused writer) old → Wrote told 0 line old new fault → Leaves (paused writer) (paused writer) old new fault
-line_leaves told writer line {old} {new} None said_so ready wrote = let keeps = made_write 0 (told_of told line) old new wrote in record {
-  style = refl;
-  owns = owned_same refl (λ last. tt) keeps;
-  slots = keeps_write 0 (told_of told line) old new wrote;
-  ready = record {
-    streams = (let size = keeps.size in let two = ready.streams in omega (arith, size, two));
-    output = written_writable old new 0 0 (told_of told line) ready.output wrote;
-    files = there_same writer.files keeps ready.files;
-    current = tt;
-  };
-}
-line_leaves told writer line {old} {new} (Some why) said_so ready cut =
-    record { style = refl; owns = owned_same refl (λ last. tt) (made_short told 0 line old new why cut); slots = line_breaks told writer.style line said_so ready.output cut; ready = tt }
+line_leaves told writer line fault said_so ready wrote = grind (arith, common_steps, made_write, owned_same, keeps_write, written_writable, there_same, made_short, line_breaks)
 
 -- the part of the ended section, with its size line
 size_part : {writer : WriterState} {draft : Draft} (slot size : ℕ) → writer.current ≡ File slot size → writer.style.quiet ≡ false → Writes writer draft
     → draft_part writer.style (with_section false draft) ≡ with_last (size_lines writer.style draft.ended ++ (decimal size ++ newline ∷ [])) (files_of writer.style 0 draft.ended) (file_of (name_after writer.style draft.ended) draft.bytes state.Closed)
-size_part {writer} {draft} slot size is said_so writes =
-    closed_part writer.style draft (decimal size ++ newline ∷ []) (now_is is writes).0
-    (line_of writer.style draft false (now_is is writes).0 said_so ∙ ap (λ n. decimal n ++ newline ∷ []) (sym (now_is is writes).1))
+size_part {writer} {draft} slot size is said_so writes = search (rules, closed_part, now_is, line_of)
 
 quiet_part : {writer : WriterState} {draft : Draft} (slot size : ℕ) → writer.current ≡ File slot size → writer.style.quiet ≡ true → Writes writer draft
     → draft_part writer.style (with_section false draft) ≡ with_last (size_lines writer.style draft.ended) (files_of writer.style 0 draft.ended) (file_of (name_after writer.style draft.ended) draft.bytes state.Closed)
@@ -603,7 +450,7 @@ end_quiet {told} {writer} slot size {old} {new} is ready quiet closed = record {
 pub close_not : {told : Bool} {writer : WriterState} (slot size : ℕ) {old new : List Slot} {f : Fault} → writer.current ≡ File slot size → IsReady writer old → f ≡ fault.Write slot → new ≡ with_broken slot (changed_at slot closes old)
     → Goes told writer (with_section false) old new (paused writer) (Some f)
 close_not {told} {writer} slot size {old} {new} is ready which broken = subst (λ f. Goes told writer (with_section false) old new (paused writer) (Some f)) (sym which) (record {
-  leaves = record { style = refl; owns = owns; slots = close_breaks writer.style slot old (at_file is ready).0 (at_file is ready).1 broken; ready = tt };
+  leaves = record { style = refl; owns = owns; slots = let at = at_file is ready in (λ none. absurd (omega (arith, at.0, none)), close_rose slot old new at.1 (writable_within slot old at.1) broken); ready = tt };
   reaches = λ draft writes. reaches_as (open_part writer.style draft (now_is is writes).0) (closed_part writer.style draft (size_line writer.style (last_contents true draft)) (now_is is writes).0 refl)
       (reaches_by owns (λ last. falls_wider (closes_not told (size_lines writer.style draft.ended) (files_of writer.style 0 draft.ended) (name_after writer.style draft.ended) draft.bytes old
       (closed_files writer.style 0 draft.ended writes.closed) (last_file writer old is last) broken) (line_begins (size_line writer.style (last_contents true draft)))));
@@ -647,15 +494,11 @@ goes_again {one = one} {three = three} {first} {second} both {fault = fault} is 
 -- it was stopped on its way to more
 pub goes_wider : {told : Bool} {writer next : WriterState} {low : Draft → Draft} (high : Draft → Draft) {old new : List Slot} {fault : Fault} → ((draft : Draft) → Begins (draft_part writer.style (low draft)) (draft_part writer.style (high draft)))
     → Goes told writer low old new next (Some fault) → Goes told writer high old new next (Some fault)
-goes_wider high begins stopped = record { leaves = stopped.leaves; reaches = λ draft writes. stops_wider (stopped.reaches draft writes) (begins draft); writes = tt }
-
--- one section ends, and the next begins
-next_begins : (style : Style) (kept : Bool) (draft : Draft) → Begins (draft_part style (with_section false draft)) (draft_part style (with_section kept draft))
-next_begins style kept draft =
-    subst (λ part. Begins part (draft_part style (with_section kept draft))) (sym (ended_part style draft)) (more_begins style (draft.ended ++ last_contents true draft ∷ []) (last_contents false (with_section kept draft)))
+goes_wider high begins stopped = grind (arith, common_steps, stops_wider)
 
 pub next_not_ended : {told : Bool} {writer next : WriterState} (kept : Bool) {old new : List Slot} {f : Fault} → Goes told writer (with_section false) old new next (Some f) → Goes told writer (with_section kept) old new next (Some f)
-next_not_ended {writer = writer} kept ended = goes_wider (with_section kept) (next_begins writer.style kept) ended
+next_not_ended {writer = writer} kept ended = goes_wider (with_section kept) (λ draft. subst (λ part. Begins part (draft_part writer.style (with_section kept draft))) (sym (ended_part writer.style draft))
+    (more_begins writer.style (draft.ended ++ last_contents true draft ∷ []) (last_contents false (with_section kept draft)))) ended
 
 pub next_begun : {told : Bool} {writer mid next : WriterState} {kept : Bool} {old between new : List Slot} {fault : Option Fault} → Goes told writer (with_section false) old between mid None → mid.current ≡ Skipped → Goes told (paused mid) (with_kept kept) between new next fault
     → Goes told writer (with_section kept) old new next fault
@@ -664,27 +507,5 @@ next_begun {told} {writer} {mid} {next} {kept} {between = between} {new} {fault}
 
 -- The files are removed.
 
-pub files_cleared : {writer : WriterState} {left : List ℕ} {old new : List Slot} → Removes writer.files old left new → {first : ℕ} → OwnsFiles writer first old → SweptFrom first old new
-files_cleared {writer} {left} {old} {new} removes {first} own = all_cleared first writer.files left old new removes own.there own.from own.own
-
 pub files_left : {writer next : WriterState} {old new : List Slot} → next.current ≡ writer.current → Removes writer.files old next.files new → KeepsFiles writer next old new
-files_left {writer} {next} {old} {new} same removes = record {
-  owns = λ first own. record {
-    streams = own.streams;
-    within = (let size = same_size writer.files next.files old new removes in let within = own.within in omega (arith, size, within));
-    from = λ place among. own.from place (left_among writer.files next.files old new place removes among);
-    own = λ place above. left_has writer.files next.files old new place removes own.there (own.own place above);
-    there = left_there writer.files next.files old new removes own.there;
-    last = subst (λ current. IsLast current new) (sym same) (last_still writer.current old new (same_size writer.files next.files old new removes) own.last);
-  };
-  there = left_there writer.files next.files old new removes;
-} where
-  last_still : (current : Current) (old new : List Slot) → length new ≡ length old → IsLast current old → IsLast current new
-  last_still (File slot size) old new same last = last ∙ sym same
-  last_still _ old new size last = tt
-
-  left_among : (files left : List ℕ) (old new : List Slot) (place : ℕ) → Removes files old left new → is_among place left ≡ true → is_among place files ≡ true
-  left_among files left old new place removes among = by (is_among place files) refl where
-    by : (has : Bool) → is_among place files ≡ has → is_among place files ≡ true
-    by true is = is
-    by false is = absurd (false≢true (sym (left_apart files left old new place removes is) ∙ among))
+files_left {writer} {next} {old} {new} same removes = search (rules, same_size, left_has, left_there, false≢true, left_apart)

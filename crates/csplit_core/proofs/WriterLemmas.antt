@@ -1,27 +1,22 @@
 -- From one state of the outputs to another: what their steps do, and what is so of a writer before and after.
-use Rattle.std.proofs.Common.{◌≡◌, ℕ, ◌+◌, ◌<◌, suc, Bool, false, List, [], ◌∷◌, ◌++◌, length, take, Option, Some, None, inl, inr, refl, sym, ◌∙◌, arith, length-append, true, Result, Ok, Err, OnOk, IsErrAnd, subst, append_assoc, IfNone, append-nil}
-use Rattle.ports_core.specs.Slot.{Slot, broke, numberless, opened, changed_at, adds, closes, with_written, with_broken, told_of}
-use Rattle.ports_core.specs.Part.{File, Part, OutputsAt, Begins, FilesBegin, IsNext, Marks, IsAt}
-use Rattle.ports_core.specs.inner.Part.{AllClosed, InTurn, IsThere, fault_in}
+use Rattle.std.proofs.lemmas.Grind.{common_steps}
+use Rattle.std.proofs.Common.{◌≡◌, ℕ, ◌<◌, Bool, false, List, [], ◌∷◌, ◌++◌, length, take, Option, Some, None, inl, inr, refl, sym, arith, true, Result, OnOk, IsErrAnd, subst, append_assoc, IfNone, append-nil, rules}
+use Rattle.ports_core.specs.Slot.{Slot, broke, numberless, with_written, told_of}
+use Rattle.ports_core.specs.Part.{File, Part, OutputsAt, Begins, FilesBegin, IsNext}
+use Rattle.ports_core.specs.inner.Part.{AllClosed, IsThere, fault_in}
 use Rattle.ports_core.specs.declared.fault.Fault.{Fault}
-use Rattle.ports_core.specs.declared.slot.Mode.TheVariants.{Fresh}
-use Rattle.ports_core.specs.declared.slot.State.{State}
 use Rattle.ports_core.proofs.PartSteps.{Becomes, becomes_again, with_last, halts_here, there_from}
 use Rattle.ports_core.proofs.SlotLemmas.{length-changed_at}
-use Rattle.ports_core.proofs.FileLemmas.{gets, ended, file_more, last_changes, write_makes, close_makes}
-use Rattle.ports_core.proofs.PartLemmas.{begins_itself, begins_more, take_begins_after, files_begin_themselves, part_begins_itself, out_more, outputs_count, turn_between, turn_last, turn_next}
+use Rattle.ports_core.proofs.PartLemmas.{begins_itself, begins_more, take_begins_after, files_begin_themselves, part_begins_itself, out_more, turn_between, turn_next}
 use Rattle.csplit_core.specs.inner.Writer.{MakesNone, unnamed, failed, with_bytes, with_section, At, KeepsFiles, KeepsOrBreaks, Leaves, Reaches}
 use Rattle.ports_core.specs.inner.Write.{Wrote}
 use Rattle.ports_core.specs.inner.Slot.{KeepsBroken}
-use Rattle.ports_core.specs.declared.fault.Fault.TheVariants.{Memory, Write, Open}
+use Rattle.ports_core.specs.declared.fault.Fault.TheVariants.{Memory}
 use Rattle.ports_core.proofs.HandedOn.{handed_on}
-use Rattle.ports_core.proofs.SlotSteps.{keeps_again, keeps_same, rose_later}
 use Rattle.csplit_core.specs.Output.{Style, part_by}
 use Rattle.csplit_core.specs.Draft.{Draft, draft_part, last_contents}
 use Rattle.csplit_core.specs.laws.SectionLaws.{part_grows}
 use Rattle.csplit_core.specs.Writer.{WriterState, IsLast, IsReady}
-use Rattle.ports_core.specs.declared.fault.Fault.TheVariants as fault
-use Rattle.ports_core.specs.declared.slot.State.TheVariants as state
 use Rattle.ports_core.specs.inner.Write as short
 
 -- Outputs that have a part have another, as their last file is opened, written and closed, and standard output gets a line; or a fault stops
@@ -69,7 +64,7 @@ stop_is P result fault handed holds = subst (λ given. P (fault_in given)) (sym 
 
 pub reaches_again : {told : Bool} {low middle high : Part} {old mid new : List Slot} {fault : Option Fault} {one two three : WriterState} → Begins low middle → Reaches told one two low middle old mid None → Reaches told two three middle high mid new fault
     → Reaches told one three low high old new fault
-reaches_again {told} {high = high} {new = new} {fault} {three = three} begins first second = record { there = λ before at. there_from told _ before high new fault begins (second.there before (first.there before at)) }
+reaches_again {told} {high = high} {new = new} {fault} {three = three} begins first second = grind (arith, common_steps, there_from)
 
 -- it was stopped on its way to more
 pub stops_wider : {told : Bool} {low middle high : Part} {old new : List Slot} {fault : Fault} {writer next : WriterState} → Reaches told writer next low middle old new (Some fault) → Begins middle high → Reaches told writer next low high old new (Some fault)
@@ -85,8 +80,7 @@ reaches_by {told} {low} {high} {old} {new} {fault} {writer} {next} keeps becomes
 
 -- the same of parts that are written otherwise
 pub reaches_as : {told : Bool} {low low' high high' : Part} {old new : List Slot} {fault : Option Fault} {writer next : WriterState} → low ≡ low' → high ≡ high' → Reaches told writer next low' high' old new fault → Reaches told writer next low high old new fault
-reaches_as {told} {low} {high' = high'} {old} {new} {fault} {writer} {next} is_low is_high reaches =
-    subst (λ part. Reaches told writer next low part old new fault) (sym is_high) (subst (λ part. Reaches told writer next part high' old new fault) (sym is_low) reaches)
+reaches_as {told} {low} {high' = high'} {old} {new} {fault} {writer} {next} is_low is_high reaches = grind (arith, common_steps)
 
 pub reaches_still : {told : Bool} {low high : Part} {slots : List Slot} {writer : WriterState} → low ≡ high → Reaches told writer writer low high slots slots None
 reaches_still {told} {slots = slots} {writer = writer} is = record { there = λ before at. subst (λ part. At told writer before part slots) is at }
@@ -105,42 +99,29 @@ section_begins style kept draft =
 
 -- what is so of a call that went well
 pub where_well : {A B : Type 0} (fault : Option Fault) → IfNone fault A → (A → B) → IfNone fault B
-where_well None holds follows = follows holds
-where_well (Some why) holds follows = tt
+where_well fault holds follows = grind (arith, common_steps)
 
 pub in_any : {A : Type 0} (fault : Option Fault) → A → IfNone fault A
-in_any None holds = holds
-in_any (Some why) holds = tt
+in_any fault holds = grind (arith, common_steps)
 
 pub where_three : {A B C D : Type 0} (fault : Option Fault) → IfNone fault A → IfNone fault B → IfNone fault C → (A → B → C → D) → IfNone fault D
-where_three None one two three follows = follows one two three
-where_three (Some why) one two three follows = tt
+where_three fault one two three follows = grind (arith, common_steps)
 
 pub well_in : {T : Type 0} (A : Type 0) (result : Result T Fault) → OnOk result A → IfNone (fault_in result) A
-well_in A (Ok value) holds = holds
-well_in A (Err why) holds = tt
+well_in A result holds = grind (arith, common_steps)
 
 slots_again : (style : Style) (old mid new : List Slot) (fault : Option Fault) → KeepsBroken old mid → KeepsOrBreaks style mid new fault → KeepsOrBreaks style old new fault
-slots_again style old mid new None keeps also = keeps_again old mid new keeps also
-slots_again style old mid new (Some Memory) keeps breaks = tt
-slots_again style old mid new (Some (Write slot)) keeps breaks = (breaks.0, rose_later slot old mid new keeps breaks.1)
-slots_again style old mid new (Some (Open slot)) keeps breaks = rose_later slot old mid new keeps breaks
-slots_again style old mid new (Some _) keeps breaks = absurd breaks
+slots_again style old mid new fault keeps also = grind (arith, common_steps)
 
 owns_again : {one two three : WriterState} {old mid new : List Slot} → KeepsFiles one two old mid → KeepsFiles two three mid new → KeepsFiles one three old new
 owns_again before after = record { owns = λ first own. after.owns first (before.owns first own); there = λ are. after.there (before.there are) }
 
 pub leaves_again : {one two three : WriterState} {old mid new : List Slot} {fault : Option Fault} → Leaves one two old mid None → Leaves two three mid new fault → Leaves one three old new fault
-leaves_again {one} {old = old} {mid} {new} {fault} first second = record {
-  style = second.style ∙ first.style;
-  owns = owns_again first.owns second.owns;
-  slots = slots_again one.style old mid new fault first.slots (subst (λ style. KeepsOrBreaks style mid new fault) first.style second.slots);
-  ready = second.ready;
-}
+leaves_again {one} {old = old} {mid} {new} {fault} first second = search (rules, owns_again, slots_again)
 
 pub leaves_still : {writer : WriterState} {slots : List Slot} → IsReady writer slots → Leaves writer writer slots slots None
-leaves_still {slots = slots} ready = record { style = refl; owns = record { owns = λ first own. own; there = λ are. are }; slots = keeps_same slots slots refl; ready = ready }
+leaves_still {slots = slots} ready = grind (arith, common_steps)
 
 -- want of memory leaves them as they are
 pub leaves_lacking : {writer : WriterState} {slots : List Slot} → Leaves writer writer slots slots (Some Memory)
-leaves_lacking = record { style = refl; owns = record { owns = λ first own. own; there = λ are. are }; slots = tt; ready = tt }
+leaves_lacking = grind (arith, common_steps)

@@ -3,8 +3,8 @@ use Rattle.std.specs.Prelude.{Bool, true, List, [], ◌∷◌, ◌++◌, ℕ, �
 use Rattle.ports_core.specs.Part.{Part, OutputsAt, nothing}
 use Rattle.csplit_core.specs.Output.{Style}
 use Rattle.csplit_core.specs.Draft.{Draft, last_contents, draft_part}
-use Rattle.ports_core.specs.inner.Part.{IsThere, fault_in}
-use Rattle.ports_core.specs.Slot.{Slot, FailsToOpen, opened, told_of, with_written}
+use Rattle.ports_core.specs.inner.Part.{IsThere}
+use Rattle.ports_core.specs.Slot.{Slot, FailsToOpen, opened}
 use Rattle.ports_core.specs.inner.Slot.{KeepsBroken}
 use Rattle.ports_core.specs.Swept.{AreThere, HasNoFiles}
 use Rattle.ports_core.specs.declared.fault.Fault.{Fault}

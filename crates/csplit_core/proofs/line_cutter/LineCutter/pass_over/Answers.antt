@@ -1,4 +1,4 @@
-use Rattle.std.proofs.Common.{arith, refl}
+use Rattle.std.proofs.Common.{arith}
 use Rattle.seg_core.proofs.Delimiters.{delimiters-le-length}
 use Rattle.csplit_core.specs.Input.{newline}
 use Rattle.csplit_core.proofs.PassLemmas.{passes_used_up, stops_unfound}
