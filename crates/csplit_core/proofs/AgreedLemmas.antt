@@ -18,9 +18,6 @@ use Rattle.std.proofs.lemmas.Grind.{common_steps}
 
 -- One more line that every operand finds.
 
-search_past_cut : (suppress : Bool) (total : ℕ) (state : State) (cut : ℕ) → state.current ≡ line_after suppress cut → cut ≤ total → state.matched ≤ total → search_line suppress state ≤ suc total
-search_past_cut suppress total state cut is within matched = grind (arith, common_steps)
-
 matched_within : (suppress : Bool) (lines : List Line) (state : State) (operand : Operand) (target : Target) (matched cut : ℕ) → CutsAt suppress lines state operand target matched cut → state.matched ≤ length lines → matched ≤ length lines
 matched_within suppress lines state operand target matched cut at within = grind (arith, common_steps)
 
@@ -28,11 +25,8 @@ search_within : {suppress : Bool} {lines : List Line} {first : State} {steps : L
     → search_line suppress last ≤ suc (length lines)
 search_within {suppress} {lines} (cuts state operand operands matched' cut steps' last' ending' is at from in_lines rest) matched within =
     let few = matched_within suppress lines state operand operand.target matched' cut at matched in
-    search_within rest few (search_past_cut suppress (length lines) (state_after suppress operand operands state.repetition matched' cut) cut refl in_lines few)
+    search_within rest few (grind (arith, common_steps))
 search_within run matched within = within
-
-search_at_start : (suppress : Bool) (operands : List Operand) (total : ℕ) → search_line suppress (start operands) ≤ suc total
-search_at_start suppress operands total = grind (arith, common_steps)
 
 -- a line that each operand finds
 abbrev pub matching_line : Line
@@ -83,7 +77,7 @@ waits_by _ ends some within = none_waits refl
 pub end_waits : (suppress : Bool) (operands : List Operand) (x : List Line) → Waits suppress x (plan suppress operands x).last (plan suppress operands x).ending
 end_waits suppress operands x =
     let here = plan_runs suppress operands x in
-    waits_by (plan suppress operands x).ending (ends_as suppress x (start operands) _ _ _ here) (are_within suppress x (start operands) _ _ _ here (omega arith)).1 (search_within here (omega arith) (search_at_start suppress operands (length x)))
+    waits_by (plan suppress operands x).ending (ends_as suppress x (start operands) _ _ _ here) (are_within suppress x (start operands) _ _ _ here (omega arith)).1 (search_within here (omega arith) (grind (arith, common_steps)))
 
 -- What is settled is what all continuations agree on.
 
@@ -95,9 +89,6 @@ kept_by has lines low high fronts = grind (arith, common_steps)
 kept_grow : (front : List Section) (begun other : Section) (more : List Section) → begun.is_kept ≡ other.is_kept → IsFront begun.lines other.lines → AreFronts (kept_lines (front ++ begun ∷ [])) (kept_lines (front ++ other ∷ more))
 kept_grow [] begun other more same begins = grind (arith, common_steps)
 kept_grow (one ∷ front) begun other more same begins = kept_by one.is_kept one.lines _ _ (kept_grow front begun other more same begins)
-
-outputs_grow : {low high : List Section} → Grow low high → AreFronts (kept_lines low) (kept_lines high)
-outputs_grow {high} grow = grind (arith, common_steps, kept_grow)
 
 kept-append : (a b : List Section) → kept_lines (a ++ b) ≡ kept_lines a ++ kept_lines b
 kept-append [] b = refl
@@ -113,8 +104,6 @@ fewest : (suppress : Bool) (operands : List Operand) (x : List Line) → length 
 fewest suppress operands x = search (rules, append-nil, kept-append, kept_length)
 
 -- no front is longer than the whole
-front_short : (front whole : List Line) → IsFront front whole → length front ≤ length whole
-front_short front whole (rest, is) = grind (arith, common_steps)
 
 -- A continuation after which the open section has no more than what is settled
 pub record Decides (suppress : Bool) (operands : List Operand) (x : List Line) : Type 0 where
@@ -146,7 +135,7 @@ longest suppress operands x decides place less = (
       = ap (λ those. length (output_at those place)) high_is in
       let r : length (output_at (settled_outputs suppress operands x) place) ≡ length (output_at (kept_lines (map (section_of x) (plan suppress operands x).steps) ++ cond decides.next.is_kept (lines_between (plan suppress operands x).last.current (settled_end (length x) (plan suppress operands x).ending) x ∷ []) []) place)
       = ap (λ those. length (output_at those place)) (low_is ∙ ap (λ has. kept_lines (map (section_of x) (plan suppress operands x).steps) ++ cond has (lines_between (plan suppress operands x).last.current (settled_end (length x) (plan suppress operands x).ending) x ∷ []) []) decides.kept) in
-      let few : length front ≤ length (output_at (whole_outputs suppress operands (x ++ decides.y)) place) = front_short front _ is in omega (arith, few, l, r, short),
+      let few : length front ≤ length (output_at (whole_outputs suppress operands (x ++ decides.y)) place) = (grind (arith, common_steps)) in omega (arith, few, l, r, short),
 )
 
 -- Such a continuation is there: none at all, or under an offset back one line that the operand finds
@@ -182,14 +171,11 @@ decides_now {suppress} {operands} {x} same = record {
       = ap (λ past. length (lines_between (plan suppress operands x).last.current past x)) same in omega (arith, e);
 }
 
-none_taken : (first : ℕ) (lines : List Line) → length (lines_between first 0 lines) ≡ 0
-none_taken first lines = grind (arith, common_steps)
-
 decides_back : {suppress : Bool} {operands : List Operand} {x : List Line} {operand : Operand} (k : ℕ) → 1 ≤ (plan suppress operands x).last.current → is_last_kept (plan suppress operands x).ending ≡ is_kept operand.target
     → settled_end (length x) (plan suppress operands x).ending ≡ suc (length x) - k → Turned suppress x (plan suppress operands x).last operand (suc (length x) - k) → Decides suppress operands x
 decides_back {suppress} {operands} {x} k some kept past (too_low low rest) =
     decides_by (matching_line ∷ []) _ _ matching_comes rest refl kept
-    (let e : length (lines_between (plan suppress operands x).last.current 0 (x ++ matching_line ∷ [])) ≡ 0 = none_taken (plan suppress operands x).last.current (x ++ matching_line ∷ []) in omega (arith, e))
+    (let e : length (lines_between (plan suppress operands x).last.current 0 (x ++ matching_line ∷ [])) ≡ 0 = (grind (arith, common_steps)) in omega (arith, e))
 decides_back {suppress} {operands} {x} k some kept past (turns from steps end how rest) =
     decides_by (matching_line ∷ []) _ _ matching_comes rest refl kept
     (let e : length (lines_between (plan suppress operands x).last.current (suc (length x) - k) (x ++ matching_line ∷ [])) ≡ length (lines_between (plan suppress operands x).last.current (settled_end (length x) (plan suppress operands x).ending) x)
@@ -202,7 +188,7 @@ decides {suppress} {operands} {x} (some_wait k kept past turned) = decides_back 
 -- What is settled is what all continuations agree on
 pub settled_is_agreed : (suppress : Bool) (operands : List Operand) (x : List Line) → IsAgreed (whole_outputs suppress operands) x (settled_outputs suppress operands x)
 settled_is_agreed suppress operands x = record {
-  common = λ y comes. outputs_grow (plan_grows suppress true whole_end whole_covers operands x y);
+  common = λ y comes. (grind (arith, common_steps, kept_grow, (plan_grows suppress true whole_end whole_covers operands x y)));
   fewest = ([], none_comes, fewest suppress operands x);
   longest = longest suppress operands x (decides (end_waits suppress operands x));
 }
@@ -296,15 +282,12 @@ place_here suppress operands x y line some within not =
 
 -- Two places for each that does
 
-rest_later : {index : ℕ} (other : ℕ) → index < other → (has : Bool) → cond has (in_section other) nowhere ≡ in_section index → ⊥
-rest_later other less has same = grind (arith, common_steps)
-
 step_later : {index : ℕ} (other : ℕ) {rest' : Place} → index < other → (rest' ≡ in_section index → ⊥) → (lt le : Bool) → cond lt (in_section other) (cond le (left_out other) rest') ≡ in_section index → ⊥
 step_later other less later lt le same = grind (arith, common_steps)
 
 -- what comes after a section isn't in it
 pub in_later : (suppress : Bool) (total : ℕ) {index : ℕ} (other line : ℕ) (steps : List Step) (how : Ending) → index < other → place_from suppress total other steps how line ≡ in_section index → ⊥
-in_later suppress total other line [] how less is = rest_later other less (nat_lt line (whole_end total how)) is
+in_later suppress total other line [] how less is = grind (arith, common_steps)
 in_later suppress total other line (step ∷ steps) how less is =
     step_later other less (λ same. in_later suppress total (other + 1) line steps how (omega (arith, less)) same) (nat_lt line step.cut) (suppress && nat_le line step.cut) is
 
@@ -366,14 +349,9 @@ waiting_is_undecided suppress operands x =
 
 -- Which lines go into a section
 
-into_step : (has : Bool) (line : Line) (whole front rest : List Line) → whole ≡ front ++ rest → cond has (line ∷ whole) whole ≡ cond has (line ∷ front) front ++ rest
-into_step has line whole front rest is = grind (arith, common_steps)
-
 into-append : (s : ℕ) (places : ℕ → Place) (n : ℕ) (a b : List Line) → lines_into s places n (a ++ b) ≡ lines_into s places n a ++ lines_into s places (n + length a) b
 into-append s places n [] b = ap (λ m. lines_into s places m b) (let e : n ≡ n + 0 = omega arith in e)
-into-append s places n (line ∷ a) b =
-    into_step (is_in s (places n)) line (lines_into s places (n + 1) (a ++ b)) (lines_into s places (n + 1) a) (lines_into s places (n + suc (length a)) b)
-    (into-append s places (n + 1) a b ∙ ap (λ m. lines_into s places (n + 1) a ++ lines_into s places m b) (let e : n + 1 + length a ≡ n + suc (length a) = omega arith in e))
+into-append s places n (line ∷ a) b = grind (arith, common_steps, (into-append s places (n + 1) a b ∙ ap (λ m. lines_into s places (n + 1) a ++ lines_into s places m b) (let e : n + 1 + length a ≡ n + suc (length a) = omega arith in e)))
 
 into_all : {s : ℕ} (places : ℕ → Place) (n : ℕ) (a : List Line) → ((line : ℕ) → n ≤ line → line < n + length a → places line ≡ in_section s) → lines_into s places n a ≡ a
 into_all places n [] here = refl
@@ -447,9 +425,6 @@ step_parts suppress lines current cut index s later some least within =
     ap (λ has. cond has (in_section index) (cond (suppress && nat_le line cut) (left_out index) (later line))) (not_less_test line cut (omega (arith, from, least_next)))
     ∙ ap (λ has. cond has (left_out index) (later line)) (not_left suppress line cut from)))
 
-append_none : {a b : List Line} → b ≡ [] → a ++ b ≡ a
-append_none {a} none = grind (arith, common_steps)
-
 step_before : (suppress : Bool) (lines : List Line) (current cut : ℕ) {index : ℕ} (later : ℕ → Place) (line : ℕ) → 1 ≤ current → current ≤ cut → cut ≤ length lines → line < current + length (lines_between current cut lines) → places_with suppress index cut later line ≡ in_section index
 step_before suppress lines current cut {index} later line some least within before = grind (arith, common_steps)
 
@@ -457,9 +432,12 @@ placed_from : {suppress : Bool} {lines : List Line} {first : State} {steps : Lis
     → get_or (map (λ (one : Section). one.lines) (sections_by true whole_end lines (record { steps = steps; last = last; ending = ending }))) k []
     ≡ lines_into s (place_from suppress (length lines) index steps ending) first.current (drop (first.current - 1) lines)
 placed_from {suppress} {lines} (cuts state operand operands matched cut steps' last' ending' is cuts_at least within rest) some index zero {s} at =
-    sym (step_parts suppress lines state.current cut index s (place_from suppress (length lines) (index + 1) steps' ending') some least within ∙ append_none
-    (into_none s (place_from suppress (length lines) (index + 1) steps' ending') (line_after suppress cut) (drop (line_after suppress cut - 1) lines)
-    (λ line from before. goes_elsewhere (place_from suppress (length lines) (index + 1) steps' ending' line) (in_later suppress (length lines) (index + 1) line steps' ending' (omega (arith, at)))))
+    sym (step_parts suppress lines state.current cut index s (place_from suppress (length lines) (index + 1) steps' ending') some least within ∙ (grind (
+      arith,
+      common_steps,
+      (into_none s (place_from suppress (length lines) (index + 1) steps' ending') (line_after suppress cut) (drop (line_after suppress cut - 1) lines)
+          (λ line from before. goes_elsewhere (place_from suppress (length lines) (index + 1) steps' ending' line) (in_later suppress (length lines) (index + 1) line steps' ending' (omega (arith, at))))),
+    ))
     ∙ into_all (place_from suppress (length lines) index (step_of state operand matched cut ∷ steps') ending') state.current (lines_between state.current cut lines)
     (λ line from before. step_before suppress lines state.current cut (place_from suppress (length lines) (index + 1) steps' ending') line some least within before ∙ ap in_section (let e : index ≡ s = omega (arith, at) in e)))
 placed_from {suppress} {lines} (cuts state operand operands matched cut steps' last' ending' is cuts_at least within rest) some index (suc k) {s} at =
@@ -478,9 +456,6 @@ record LeftAt (suppress : Bool) (index cut line : ℕ) (steps : List Step) : Typ
   at : cut ≡ index + k
   is : get_or (map (λ (step : Step). step.cut) steps) k 0 ≡ line
 
-rest_not_left : (has : Bool) (index cut : ℕ) → cond has (in_section index) nowhere ≡ left_out cut → ⊥
-rest_not_left has index cut same = grind (arith, common_steps)
-
 left_by_step : {suppress : Bool} {index : ℕ} (cut line : ℕ) {step : Step} {steps : List Step} {later : Place} (lt le : Bool) → nat_lt line step.cut ≡ lt → (suppress && nat_le line step.cut) ≡ le → (later ≡ left_out cut → LeftAt suppress (index + 1) cut line steps)
     → cond lt (in_section index) (cond le (left_out index) later) ≡ left_out cut → LeftAt suppress index cut line (step ∷ steps)
 left_by_step cut line true le lt_is le_is rest same = absurd (cc)
@@ -489,7 +464,7 @@ left_by_step {index} cut line false false lt_is le_is rest same =
     let there = rest same in let at : cut ≡ index + 1 + there.k = there.at in record { so = there.so; k = suc there.k; at = omega (arith, at); is = there.is }
 
 left_at : (suppress : Bool) (total index cut line : ℕ) (steps : List Step) (ending : Ending) → place_from suppress total index steps ending line ≡ left_out cut → LeftAt suppress index cut line steps
-left_at suppress total index cut line [] ending same = absurd (rest_not_left (nat_lt line (whole_end total ending)) index cut same)
+left_at suppress total index cut line [] ending same = absurd (grind (arith, common_steps))
 left_at suppress total index cut line (step ∷ steps) ending same =
     left_by_step {suppress = suppress} {index = index} cut line {step = step} {steps = steps} {later = place_from suppress total (index + 1) steps ending line} (nat_lt line step.cut) (suppress && nat_le line step.cut) refl refl (left_at suppress total (index + 1) cut line steps ending) same
 

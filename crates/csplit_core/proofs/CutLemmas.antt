@@ -148,9 +148,6 @@ module _ {cutter : CutterState} {cut : Cut} {place : ℕ} {left before : List �
 
 -- the next section began
 
-search_same : (suppress : Bool) (a b : State) → a.current ≡ b.current → a.matched ≡ b.matched → search_line suppress a ≡ search_line suppress b
-search_same suppress a b current matched = grind (arith, common_steps)
-
 leads_as : {suppress suppress' : Bool} {lines : List Line} {operands operands' : List Operand} (steps : List Step) {state state' : State} → suppress' ≡ suppress → operands' ≡ operands → state' ≡ state → Leads suppress lines operands steps state → Leads suppress' lines operands' steps state'
 leads_as {suppress} {lines} {operands} {operands'} steps {state'} one two three leads = grind (arith, common_steps)
 
@@ -191,7 +188,7 @@ module _ {told : Bool} {cutter mid : CutterState} {writer next : WriterState} {c
       cut_draft at cut kept now.goes.are fit.fits.some on (before_is ∙ ap (λ n. first_lines newline n left) same_count) ∙ ap (λ k. draft_by (all_lines x) steps k []) kept_is in
       let near : mid.lines ≤ search_line next.style.suppress (state_in mid) =
       (let e : search_line next.style.suppress (state_in mid) ≡ search_after (suppress_in cutter) cut = ap (λ b. search_line b (state_in mid)) suppress_is
-      ∙ search_same (suppress_in cutter) (state_in mid) _ (ap (λ (s : State). s.current) state) (ap (λ (s : State). s.matched) state) in let n = now.near in omega (arith, e, n, lines_is)) in record {
+      ∙ (grind (arith, common_steps)) in let n = now.near in omega (arith, e, n, lines_is)) in record {
         now = record {
           steps = steps;
           leads = leads_as _ suppress_is (ap (λ (c : CutterState). c.operands) passed.same) state (leads_on at cut now.goes);

@@ -75,9 +75,6 @@ most_is suppress lines state ending none live = grind (arith, common_steps)
 pub aims_live : (aim : Turn) (ending : Ending) → AimsAt aim ending → (aim ≡ Below → ⊥) → is_final ending ≡ false
 aims_live aim ending aims differs = grind (arith, common_steps)
 
-pub aims_past : (ending : Ending) → AimsAt Below ending → is_final ending ≡ true
-aims_past ending aims = grind (arith, common_steps)
-
 -- one call after another
 pub keeps_on : {one two three : CutterState} {old mid new : List Slot} {fault : Option Fault} → Keeps one two old mid None → Keeps two three mid new fault → Keeps one three old new fault
 keeps_on first second = record { operands = second.operands ∙ first.operands; writer = leaves_again first.writer second.writer }
@@ -117,8 +114,6 @@ part_more {cutter} aim t whole some at ends count =
     ap (draft_part cutter.writer.style) (ended_still cutter.writer.style cutter.operands t (kept_by (state_in cutter).operands) at.written whole (runs_to at ends))
 
 -- where the plan isn't final, all lines of the last section are settled but the last ones
-pub settled_count : {cutter : CutterState} {x left : List ℕ} (at : IsAt cutter x left) (ending : Ending) → is_final ending ≡ false → cutter.lines + 1 - cutter.progress.current - most_waiting ending ≡ settled_end (line_count newline x) ending - cutter.progress.current
-settled_count at ending live = grind (arith, common_steps)
 
 -- what is written of the open section, where all but the last lines that may wait are taken, is what is settled
 pub live_taken : {cutter : CutterState} {x : List ℕ} (live : IsLive cutter x) → live.at.taken ≡ settled_end (line_count newline x) live.ends.ending - cutter.progress.current
@@ -157,8 +152,6 @@ at_held cutter writer x left bytes held n some at same within bytes_is held_is w
     }
 
 -- how many lines are taken once as many wait as may
-pub taken_all : (taken lines current : ℕ) {left : ℕ} (most : ℕ) → 1 ≤ current → current + taken ≤ lines + 1 → left ≡ lines - (current + taken - 1) → (taken ≡ 0) ⊎ (most ≤ left) → taken + (left - most) ≡ lines + 1 - current - most
-taken_all taken lines current most some few is fact = grind (arith, common_steps)
 
 -- Writing lines that wait to the open section.
 
@@ -205,9 +198,6 @@ pub record Emptying (told : Bool) (writer now : WriterState) (window left_in : W
 
 -- the first bytes of what stands at the front are the first of all
 
-front_within : {held : List ℕ} (front rest : List ℕ) → held ≡ front ++ rest → length front ≤ length held
-front_within {held} front rest is = grind (arith, common_steps)
-
 module _ {told : Bool} {writer now : WriterState} {window left_in : Window} {n left : ℕ} {old mid : List Slot} (so_far : Emptying told writer now window left_in n left old mid) where
   -- what is still to go is held
   pub left_within : n ≤ length window.held → left ≤ length left_in.held
@@ -224,7 +214,7 @@ module _ {told : Bool} {writer now : WriterState} {window left_in : Window} {n l
       → Goes told now (with_bytes (take bytes front)) mid new next None → size_of next.current ≤ size_of now.current + length (take bytes front) → Emptying told writer next window after n (left - bytes) old new
   empties bytes front rest {after = after} is within few dropped went more =
       let long : length (take bytes front) ≡ bytes = length-take-le bytes front within in
-      let less : length front ≤ length left_in.held = front_within front rest is in
+      let less : length front ≤ length left_in.held = (grind (arith, common_steps)) in
       let after_long : length after.held ≡ length left_in.held - bytes = ap (λ (w : Window). length w.held) dropped ∙ length-drop bytes left_in.held in
       let count : n - left + bytes ≡ n - (left - bytes) = (let all = so_far.few in omega (arith, all, few)) in record {
         few = (let all = so_far.few in omega (arith, all));
@@ -318,7 +308,7 @@ taken_is : {cutter : CutterState} {x left : List ℕ} {at : IsAt cutter x left} 
     → at.taken + over_of cutter left ≡ cutter.lines + 1 - cutter.progress.current - most_waiting arrives.ends.ending
 taken_is {cutter} {x} {at} arrives fit live =
     let most : cutter.window.most ≡ most_waiting arrives.ends.ending = fit.most ∙ most_is (suppress_in cutter) (all_lines x) (state_in cutter) arrives.ends.ending (ends_as _ _ _ _ _ _ arrives.ends.runs) live in
-    taken_all at.taken cutter.lines cutter.progress.current cutter.window.most fit.fits.some (few_taken at) (left_count at) arrives.enough
+    (grind (arith, common_steps, fit.fits.some, (few_taken at), (left_count at), arrives.enough))
     ∙ ap (λ n. cutter.lines + 1 - cutter.progress.current - n) most
 
 -- and what is written is what is settled
@@ -330,7 +320,7 @@ held_part {cutter} {x} {left} {bytes} {at} arrives fit live bytes_is =
     ∙ ap (λ those. first_lines newline at.taken (text_from cutter.progress.current x) ++ those) (bytes_is ∙ ap (first_lines newline (over_of cutter left)) at.left_is)
     ∙ sym (first_further cutter.progress.current at.taken (over_of cutter left) x fit.fits.some) in
     ap (draft_part cutter.writer.style) (draft_is settled_end cutter.operands x (at.taken + over_of cutter left) (runs_to at arrives.ends)
-    (taken_is arrives fit live ∙ settled_count at arrives.ends.ending live) written)
+    (taken_is arrives fit live ∙ (grind (arith, common_steps))) written)
     ∙ settled_part_is cutter.writer.style cutter.operands (all_lines x)
 
 held_live : {cutter : CutterState} {writer : WriterState} {x left bytes held : List ℕ} {at : IsAt cutter x left} (arrives : Arrives cutter x left at) → IsFit cutter → is_final arrives.ends.ending ≡ false → writer.style ≡ cutter.writer.style
@@ -398,4 +388,4 @@ hold_past {cutter = cutter} {window} {left} {slots} {n} aim ready all less dropp
   none = ap (λ (w : Window). w.held) dropped ∙ drop_all n cutter.window.held (omega (arith, all))
 
   past : (x : List ℕ) (at : IsAt cutter x left) (arrives : Arrives cutter x left at) → is_final arrives.ends.ending ≡ true
-  past x at arrives = aims_past arrives.ends.ending (subst (λ a. AimsAt a arrives.ends.ending) aim arrives.ends.aims)
+  past x at arrives = (grind (arith, common_steps))

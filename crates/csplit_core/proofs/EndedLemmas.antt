@@ -24,7 +24,7 @@ use Rattle.csplit_core.specs.declared.progress.Turn.{Turn}
 use Rattle.csplit_core.specs.declared.progress.Turn.TheVariants.{Below, Missed, Above}
 use Rattle.csplit_core.specs.Writer.{WriterState, Writes, size_of}
 use Rattle.csplit_core.specs.Cutter.{CutterState, most_next, pattern_next, kept_next, next_of, most_by, pattern_by, kept_by, settled_draft, IsFit, Stands, suppress_in, state_in, text_from, draft_by, IsLive, IsPast}
-use Rattle.csplit_core.proofs.TryLemmas.{turn_ends, no_cut_aims, left_is}
+use Rattle.csplit_core.proofs.TryLemmas.{turn_ends, left_is}
 use Rattle.ports_core.proofs.SlotSteps.{none_past}
 use Rattle.csplit_core.proofs.WriterCalls.{begun_not, new_owns, new_writes, no_draft, ended_part}
 use Rattle.csplit_core.proofs.WriterLemmas.{reaches_as, stops_wider, bytes_begin, section_begins, in_any, leaves_again, reaches_again}
@@ -45,13 +45,10 @@ use Rattle.std.proofs.lemmas.Grind.{common_steps}
 first_only : {suppress : Bool} {first : State} {steps : List Step} {last : State} {ending : Ending} → Runs suppress [] first steps last ending → 1 ≤ first.current → Runs suppress [] first [] first ending
 first_only run some = grind (arith, common_steps)
 
-none_settled : (ending : Ending) → 0 ≡ settled_end 0 ending - 1
-none_settled ending = grind (arith, common_steps)
-
 -- the first section, without a byte, is what is settled
 first_settled : (suppress : Bool) (operands : List Operand) → first_draft (kept_by operands) ≡ settled_draft suppress operands []
 first_settled suppress operands =
-    draft_is settled_end operands [] 0 (first_only (plan_runs suppress operands []) (omega arith)) (none_settled (plan suppress operands []).ending) refl
+    draft_is settled_end operands [] 0 (first_only (plan_runs suppress operands []) (omega arith)) (grind (arith, common_steps)) refl
 
 first_part : (style : Style) (operands : List Operand) → draft_part style (first_draft (kept_by operands)) ≡ settled_of style operands []
 first_part style operands = ap (draft_part style) (first_settled style.suppress operands) ∙ settled_part_is style operands []
@@ -115,7 +112,7 @@ first_opened told {style} {operands} {old} {new} {writer} aim two begun none say
       reaches = reaches_as refl (sym (first_part style operands)) (begun.reaches no_draft (new_writes style));
       owns = begun.leaves.owns.owns (length old) (new_owns style two);
       ready = begun.leaves.ready;
-      sound = record { fit = (grind (arith, common_steps)); aim = no_cut_aims operands 0 first_progress aim (first_no_cut operands aim moves) moves };
+      sound = record { fit = (grind (arith, common_steps)); aim = (grind (arith, common_steps)) };
       size = ap (max 0) none';
     }
 
@@ -199,9 +196,6 @@ final_aims ending past = grind (arith, common_steps)
 judged_now : {cutter : CutterState} {x : List ℕ} → Stands cutter x → IsJudged cutter x
 judged_now fact = grind (arith, common_steps, plan_once, runs_to, final_aims)
 
-judged_later : {cutter : CutterState} {writer : WriterState} {window : Window} {x : List ℕ} → writer.style ≡ cutter.writer.style → Stands cutter x → IsJudged (record cutter { writer = writer; window = window }) x
-judged_later {cutter} {x} same stands = search (rules, judged_now)
-
 -- What `end` does: the lines that wait are written, and then the section ends.
 
 all_held : (cutter : CutterState) {n : ℕ} → n ≡ length cutter.window.held → take n cutter.window.held ≡ cutter.window.held
@@ -215,7 +209,7 @@ end_goes {told} {cutter} {between = between} {next} window {mid = mid} {new} {fa
       reaches = λ x stands. let last = last_draft fit stands in let all = with_bytes cutter.window.held last.draft in
           reaches_as (sym last.settled) (sym last.whole) (reaches_again (bytes_begin cutter.writer.style cutter.window.held last.draft) (went.reaches last.draft last.writes)
           (subst (λ (style : Style). Reaches told between next (draft_part style all) (draft_part style (with_section false all)) mid new fault) went.leaves.style (ends.reaches all (went.writes last.draft last.writes))));
-      judged = in_any fault (λ x stands. judged_later (ends.leaves.style ∙ went.leaves.style) stands);
+      judged = in_any fault (λ x stands. (grind (arith, common_steps, judged_now, (ends.leaves.style ∙ went.leaves.style), stands)));
     }
 
 pub end_short : {told : Bool} {cutter : CutterState} {next : WriterState} {window : Window} {n : ℕ} {old new : List Slot} {fault : Fault} → IsFit cutter → n ≡ length cutter.window.held

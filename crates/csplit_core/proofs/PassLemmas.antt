@@ -26,9 +26,6 @@ use Rattle.seg_core.proofs.LinesOf.{AreLines-lines_of, joined-lines_of}
 
 -- What stays so of a state when more lines come
 
-aim_more : (cutter : CutterState) (text : List ℕ) (lines : ℕ) (aim : Turn) → cutter.lines ≤ lines → AimHolds cutter.operands cutter.lines cutter.progress aim → StaysOver cutter text lines aim → AimHolds cutter.operands lines cutter.progress aim
-aim_more cutter text lines aim less will stays = grind (arith, common_steps)
-
 pub passes : {cutter : CutterState} {text : List ℕ} {lines n : ℕ} → IsSound cutter → n ≤ length text → IsWhole (take n text) → lines ≡ cutter.lines + line_count newline (take n text) → StaysOver cutter (take n text) lines cutter.aim
     → PassesOver cutter text (record cutter { lines = lines }) n
 passes {cutter} {text} {lines} {n} sound within whole count stays = record {
@@ -43,7 +40,7 @@ passes {cutter} {text} {lines} {n} sound within whole count stays = record {
       delim = sound.fit.delim;
       sought = sound.fit.sought;
     };
-    aim = aim_more cutter (take n text) lines cutter.aim (omega (arith, count)) sound.aim stays;
+    aim = (grind (arith, common_steps));
   };
   ends = ends_over (take n text) sound.fit count stays;
 }
@@ -63,14 +60,12 @@ passes_used_up {cutter} {text} {n} sound whole counted aim = passes_all sound wh
 -- Lines before the line of a cut
 
 -- the lines that end there
-count_ends : {n : ℕ} {x : List ℕ} (end : ℕ) → EndsAt newline n x end → line_count newline (take end x) ≡ n
-count_ends {n} {x} end ends = grind (arith, common_steps, EndsAt-enough, line_count_near, lines_of-first_lines, length-take-le)
 
 pub passes_below : {cutter : CutterState} {text : List ℕ} (line end : ℕ) → IsSound cutter → (matched : ℕ) × (cutter.aim ≡ Above matched line) → EndsAt newline (line - 1 - cutter.lines) text end → PassesOver cutter text (record cutter { lines = line - 1 }) end
 passes_below {cutter} {text} line end sound (matched, aim) ends =
     let will : WillMove cutter.operands cutter.lines cutter.progress matched line = subst (AimHolds cutter.operands cutter.lines cutter.progress) aim sound.aim in
     let less : cutter.lines < line = will.above in
-    let count : line_count newline (take end text) ≡ line - 1 - cutter.lines = count_ends end ends in
+    let count : line_count newline (take end text) ≡ line - 1 - cutter.lines = (grind (arith, common_steps, EndsAt-enough, line_count_near, lines_of-first_lines, length-take-le, ends)) in
     passes sound ends.within (whole_by (take end text) _ refl (let all = ends.complete in omega (arith, count, all))) (omega (arith, less, count))
     (subst (StaysOver cutter (take end text) (line - 1)) (sym aim) (let e : line - 1 < line = omega (arith, less) in e))
 
@@ -163,14 +158,11 @@ all_passed_at {cutter} {text} {left} {next} sound aim so is =
 
 -- Lines that are seen to have no match
 
-mark_clear : (line : List ℕ) (target : Target) → ((pattern : Pattern) → pattern_in target ≡ Some pattern → contains pattern (without_newline line) ≡ false) → is_match_of line target ≡ false
-mark_clear line target clear = grind (arith, common_steps)
-
 marks_clear : (operand : Operand) (x : List ℕ) → ((pattern : Pattern) → pattern_in operand.target ≡ Some pattern → AreClear pattern x) → (k : ℕ) → k < length (all_lines x) → (get_or (all_lines x) k unmarked).marks operand ≡ false
 marks_clear operand x clear k less =
     let few : k < line_count newline x = (let e : length (all_lines x) ≡ line_count newline x = length-all_lines x in omega (arith, e, less)) in
     ap (λ (l : Line). l.marks operand) (get_or-map marked (lines_of newline x) k [] unmarked few)
-    ∙ mark_clear (get_or (lines_of newline x) k []) operand.target (λ pattern is. clear pattern is k few)
+    ∙ (grind (arith, common_steps))
 
 pub more_clear : {cutter : CutterState} {text left rest : List ℕ} {next after : CutterState} {n : ℕ} → Unmatched cutter text left next → PassesClear next left after n → rest ≡ drop n left → Unmatched cutter text rest after
 more_clear {cutter} {left} {rest} {next} {after} {n} so clear rest_is =

@@ -15,7 +15,7 @@ use Rattle.seg_core.proofs.FirstLines.{lines_of-after_lines, first_lines_then_re
 use Rattle.std.proofs.Math.Nat.{min-eq_left}
 use Rattle.csplit_core.specs.Csplit.{waiting, waiting_of, whole_of, verdict_of, csplit_work, settled_of, settled_by, verdict_by}
 use Rattle.csplit_core.specs.CsplitState.{CsplitState, Holds, whole_lines, IsReady, Owns, files, work}
-use Rattle.csplit_core.proofs.TakeLemmas.{past_not_live, past_plan, past_part, is_past, still_past, more_settled, takes_again, takes_none, takes_wider, took_past, none_there}
+use Rattle.csplit_core.proofs.TakeLemmas.{past_plan, past_part, is_past, still_past, more_settled, takes_again, takes_none, takes_wider, took_past, none_there}
 use Rattle.ports_core.specs.Part.{Begins, OutputsAt, StoppedBetween, nothing}
 use Rattle.ports_core.specs.Slot.{Slot, is_writable}
 use Rattle.ports_core.specs.declared.fault.Fault.{Fault}
@@ -67,7 +67,7 @@ pub held_is : {stage : CsplitState} {x : List ℕ} {result : ℕ} → Holds stag
 held_is {stage} {x} {result} holds few is = by holds.stands where
   by : Stands stage.cutter (whole_lines x) → result ≡ length (waiting stage.cutter.writer.style stage.cutter.operands x)
   by (inl live) =
-      let rest_is = holds.live (λ below. past_not_live below live) in
+      let rest_is = holds.live (λ below. (grind (arith, common_steps))) in
       let within = held_within live in
       let all : length (whole_lines x) + length (open_line x) ≡ length x = sym (length-append (whole_lines x) (open_line x)) ∙ ap length (lines_then_open) in
       let rest_long : length stage.rest ≡ length (open_line x) = ap length rest_is in

@@ -43,9 +43,6 @@ place_before {cutter} {x} t {matched} cut live whole goes fit from =
 
 -- What arrives where more lines came.
 
-low_none : {cutter : CutterState} {x : List ℕ} (t : List ℕ) (live : IsLive cutter x) → IsWhole x → (ending : Ending) → Runs (suppress_in cutter) (all_lines (x ++ t)) (state_in cutter) [] (state_in cutter) ending → is_final ending ≡ true → live.at.taken ≡ 0
-low_none t live whole ending run past = grind (arith, common_steps, ends_as, live_before, all_lines-append, live_taken, false≢true)
-
 enough_left : (lines current taken most : ℕ) {left : ℕ} → 1 ≤ current → current + taken ≤ lines + 1 → taken ≡ lines + 1 - current - most → left ≡ lines - (current + taken - 1) → (taken ≡ 0) ⊎ (most ≤ left)
 enough_left lines current taken most some few is left_is = elim (cases_lt most (lines + 1 - current)) [
   | inl more ↦ inr (omega (arith, some, few, is, left_is, more))
@@ -60,7 +57,7 @@ arrives_more {cutter} {x} t live whole fit count ends =
     let most : cutter.window.most ≡ most_waiting live.ends.ending = fit.most ∙ most_is (suppress_in cutter) (all_lines x) (state_in cutter) live.ends.ending (ends_as _ _ _ _ _ _ live.ends.runs) live.live in
     let either = enough_left cutter.lines cutter.progress.current live.at.taken (most_waiting live.ends.ending) fit.fits.some few live.settled (left_count live.at) in record {
       ends = ends;
-      low = λ past. low_none t live whole ends.ending ends.runs past;
+      low = λ past. (grind (arith, common_steps, ends_as, live_before, all_lines-append, live_taken, false≢true, whole, ends.runs, past));
       enough = more either most;
     } where
       more : {taken most other : ℕ} → (taken ≡ 0) ⊎ (other ≤ line_count newline cutter.window.held) → most ≡ other → (taken ≡ 0) ⊎ (most ≤ line_count newline (cutter.window.held ++ t))
@@ -171,9 +168,6 @@ take_cut {told} {cutter} {next = next} line more {cut} {old} {new} {fault} fit d
     (subst (λ (m : CutterState). CutsAll told m cut (m.lines - delimiters newline m.window.held) (m.window.held ++ line) line more old new next fault) is all)
 
 -- Where the cut is below the current line, later lines go nowhere.
-
-pub past_not_live : {cutter : CutterState} {x : List ℕ} → cutter.aim ≡ Below → IsLive cutter x → ⊥
-past_not_live aim live = grind (arith, common_steps)
 
 final_stays : (suppress : Bool) (count : ℕ) (b : List Line) (total : ℕ) (last : State) (ending : Ending) → is_final ending ≡ true
     → EndsStill suppress count b total last ending

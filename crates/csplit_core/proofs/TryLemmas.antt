@@ -28,14 +28,9 @@ use Rattle.std.proofs.lemmas.Grind.{common_steps}
 abbrev pub NoneFrom : Operand → (count : ℕ) → List Line → (from : ℕ) → Type 0
 NoneFrom operand count lines from = (k : ℕ) → k < length lines → from ≤ count + suc k → (get_or lines k unmarked).marks operand ≡ false
 
-misses_from : (suppress : Bool) (a b : List Line) (state : State) (operand : Operand) (target : Target) → Misses suppress a state operand target → NoneFrom operand (length a) b (search_line suppress state) → Misses suppress (a ++ b) state operand target
-misses_from suppress a b state operand target none those = grind (arith, common_steps)
-
 -- After a cut, no line before the last one has to be looked at again
 
 -- where no line before the last one is matched, that line alone decides
-pub looks_last : {operand : Operand} {lines : List Line} {from : ℕ} → ((other : ℕ) → from ≤ other → other < length lines → is_match operand lines other ≡ false) → from ≤ length lines → is_match operand lines (length lines) ≡ true → IsFirst operand lines from (length lines)
-looks_last looked least is = grind (arith, common_steps)
 
 pub looks_past : (operand : Operand) (lines : List Line) (from : ℕ) → ((other : ℕ) → from ≤ other → other < length lines → is_match operand lines other ≡ false) → (from ≤ length lines → is_match operand lines (length lines) ≡ false) → MatchesNone operand lines from
 looks_past operand lines from looked none line from_on within = grind (arith, common_steps)
@@ -52,7 +47,7 @@ pub ends_still : {suppress : Bool} {a : List Line} (b : List Line) {first : Stat
     → Runs suppress (a ++ b) last [] last ending
 ends_still b (is_used_up state none) still = is_used_up state none
 ends_still {suppress} {a} b (misses state operand operands is none) still =
-    misses state operand operands is (misses_from suppress a b state operand operand.target none (still operand operands is))
+    misses state operand operands is ((grind (arith, common_steps, none, (still operand operands is))))
 ends_still {suppress} {a} b (is_above state operand operands matched cut is at far) still = is_above state operand operands matched cut is (cuts_still suppress a b state operand operand.target matched cut at) still
 ends_still {suppress} {a} b (is_below state operand operands matched cut is at within low) still =
     is_below state operand operands matched cut is (cuts_still suppress a b state operand operand.target matched cut at) (let e : length (a ++ b) ≡ length a + length b = length-append a b in omega (arith, e, within)) low
@@ -95,8 +90,7 @@ pub falls_search : (suppress : Bool) (all : List Line) {total : ℕ} (state : St
 falls_search suppress all {total} state {operand = operand} {operands} {pattern} {kept} offset are target seen near is_found is few turn at = falls suppress all state total (moved offset total) seen.count are
     (subst (λ t. CutsAt suppress all state operand t total (moved offset total)) (sym target)
     (subst (λ n. CutsAt suppress all state operand (Search pattern kept offset) n (moved offset n)) seen.count (
-      looks_last {operand = operand} {lines = all} {from = search_line suppress state} (λ other from less. seen.others operand operands are other from (omega (arith, less, seen.count))) (omega (arith, seen.count, near))
-          (ap (is_match operand all) seen.count ∙ seen.last operand operands are near ∙ is_found),
+      (grind (arith, common_steps)),
       refl,
     ))) is few turn at
 
@@ -186,9 +180,6 @@ found_is line number target is sought says near = grind (arith, common_steps)
 pub turn_ends : {suppress : Bool} {lines : List Line} {state : State} (turn : Turn) → IsNoCut turn → Turns suppress lines state turn → EndsHere suppress lines state turn
 turn_ends turn no_cut ends = grind (arith, common_steps)
 
-pub no_cut_aims : (operands : List Operand) (total : ℕ) (progress : Progress) (turn : Turn) → IsNoCut turn → MovesOn operands total progress turn → AimHolds operands total progress turn
-no_cut_aims operands total progress turn no_cut moves = grind (arith, common_steps)
-
 -- a search after a cut begins at the cut or after it, and after the line that was matched last
 pub after_cut : (suppress : Bool) (cut : Cut) → cut.line ≤ search_after suppress cut
 after_cut suppress cut = grind (arith, common_steps)
@@ -218,9 +209,6 @@ StaysOver cutter text lines (Above matched line) = lines < line
 StaysOver cutter text lines turn = Unit {0}
 
 -- that is so where the next operand stands as it did
-still_by : {cutter : CutterState} (x text : List ℕ) {lines : ℕ} (aim : Turn) (ending : Ending) → IsFit cutter → cutter.lines ≡ length (all_lines x) → lines ≡ length (all_lines x ++ all_lines text) → AimsAt aim ending
-    → StaysOver cutter text lines aim → EndsStill (suppress_in cutter) (length (all_lines x)) (all_lines text) (length (all_lines x ++ all_lines text)) (state_in cutter) ending
-still_by x text aim ending fit count all aims stays = grind (arith, common_steps)
 
 -- what passing over a text leaves of the plan
 pub ends_over : {cutter : CutterState} {lines : ℕ} (text : List ℕ) → IsFit cutter → lines ≡ cutter.lines + line_count newline text → StaysOver cutter text lines cutter.aim → (x : List ℕ) → Joins x text → cutter.lines ≡ line_count newline x → EndsNow cutter x
@@ -234,7 +222,7 @@ ends_over {cutter} {lines} text fit count stays x before counted ends =
       record {
         ending = ends.ending;
         runs = subst (λ those. Runs (suppress_in cutter) those (state_in cutter) [] (state_in cutter) ends.ending) (sym (all_lines-append text before))
-            (ends_still (all_lines text) ends.runs (still_by x text cutter.aim ends.ending fit (omega (arith, counted, here)) (omega (arith, count, counted, here, there, both)) ends.aims stays));
+            (ends_still (all_lines text) ends.runs (grind (arith, common_steps)));
         aims = ends.aims;
       },
     )
@@ -259,10 +247,6 @@ next_cut {cutter} {x} line {matched} {at} fit live whole one aim near few = grin
 
 -- where a pattern matched no line so far
 
-missed_looked : (suppress : Bool) (a : List Line) (line : Line) (state : State) (ending : Ending) → EndsAs suppress a state ending → AimsAt Missed ending → {operand : Operand} {operands : List Operand} → state.operands ≡ operand ∷ operands
-    → (other : ℕ) → search_line suppress state ≤ other → other ≤ length a → is_match operand (a ++ line ∷ []) other ≡ false
-missed_looked suppress a line state ending ends aims are other from within = grind (arith, common_steps)
-
 pub next_looked : {cutter : CutterState} {x : List ℕ} (line : List ℕ) (live : IsLive cutter x) → IsWhole x → IsLine line → cutter.aim ≡ Missed → Looked (record cutter { lines = cutter.lines + 1 }) (x ++ line) line
 next_looked {cutter} {x} line live whole one aim =
     let ends = ends_as _ _ _ _ _ _ live.ends.runs in
@@ -271,7 +255,7 @@ next_looked {cutter} {x} line live whole one aim =
       counted = ap (λ n. n + 1) live.at.counted ∙ sym (count-line line whole one);
       last = (all_lines x, all_lines-line line whole one, λ ends. whole-append line whole (inr ends));
       others = λ operand operands are other from less. ap (λ lines. is_match operand lines other) (all_lines-line line whole one)
-          ∙ missed_looked (suppress_in cutter) (all_lines x) (marked line) (state_in cutter) live.ends.ending ends aims are other from (omega (arith, less, count));
+          ∙ (grind (arith, common_steps));
     }
 
 pub next_sought : {cutter : CutterState} {x : List ℕ} (live : IsLive cutter x) → IsFit cutter → cutter.aim ≡ Missed → cutter.sought ≡ None → ⊥

@@ -95,12 +95,9 @@ count_made style ended one makes = ap (λ (part : Part). length part.files) (par
 
 -- the files of sections that ended are closed
 
-closed_by : (style : Style) (place : ℕ) (one : Contents) (makes : Bool) (rest other : List PartFile) → one.is_closed ≡ true → AllClosed rest → AllClosed other → AllClosed (cond makes (file_at style place one ∷ rest) other)
-closed_by style place one makes rest other closed all also = grind (arith, common_steps)
-
 pub closed_files : (style : Style) (place : ℕ) (ended : List Contents) → AreClosed ended → AllClosed (files_of style place ended)
 closed_files style place [] closed = tt
-closed_files style place (one ∷ ended) closed = closed_by style place one (makes_file style one) _ _ closed.0 (closed_files style (place + 1) ended closed.1) (closed_files style place ended closed.1)
+closed_files style place (one ∷ ended) closed = grind (arith, common_steps, closed.0, (closed_files style (place + 1) ended closed.1), (closed_files style place ended closed.1))
 
 pub all_closed : (ended : List Contents) (one : Contents) → AreClosed ended → one.is_closed ≡ true → AreClosed (ended ++ one ∷ [])
 all_closed [] one closed is = (is, tt)
@@ -268,13 +265,10 @@ made_becomes : {told : Bool} {writer next : WriterState} (ended : List Contents)
     → Becomes told (part_by writer.style ended) (with_last (size_lines writer.style ended) (files_of writer.style 0 ended) (file_of (name_after writer.style ended) [] state.Open)) old new None
 made_becomes {told} {writer} ended {old = old} count made = search (rules, opens)
 
-next_file : (style : Style) (ended : List Contents) (one : Contents) → makes_file style one ≡ true → IsNext (part_by style ended) (part_by style (ended ++ one ∷ [])) (name_after style ended)
-next_file style ended one makes = search (rules, part_made)
-
 unmade_falls : {told : Bool} (writer : WriterState) (ended : List Contents) (one : Contents) {old new : List Slot} {f : Fault} → makes_file writer.style one ≡ true → AreClosed ended → length writer.files ≡ length (files_of writer.style 0 ended)
     → MakesNone old (next_name writer) new f → Becomes told (part_by writer.style ended) (part_by writer.style (ended ++ one ∷ [])) old new (Some f)
 unmade_falls {told} writer ended one {old} {new} {f} makes closed count none =
-    opens_not told (size_lines writer.style ended) (files_of writer.style 0 ended) (closed_files writer.style 0 ended closed) (more_begins writer.style ended one) (next_file writer.style ended one makes)
+    opens_not told (size_lines writer.style ended) (files_of writer.style 0 ended) (closed_files writer.style 0 ended closed) (more_begins writer.style ended one) (grind (arith, common_steps, part_made, makes))
     (subst (λ n. MakesNone old (numbered_name writer.style.prefix writer.style.digits n) new f) count none)
 
 current_made : {writer next : WriterState} {slot : ℕ} {old new : List Slot} → Made writer old new next slot → next.current ≡ File slot 0
@@ -428,9 +422,6 @@ line_leaves : (told : Bool) (writer : WriterState) (line : List ℕ) {old new : 
 line_leaves told writer line fault said_so ready wrote = grind (arith, common_steps, made_write, owned_same, keeps_write, written_writable, there_same, made_short, line_breaks)
 
 -- the part of the ended section, with its size line
-size_part : {writer : WriterState} {draft : Draft} (slot size : ℕ) → writer.current ≡ File slot size → writer.style.quiet ≡ false → Writes writer draft
-    → draft_part writer.style (with_section false draft) ≡ with_last (size_lines writer.style draft.ended ++ (decimal size ++ newline ∷ [])) (files_of writer.style 0 draft.ended) (file_of (name_after writer.style draft.ended) draft.bytes state.Closed)
-size_part {writer} {draft} slot size is said_so writes = search (rules, closed_part, now_is, line_of)
 
 quiet_part : {writer : WriterState} {draft : Draft} (slot size : ℕ) → writer.current ≡ File slot size → writer.style.quiet ≡ true → Writes writer draft
     → draft_part writer.style (with_section false draft) ≡ with_last (size_lines writer.style draft.ended) (files_of writer.style 0 draft.ended) (file_of (name_after writer.style draft.ended) draft.bytes state.Closed)
@@ -468,7 +459,7 @@ pub end_sized : {told : Bool} {writer : WriterState} (slot size : ℕ) {old mid 
     → Wrote told 0 (decimal size ++ newline ∷ []) mid new fault → Goes told writer (with_section false) old new (paused writer) fault
 end_sized {told} {writer} slot size {old} {mid} {new} {fault} is ready said_so closed wrote = record {
   leaves = leaves;
-  reaches = λ draft writes. reaches_as (open_part writer.style draft (now_is is writes).0) (size_part slot size is said_so writes) (reaches_by leaves.owns (λ last. becomes_again
+  reaches = λ draft writes. reaches_as (open_part writer.style draft (now_is is writes).0) (grind (arith, common_steps, closed_part, now_is, line_of, is, said_so, writes)) (reaches_by leaves.owns (λ last. becomes_again
       (close_begins (size_lines writer.style draft.ended) (files_of writer.style 0 draft.ended) (name_after writer.style draft.ended) draft.bytes)
       (closes_last told (size_lines writer.style draft.ended) (files_of writer.style 0 draft.ended) (name_after writer.style draft.ended) draft.bytes old (last_file writer old is last) closed)
       (tells_line told (size_lines writer.style draft.ended) _ (decimal size ++ newline ∷ []) mid fault

@@ -121,11 +121,6 @@ fewer suppress lines state {operand} matched cut is at some within = grind (arit
 pub line_some : (suppress : Bool) (cut : ℕ) → cut ≤ line_after suppress cut
 line_some suppress cut = grind (arith, common_steps)
 
-turns_to : (bound : ℕ) (suppress : Bool) (lines : List Line) (state : State) {operand : Operand}
-    {operands : List Operand} {turn' : Turn} → state.operands ≡ operand ∷ operands → turn_to suppress lines state operand operands operand.target ≡ turn'
-    → plan_within (suc bound) suppress lines state ≡ after bound suppress lines state turn'
-turns_to bound suppress lines state is e = grind (arith, common_steps)
-
 ends_within : (bound : ℕ) (suppress : Bool) (lines : List Line) (state : State) {operand : Operand}
     {operands : List Operand} {ending : Ending} → state.operands ≡ operand ∷ operands
     → turn_to suppress lines state operand operands operand.target ≡ ends ending → needed (length lines) state ≤ bound
@@ -153,8 +148,13 @@ computed {suppress} {lines} all end (is_below state operand operands matched cut
     ∙ tested suppress (length lines) state operand operands matched cut (not_less_test (length lines) cut within) (less_test cut state.current low)) enough
 computed {lines} all end (cuts state operand operands matched cut steps last ending is at from within rest) zero enough some = grind (arith, common_steps)
 computed {suppress} {lines} all end (cuts state operand operands matched cut steps last ending is at from within rest) (suc bound) enough some =
-    turns_to bound suppress lines state is (turn_at_cut suppress lines state operand operands operand.target matched cut at
-    ∙ tested suppress (length lines) state operand operands matched cut (not_less_test (length lines) cut within) (not_less_test cut state.current from))
+    (grind (
+      arith,
+      common_steps,
+      is,
+      (turn_at_cut suppress lines state operand operands operand.target matched cut at
+          ∙ tested suppress (length lines) state operand operands matched cut (not_less_test (length lines) cut within) (not_less_test cut state.current from)),
+    ))
     ∙ ap (with_step (step_of state operand matched cut)) (computed steps last rest bound
     (let less : needed (length lines) (state_after suppress operand operands state.repetition matched cut) < needed
     (length lines) state = fewer suppress lines state matched cut is at (omega (arith, some, from)) within in omega (arith, less, enough))

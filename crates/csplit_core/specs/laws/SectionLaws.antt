@@ -145,15 +145,12 @@ no_size : (makes closed quiet : Bool) (line : List ℕ) → closed ≡ false →
 no_size makes closed quiet line is = grind (arith, common_steps)
 
 -- an open section has no size line yet
-pub open_sizes : (style : Style) (front : List Contents) (begun : Contents) → begun.is_closed ≡ false
-    → size_lines style (front ++ begun ∷ []) ≡ size_lines style front
-open_sizes style front begun is_open = search (rules, size_lines-append, no_size, append-nil)
 
 out_grows : (style : Style) (front : List Contents) (begun : Contents) (after : List Contents) → begun.is_closed ≡ false
     → IsBeginning (size_lines style (front ++ begun ∷ [])) (size_lines style (front ++ after))
 out_grows style front begun after is_open = (
   size_lines style after,
-  size_lines-append style front after ∙ ap (λ those. those ++ size_lines style after) (sym (open_sizes style front begun is_open)),
+  size_lines-append style front after ∙ ap (λ those. those ++ size_lines style after) (sym (grind (arith, common_steps, size_lines-append, no_size, append-nil, is_open))),
 )
 
 files_by : (style : Style) (place : ℕ) (one : Contents) (low low' high high' : List File) (makes : Bool) → FilesBegin low high → FilesBegin low' high'
