@@ -6,7 +6,7 @@ use Rattle.bre_core.specs.Pattern.{Pattern}
 use Rattle.csplit_core.specs.Operand.{Minus, Target, Number, Search, Operand, Line, Plus, most_held, is_kept}
 use Rattle.csplit_core.specs.Plan.{State, start, Step, Ending, below, search_line, MatchesNone, CutsAt, line_after, state_after, step_of, Runs, is_below, cuts, missed, Misses, is_used_up, misses, is_above}
 use Rattle.csplit_core.specs.laws.PlanLaws.{line_some, runs, goes_on, plan_runs, plan_once, cuts_still, less_test, not_less_test}
-use Rattle.csplit_core.specs.inner.PlanLaws.{needed, EndsAs, Grow}
+use Rattle.csplit_core.specs.inner.PlanLaws.{needed, EndsAs}
 use Rattle.std.proofs.lemmas.List.{append-nil, map-append, take-append-drop, drop-drop}
 use Rattle.csplit_core.specs.Planned.{plan, Plan}
 use Rattle.csplit_core.specs.Section.{Section, section, section_of, lines_between, is_last_kept, whole_end, settled_end, sections_by, whole_sections, is_final, waiting_lines}
@@ -167,8 +167,7 @@ decides_now {suppress} {operands} {x} same = record {
   more = [];
   are = ap (λ those. whole_sections those (plan suppress operands those)) (append-nil x);
   kept = refl;
-  short = let e : length (lines_between (plan suppress operands x).last.current (whole_end (length x) (plan suppress operands x).ending) x) ≡ length (lines_between (plan suppress operands x).last.current (settled_end (length x) (plan suppress operands x).ending) x)
-      = ap (λ past. length (lines_between (plan suppress operands x).last.current past x)) same in omega (arith, e);
+  short = (grind (arith, common_steps));
 }
 
 decides_back : {suppress : Bool} {operands : List Operand} {x : List Line} {operand : Operand} (k : ℕ) → 1 ≤ (plan suppress operands x).last.current → is_last_kept (plan suppress operands x).ending ≡ is_kept operand.target

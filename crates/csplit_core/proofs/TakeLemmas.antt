@@ -9,7 +9,7 @@ use Rattle.ports_core.specs.Slot.{Slot}
 use Rattle.ports_core.specs.declared.fault.Fault.{Fault}
 use Rattle.csplit_core.specs.Input.{newline, all_lines, without_newline}
 use Rattle.csplit_core.specs.Operand.{Operand, Line}
-use Rattle.csplit_core.specs.Plan.{State, Ending, CutsAt, Runs}
+use Rattle.csplit_core.specs.Plan.{State, Ending, CutsAt}
 use Rattle.csplit_core.specs.Output.{Style}
 use Rattle.csplit_core.specs.Planned.{Plan, plan}
 use Rattle.csplit_core.specs.laws.PlanLaws.{plan_runs}

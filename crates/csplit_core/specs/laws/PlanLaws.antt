@@ -6,7 +6,7 @@ use Rattle.std.proofs.lemmas.List.{drop_all, length-take-le, take-append-drop}
 use Rattle.std.proofs.Math.Seq.{get_or-append_seam}
 use Rattle.csplit_core.specs.Operand.{Operand, Line, unmarked, is_match, Offset, Target, Number, Search, has_more}
 use Rattle.csplit_core.specs.Plan.{State, search_line, start, Step, Ending, used_up, missed, above, below, CutsAt, Misses, line_after, operands_after, repetition_after, state_after, step_of, Runs, is_used_up, misses, is_above, is_below, cuts}
-use Rattle.csplit_core.specs.Planned.{first_among, first_match, Turn, ends, goes, turn_at, turn_from, turn_to, turn_of, ended, with_step, plan_within, plan}
+use Rattle.csplit_core.specs.Planned.{first_among, first_match, ends, goes, turn_at, turn_from, turn_to, turn_of, ended, with_step, plan_within, plan}
 use Rattle.csplit_core.specs.inner.PlanLaws.{MatchesAs, after, left_of, needed_by, needed, so, RunsAs}
 use Rattle.std.proofs.lemmas.Bool.Decides.{nat_tests}
 use Rattle.bre_core.specs.Pattern.{Pattern}

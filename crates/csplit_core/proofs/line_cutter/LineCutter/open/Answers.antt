@@ -1,7 +1,7 @@
 use Rattle.std.proofs.Common.{ap}
 use Rattle.ports_core.proofs.HandedOn.{handed_on}
 use Rattle.csplit_core.specs.Output.{Style}
-use Rattle.csplit_core.proofs.EndedLemmas.{opened_at, opened_not, opened_lacks}
+use Rattle.csplit_core.proofs.StageLemmas.{opened_at, opened_not, opened_lacks}
 use Rattle.csplit_core.proofs.line_cutter.LineCutter.open.Goals as goal
 
 pub returns-in_err-matcher : goal.returns-in_err-matcher

@@ -3,7 +3,7 @@ use Rattle.std.proofs.Common.{refl, ◌∙◌, ap, sym}
 use Rattle.csplit_core.specs.Output.{Style}
 use Rattle.csplit_core.specs.Writer.{seen_writer}
 use Rattle.csplit_core.specs.declared.section_writer.Current.TheVariants.{Skipped, Unmade}
-use Rattle.csplit_core.proofs.WriterCalls.{begun, begun_none, skips_file, elides_file, begin_made, begun_file, goes_unmade}
+use Rattle.csplit_core.proofs.WriterLemmas.{begun, begun_none, skips_file, elides_file, begin_made, begun_file, goes_unmade}
 use Rattle.csplit_core.proofs.section_writer.SectionWriter.begin.Goals as goal
 
 pub returns-then-not-is_kept-clause-goes : goal.returns-then-not-is_kept-clause-goes

@@ -3,7 +3,7 @@ use Rattle.ports_core.proofs.HandedOn.{handed_on}
 use Rattle.csplit_core.specs.Draft.{last_contents}
 use Rattle.csplit_core.specs.Output.{Style}
 use Rattle.csplit_core.specs.declared.section_writer.Current.TheVariants.{Skipped}
-use Rattle.csplit_core.proofs.WriterCalls.{close_not, elides_file, end_none, end_quiet, end_sized, now_is, skips_file}
+use Rattle.csplit_core.proofs.WriterLemmas.{close_not, elides_file, end_none, end_quiet, end_sized, now_is, skips_file}
 use Rattle.csplit_core.proofs.section_writer.SectionWriter.end.Goals as goal
 
 pub returns-in-Skipped-clause-goes : goal.returns-in-Skipped-clause-goes

@@ -4,7 +4,7 @@ use Rattle.ports_core.proofs.HandedOn.{handed_on}
 use Rattle.csplit_core.specs.Output.{Style}
 use Rattle.csplit_core.specs.inner.Writer.{unnamed, failed}
 use Rattle.csplit_core.specs.declared.section_writer.Current.TheVariants.{Unopened}
-use Rattle.csplit_core.proofs.WriterCalls.{state_of}
+use Rattle.csplit_core.proofs.WriterLemmas.{state_of}
 use Rattle.csplit_core.proofs.section_writer.SectionWriter.make_file.Goals as goal
 
 pub returns-in_err-name : goal.returns-in_err-name

@@ -1,5 +1,5 @@
 use Rattle.ports_core.proofs.HandedOn.{handed_on}
-use Rattle.csplit_core.proofs.WriterCalls.{next_not_ended, next_begun}
+use Rattle.csplit_core.proofs.WriterLemmas.{next_not_ended, next_begun}
 use Rattle.csplit_core.proofs.section_writer.SectionWriter.next.Goals as goal
 
 pub returns-in_err-end-clause-goes : goal.returns-in_err-end-clause-goes

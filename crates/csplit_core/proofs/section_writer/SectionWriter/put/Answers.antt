@@ -1,7 +1,7 @@
 use Rattle.ports_core.proofs.HandedOn.{handed_on}
 use Rattle.std.proofs.Common.{arith}
 use Rattle.std.proofs.lemmas.Grind.{common_steps}
-use Rattle.csplit_core.proofs.WriterCalls.{put_skipped, put_file, some_bytes, put_first, goes_unmade, unwritten}
+use Rattle.csplit_core.proofs.WriterLemmas.{put_skipped, put_file, some_bytes, put_first, goes_unmade, unwritten}
 use Rattle.csplit_core.proofs.section_writer.SectionWriter.put.Goals as goal
 
 pub returns-in-Skipped-clause-goes : goal.returns-in-Skipped-clause-goes
