@@ -97,11 +97,8 @@ kept-append (one ∷ a) b = by one.is_kept (kept-append a b) where
   by true is = ap (λ those. one.lines ∷ those) is
   by false is = is
 
-kept_length : (has : Bool) (one other : List Line) (front : List (List Line)) → length (front ++ cond has (one ∷ []) []) ≡ length (front ++ cond has (other ∷ []) [])
-kept_length has one other front = grind (arith, common_steps)
-
 fewest : (suppress : Bool) (operands : List Operand) (x : List Line) → length (whole_outputs suppress operands (x ++ [])) ≡ length (settled_outputs suppress operands x)
-fewest suppress operands x = search (rules, append-nil, kept-append, kept_length)
+fewest suppress operands x = grind (arith, common_steps, append-nil, kept-append)
 
 -- no front is longer than the whole
 
@@ -378,12 +375,9 @@ goes_elsewhere place differs = grind (arith, common_steps)
 abbrev rest_places : ℕ → ℕ → ℕ → Place
 rest_places end index line = cond (nat_lt line end) (in_section index) nowhere
 
-rest_elsewhere : (s index : ℕ) (has : Bool) → index < s → is_in s (cond has (in_section index) nowhere) ≡ false
-rest_elsewhere s index has less = grind (arith, common_steps)
-
 rest_placed : (lines : List Line) (current end index : ℕ) → 1 ≤ current → (end ≡ suc (length lines)) ⊎ (end ≡ 0) → (k : ℕ) {s : ℕ} → s ≡ index + k
     → get_or (lines_between current end lines ∷ []) k [] ≡ lines_into s (rest_places end index) current (drop (current - 1) lines)
-rest_placed lines current end index some which k at = grind (arith, common_steps, into_all, less_test, into_none, not_less_test, rest_elsewhere)
+rest_placed lines current end index some which k at = grind (arith, common_steps, into_all, less_test, into_none, not_less_test)
 
 end_is : {total : ℕ} (ending : Ending) → (whole_end total ending ≡ suc total) ⊎ (whole_end total ending ≡ 0)
 end_is (below operand repetition) = inr refl

@@ -506,9 +506,6 @@ module _ {cutter : CutterState} {cut : Cut} {place : ℕ} {left before : List �
 
 -- the next section began
 
-leads_as : {suppress suppress' : Bool} {lines : List Line} {operands operands' : List Operand} (steps : List Step) {state state' : State} → suppress' ≡ suppress → operands' ≡ operands → state' ≡ state → Leads suppress lines operands steps state → Leads suppress' lines operands' steps state'
-leads_as {suppress} {lines} {operands} {operands'} steps {state'} one two three leads = grind (arith, common_steps)
-
 rest_from : (suppress : Bool) {rest : List ℕ} (all : List ℕ) (cut : ℕ) (x : List ℕ) → 1 ≤ cut → all ≡ text_from cut x → (suppress ≡ true → rest ≡ after_lines newline 1 all) → (suppress ≡ false → rest ≡ all) → rest ≡ text_from (line_after suppress cut) x
 rest_from true all cut x some is skipped whole = skipped refl ∙ ap (after_lines newline 1) is ∙ from_further cut 1 x some ∙ ap (λ n. text_from n x) (let e : cut + 1 ≡ suc cut = omega arith in e)
 rest_from false all cut x some is skipped whole = whole refl ∙ is
@@ -549,7 +546,7 @@ module _ {told : Bool} {cutter mid : CutterState} {writer next : WriterState} {c
       ∙ (grind (arith, common_steps)) in let n = now.near in omega (arith, e, n, lines_is)) in record {
         now = record {
           steps = steps;
-          leads = leads_as _ suppress_is (ap (λ (c : CutterState). c.operands) passed.same) state (leads_on at cut now.goes);
+          leads = (grind (arith, common_steps, suppress_is, (ap (λ (c : CutterState). c.operands) passed.same), state, (leads_on at cut now.goes)));
           counted = lines_is ∙ at.counted;
           taken = 0;
           written = [];

@@ -112,14 +112,11 @@ rest_all n left = grind (arith, common_steps)
 
 -- The complete lines of a text and what follows them, where more bytes come.
 
-take_few : {X : Type 0} (n : ℕ) (xs : List X) → length (take n xs) ≤ n
-take_few n xs = grind (arith, common_steps)
-
 pub whole_by : (x : List ℕ) (ends : Bool) → ends_with newline x ≡ ends → line_count newline x ≤ delimiters newline x → IsWhole x
 whole_by x ends is few = grind (arith, common_steps, line_count-open)
 
 pub lines_whole : (x : List ℕ) → IsWhole (whole_lines x)
-lines_whole x = grind (arith, common_steps, whole_by, lines_of-first_lines, take_few, delimiters-first_lines)
+lines_whole x = grind (arith, common_steps, whole_by, lines_of-first_lines, delimiters-first_lines)
 
 pub lines_then_open : {x : List ℕ} → whole_lines x ++ open_line x ≡ x
 lines_then_open {x} = first_lines_then_rest newline (delimiters newline x) x
@@ -200,21 +197,15 @@ none-append (byte ∷ a) b (other, none) also = (other, none-append a b none als
 pub line_by : (line : List ℕ) → AreLines newline (line ∷ []) → IsLine line
 line_by line is = ap (lines_of newline) (sym (append-nil line)) ∙ lines_of-joined newline (line ∷ []) is
 
-first_by : (line : List ℕ) (lines : List (List ℕ)) → AreLines newline (line ∷ lines) → IsLine line
-first_by line lines is = grind (arith, common_steps, line_by)
-
 -- the first line of a text is one
 pub first_line : (text line rest : List ℕ) → lines_of newline text ≡ line ∷ lines_of newline rest → IsLine line
-first_line text line rest is = grind (arith, common_steps, first_by, AreLines-lines_of)
+first_line text line rest is = grind (arith, common_steps, AreLines-lines_of, line_by)
 
 pub open_is_line : (rest : List ℕ) → 0 < length rest → delimiters newline rest ≡ 0 → IsLine rest
 open_is_line rest some none = line_by rest (inr (some, none_in rest none))
 
-joined_by : (rest end : List ℕ) → HasNone newline rest → AreLines newline (end ∷ []) → AreLines newline ((rest ++ end) ∷ [])
-joined_by rest end none fact = grind (arith, common_steps, none-append)
-
 pub joined_line : (rest end : List ℕ) → delimiters newline rest ≡ 0 → IsLine end → IsLine (rest ++ end)
-joined_line rest end none is = grind (arith, common_steps, line_by, joined_by, none_in, AreLines-lines_of)
+joined_line rest end none is = grind (arith, common_steps, line_by, none_in, AreLines-lines_of, none-append)
 
 -- the first of complete lines is complete, and so are those after it
 

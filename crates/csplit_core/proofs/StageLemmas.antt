@@ -66,18 +66,12 @@ first_part style operands = ap (draft_part style) (first_settled style.suppress 
 abbrev pub first_progress : Progress
 first_progress = record { done = 0; repetition = 0; current = 1; matched = 0 }
 
-first_no_cut : (operands : List Operand) (turn : Turn) → MovesOn operands 0 first_progress turn → IsNoCut turn
-first_no_cut operands turn moves = grind (arith, common_steps)
-
 abbrev SaysFirst : Bool → List Operand → Turn → Type 0
 SaysFirst suppress operands turn = (lines : List Line) → AreSeen suppress lines 0 (start operands) false → Turns suppress lines (start operands) turn
 
 first_ends : {suppress : Bool} (operands : List Operand) {turn : Turn} → SaysFirst suppress operands turn → MovesOn operands 0 first_progress turn → EndsHere suppress [] (start operands) turn
 first_ends {suppress} operands {turn} says moves =
-    turn_ends turn (first_no_cut operands turn moves) (says [] (grind (arith, common_steps)))
-
-final_below : (turn : Turn) (ending : Ending) → AimsAt turn ending → is_final ending ≡ true → turn ≡ Below
-final_below turn ending aims past = grind (arith, common_steps)
+    turn_ends turn (grind (arith, common_steps)) (says [] (grind (arith, common_steps)))
 
 -- The cutter that was opened
 
@@ -107,7 +101,7 @@ first_stands operands writes ends false live = inl (record {
   live = live;
   settled = omega arith;
 })
-first_stands operands {writer} {aim} writes ends true past = search (rules, plan_once, final_below, first_settled)
+first_stands operands {writer} {aim} writes ends true past = grind (arith, common_steps, plan_once, first_settled)
 
 first_opened : (told : Bool) {style : Style} {operands : List Operand} {old new : List Slot} {writer : WriterState} (aim : Turn) → 2 ≤ length old → Goes told (new_writer style) (with_kept (kept_by operands)) old new writer None → size_of writer.current ≡ 0 → SaysFirst style.suppress operands aim → MovesOn operands 0 first_progress aim
     → Opened told style operands old new (first_cutter operands writer aim)
@@ -187,22 +181,16 @@ live_draft {cutter} {x} fit live = record {
       ∙ whole_part_is cutter.writer.style cutter.operands (all_lines x);
 }
 
-past_whole : {cutter : CutterState} {x : List ℕ} → IsPast cutter x → with_bytes cutter.window.held (settled_draft (suppress_in cutter) cutter.operands (all_lines x)) ≡ draft_to whole_end (suppress_in cutter) cutter.operands (all_lines x)
-past_whole {cutter} {x} past = grind (arith, common_steps)
-
 past_draft : {cutter : CutterState} {x : List ℕ} → IsPast cutter x → LastDraft cutter x
-past_draft {cutter} {x} past = search (rules, settled_part_is, past_whole, whole_part_is)
+past_draft {cutter} {x} past = grind (arith, common_steps, settled_part_is, whole_part_is)
 
 last_draft : {cutter : CutterState} {x : List ℕ} → IsFit cutter → Stands cutter x → LastDraft cutter x
 last_draft fit fact = grind (arith, common_steps, live_draft, past_draft)
 
 -- how the plan ends
 
-final_aims : (ending : Ending) → is_final ending ≡ true → AimsAt Below ending
-final_aims ending past = grind (arith, common_steps)
-
 judged_now : {cutter : CutterState} {x : List ℕ} → Stands cutter x → IsJudged cutter x
-judged_now fact = grind (arith, common_steps, plan_once, runs_to, final_aims)
+judged_now fact = grind (arith, common_steps, plan_once, runs_to)
 
 -- What `end` does: the lines that wait are written, and then the section ends.
 
@@ -241,8 +229,6 @@ of_it {cutter} {x} judged =
     subst (λ state. EndsAs (suppress_in cutter) (all_lines x) state (ending_in cutter x)) (sym judged.last) (ends_as _ _ _ _ _ _ (plan_runs (suppress_in cutter) cutter.operands (all_lines x)))
 
 -- where no operand is left
-none_of : (suppress : Bool) (lines : List Line) (state : State) (ending : Ending) → EndsAs suppress lines state ending → state.operands ≡ [] → None ≡ verdict_of ending
-none_of suppress lines state ending ends none = grind (arith, common_steps)
 
 -- the fault of the next operand, by what it did
 abbrev pub verdict_at : Turn → Operand → ℕ → Option Fault
@@ -258,7 +244,7 @@ verdict_is suppress lines state aim ending ends are aims = grind (arith, common_
 -- What `verdict` returns
 
 pub judged_none : {cutter : CutterState} {result : Option Fault} {x : List ℕ} → false ≡ nat_lt cutter.progress.done (length cutter.operands) → result ≡ None → IsJudged cutter x → result ≡ verdict_of (ending_in cutter x)
-judged_none {cutter} {x = x} over none judged = search (rules, nat_tests, none_of, of_it, drop_all)
+judged_none {cutter} {x = x} over none judged = grind (arith, common_steps, nat_tests, of_it, drop_all)
 
 -- the operand that was looked up is the next
 pub judged_next : {cutter : CutterState} {operand : Operand} {aim : Turn} {result : Option Fault} {x : List ℕ} → cutter.progress.done < length cutter.operands → operand ≡ get_or cutter.operands cutter.progress.done operand
@@ -268,11 +254,9 @@ judged_next {cutter} {aim = aim} {x = x} within here aimed made judged = grind (
 -- How many bytes wait.
 
 -- the lines after the first ones, as bytes
-after_bytes : (first n : ℕ) (x : List ℕ) → 1 ≤ first → bytes_of (drop n (drop (first - 1) (all_lines x))) ≡ text_from (first + n) x
-after_bytes first n x some = grind (arith, common_steps, drop-map, bytes_marked, lines_of-after_lines, from_further)
 
 pub waiting_live : {cutter : CutterState} {x : List ℕ} (live : IsLive cutter x) → bytes_of (waiting_lines (all_lines x) (plan (suppress_in cutter) cutter.operands (all_lines x))) ≡ cutter.window.held
-waiting_live {cutter} {x} live = search (rules, runs_to, are_within, length-all_lines, live_taken, plan_once, after_bytes)
+waiting_live {cutter} {x} live = grind (arith, common_steps, runs_to, are_within, length-all_lines, live_taken, plan_once, drop-map, bytes_marked, lines_of-after_lines, from_further)
 
 -- How many bytes wait.
 
@@ -283,11 +267,8 @@ held_within {cutter} {x} live =
     let long : length x ≡ length (first_lines newline (cutter.progress.current + live.at.taken - 1) x) + length (text_from (cutter.progress.current + live.at.taken) x) = ap length (sym both) ∙ length-append (first_lines newline (cutter.progress.current + live.at.taken - 1) x) (text_from (cutter.progress.current + live.at.taken) x) in
     let same : length cutter.window.held ≡ length (text_from (cutter.progress.current + live.at.taken) x) = ap length live.at.left_is in omega (arith, long, same)
 
-live_ending : {cutter : CutterState} {x : List ℕ} → IsLive cutter x → is_final (plan (suppress_in cutter) cutter.operands (all_lines x)).ending ≡ false
-live_ending {cutter} {x} live = grind (arith, common_steps, plan_once, runs_to)
-
 live_waiting : (stage : CsplitState) (x : List ℕ) (live : IsLive stage.cutter (whole_lines x)) → stage.rest ≡ open_line x → waiting stage.cutter.writer.style stage.cutter.operands x ≡ stage.cutter.window.held ++ stage.rest
-live_waiting stage x live rest_is = search (rules, all_complete, live_ending, waiting_live)
+live_waiting stage x live rest_is = grind (arith, common_steps, all_complete, waiting_live, plan_once, runs_to)
 
 pub held_is : {stage : CsplitState} {x : List ℕ} {result : ℕ} → Holds stage x → length x < 2 ^ 63 → result ≡ min (length stage.cutter.window.held + length stage.rest) (2 ^ 64 - 1) → result ≡ length (waiting stage.cutter.writer.style stage.cutter.operands x)
 held_is {stage} {x} {result} holds few is = by holds.stands where
@@ -341,11 +322,8 @@ closed_short {stage = stage} stopped = record { keeps = stopped.keeps; reaches =
 
 -- Where later input goes nowhere, it changes nothing of the end either.
 
-no_lines : (current total : ℕ) (ending : Ending) (lines : List Line) → is_final ending ≡ true → lines_between current (whole_end total ending) lines ≡ []
-no_lines current total ending lines final = grind (arith, common_steps)
-
 final_sections : (a b : List Line) (p : Plan) → AreWithin (length a) p.steps → is_final p.ending ≡ true → whole_sections (a ++ b) p ≡ whole_sections a p
-final_sections a b p within final = search (rules, closed_still, no_lines)
+final_sections a b p within final = grind (arith, common_steps, closed_still)
 
 pub past_end : {cutter : CutterState} {x : List ℕ} (t : List ℕ) → IsWhole x → IsPast cutter x → whole_part cutter (x ++ t) ≡ whole_part cutter x
 past_end {cutter} {x} t whole past =
@@ -461,15 +439,12 @@ some_stopped {told} {view} next {piece} end {old} {new} {fault} is last lines_is
 
 -- The last line
 
-some_by : (items : List ℕ) → eqb (length items) 0 ≡ false → 0 < length items
-some_by items is = grind (arith, common_steps)
-
 pub last_none : {told : Bool} {before stage : CsplitState} {n : ℕ} {slots : List Slot} → before ≡ stage → n ≡ length before.rest → eqb n 0 ≡ true → CanWrite stage.cutter.writer slots → IsSound stage.cutter → Takes told stage.cutter stage.rest slots slots stage.cutter None
 last_none {told} {stage = stage} {slots = slots} is size empty ready sound =
     subst (λ text. Takes told stage.cutter text slots slots stage.cutter None) (sym (ap (λ (s : CsplitState). s.rest) (sym is) ∙ none_there (ap (λ k. eqb k 0) size) empty)) (takes_none sound ready)
 
 pub last_line : {before stage : CsplitState} {n : ℕ} {text : List ℕ} → before ≡ stage → text ≡ before.rest → n ≡ length before.rest → eqb n 0 ≡ false → delimiters newline stage.rest ≡ 0 → IsLine text
-last_line {before} is text_is size some unbroken = grind (arith, common_steps, open_is_line, some_by)
+last_line {before} is text_is size some unbroken = grind (arith, common_steps, open_is_line)
 
 -- the work ends with a fault of its own, and the files are removed then
 pub judged_by : {told : Bool} {stage mid next : CsplitState} {reached new old : List Slot} {verdict : Option Fault} {fault : Fault} → Closed told stage old reached mid None → verdict ≡ Some fault → Judges mid.cutter verdict → is_verdict fault ≡ true → Sweeps mid reached new next

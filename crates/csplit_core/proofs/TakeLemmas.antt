@@ -169,12 +169,8 @@ take_cut {told} {cutter} {next = next} line more {cut} {old} {new} {fault} fit d
 
 -- Where the cut is below the current line, later lines go nowhere.
 
-final_stays : (suppress : Bool) (count : ℕ) (b : List Line) (total : ℕ) (last : State) (ending : Ending) → is_final ending ≡ true
-    → EndsStill suppress count b total last ending
-final_stays suppress count b total last ending past = grind (arith, common_steps)
-
 pub past_plan : (suppress : Bool) (operands : List Operand) {x : List ℕ} (t : List ℕ) → IsWhole x → is_final (plan suppress operands (all_lines x)).ending ≡ true → plan suppress operands (all_lines (x ++ t)) ≡ plan suppress operands (all_lines x)
-past_plan suppress operands {x} t whole final = grind (arith, common_steps, all_lines-append, stays, final_stays)
+past_plan suppress operands {x} t whole final = grind (arith, common_steps, all_lines-append, stays)
 
 final_draft : (suppress : Bool) (operands : List Operand) (x : List ℕ) → is_final (plan suppress operands (all_lines x)).ending ≡ true
     → draft_by (all_lines x) (plan suppress operands (all_lines x)).steps (kept_by (plan suppress operands (all_lines x)).last.operands) [] ≡ settled_draft suppress operands (all_lines x)

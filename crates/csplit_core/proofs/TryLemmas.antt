@@ -191,8 +191,6 @@ pub turn_ends : {suppress : Bool} {lines : List Line} {state : State} (turn : Tu
 turn_ends turn no_cut ends = grind (arith, common_steps)
 
 -- a search after a cut begins at the cut or after it, and after the line that was matched last
-pub after_cut : (suppress : Bool) (cut : Cut) → cut.line ≤ search_after suppress cut
-after_cut suppress cut = grind (arith, common_steps)
 
 pub cut_near : {cutter : CutterState} {x : List ℕ} (line : List ℕ) (cut : Cut) {turn : Turn} → turn ≡ Cuts cut.matched cut.line → IsFit cutter → Looked cutter x line → Turns (suppress_in cutter) (all_lines x) (state_in cutter) turn → StaysNear cutter cut
 cut_near {cutter} {x} line cut is fit looked turns = search rules
@@ -253,7 +251,7 @@ above_cuts lines line ending count within ends aims near few = grind (arith, com
 
 pub next_cut : {cutter : CutterState} {x : List ℕ} (line : List ℕ) {matched at : ℕ} → IsFit cutter → IsLive cutter x → IsWhole x → IsLine line → cutter.aim ≡ Above matched at → at ≤ cutter.lines + 1 → cutter.lines < 2 ^ 63
     → GoesPast (suppress_in cutter) (all_lines (x ++ line)) (state_in cutter) matched at × (cutter.lines + 1 ≤ search_after (suppress_in cutter) (record { matched = matched; line = at }))
-next_cut {cutter} {x} line {matched} {at} fit live whole one aim near few = grind (arith, common_steps, above_cuts, lines_are, ends_as, all_lines-line, after_cut)
+next_cut {cutter} {x} line {matched} {at} fit live whole one aim near few = grind (arith, common_steps, above_cuts, lines_are, ends_as, all_lines-line)
 
 -- where a pattern matched no line so far
 
@@ -480,9 +478,6 @@ line_clear pattern {text} place front line more rest clear all within (bytes, is
     ∙ sym (append_assoc front bytes after) in
     ap (contains pattern) (ap without_newline is ∙ without_last bytes none) ∙ clear front bytes after parts (omega (arith, long, longer, within))
 
-joined_some : (line : List ℕ) (lines : List (List ℕ)) → AreLines newline (line ∷ lines) → 0 < length (joined (line ∷ lines))
-joined_some line lines fact = grind (arith, common_steps)
-
 each_clear : (pattern : Pattern) {text : List ℕ} (place : ℕ) (front : List ℕ) (lines : List (List ℕ)) (rest : List ℕ) → IsClear pattern text place → text ≡ front ++ joined lines ++ rest → length front + length (joined lines) ≤ place → AreLines newline lines
     → (0 < length lines → ends_with newline (joined lines) ≡ true) → (k : ℕ) → k < length lines → contains pattern (without_newline (get_or lines k [])) ≡ false
 each_clear pattern place front [] rest clear all within are ends k less = absurd (omega (arith, less))
@@ -495,7 +490,7 @@ each_clear pattern place front (line ∷ next ∷ lines) rest clear all within a
     let these : length (line ++ joined (next ∷ lines)) ≡ length line + length (joined (next ∷ lines)) = length-append line (joined (next ∷ lines)) in
     each_clear pattern place (front ++ line) (next ∷ lines) rest clear
     (all ∙ ap (λ those. those ++ rest) (sym (append_assoc front line (joined (next ∷ lines))))) (omega (arith, both, these, within)) are.1
-    (λ some. sym (ends_with-append newline line (joined (next ∷ lines)) (joined_some next lines are.1)) ∙ ends (omega arith)) k (omega (arith, less))
+    (λ some. sym (ends_with-append newline line (joined (next ∷ lines)) (grind (arith, common_steps))) ∙ ends (omega arith)) k (omega (arith, less))
 
 whole_ends : {x : List ℕ} → IsWhole x → 0 < length (lines_of newline x) → ends_with newline (joined (lines_of newline x)) ≡ true
 whole_ends fact some = grind (arith, common_steps, joined-lines_of)
@@ -513,9 +508,6 @@ clear_front pattern text place n clear low within whole =
 one_line : (line : List ℕ) → IsLine line → AreLines newline (line ∷ [])
 one_line line one = subst (AreLines newline) one (AreLines-lines_of newline line)
 
-last_is : (bytes : List ℕ) {byte : ℕ} (d : ℕ) → get_or (bytes ++ byte ∷ []) (length bytes) d ≡ byte
-last_is bytes d = grind (arith, common_steps)
-
 none_at : (text : List ℕ) (n d : ℕ) → n < length text → HasNone newline text → get_or text n d ≡ newline → ⊥
 none_at [] n d less none is = absurd (omega (arith, less))
 none_at (byte ∷ text) zero d less none is = none.0 is
@@ -525,7 +517,7 @@ pub text_ended : (line : List ℕ) {last : ℕ} (d : ℕ) → IsLine line → la
 text_ended line d one read is = grind (arith, common_steps, one_line, take_at, without_last, none_at)
 
 pub text_open : (line : List ℕ) {last : ℕ} (d : ℕ) → IsLine line → last ≡ get_or line (length line - 1) d → (last ≡ newline → ⊥) → line ≡ without_newline line
-text_open line d one read differs = grind (arith, common_steps, one_line, last_is, without_none)
+text_open line d one read differs = grind (arith, common_steps, one_line, without_none)
 
 -- where a text ends after a newline, lines end
 

@@ -124,14 +124,11 @@ where_three fault one two three follows = grind (arith, common_steps)
 pub well_in : {T : Type 0} (A : Type 0) (result : Result T Fault) → OnOk result A → IfNone (fault_in result) A
 well_in A result holds = grind (arith, common_steps)
 
-slots_again : (style : Style) (old mid new : List Slot) (fault : Option Fault) → KeepsBroken old mid → KeepsOrBreaks style mid new fault → KeepsOrBreaks style old new fault
-slots_again style old mid new fault keeps also = grind (arith, common_steps)
-
 owns_again : {one two three : WriterState} {old mid new : List Slot} → KeepsFiles one two old mid → KeepsFiles two three mid new → KeepsFiles one three old new
 owns_again before after = record { owns = λ first own. after.owns first (before.owns first own); there = λ are. after.there (before.there are) }
 
 pub leaves_again : {one two three : WriterState} {old mid new : List Slot} {fault : Option Fault} → Leaves one two old mid None → Leaves two three mid new fault → Leaves one three old new fault
-leaves_again {one} {old = old} {mid} {new} {fault} first second = search (rules, owns_again, slots_again)
+leaves_again {one} {old = old} {mid} {new} {fault} first second = search (rules, owns_again)
 
 pub leaves_still : {writer : WriterState} {slots : List Slot} → IsReady writer slots → Leaves writer writer slots slots None
 leaves_still {slots = slots} ready = grind (arith, common_steps)
@@ -258,23 +255,16 @@ there_more (place ∷ files) slots name {slot} at two are =
       there_more files slots name at two are.2,
     )
 
-own_more : (files : List ℕ) (slots : List Slot) (name : List ℕ) {slot : ℕ} (place : ℕ) → slot ≡ length slots → has_file (slot_at slots place).state ≡ is_among place files
-    → has_file (slot_at (slots ++ opened name Fresh ∷ []) place).state ≡ is_among place (files ++ slot ∷ [])
-own_more files slots name {slot} place at own = grind (arith, common_steps, cases_lt, none_past, file_before, among_more, or-false, by_place, at_end, eq-eqb, false≢true)
-
 pub owned_opened : {writer next : WriterState} {slot : ℕ} {old new : List Slot} → 2 ≤ length old → Made writer old new next slot → KeepsFiles writer next old new
-owned_opened {writer} {next} {slot} {old} {new} two made = search (rules, by_place, or-false, among_more, own_more, opened_last, there_more)
+owned_opened {writer} {next} {slot} {old} {new} two made = grind (arith, common_steps, by_place, or-false, among_more, opened_last, there_more, cases_lt, none_past, file_before, at_end, eq-eqb, false≢true)
 
 unmade_keeps : {name : List ℕ} {old new : List Slot} {f : Fault} → MakesNone old name new f → (place : ℕ) → has_file (slot_at new place).state ≡ has_file (slot_at old place).state
 unmade_keeps (unnamed same) place = grind (arith, common_steps)
 unmade_keeps {old} (failed _ (broke slot kept number is added)) place = grind (arith, common_steps)
 unmade_keeps (failed _ (numberless full same)) place = grind (arith, common_steps)
 
-unmade_size : {name : List ℕ} {old new : List Slot} {f : Fault} → MakesNone old name new f → length old ≤ length new
-unmade_size fact = grind (arith, common_steps)
-
 pub owned_unopened : {writer : WriterState} {name : List ℕ} {old new : List Slot} {f : Fault} → MakesNone old name new f → KeepsFiles writer (record writer { current = Unopened }) old new
-owned_unopened {writer} {old} {new} none = search (rules, unmade_size, unmade_keeps, there_still)
+owned_unopened {writer} {old} {new} none = grind (arith, common_steps, unmade_keeps, there_still)
 
 -- Which faults come
 
@@ -335,9 +325,6 @@ file_now : {told : Bool} {writer next : WriterState} {slot size : ℕ} {bytes : 
 file_now {size = size} {bytes} None is appends = (size + length bytes, appends.current)
 file_now {size = size} (Some why) is appends = (size, appends.still ∙ is)
 
-pub wrote_made : (told : Bool) (slot : ℕ) (bytes : List ℕ) {old new : List Slot} (fault : Option Fault) → Wrote told slot bytes old new fault → KeepsMade old new
-wrote_made told slot bytes fault wrote = grind (arith, common_steps, made_write, made_short)
-
 wrote_slots : (told : Bool) (style : Style) (slot : ℕ) (bytes : List ℕ) (old new : List Slot) (fault : Option Fault) → (2 ≤ slot) × IsTrue (is_writable old slot) → Wrote told slot bytes old new fault → KeepsOrBreaks style old new fault
 wrote_slots told style slot bytes old new None at wrote = keeps_write slot _ old new wrote
 wrote_slots told style slot bytes old new (Some _) at (short.broke n cut) = (λ none. absurd (omega (arith, at.0, none)), write_rose told slot bytes n old new at.1 cut)
@@ -348,7 +335,7 @@ appends_ready fault at ready appends = grind (arith, common_steps, made_write, w
 
 pub appends_leaves : {told : Bool} {writer next : WriterState} {slot size : ℕ} {bytes : List ℕ} {old new : List Slot} {fault : Option Fault} → writer.current ≡ File slot size → IsReady writer old → Appends told writer slot size bytes old new next fault
     → Leaves writer next old new fault
-appends_leaves {told} {writer} {slot = slot} {bytes = bytes} {old} {new} {fault} is ready appends = search (rules, wrote_made, owned_same, file_now, last_file, wrote_slots, at_file, appends_ready)
+appends_leaves {told} {writer} {slot = slot} {bytes = bytes} {old} {new} {fault} is ready appends = search (rules, owned_same, file_now, last_file, wrote_slots, at_file, appends_ready, made_write, made_short)
 
 pub put_file : {told : Bool} {writer next : WriterState} {slot size : ℕ} (bytes : List ℕ) {old new : List Slot} {fault : Option Fault} → writer.current ≡ File slot size → IsReady writer old → Appends told writer slot size bytes old new next fault
     → Goes told writer (with_bytes bytes) old new next fault
@@ -375,9 +362,6 @@ unmade_falls : {told : Bool} (writer : WriterState) (ended : List Contents) (one
 unmade_falls {told} writer ended one {old} {new} {f} makes closed count none =
     opens_not told (size_lines writer.style ended) (files_of writer.style 0 ended) (closed_files writer.style 0 ended closed) (more_begins writer.style ended one) (grind (arith, common_steps, part_made, makes))
     (subst (λ n. MakesNone old (numbered_name writer.style.prefix writer.style.digits n) new f) count none)
-
-current_made : {writer next : WriterState} {slot : ℕ} {old new : List Slot} → Made writer old new next slot → next.current ≡ File slot 0
-current_made made = grind (arith, common_steps)
 
 pub made_ready : {writer next : WriterState} {slot : ℕ} {old new : List Slot} → IsReady writer old → Made writer old new next slot → IsReady next new
 made_ready {writer} {slot} {old} {new} ready made = record {
@@ -427,7 +411,7 @@ put_first {told} {writer} {made} {next} {slot} bytes {old} {mid} {new} {fault} i
   writes = (grind (arith, common_steps, where_well, unwritten, made_count, count_made, now_is));
 } where
   leaves : Leaves writer next old new fault
-  leaves = leaves_again (made_leaves ready makes) (appends_leaves (current_made makes) (made_ready ready makes) appends)
+  leaves = leaves_again (made_leaves ready makes) (appends_leaves (grind (arith, common_steps)) (made_ready ready makes) appends)
 
 -- A section begins, where none is open
 

@@ -36,15 +36,13 @@ first_match_as operand lines from some = elim (cases_lt (length lines) (from - 1
 -- no other line is the first
 
 -- so there is one first match
-matches_once : (operand : Operand) (lines : List Line) (from : ℕ) (one other : Option ℕ) → MatchesAs operand lines from one → MatchesAs operand lines from other → one ≡ other
-matches_once operand lines from one other none also = grind (arith, common_steps)
 
 pub search_some : (suppress : Bool) (state : State) → 1 ≤ search_line suppress state
 search_some suppress state = grind (arith, common_steps)
 
 first_is : (suppress : Bool) (operand : Operand) (lines : List Line) (state : State) (matched : Option ℕ) → MatchesAs operand lines (search_line suppress state) matched
     → first_match operand lines (search_line suppress state) ≡ matched
-first_is suppress operand lines state matched is = grind (arith, common_steps, matches_once, first_match_as, search_some)
+first_is suppress operand lines state matched is = grind (arith, common_steps, first_match_as, search_some)
 
 -- Laws that traits cite: the plan that is computed is the one plan there is, and it goes on as the lines do.
 
@@ -81,10 +79,6 @@ fewer_operands : (total : ℕ) (state : State) (operands : List Operand) → nee
 fewer_operands total state [] = omega arith
 fewer_operands total state (operand ∷ operands) = grind (arith, common_steps)
 
-pub moves_of : (suppress : Bool) (lines : List Line) (state : State) (operand : Operand) (target : Target)
-    (matched cut : ℕ) → CutsAt suppress lines state operand target matched cut → Moves (length lines) state target matched cut
-moves_of suppress lines state operand target matched cut at = grind (arith, common_steps)
-
 pub fewer_left : (total : ℕ) (state next : State) (target : Target) {matched : ℕ} (cut : ℕ) → Moves total state target matched cut → 1 ≤ cut → cut ≤ total
     → next.repetition ≡ state.repetition + 1 → next.matched ≡ matched → left_of total next target < left_of total state target
 fewer_left total state next (Number zero) cut at some within again same = grind (arith, common_steps)
@@ -116,7 +110,7 @@ fewer_moves suppress total state {operand} {operands} matched cut is at some wit
 pub fewer : (suppress : Bool) (lines : List Line) (state : State) {operand : Operand} {operands : List Operand}
     (matched cut : ℕ) → state.operands ≡ operand ∷ operands → CutsAt suppress lines state operand operand.target matched cut → 1 ≤ cut → cut ≤ length lines
     → needed (length lines) (state_after suppress operand operands state.repetition matched cut) < needed (length lines) state
-fewer suppress lines state {operand} matched cut is at some within = grind (arith, common_steps, fewer_moves, moves_of)
+fewer suppress lines state {operand} matched cut is at some within = grind (arith, common_steps, fewer_moves)
 
 pub line_some : (suppress : Bool) (cut : ℕ) → cut ≤ line_after suppress cut
 line_some suppress cut = grind (arith, common_steps)
