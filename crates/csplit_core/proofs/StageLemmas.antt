@@ -255,9 +255,6 @@ judged_next {cutter} {aim = aim} {x = x} within here aimed made judged = grind (
 
 -- the lines after the first ones, as bytes
 
-pub waiting_live : {cutter : CutterState} {x : List ℕ} (live : IsLive cutter x) → bytes_of (waiting_lines (all_lines x) (plan (suppress_in cutter) cutter.operands (all_lines x))) ≡ cutter.window.held
-waiting_live {cutter} {x} live = grind (arith, common_steps, runs_to, are_within, length-all_lines, live_taken, plan_once, drop-map, bytes_marked, lines_of-after_lines, from_further)
-
 -- How many bytes wait.
 
 -- what the cutter holds is the end of the complete lines
@@ -268,7 +265,7 @@ held_within {cutter} {x} live =
     let same : length cutter.window.held ≡ length (text_from (cutter.progress.current + live.at.taken) x) = ap length live.at.left_is in omega (arith, long, same)
 
 live_waiting : (stage : CsplitState) (x : List ℕ) (live : IsLive stage.cutter (whole_lines x)) → stage.rest ≡ open_line x → waiting stage.cutter.writer.style stage.cutter.operands x ≡ stage.cutter.window.held ++ stage.rest
-live_waiting stage x live rest_is = grind (arith, common_steps, all_complete, waiting_live, plan_once, runs_to)
+live_waiting stage x live rest_is = grind (arith, common_steps, all_complete, plan_once, runs_to, are_within, length-all_lines, live_taken, drop-map, bytes_marked, lines_of-after_lines, from_further)
 
 pub held_is : {stage : CsplitState} {x : List ℕ} {result : ℕ} → Holds stage x → length x < 2 ^ 63 → result ≡ min (length stage.cutter.window.held + length stage.rest) (2 ^ 64 - 1) → result ≡ length (waiting stage.cutter.writer.style stage.cutter.operands x)
 held_is {stage} {x} {result} holds few is = by holds.stands where

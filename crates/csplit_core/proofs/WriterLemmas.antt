@@ -329,13 +329,9 @@ wrote_slots : (told : Bool) (style : Style) (slot : ℕ) (bytes : List ℕ) (old
 wrote_slots told style slot bytes old new None at wrote = keeps_write slot _ old new wrote
 wrote_slots told style slot bytes old new (Some _) at (short.broke n cut) = (λ none. absurd (omega (arith, at.0, none)), write_rose told slot bytes n old new at.1 cut)
 
-appends_ready : {told : Bool} {writer next : WriterState} {slot size : ℕ} {bytes : List ℕ} {old new : List Slot} (fault : Option Fault) → (2 ≤ slot) × IsTrue (is_writable old slot) → IsReady writer old → Appends told writer slot size bytes old new next fault
-    → IfNone fault (IsReady next new)
-appends_ready fault at ready appends = grind (arith, common_steps, made_write, written_writable, there_same)
-
 pub appends_leaves : {told : Bool} {writer next : WriterState} {slot size : ℕ} {bytes : List ℕ} {old new : List Slot} {fault : Option Fault} → writer.current ≡ File slot size → IsReady writer old → Appends told writer slot size bytes old new next fault
     → Leaves writer next old new fault
-appends_leaves {told} {writer} {slot = slot} {bytes = bytes} {old} {new} {fault} is ready appends = search (rules, owned_same, file_now, last_file, wrote_slots, at_file, appends_ready, made_write, made_short)
+appends_leaves {told} {writer} {slot = slot} {bytes = bytes} {old} {new} {fault} is ready appends = search (rules, owned_same, file_now, last_file, wrote_slots, at_file, made_write, made_short, written_writable, there_same)
 
 pub put_file : {told : Bool} {writer next : WriterState} {slot size : ℕ} (bytes : List ℕ) {old new : List Slot} {fault : Option Fault} → writer.current ≡ File slot size → IsReady writer old → Appends told writer slot size bytes old new next fault
     → Goes told writer (with_bytes bytes) old new next fault
