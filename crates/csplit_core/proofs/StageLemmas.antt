@@ -17,8 +17,8 @@ use Rattle.csplit_core.specs.Plan.{State, start, Step, Ending, below, Runs, miss
 use Rattle.csplit_core.specs.Planned.{plan, Plan}
 use Rattle.csplit_core.specs.laws.PlanLaws.{plan_runs, plan_once}
 use Rattle.csplit_core.specs.Progress.{state_of, AimsAt, EndsHere}
-use Rattle.csplit_core.specs.inner.Cutter.{AreSeen, Turns, MovesOn, IsNoCut, Opened, settled_part, whole_part, IsJudged, EndsAll, IsWhole, Takes, IsLine, Clears, Keeps, Closed, Closes, ended_so, Judges, Passes, Sweeps, ended_well, ended_short}
-use Rattle.csplit_core.specs.Section.{settled_end, is_final, whole_end, bytes_of, waiting_lines, section_of, lines_between, whole_sections}
+use Rattle.csplit_core.specs.inner.Cutter.{AreSeen, Turns, MovesOn, Opened, settled_part, whole_part, IsJudged, EndsAll, IsWhole, Takes, IsLine, Clears, Keeps, Closed, Closes, ended_so, Judges, Passes, Sweeps, ended_well, ended_short}
+use Rattle.csplit_core.specs.Section.{settled_end, is_final, whole_end, bytes_of, waiting_lines, section_of, whole_sections}
 use Rattle.csplit_core.specs.declared.progress.Progress.{Progress}
 use Rattle.csplit_core.specs.declared.progress.Turn.{Turn}
 use Rattle.csplit_core.specs.declared.progress.Turn.TheVariants.{Below, Missed, Above}

@@ -8,8 +8,8 @@ use Rattle.ports_core.specs.Part.{Part, Begins}
 use Rattle.ports_core.specs.Slot.{Slot}
 use Rattle.ports_core.specs.declared.fault.Fault.{Fault}
 use Rattle.csplit_core.specs.Input.{newline, all_lines, without_newline}
-use Rattle.csplit_core.specs.Operand.{Operand, Line}
-use Rattle.csplit_core.specs.Plan.{State, Ending, CutsAt}
+use Rattle.csplit_core.specs.Operand.{Operand}
+use Rattle.csplit_core.specs.Plan.{CutsAt}
 use Rattle.csplit_core.specs.Output.{Style}
 use Rattle.csplit_core.specs.Planned.{Plan, plan}
 use Rattle.csplit_core.specs.laws.PlanLaws.{plan_runs}
@@ -25,7 +25,7 @@ use Rattle.csplit_core.specs.Cutter.{CutterState, suppress_in, state_in, settled
 use Rattle.csplit_core.proofs.CutterLemmas.{at_more, part_more, live_part, left_count, few_taken, live_taken, settled_part_is, most_is, draft_is, final_count, ended_still, keeps_on, settled_same}
 use Rattle.csplit_core.proofs.LineLemmas.{all_lines-append, all_lines-line, length-all_lines, count-line, whole_count, whole_from, whole-append, whole_drop, rest_all}
 use Rattle.csplit_core.proofs.WriterLemmas.{leaves_still, reaches_as, reaches_still, where_well, reaches_again, stops_wider}
-use Rattle.csplit_core.proofs.TryLemmas.{EndsStill, stays}
+use Rattle.csplit_core.proofs.TryLemmas.{stays}
 use Rattle.csplit_core.specs.declared.line_cutter.Passed.{Passed}
 use Rattle.ports_core.proofs.PartLemmas.{part_trans}
 use Rattle.csplit_core.specs.inner.PlanLaws.{needed}

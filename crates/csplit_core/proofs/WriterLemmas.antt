@@ -10,7 +10,6 @@ use Rattle.ports_core.proofs.SlotLemmas.{length-changed_at}
 use Rattle.ports_core.proofs.PartLemmas.{begins_itself, begins_more, take_begins_after, files_begin_themselves, part_begins_itself, out_more, turn_between, turn_next}
 use Rattle.csplit_core.specs.inner.Writer.{MakesNone, unnamed, failed, with_bytes, with_section, At, KeepsFiles, KeepsOrBreaks, Leaves, Reaches, Made, next_name, Appends, Makes, with_kept, first_draft, Goes, BegunNot, new_writer, paused}
 use Rattle.ports_core.specs.inner.Write.{Wrote, WritesShort}
-use Rattle.ports_core.specs.inner.Slot.{KeepsBroken}
 use Rattle.ports_core.specs.declared.fault.Fault.TheVariants.{Memory}
 use Rattle.ports_core.proofs.HandedOn.{handed_on}
 use Rattle.csplit_core.specs.Output.{Style, part_by, Contents, makes_file, file_at, files_of, size_line, size_lines, is_empty}
