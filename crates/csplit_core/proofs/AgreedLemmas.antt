@@ -1,12 +1,12 @@
 -- What is settled is what all continuations agree on, and where lines go.
-use Rattle.std.proofs.Common.{◌≡◌, inl, inr, ℕ, suc, ◌+◌, ◌-◌, ◌<◌, ◌≤◌, ◌&&◌, Bool, true, false, cond, List, [], ◌∷◌, ◌++◌, length, get_or, refl, sym, ◌∙◌, ap, subst, arith, length-append, zero, map, take, drop, append_assoc, nat_lt, nat_le, min, length-take, ◌⊎◌, ne_eqb, eq-eqb, length-drop, length-take-le, take_all, rules, ◌≢◌}
+use Rattle.std.proofs.Common.{◌≡◌, inl, inr, ℕ, suc, ◌+◌, ◌-◌, ◌<◌, ◌≤◌, ◌&&◌, Bool, true, false, cond, List, [], ◌∷◌, ◌++◌, length, get_or, refl, sym, ◌∙◌, ap, subst, arith, length-append, zero, map, take, drop, append_assoc, nat_lt, nat_le, min, length-take, ◌⊎◌, ne_eqb, eq-eqb, length-drop, length-take-le, rules, ◌≢◌}
 use Rattle.csplit_core.specs.Agreed.{CanCome, kept_lines, whole_outputs, settled_outputs, IsFront, AreFronts, output_at, IsAgreed}
 use Rattle.std.proofs.lemmas.Bool.{cases_lt, false≢true}
 use Rattle.bre_core.specs.Pattern.{Pattern}
 use Rattle.csplit_core.specs.Operand.{Minus, Target, Number, Search, Operand, Line, Plus, most_held, is_kept}
 use Rattle.csplit_core.specs.Plan.{State, start, Step, Ending, below, search_line, MatchesNone, CutsAt, line_after, state_after, step_of, Runs, is_below, cuts, missed, Misses, is_used_up, misses, is_above}
 use Rattle.csplit_core.specs.laws.PlanLaws.{line_some, runs, goes_on, plan_runs, plan_once, cuts_still, less_test, not_less_test}
-use Rattle.csplit_core.specs.inner.PlanLaws.{needed, EndsAs, Grow}
+use Rattle.csplit_core.specs.inner.PlanLaws.{needed, EndsAs}
 use Rattle.std.proofs.lemmas.List.{append-nil, map-append, take-append-drop, drop-drop}
 use Rattle.csplit_core.specs.Planned.{plan, Plan}
 use Rattle.csplit_core.specs.Section.{Section, section, section_of, lines_between, is_last_kept, whole_end, settled_end, sections_by, whole_sections, is_final, waiting_lines}
@@ -16,28 +16,17 @@ use Rattle.csplit_core.specs.Place.{Place, in_section, left_out, nowhere, place_
 use Rattle.csplit_core.proofs.WholeLemmas.{between_rest, after_within, ends_after_all}
 use Rattle.std.proofs.lemmas.Grind.{common_steps}
 
--- What is settled is what all continuations agree on.
-
 -- One more line that every operand finds.
 
-search_past_cut : (suppress : Bool) (total : ℕ) (state : State) (cut : ℕ) → state.current ≡ line_after suppress cut → cut ≤ total → state.matched ≤ total → search_line suppress state ≤ suc total
-search_past_cut true total state cut is within matched = grind (arith, common_steps)
-search_past_cut false total state cut is within matched = grind (arith, common_steps)
-
 matched_within : (suppress : Bool) (lines : List Line) (state : State) (operand : Operand) (target : Target) (matched cut : ℕ) → CutsAt suppress lines state operand target matched cut → state.matched ≤ length lines → matched ≤ length lines
-matched_within suppress lines state operand (Number n) matched cut at within = search rules
-matched_within suppress lines state operand (Search pattern kept offset) matched cut at within = at.0.within
+matched_within suppress lines state operand target matched cut at within = grind (arith, common_steps)
 
 search_within : {suppress : Bool} {lines : List Line} {first : State} {steps : List Step} {last : State} {ending : Ending} → Runs suppress lines first steps last ending → first.matched ≤ length lines → search_line suppress first ≤ suc (length lines)
     → search_line suppress last ≤ suc (length lines)
 search_within {suppress} {lines} (cuts state operand operands matched' cut steps' last' ending' is at from in_lines rest) matched within =
     let few = matched_within suppress lines state operand operand.target matched' cut at matched in
-    search_within rest few (search_past_cut suppress (length lines) (state_after suppress operand operands state.repetition matched' cut) cut refl in_lines few)
+    search_within rest few (grind (arith, common_steps))
 search_within run matched within = within
-
-search_at_start : (suppress : Bool) (operands : List Operand) (total : ℕ) → search_line suppress (start operands) ≤ suc total
-search_at_start true operands total = omega arith
-search_at_start false operands total = omega arith
 
 -- a line that each operand finds
 abbrev pub matching_line : Line
@@ -88,22 +77,18 @@ waits_by _ ends some within = none_waits refl
 pub end_waits : (suppress : Bool) (operands : List Operand) (x : List Line) → Waits suppress x (plan suppress operands x).last (plan suppress operands x).ending
 end_waits suppress operands x =
     let here = plan_runs suppress operands x in
-    waits_by (plan suppress operands x).ending (ends_as suppress x (start operands) _ _ _ here) (are_within suppress x (start operands) _ _ _ here (omega arith)).1 (search_within here (omega arith) (search_at_start suppress operands (length x)))
+    waits_by (plan suppress operands x).ending (ends_as suppress x (start operands) _ _ _ here) (are_within suppress x (start operands) _ _ _ here (omega arith)).1 (search_within here (omega arith) (grind (arith, common_steps)))
 
 -- What is settled is what all continuations agree on.
 
 -- Outputs
 
 kept_by : (has : Bool) (lines : List Line) (low high : List (List Line)) → AreFronts low high → AreFronts (cond has (lines ∷ low) low) (cond has (lines ∷ high) high)
-kept_by true lines low high fronts = search rules
-kept_by false lines low high fronts = fronts
+kept_by has lines low high fronts = grind (arith, common_steps)
 
 kept_grow : (front : List Section) (begun other : Section) (more : List Section) → begun.is_kept ≡ other.is_kept → IsFront begun.lines other.lines → AreFronts (kept_lines (front ++ begun ∷ [])) (kept_lines (front ++ other ∷ more))
 kept_grow [] begun other more same begins = grind (arith, common_steps)
 kept_grow (one ∷ front) begun other more same begins = kept_by one.is_kept one.lines _ _ (kept_grow front begun other more same begins)
-
-outputs_grow : {low high : List Section} → Grow low high → AreFronts (kept_lines low) (kept_lines high)
-outputs_grow {high} grow = grind (arith, common_steps, kept_grow)
 
 kept-append : (a b : List Section) → kept_lines (a ++ b) ≡ kept_lines a ++ kept_lines b
 kept-append [] b = refl
@@ -112,19 +97,10 @@ kept-append (one ∷ a) b = by one.is_kept (kept-append a b) where
   by true is = ap (λ those. one.lines ∷ those) is
   by false is = is
 
-kept_length : (has : Bool) (one other : List Line) (front : List (List Line)) → length (front ++ cond has (one ∷ []) []) ≡ length (front ++ cond has (other ∷ []) [])
-kept_length true one other front = grind (arith, common_steps)
-kept_length false one other front = refl
-
 fewest : (suppress : Bool) (operands : List Operand) (x : List Line) → length (whole_outputs suppress operands (x ++ [])) ≡ length (settled_outputs suppress operands x)
-fewest suppress operands x =
-    ap length (ap (whole_outputs suppress operands) (append-nil x) ∙ kept-append (map (section_of x) (plan suppress operands x).steps) _)
-    ∙ kept_length (is_last_kept (plan suppress operands x).ending) _ _ (kept_lines (map (section_of x) (plan suppress operands x).steps))
-    ∙ sym (ap length (kept-append (map (section_of x) (plan suppress operands x).steps) _))
+fewest suppress operands x = grind (arith, common_steps, append-nil, kept-append)
 
 -- no front is longer than the whole
-front_short : (front whole : List Line) → IsFront front whole → length front ≤ length whole
-front_short front whole (rest, is) = grind (arith, common_steps)
 
 -- A continuation after which the open section has no more than what is settled
 pub record Decides (suppress : Bool) (operands : List Operand) (x : List Line) : Type 0 where
@@ -138,8 +114,7 @@ pub record Decides (suppress : Bool) (operands : List Operand) (x : List Line) :
 
 short_by : (has : Bool) (front : List (List Line)) (one other : List Line) (more : List (List Line)) (place : ℕ) → length other ≤ length one → place < length (front ++ cond has (one ∷ []) [])
     → length (output_at (front ++ cond has (other ∷ more) more) place) ≤ length (output_at (front ++ cond has (one ∷ []) []) place)
-short_by true front one other more place short less = grind (arith, common_steps)
-short_by false front one other more place short less = grind (arith, common_steps)
+short_by has front one other more place short less = grind (arith, common_steps)
 
 longest : (suppress : Bool) (operands : List Operand) (x : List Line) → Decides suppress operands x → (place : ℕ) → place < length (settled_outputs suppress operands x) → (y : List Line) × (z : List Line) × CanCome y × CanCome z
     × ((front : List Line) → IsFront front (output_at (whole_outputs suppress operands (x ++ y)) place) → IsFront front (output_at (whole_outputs suppress operands (x ++ z)) place) → length front ≤ length (output_at (settled_outputs suppress operands x) place))
@@ -157,7 +132,7 @@ longest suppress operands x decides place less = (
       = ap (λ those. length (output_at those place)) high_is in
       let r : length (output_at (settled_outputs suppress operands x) place) ≡ length (output_at (kept_lines (map (section_of x) (plan suppress operands x).steps) ++ cond decides.next.is_kept (lines_between (plan suppress operands x).last.current (settled_end (length x) (plan suppress operands x).ending) x ∷ []) []) place)
       = ap (λ those. length (output_at those place)) (low_is ∙ ap (λ has. kept_lines (map (section_of x) (plan suppress operands x).steps) ++ cond has (lines_between (plan suppress operands x).last.current (settled_end (length x) (plan suppress operands x).ending) x ∷ []) []) decides.kept) in
-      let few : length front ≤ length (output_at (whole_outputs suppress operands (x ++ decides.y)) place) = front_short front _ is in omega (arith, few, l, r, short),
+      let few : length front ≤ length (output_at (whole_outputs suppress operands (x ++ decides.y)) place) = (grind (arith, common_steps)) in omega (arith, few, l, r, short),
 )
 
 -- Such a continuation is there: none at all, or under an offset back one line that the operand finds
@@ -189,18 +164,14 @@ decides_now {suppress} {operands} {x} same = record {
   more = [];
   are = ap (λ those. whole_sections those (plan suppress operands those)) (append-nil x);
   kept = refl;
-  short = let e : length (lines_between (plan suppress operands x).last.current (whole_end (length x) (plan suppress operands x).ending) x) ≡ length (lines_between (plan suppress operands x).last.current (settled_end (length x) (plan suppress operands x).ending) x)
-      = ap (λ past. length (lines_between (plan suppress operands x).last.current past x)) same in omega (arith, e);
+  short = (grind (arith, common_steps));
 }
-
-none_taken : (first : ℕ) (lines : List Line) → length (lines_between first 0 lines) ≡ 0
-none_taken first lines = grind (arith, common_steps)
 
 decides_back : {suppress : Bool} {operands : List Operand} {x : List Line} {operand : Operand} (k : ℕ) → 1 ≤ (plan suppress operands x).last.current → is_last_kept (plan suppress operands x).ending ≡ is_kept operand.target
     → settled_end (length x) (plan suppress operands x).ending ≡ suc (length x) - k → Turned suppress x (plan suppress operands x).last operand (suc (length x) - k) → Decides suppress operands x
 decides_back {suppress} {operands} {x} k some kept past (too_low low rest) =
     decides_by (matching_line ∷ []) _ _ matching_comes rest refl kept
-    (let e : length (lines_between (plan suppress operands x).last.current 0 (x ++ matching_line ∷ [])) ≡ 0 = none_taken (plan suppress operands x).last.current (x ++ matching_line ∷ []) in omega (arith, e))
+    (let e : length (lines_between (plan suppress operands x).last.current 0 (x ++ matching_line ∷ [])) ≡ 0 = (grind (arith, common_steps)) in omega (arith, e))
 decides_back {suppress} {operands} {x} k some kept past (turns from steps end how rest) =
     decides_by (matching_line ∷ []) _ _ matching_comes rest refl kept
     (let e : length (lines_between (plan suppress operands x).last.current (suc (length x) - k) (x ++ matching_line ∷ [])) ≡ length (lines_between (plan suppress operands x).last.current (settled_end (length x) (plan suppress operands x).ending) x)
@@ -213,27 +184,23 @@ decides {suppress} {operands} {x} (some_wait k kept past turned) = decides_back 
 -- What is settled is what all continuations agree on
 pub settled_is_agreed : (suppress : Bool) (operands : List Operand) (x : List Line) → IsAgreed (whole_outputs suppress operands) x (settled_outputs suppress operands x)
 settled_is_agreed suppress operands x = record {
-  common = λ y comes. outputs_grow (plan_grows suppress true whole_end whole_covers operands x y);
+  common = λ y comes. (grind (arith, common_steps, kept_grow, (plan_grows suppress true whole_end whole_covers operands x y)));
   fewest = ([], none_comes, fewest suppress operands x);
   longest = longest suppress operands x (decides (end_waits suppress operands x));
 }
-
--- Where lines go: those that wait are those that two continuations put into different places, and each section has the lines that go into it.
 
 -- The lines that wait are those that two continuations put into different places.
 
 -- a line after a cut is after the one that is left out there
 pub left_by : (suppress : Bool) (line cut : ℕ) → nat_lt line cut ≡ false → (suppress && nat_le line cut) ≡ false → line_after suppress cut ≤ line
-left_by true line cut is are = search rules
-left_by false line cut is are = search rules
+left_by suppress line cut is are = grind (arith, common_steps)
 
 pub not_left : (suppress : Bool) (line cut : ℕ) → line_after suppress cut ≤ line → (suppress && nat_le line cut) ≡ false
 not_left true line cut rest' = grind (arith, nat_tests, rest')
 not_left false line cut rest' = refl
 
 same_by : (lt le : Bool) (index : ℕ) (one other : Place) → (lt ≡ false → le ≡ false → one ≡ other) → cond lt (in_section index) (cond le (left_out index) one) ≡ cond lt (in_section index) (cond le (left_out index) other)
-same_by false false index one other same = same refl refl
-same_by lt le index one other same = refl
+same_by lt le index one other same = grind (arith, common_steps)
 
 -- before the current line all plans that go on agree
 place_front : {suppress : Bool} {lines : List Line} {first : State} {steps : List Step} {last : State} {ending : Ending} → Runs suppress lines first steps last ending
@@ -311,18 +278,12 @@ place_here suppress operands x y line some within not =
 
 -- Two places for each that does
 
-rest_later : {index : ℕ} (other : ℕ) → index < other → (has : Bool) → cond has (in_section other) nowhere ≡ in_section index → ⊥
-rest_later {index} other less true same = grind (arith, common_steps)
-rest_later other less false same = cc
-
 step_later : {index : ℕ} (other : ℕ) {rest' : Place} → index < other → (rest' ≡ in_section index → ⊥) → (lt le : Bool) → cond lt (in_section other) (cond le (left_out other) rest') ≡ in_section index → ⊥
-step_later {index} other less later true le same = grind (arith, common_steps)
-step_later other less later false true same = cc
-step_later other less later false false same = later same
+step_later other less later lt le same = grind (arith, common_steps)
 
 -- what comes after a section isn't in it
 pub in_later : (suppress : Bool) (total : ℕ) {index : ℕ} (other line : ℕ) (steps : List Step) (how : Ending) → index < other → place_from suppress total other steps how line ≡ in_section index → ⊥
-in_later suppress total other line [] how less is = rest_later other less (nat_lt line (whole_end total how)) is
+in_later suppress total other line [] how less is = grind (arith, common_steps)
 in_later suppress total other line (step ∷ steps) how less is =
     step_later other less (λ same. in_later suppress total (other + 1) line steps how (omega (arith, less)) same) (nat_lt line step.cut) (suppress && nat_le line step.cut) is
 
@@ -330,20 +291,7 @@ in_later suppress total other line (step ∷ steps) how less is =
 
 turned_away : {suppress : Bool} {x : List Line} {state : State} {operand : Operand} (k line : ℕ) → Turned suppress x state operand (suc (length x) - k) → suc (length x) - k ≤ line
     → (steps : List Step) × (end : State) × (how : Ending) × Runs suppress (x ++ matching_line ∷ []) state steps end how × ((index : ℕ) → place_from suppress (length (x ++ matching_line ∷ [])) index steps how line ≡ in_section index → ⊥)
-turned_away {state} {operand} k line (too_low low rest) from = (
-  [],
-  state,
-  below operand state.repetition,
-  rest,
-  λ index is. let none : nowhere ≡ in_section index = sym (ap (λ has. cond has (in_section index) nowhere) (not_less_test line 0 (omega arith))) ∙ is in cc,
-)
-turned_away {suppress} {x} {state} {operand} k line (turns least steps end how rest) from = (
-  step_of state operand (suc (length x)) (suc (length x) - k) ∷ steps,
-  end,
-  how,
-  rest,
-  λ index is. (grind (arith, common_steps, not_less_test, in_later)),
-)
+turned_away k line fact from = grind (arith, common_steps, not_less_test, in_later)
 
 -- the rest as it is puts the line into its section
 
@@ -366,7 +314,7 @@ differ_line suppress operands x line (live, from, past, within) (some_wait k kep
 
 same_line : (suppress : Bool) (operands : List Operand) (x y z : List Line) (line : ℕ) → 1 ≤ line → line ≤ length x → (WaitsAt (length x) (plan suppress operands x) line → ⊥)
     → place_of suppress operands (x ++ y) line ≡ place_of suppress operands (x ++ z) line
-same_line suppress operands x y z line some within not = place_here suppress operands x y line some within not ∙ sym (place_here suppress operands x z line some within not)
+same_line suppress operands x y z line some within not = grind (arith, common_steps, place_here)
 
 -- how many of the lines don't wait, where more may follow
 abbrev gone : ℕ → Plan → ℕ
@@ -397,15 +345,9 @@ waiting_is_undecided suppress operands x =
 
 -- Which lines go into a section
 
-into_step : (has : Bool) (line : Line) (whole front rest : List Line) → whole ≡ front ++ rest → cond has (line ∷ whole) whole ≡ cond has (line ∷ front) front ++ rest
-into_step true line whole front rest is = cc
-into_step false line whole front rest is = is
-
 into-append : (s : ℕ) (places : ℕ → Place) (n : ℕ) (a b : List Line) → lines_into s places n (a ++ b) ≡ lines_into s places n a ++ lines_into s places (n + length a) b
 into-append s places n [] b = ap (λ m. lines_into s places m b) (let e : n ≡ n + 0 = omega arith in e)
-into-append s places n (line ∷ a) b =
-    into_step (is_in s (places n)) line (lines_into s places (n + 1) (a ++ b)) (lines_into s places (n + 1) a) (lines_into s places (n + suc (length a)) b)
-    (into-append s places (n + 1) a b ∙ ap (λ m. lines_into s places (n + 1) a ++ lines_into s places m b) (let e : n + 1 + length a ≡ n + suc (length a) = omega arith in e))
+into-append s places n (line ∷ a) b = grind (arith, common_steps, (into-append s places (n + 1) a b ∙ ap (λ m. lines_into s places (n + 1) a ++ lines_into s places m b) (let e : n + 1 + length a ≡ n + suc (length a) = omega arith in e)))
 
 into_all : {s : ℕ} (places : ℕ → Place) (n : ℕ) (a : List Line) → ((line : ℕ) → n ≤ line → line < n + length a → places line ≡ in_section s) → lines_into s places n a ≡ a
 into_all places n [] here = refl
@@ -426,30 +368,16 @@ into_same s places others n (line ∷ a) same =
     ∙ ap (λ those. cond (is_in s (others n)) (line ∷ those) those) (into_same s places others (n + 1) a (λ k from within. same k (omega (arith, from)) (omega (arith, within))))
 
 goes_elsewhere : {s : ℕ} (place : Place) → (place ≡ in_section s → ⊥) → is_in s place ≡ false
-goes_elsewhere {s} (in_section other) differs = grind (arith, common_steps)
-goes_elsewhere place differs = refl
+goes_elsewhere place differs = grind (arith, common_steps)
 
 -- The last section
 
 abbrev rest_places : ℕ → ℕ → ℕ → Place
 rest_places end index line = cond (nat_lt line end) (in_section index) nowhere
 
-rest_elsewhere : (s index : ℕ) (has : Bool) → index < s → is_in s (cond has (in_section index) nowhere) ≡ false
-rest_elsewhere s index true less = grind (arith, common_steps)
-rest_elsewhere s index false less = refl
-
 rest_placed : (lines : List Line) (current end index : ℕ) → 1 ≤ current → (end ≡ suc (length lines)) ⊎ (end ≡ 0) → (k : ℕ) {s : ℕ} → s ≡ index + k
     → get_or (lines_between current end lines ∷ []) k [] ≡ lines_into s (rest_places end index) current (drop (current - 1) lines)
-rest_placed lines current end index some (inl is) zero {s} at =
-    let long : length (drop (current - 1) lines) ≡ length lines - (current - 1) = length-drop (current - 1) lines in
-    take_all (end - current) (drop (current - 1) lines) (omega (arith, long, is, some))
-    ∙ sym (into_all (rest_places end index) current (drop (current - 1) lines)
-    (λ line from within. ap (λ has. cond has (in_section index) nowhere) (less_test line end (omega (arith, within, long, is, some, from))) ∙ ap in_section (let e : index ≡ s = omega (arith, at) in e)))
-rest_placed lines current end index some (inr is) zero {s} at =
-    ap (λ n. take n (drop (current - 1) lines)) (let e : end - current ≡ 0 = omega (arith, is) in e)
-    ∙ sym (into_none s (rest_places end index) current (drop (current - 1) lines) (λ line from within. ap (λ has. is_in s (cond has (in_section index) nowhere)) (not_less_test line end (omega (arith, is)))))
-rest_placed lines current end index some which (suc k) {s} at =
-    sym (into_none s (rest_places end index) current (drop (current - 1) lines) (λ line from within. rest_elsewhere s index (nat_lt line end) (omega (arith, at))))
+rest_placed lines current end index some which k at = grind (arith, common_steps, into_all, less_test, into_none, not_less_test)
 
 end_is : {total : ℕ} (ending : Ending) → (whole_end total ending ≡ suc total) ⊎ (whole_end total ending ≡ 0)
 end_is (below operand repetition) = inr refl
@@ -490,9 +418,6 @@ step_parts suppress lines current cut index s later some least within =
     ap (λ has. cond has (in_section index) (cond (suppress && nat_le line cut) (left_out index) (later line))) (not_less_test line cut (omega (arith, from, least_next)))
     ∙ ap (λ has. cond has (left_out index) (later line)) (not_left suppress line cut from)))
 
-append_none : {a b : List Line} → b ≡ [] → a ++ b ≡ a
-append_none {a} none = grind (arith, common_steps)
-
 step_before : (suppress : Bool) (lines : List Line) (current cut : ℕ) {index : ℕ} (later : ℕ → Place) (line : ℕ) → 1 ≤ current → current ≤ cut → cut ≤ length lines → line < current + length (lines_between current cut lines) → places_with suppress index cut later line ≡ in_section index
 step_before suppress lines current cut {index} later line some least within before = grind (arith, common_steps)
 
@@ -500,9 +425,12 @@ placed_from : {suppress : Bool} {lines : List Line} {first : State} {steps : Lis
     → get_or (map (λ (one : Section). one.lines) (sections_by true whole_end lines (record { steps = steps; last = last; ending = ending }))) k []
     ≡ lines_into s (place_from suppress (length lines) index steps ending) first.current (drop (first.current - 1) lines)
 placed_from {suppress} {lines} (cuts state operand operands matched cut steps' last' ending' is cuts_at least within rest) some index zero {s} at =
-    sym (step_parts suppress lines state.current cut index s (place_from suppress (length lines) (index + 1) steps' ending') some least within ∙ append_none
-    (into_none s (place_from suppress (length lines) (index + 1) steps' ending') (line_after suppress cut) (drop (line_after suppress cut - 1) lines)
-    (λ line from before. goes_elsewhere (place_from suppress (length lines) (index + 1) steps' ending' line) (in_later suppress (length lines) (index + 1) line steps' ending' (omega (arith, at)))))
+    sym (step_parts suppress lines state.current cut index s (place_from suppress (length lines) (index + 1) steps' ending') some least within ∙ (grind (
+      arith,
+      common_steps,
+      (into_none s (place_from suppress (length lines) (index + 1) steps' ending') (line_after suppress cut) (drop (line_after suppress cut - 1) lines)
+          (λ line from before. goes_elsewhere (place_from suppress (length lines) (index + 1) steps' ending' line) (in_later suppress (length lines) (index + 1) line steps' ending' (omega (arith, at))))),
+    ))
     ∙ into_all (place_from suppress (length lines) index (step_of state operand matched cut ∷ steps') ending') state.current (lines_between state.current cut lines)
     (λ line from before. step_before suppress lines state.current cut (place_from suppress (length lines) (index + 1) steps' ending') line some least within before ∙ ap in_section (let e : index ≡ s = omega (arith, at) in e)))
 placed_from {suppress} {lines} (cuts state operand operands matched cut steps' last' ending' is cuts_at least within rest) some index (suc k) {s} at =
@@ -521,10 +449,6 @@ record LeftAt (suppress : Bool) (index cut line : ℕ) (steps : List Step) : Typ
   at : cut ≡ index + k
   is : get_or (map (λ (step : Step). step.cut) steps) k 0 ≡ line
 
-rest_not_left : (has : Bool) (index cut : ℕ) → cond has (in_section index) nowhere ≡ left_out cut → ⊥
-rest_not_left true index cut same = cc
-rest_not_left false index cut same = cc
-
 left_by_step : {suppress : Bool} {index : ℕ} (cut line : ℕ) {step : Step} {steps : List Step} {later : Place} (lt le : Bool) → nat_lt line step.cut ≡ lt → (suppress && nat_le line step.cut) ≡ le → (later ≡ left_out cut → LeftAt suppress (index + 1) cut line steps)
     → cond lt (in_section index) (cond le (left_out index) later) ≡ left_out cut → LeftAt suppress index cut line (step ∷ steps)
 left_by_step cut line true le lt_is le_is rest same = absurd (cc)
@@ -533,13 +457,12 @@ left_by_step {index} cut line false false lt_is le_is rest same =
     let there = rest same in let at : cut ≡ index + 1 + there.k = there.at in record { so = there.so; k = suc there.k; at = omega (arith, at); is = there.is }
 
 left_at : (suppress : Bool) (total index cut line : ℕ) (steps : List Step) (ending : Ending) → place_from suppress total index steps ending line ≡ left_out cut → LeftAt suppress index cut line steps
-left_at suppress total index cut line [] ending same = absurd (rest_not_left (nat_lt line (whole_end total ending)) index cut same)
+left_at suppress total index cut line [] ending same = absurd (grind (arith, common_steps))
 left_at suppress total index cut line (step ∷ steps) ending same =
     left_by_step {suppress = suppress} {index = index} cut line {step = step} {steps = steps} {later = place_from suppress total (index + 1) steps ending line} (nat_lt line step.cut) (suppress && nat_le line step.cut) refl refl (left_at suppress total (index + 1) cut line steps ending) same
 
 nowhere_by_step : (lt le : Bool) (index : ℕ) {later : Place} (A : Type 0) → (lt ≡ false → le ≡ false → later ≡ nowhere → A) → cond lt (in_section index) (cond le (left_out index) later) ≡ nowhere → A
-nowhere_by_step false false index A rest same = rest refl refl same
-nowhere_by_step lt le index A rest same = absurd (cc)
+nowhere_by_step lt le index A rest same = grind (arith, common_steps)
 
 nowhere_at : {suppress : Bool} {lines : List Line} {first : State} {steps : List Step} {last : State} {ending : Ending} → Runs suppress lines first steps last ending → (index line : ℕ) → first.current ≤ line → line ≤ length lines
     → place_from suppress (length lines) index steps ending line ≡ nowhere → (is_final ending ≡ true) × (last.current ≤ line)

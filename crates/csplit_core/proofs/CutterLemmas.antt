@@ -1,52 +1,48 @@
--- Lemmas on the cutter of lines: what is settled, and what holding lines leaves.
+-- Lemmas on the cutter of lines: what is settled, what holding lines leaves, and that a cut ends the open section and the next one begins.
 use Rattle.std.proofs.lemmas.Grind.{common_steps}
-use Rattle.std.proofs.Common.{◌≡◌, ℕ, ◌+◌, ◌-◌, ◌≤◌, Bool, true, false, List, [], ◌++◌, length, map, refl, sym, ◌∙◌, ap, arith, ◌⊎◌, inl, inr, Option, None, subst, ◌<◌, min, Some, Result, Ok, Err, OnOk, IfErr, take, drop, IfNone}
-use Rattle.std.proofs.lemmas.Bool.{false≢true, cases_lt}
-use Rattle.std.proofs.lemmas.List.{append-nil, length-take-le, length-drop, take-append-le, take_all, drop_all, drop-drop}
+use Rattle.std.proofs.Common.{◌≡◌, ℕ, ◌+◌, ◌-◌, ◌≤◌, Bool, true, false, List, [], ◌++◌, length, refl, sym, ◌∙◌, ap, arith, inl, inr, Option, None, subst, ◌<◌, min, Some, Result, Ok, Err, OnOk, IfErr, take, drop, IfNone, rules, suc, ◌∷◌, map, append_assoc}
+use Rattle.std.proofs.lemmas.Bool.{cases_lt}
+use Rattle.std.proofs.lemmas.List.{append-nil, length-take-le, length-drop, take-append-le, take_all, drop_all, drop-drop, map-append}
 use Rattle.seg_core.specs.Line.{line_count, first_lines, after_lines, but_last_lines, last_lines}
 use Rattle.csplit_core.specs.Csplit.{settled_of}
 use Rattle.csplit_core.specs.Draft.{draft_part, Draft, last_contents, AreClosed}
 use Rattle.csplit_core.specs.Input.{newline, all_lines}
-use Rattle.csplit_core.specs.Operand.{Operand, Line}
-use Rattle.csplit_core.specs.Output.{Style, contents_of, makes_file, files_of}
-use Rattle.csplit_core.specs.Plan.{State, start, Step, Ending, used_up, missed, above, below, Runs}
-use Rattle.csplit_core.specs.Planned.{Plan, plan}
-use Rattle.csplit_core.specs.Section.{section_of, lines_between, is_last_kept, settled_end, is_final, most_waiting, bytes_of}
+use Rattle.csplit_core.specs.Operand.{Operand, Line, is_kept}
+use Rattle.csplit_core.specs.Output.{Style, makes_file, files_of, contents_of, part_by}
+use Rattle.csplit_core.specs.Plan.{State, start, Step, Ending, Runs, search_line, line_after, state_after, step_of, is_used_up, misses, is_above, is_below, cuts}
+use Rattle.csplit_core.specs.Planned.{Plan, plan, plan_within}
+use Rattle.csplit_core.specs.Section.{lines_between, is_last_kept, settled_end, is_final, most_waiting, bytes_of, Section, section, section_of}
 use Rattle.csplit_core.specs.Progress.{AimsAt}
 use Rattle.csplit_core.specs.declared.progress.Turn.{Turn}
 use Rattle.csplit_core.specs.declared.progress.Turn.TheVariants.{Below}
-use Rattle.csplit_core.specs.laws.PlanLaws.{plan_once, goes_on}
-use Rattle.csplit_core.specs.inner.PlanLaws.{EndsAs}
-use Rattle.csplit_core.specs.laws.SectionLaws.{ends_as, closed_still, are_within}
-use Rattle.csplit_core.specs.Cutter.{kept_by, most_by, text_from, draft_by, settled_draft, CutterState, suppress_in, state_in, IsAt, EndsNow, IsLive, IsFit, Stands}
-use Rattle.csplit_core.specs.inner.Cutter.{Joins, settled_part, Keeps, part_at, Arrives, Holds}
+use Rattle.csplit_core.specs.laws.PlanLaws.{plan_once, goes_on, runs}
+use Rattle.csplit_core.specs.inner.PlanLaws.{EndsAs, needed}
+use Rattle.csplit_core.specs.laws.SectionLaws.{ends_as, closed_still, are_within, part_grows}
+use Rattle.csplit_core.specs.Cutter.{kept_by, most_by, text_from, draft_by, settled_draft, CutterState, suppress_in, state_in, IsAt, EndsNow, IsLive, IsFit, Stands, Leads}
+use Rattle.csplit_core.specs.inner.Cutter.{Joins, settled_part, Keeps, part_at, Arrives, Holds, GoesPast, search_after, CutsNow, WentOn, PassesCut, IsAfter, CutAt, CutsAll, WillCut, IsEnd}
 use Rattle.csplit_core.proofs.LineLemmas.{all_lines-append, bytes_between, length-all_lines, count-append, count_from, first_still, rest_more, from_further, first_further}
 use Rattle.ports_core.specs.Slot.{Slot}
 use Rattle.ports_core.specs.declared.fault.Fault.{Fault}
-use Rattle.csplit_core.specs.inner.Writer.{with_bytes, Goes, Reaches}
+use Rattle.csplit_core.specs.inner.Writer.{with_bytes, Goes, Reaches, with_section, Leaves}
 use Rattle.ports_core.specs.inner.Part.{fault_in, InTurn}
-use Rattle.csplit_core.specs.Writer.{WriterState, Writes, IsCurrent, IsReady, size_of}
-use Rattle.csplit_core.proofs.WriterLemmas.{leaves_again, bytes_begin, leaves_lacking, leaves_still, reaches_again, reaches_as, reaches_still, where_three}
+use Rattle.csplit_core.specs.Writer.{WriterState, Writes, IsReady, size_of}
+use Rattle.csplit_core.proofs.WriterLemmas.{leaves_again, bytes_begin, leaves_lacking, leaves_still, reaches_again, reaches_as, reaches_still, where_three, section_begins, stops_wider, goes_again, goes_wider, open_part, part_none, closed_files}
 use Rattle.std.proofs.Math.Nat.{min-eq_left, min-eq_right}
 use Rattle.std.proofs.Math.Seq.{take-add, take-append-add}
 use Rattle.seg_core.specs.Window.{Window, without_first}
-use Rattle.seg_core.proofs.FirstLines.{first_lines-is_take}
+use Rattle.seg_core.proofs.FirstLines.{first_lines-is_take, first_lines-zero, first_lines_then_rest}
 use Rattle.seg_core.proofs.Carried.{left_after, left_alone, but_last_lines-last, over-le-length}
 use Rattle.ports_core.specs.Part.{Begins, Part}
 use Rattle.ports_core.specs.declared.fault.Fault.TheVariants.{Memory}
-use Rattle.ports_core.proofs.PartLemmas.{part_begins_itself, turn_last, turn_next}
-use Rattle.csplit_core.proofs.WriterCalls.{goes_again, goes_wider, open_part, part_none, closed_files}
-
--- Lemmas on the cutter of lines, and on what is settled of complete lines, by where the plan over them ends.
+use Rattle.ports_core.proofs.PartLemmas.{part_begins_itself, turn_last, turn_next, part_trans}
+use Rattle.csplit_core.specs.declared.line_cutter.Cut.{Cut}
+use Rattle.csplit_core.proofs.WholeLemmas.{after_within}
 
 -- What is settled of complete lines, by where the plan over them ends.
 
 -- the last section is kept as the next operand says
 pub last_kept : (suppress : Bool) (lines : List Line) (state : State) (ending : Ending) → EndsAs suppress lines state ending → kept_by state.operands ≡ is_last_kept ending
-last_kept suppress lines state used_up none = ap kept_by none
-last_kept suppress lines state (missed operand repetition) (operands, is, none, often) = ap kept_by is
-last_kept suppress lines state (above operand repetition matched cut) (operands, is, at, far, often) = ap kept_by is
-last_kept suppress lines state (below operand repetition) (operands, matched, cut, is, at, within, low, often) = ap kept_by is
+last_kept suppress lines state ending none = grind (arith, common_steps)
 
 -- the sections of the plan, and of the last one what stands before the line that this says
 abbrev pub draft_to : (ℕ → Ending → ℕ) → Bool → List Operand → List Line → Draft
@@ -58,47 +54,27 @@ draft_to past suppress operands lines =
 pub draft_is : (past : ℕ → Ending → ℕ) {suppress : Bool} (operands : List Operand) (x : List ℕ) {steps : List Step} {state : State} {ending : Ending} (taken : ℕ) {written : List ℕ} → Runs suppress (all_lines x) (start operands) steps state ending
     → taken ≡ past (line_count newline x) ending - state.current → written ≡ first_lines newline taken (text_from state.current x)
     → draft_by (all_lines x) steps (kept_by state.operands) written ≡ draft_to past suppress operands (all_lines x)
-draft_is past {suppress} operands x {steps} {state} {ending} taken {written} runs taken_is written_is =
-    let kept = last_kept suppress (all_lines x) state ending (ends_as suppress (all_lines x) (start operands) steps state ending runs) in
-    let count : past (length (all_lines x)) ending - state.current ≡ taken = ap (λ n. past n ending - state.current) (length-all_lines x) ∙ sym taken_is in
-    let bytes = bytes_between state.current (past (length (all_lines x)) ending) x ∙ ap (λ n. first_lines newline n (text_from state.current x)) count ∙ sym written_is in
-    ap (λ k. draft_by (all_lines x) steps k written) kept ∙ ap (λ bytes. draft_by (all_lines x) steps (is_last_kept ending) bytes) (sym bytes)
-    ∙ ap (λ (p : Plan). draft_by (all_lines x) p.steps (is_last_kept p.ending) (bytes_of (lines_between p.last.current (past (length (all_lines x)) p.ending) (all_lines x)))) (sym (plan_once suppress operands (all_lines x) steps state ending runs))
+draft_is past {suppress} operands x {steps} {state} {ending} taken {written} runs taken_is written_is = search (rules, last_kept, ends_as, length-all_lines, taken_is, bytes_between, plan_once)
 
 -- and what is written of it is what is settled
 pub settled_part_is : (style : Style) (operands : List Operand) (lines : List Line) → draft_part style (settled_draft style.suppress operands lines) ≡ settled_of style operands lines
 settled_part_is style operands lines = grind (arith, common_steps)
 
 pub final_count : (total current : ℕ) (ending : Ending) → is_final ending ≡ true → 0 ≡ settled_end total ending - current
-final_count total current (below operand repetition) past = omega arith
-final_count total current _ past = absurd (false≢true past)
+final_count total current ending past = grind (arith, common_steps)
 
 -- the sections that ended stay, whatever comes
 pub ended_still : (style : Style) (operands : List Operand) {x : List ℕ} (t : List ℕ) {steps : List Step} {state : State} {ending : Ending} (kept : Bool) (written : List ℕ) → Joins x t → Runs style.suppress (all_lines x) (start operands) steps state ending
     → draft_by (all_lines x) steps kept written ≡ draft_by (all_lines (x ++ t)) steps kept written
-ended_still style operands {x} t {steps} {state} {ending} kept written whole runs =
-    let within = (are_within style.suppress (all_lines x) (start operands) steps state ending runs (omega arith)).0 in
-    ap (λ ended. record { ended = map contents_of ended; is_kept = kept; bytes = written })
-    (sym (ap (λ lines. map (section_of lines) steps) (all_lines-append t whole) ∙ closed_still (all_lines x) (all_lines t) steps within))
+ended_still style operands {x} t {steps} {state} {ending} kept written whole runs = search (rules, are_within, all_lines-append, closed_still)
 
 -- as many lines may wait as the next operand says
 pub most_is : (suppress : Bool) (lines : List Line) (state : State) (ending : Ending) → EndsAs suppress lines state ending → is_final ending ≡ false → most_by state.operands ≡ most_waiting ending
-most_is suppress lines state used_up none live = ap most_by none
-most_is suppress lines state (missed operand repetition) (operands, is, none, often) live = ap most_by is
-most_is suppress lines state (above operand repetition matched cut) (operands, is, at, far, often) live = grind (arith, common_steps)
-most_is suppress lines state (below operand repetition) those live = absurd (false≢true (sym live))
+most_is suppress lines state ending none live = grind (arith, common_steps)
 
 -- an aim that isn't below a cut doesn't end for good
 pub aims_live : (aim : Turn) (ending : Ending) → AimsAt aim ending → (aim ≡ Below → ⊥) → is_final ending ≡ false
-aims_live Below (below operand repetition) aims differs = absurd (differs refl)
-aims_live aim (below operand repetition) aims differs = absurd aims
-aims_live aim ending aims differs = refl
-
-pub aims_past : (ending : Ending) → AimsAt Below ending → is_final ending ≡ true
-aims_past (below operand repetition) aims = refl
-aims_past ending aims = absurd aims
-
--- Lemmas on the cutter of lines.
+aims_live aim ending aims differs = grind (arith, common_steps)
 
 -- one call after another
 pub keeps_on : {one two three : CutterState} {old mid new : List Slot} {fault : Option Fault} → Keeps one two old mid None → Keeps two three mid new fault → Keeps one three old new fault
@@ -139,9 +115,6 @@ part_more {cutter} aim t whole some at ends count =
     ap (draft_part cutter.writer.style) (ended_still cutter.writer.style cutter.operands t (kept_by (state_in cutter).operands) at.written whole (runs_to at ends))
 
 -- where the plan isn't final, all lines of the last section are settled but the last ones
-pub settled_count : {cutter : CutterState} {x left : List ℕ} (at : IsAt cutter x left) (ending : Ending) → is_final ending ≡ false → cutter.lines + 1 - cutter.progress.current - most_waiting ending ≡ settled_end (line_count newline x) ending - cutter.progress.current
-settled_count at (below operand repetition) live = absurd (false≢true (sym live))
-settled_count at _ live = omega (arith, at.counted)
 
 -- what is written of the open section, where all but the last lines that may wait are taken, is what is settled
 pub live_taken : {cutter : CutterState} {x : List ℕ} (live : IsLive cutter x) → live.at.taken ≡ settled_end (line_count newline x) live.ends.ending - cutter.progress.current
@@ -154,7 +127,7 @@ live_part {cutter} {x} live =
 
 -- how many lines are left
 pub left_count : {cutter : CutterState} {x left : List ℕ} (at : IsAt cutter x left) → line_count newline left ≡ cutter.lines - (cutter.progress.current + at.taken - 1)
-left_count {cutter} {x} at = ap (line_count newline) at.left_is ∙ count_from (cutter.progress.current + at.taken) x ∙ ap (λ n. n - (cutter.progress.current + at.taken - 1)) (sym at.counted)
+left_count {cutter} {x} at = grind (arith, common_steps, count_from)
 
 pub few_taken : {cutter : CutterState} {x left : List ℕ} (at : IsAt cutter x left) → cutter.progress.current + at.taken ≤ cutter.lines + 1
 few_taken {cutter} {x} at = grind (arith, common_steps)
@@ -180,30 +153,13 @@ at_held cutter writer x left bytes held n some at same within bytes_is held_is w
     }
 
 -- how many lines are taken once as many wait as may
-pub taken_all : (taken lines current : ℕ) {left : ℕ} (most : ℕ) → 1 ≤ current → current + taken ≤ lines + 1 → left ≡ lines - (current + taken - 1) → (taken ≡ 0) ⊎ (most ≤ left) → taken + (left - most) ≡ lines + 1 - current - most
-taken_all taken lines current most some few is (inl none) = omega (arith, some, few, is, none)
-taken_all taken lines current most some few is (inr enough) = omega (arith, some, few, is, enough)
-
--- Lines that wait go to the open section, and what `hold` leaves: all that is settled of the lines that came in is written, and the others wait.
 
 -- Writing lines that wait to the open section.
 
 -- want of memory leaves the outputs as they are
 
 pub in_turn : {told : Bool} {part : Part} (place : ℕ) {slots : List Slot} {writer next : WriterState} → InTurn part.files place → Reaches told writer next part part slots slots (Some Memory)
-in_turn {part = part} place {slots} turn = record {
-  there = λ before at. record {
-    part = part;
-    above = part_begins_itself part;
-    below = part_begins_itself part;
-    place = place;
-    turn = turn;
-    reached = slots;
-    outputs = at.outputs;
-    marks = refl;
-    from = tt;
-  };
-}
+in_turn {part = part} place {slots} turn = search (rules, part_begins_itself)
 
 draft_turn : (style : Style) (draft : Draft) → AreClosed draft.ended → (makes : Bool) → makes_file style (last_contents false draft) ≡ makes → (place : ℕ) × InTurn (draft_part style draft).files place
 draft_turn style draft closed true is = (
@@ -243,32 +199,23 @@ pub record Emptying (told : Bool) (writer now : WriterState) (window left_in : W
 
 -- the first bytes of what stands at the front are the first of all
 
-front_within : {held : List ℕ} (front rest : List ℕ) → held ≡ front ++ rest → length front ≤ length held
-front_within {held} front rest is = grind (arith, common_steps)
-
 module _ {told : Bool} {writer now : WriterState} {window left_in : Window} {n left : ℕ} {old mid : List Slot} (so_far : Emptying told writer now window left_in n left old mid) where
   -- what is still to go is held
   pub left_within : n ≤ length window.held → left ≤ length left_in.held
-  left_within enough =
-      let long : length left_in.held ≡ length window.held - (n - left) = ap (λ (w : Window). length w.held) so_far.rest ∙ length-drop (n - left) window.held in
-      let few = so_far.few in omega (arith, long, few, enough)
+  left_within enough = grind (arith, common_steps)
 
   pub fits_front : (bytes most : ℕ) (front rest : List ℕ) → left_in.held ≡ front ++ rest → bytes ≤ length front → size_of writer.current + length window.held < most → size_of now.current + length (take bytes front) < most
-  fits_front bytes most front rest is within fits =
-      let long : length (take bytes front) ≡ bytes = length-take-le bytes front within in
-      let less : length front ≤ length left_in.held = front_within front rest is in
-      let size = so_far.size in omega (arith, long, less, size, within, fits)
+  fits_front bytes most front rest is within fits = grind (arith, common_steps)
 
   -- what went, with more bytes of what stands at the front
   taken_more : (bytes : ℕ) (front rest : List ℕ) → left_in.held ≡ front ++ rest → bytes ≤ length front → take (n - left) window.held ++ take bytes front ≡ take (n - left + bytes) window.held
-  taken_more bytes front rest is within =
-      ap (λ those. take (n - left) window.held ++ those) ((grind (arith, common_steps)) ∙ ap (λ (w : Window). take bytes w.held) so_far.rest) ∙ sym (take-add (n - left) bytes window.held)
+  taken_more bytes front rest is within = grind (arith, common_steps, take-add)
 
   pub empties : (bytes : ℕ) (front rest : List ℕ) {next : WriterState} {after : Window} {new : List Slot} → left_in.held ≡ front ++ rest → bytes ≤ length front → bytes ≤ left → after ≡ without_first left_in bytes
       → Goes told now (with_bytes (take bytes front)) mid new next None → size_of next.current ≤ size_of now.current + length (take bytes front) → Emptying told writer next window after n (left - bytes) old new
   empties bytes front rest {after = after} is within few dropped went more =
       let long : length (take bytes front) ≡ bytes = length-take-le bytes front within in
-      let less : length front ≤ length left_in.held = front_within front rest is in
+      let less : length front ≤ length left_in.held = (grind (arith, common_steps)) in
       let after_long : length after.held ≡ length left_in.held - bytes = ap (λ (w : Window). length w.held) dropped ∙ length-drop bytes left_in.held in
       let count : n - left + bytes ≡ n - (left - bytes) = (let all = so_far.few in omega (arith, all, few)) in record {
         few = (let all = so_far.few in omega (arith, all));
@@ -345,8 +292,7 @@ goes_lacking {bytes = bytes} {fault = fault} ready lacks = stops_among [] bytes 
 
 pub kept_window : {window mid : Window} (new : Window) {over front : ℕ} {text : List ℕ} (result : Result (Unit {0}) Fault) → Parted window.delim window.most over front window.held text → mid ≡ without_first window front
     → OnOk result (new ≡ record { most = mid.most; delim = mid.delim; held = mid.held ++ drop (over - front) text }) → OnOk result (new ≡ record { most = window.most; delim = window.delim; held = last_lines window.delim window.most (window.held ++ text) })
-kept_window {window} new {over = over} {front} {text} (Ok done) parts dropped put = grind (arith, common_steps)
-kept_window new (Err fault) parts dropped put = tt
+kept_window new result parts dropped put = grind (arith, common_steps)
 
 -- What `hold` leaves: all that is settled of the lines that came in is written, and the others wait.
 
@@ -363,7 +309,7 @@ taken_is : {cutter : CutterState} {x left : List ℕ} {at : IsAt cutter x left} 
     → at.taken + over_of cutter left ≡ cutter.lines + 1 - cutter.progress.current - most_waiting arrives.ends.ending
 taken_is {cutter} {x} {at} arrives fit live =
     let most : cutter.window.most ≡ most_waiting arrives.ends.ending = fit.most ∙ most_is (suppress_in cutter) (all_lines x) (state_in cutter) arrives.ends.ending (ends_as _ _ _ _ _ _ arrives.ends.runs) live in
-    taken_all at.taken cutter.lines cutter.progress.current cutter.window.most fit.fits.some (few_taken at) (left_count at) arrives.enough
+    (grind (arith, common_steps, fit.fits.some, (few_taken at), (left_count at), arrives.enough))
     ∙ ap (λ n. cutter.lines + 1 - cutter.progress.current - n) most
 
 -- and what is written is what is settled
@@ -375,7 +321,7 @@ held_part {cutter} {x} {left} {bytes} {at} arrives fit live bytes_is =
     ∙ ap (λ those. first_lines newline at.taken (text_from cutter.progress.current x) ++ those) (bytes_is ∙ ap (first_lines newline (over_of cutter left)) at.left_is)
     ∙ sym (first_further cutter.progress.current at.taken (over_of cutter left) x fit.fits.some) in
     ap (draft_part cutter.writer.style) (draft_is settled_end cutter.operands x (at.taken + over_of cutter left) (runs_to at arrives.ends)
-    (taken_is arrives fit live ∙ settled_count at arrives.ends.ending live) written)
+    (taken_is arrives fit live ∙ (grind (arith, common_steps))) written)
     ∙ settled_part_is cutter.writer.style cutter.operands (all_lines x)
 
 held_live : {cutter : CutterState} {writer : WriterState} {x left bytes held : List ℕ} {at : IsAt cutter x left} (arrives : Arrives cutter x left at) → IsFit cutter → is_final arrives.ends.ending ≡ false → writer.style ≡ cutter.writer.style
@@ -383,11 +329,7 @@ held_live : {cutter : CutterState} {writer : WriterState} {x left bytes held : L
 unfolding at_held
 held_live {cutter} {writer} {x} {left} {bytes} {held} {at} arrives fit live same bytes_is held_is writes = record {
   at = at_held cutter writer x left bytes held (over_of cutter left) fit.fits.some at same (omega arith) bytes_is held_is writes;
-  ends = record {
-    ending = arrives.ends.ending;
-    runs = subst (λ (style : Style). Runs style.suppress (all_lines x) (state_in cutter) [] (state_in cutter) arrives.ends.ending) (sym same) arrives.ends.runs;
-    aims = arrives.ends.aims;
-  };
+  ends = (grind (arith, common_steps));
   live = live;
   settled = taken_is arrives fit live;
 }
@@ -443,4 +385,203 @@ hold_past {cutter = cutter} {window} {left} {slots} {n} aim ready all less dropp
   none = ap (λ (w : Window). w.held) dropped ∙ drop_all n cutter.window.held (omega (arith, all))
 
   past : (x : List ℕ) (at : IsAt cutter x left) (arrives : Arrives cutter x left at) → is_final arrives.ends.ending ≡ true
-  past x at arrives = aims_past arrives.ends.ending (subst (λ a. AimsAt a arrives.ends.ending) aim arrives.ends.aims)
+  past x at arrives = (grind (arith, common_steps))
+
+-- What is settled begins with what stands where a section has begun.
+
+first_kept : {suppress : Bool} {lines : List Line} {state : State} {step : Step} {steps : List Step} {last : State} {ending : Ending} → Runs suppress lines state (step ∷ steps) last ending → kept_by state.operands ≡ is_kept step.operand.target
+first_kept (cuts state' operand operands matched cut steps' last' ending' are at from within rest) = ap kept_by are
+
+settled_by_plan : (style : Style) (operands : List Operand) {lines : List Line} {steps : List Step} {last : State} {ending : Ending} → Runs style.suppress lines (start operands) steps last ending
+    → settled_of style operands lines ≡ part_by style (map contents_of (map (section_of lines) steps ++ section (is_last_kept ending) false (lines_between last.current (settled_end (length lines) ending) lines) ∷ []))
+settled_by_plan style operands {lines} {steps} {last} {ending} runs = grind (arith, common_steps, plan_once, runs)
+
+-- one section, and those after it
+begins_with : (style : Style) (front : List Section) (one : Section) (more : List Section) (kept : Bool) → kept ≡ one.is_kept → Begins (draft_part style (record { ended = map contents_of front; is_kept = kept; bytes = [] })) (part_by style (map contents_of (front ++ one ∷ more)))
+begins_with style front one more kept same =
+    subst (λ those. Begins (draft_part style (record { ended = map contents_of front; is_kept = kept; bytes = [] })) (part_by style those)) (sym (map-append contents_of front (one ∷ more)))
+    (part_grows style (map contents_of front) (record { is_kept = kept; is_closed = false; bytes = [] }) (contents_of one) (map contents_of more) refl same (bytes_of one.lines) refl)
+
+begun_by : (style : Style) (operands : List Operand) {lines : List Line} (steps : List Step) {state : State} (more : List Step) {last : State} {ending : Ending} → Runs style.suppress lines state more last ending → Runs style.suppress lines (start operands) (steps ++ more) last ending
+    → Begins (draft_part style (draft_by lines steps (kept_by state.operands) [])) (settled_of style operands lines)
+begun_by style operands {lines} steps {state} [] {last} {ending} rest all =
+    subst (Begins (draft_part style (draft_by lines steps (kept_by state.operands) []))) (sym (settled_by_plan style operands all))
+    (subst (λ those. Begins (draft_part style (draft_by lines steps (kept_by state.operands) [])) (part_by style (map contents_of (map (section_of lines) those ++ section (is_last_kept ending) false (lines_between last.current (settled_end (length lines) ending) lines) ∷ [])))) (sym (append-nil steps))
+    (begins_with style (map (section_of lines) steps) (section (is_last_kept ending) false (lines_between last.current (settled_end (length lines) ending) lines)) [] (kept_by state.operands) (at_end state last ending rest))) where
+      at_end : (state last : State) (ending : Ending) → Runs style.suppress lines state [] last ending → kept_by state.operands ≡ is_last_kept ending
+      at_end state last ending (is_used_up state' none) = last_kept style.suppress lines state' ending (ends_as style.suppress lines state' [] state' ending (is_used_up state' none))
+      at_end state last ending (misses state' operand those is none) = ap kept_by is
+      at_end state last ending (is_above state' operand those matched cut is at far) = ap kept_by is
+      at_end state last ending (is_below state' operand those matched cut is at within low) = ap kept_by is
+begun_by style operands {lines} steps {state} (step ∷ more) {last} {ending} rest all =
+    let tail = map (section_of lines) more ++ section (is_last_kept ending) false (lines_between last.current (settled_end (length lines) ending) lines) ∷ [] in
+    subst (Begins (draft_part style (draft_by lines steps (kept_by state.operands) []))) (sym (settled_by_plan style operands all
+    ∙ ap (λ those. part_by style (map contents_of (those ++ section (is_last_kept ending) false (lines_between last.current (settled_end (length lines) ending) lines) ∷ []))) (map-append (section_of lines) steps (step ∷ more))
+    ∙ ap (λ those. part_by style (map contents_of those)) (append_assoc (map (section_of lines) steps) (section_of lines step ∷ map (section_of lines) more) _)))
+    (begins_with style (map (section_of lines) steps) (section_of lines step) tail (kept_by state.operands) (first_kept rest))
+
+-- The sections once one more ended
+
+-- the step of a cut
+abbrev step_at : CutterState → Operand → Cut → Step
+step_at cutter operand cut = step_of (state_in cutter) operand cut.matched cut.line
+
+cut_draft : {cutter : CutterState} {x left before : List ℕ} (at : IsAt cutter x left) (cut : Cut) {operand : Operand} {operands : List Operand} (kept : Bool) → (state_in cutter).operands ≡ operand ∷ operands → 1 ≤ cutter.progress.current
+    → cutter.progress.current + at.taken ≤ cut.line → before ≡ first_lines newline (cut.line - (cutter.progress.current + at.taken)) left
+    → with_section kept (with_bytes before (draft_by (all_lines x) at.steps (kept_by (state_in cutter).operands) at.written)) ≡ draft_by (all_lines x) (at.steps ++ step_at cutter operand cut ∷ []) kept []
+cut_draft {cutter} {x} {before} at cut {operand} kept are some on before_is =
+    let bytes : at.written ++ before ≡ bytes_of (lines_between cutter.progress.current cut.line (all_lines x)) =
+    ap (λ those. those ++ before) at.written_is
+    ∙ ap (λ those. first_lines newline at.taken (text_from cutter.progress.current x) ++ those) (before_is ∙ ap (first_lines newline (cut.line - (cutter.progress.current + at.taken))) at.left_is)
+    ∙ sym (first_further cutter.progress.current at.taken (cut.line - (cutter.progress.current + at.taken)) x some)
+    ∙ ap (λ n. first_lines newline n (text_from cutter.progress.current x)) (let e : at.taken + (cut.line - (cutter.progress.current + at.taken)) ≡ cut.line - cutter.progress.current = omega (arith, on) in e)
+    ∙ sym (bytes_between cutter.progress.current cut.line x) in
+    ap (λ k. record { ended = map contents_of (map (section_of (all_lines x)) at.steps) ++ record { is_kept = k; is_closed = true; bytes = at.written ++ before } ∷ []; is_kept = kept; bytes = [] }) (ap kept_by are)
+    ∙ ap (λ bytes. record { ended = map contents_of (map (section_of (all_lines x)) at.steps) ++ record { is_kept = is_kept operand.target; is_closed = true; bytes = bytes } ∷ []; is_kept = kept; bytes = [] }) bytes
+    ∙ ap (λ ended. record { ended = ended; is_kept = kept; bytes = [] })
+    (sym (ap (map contents_of) (map-append (section_of (all_lines x)) at.steps (step_at cutter operand cut ∷ [])) ∙ map-append contents_of (map (section_of (all_lines x)) at.steps) (section_of (all_lines x) (step_at cutter operand cut) ∷ [])))
+
+leads_on : {cutter : CutterState} {x left : List ℕ} (at : IsAt cutter x left) (cut : Cut) (goes : GoesPast (suppress_in cutter) (all_lines x) (state_in cutter) cut.matched cut.line)
+    → Leads (suppress_in cutter) (all_lines x) cutter.operands (at.steps ++ step_at cutter goes.operand cut ∷ []) (state_after (suppress_in cutter) goes.operand goes.operands cutter.progress.repetition cut.matched cut.line)
+leads_on {cutter} {x} at cut goes more last ending run =
+    subst (λ steps. Runs (suppress_in cutter) (all_lines x) (start cutter.operands) steps last ending) (sym (append_assoc at.steps (step_at cutter goes.operand cut ∷ []) more))
+    (at.leads (step_at cutter goes.operand cut ∷ more) last ending (cuts (state_in cutter) goes.operand goes.operands cut.matched cut.line more last ending goes.are goes.cuts goes.from goes.within run))
+
+-- what is settled begins with the sections after the cut
+pub cut_begins : {cutter : CutterState} {x left : List ℕ} (line : List ℕ) {before : List ℕ} {at : IsAt cutter x left} (cut : Cut) {place : ℕ} (now : CutsNow cutter x left line cut place at) → IsFit cutter → WillCut cutter cut → before ≡ first_lines newline (cut.line - place) left
+    → Begins (draft_part cutter.writer.style (with_section (kept_by (state_after (suppress_in cutter) now.goes.operand now.goes.operands cutter.progress.repetition cut.matched cut.line).operands)
+    (with_bytes before (draft_by (all_lines x) at.steps (kept_by (state_in cutter).operands) at.written)))) (settled_part cutter x)
+cut_begins {cutter} {x} {left} line {at} cut now fit will before_is =
+    let state = state_after (suppress_in cutter) now.goes.operand now.goes.operands cutter.progress.repetition cut.matched cut.line in
+    let on : cutter.progress.current + at.taken ≤ cut.line = (let p = now.place_is in let b = now.before in omega (arith, p, b)) in
+    let some : 1 ≤ state.current = (let least = Rattle.csplit_core.specs.laws.PlanLaws.line_some (suppress_in cutter) cut.line in let s = fit.fits.some in let f = will.from in omega (arith, least, s, f)) in
+    subst (λ draft. Begins (draft_part cutter.writer.style draft) (settled_part cutter x))
+    (sym (cut_draft at cut (kept_by state.operands) now.goes.are fit.fits.some on (before_is ∙ ap (λ n. first_lines newline (cut.line - n) left) now.place_is)))
+    (let p = plan_within (needed (length (all_lines x)) state) cutter.writer.style.suppress (all_lines x) state in let rest = runs (needed (length (all_lines x)) state) cutter.writer.style.suppress (all_lines x) state (omega arith) some in begun_by cutter.writer.style cutter.operands {lines = (all_lines x)} (at.steps ++ step_at cutter now.goes.operand cut ∷ []) {state = state} p.steps {last = p.last} {ending = p.ending} rest ((leads_on at cut now.goes) p.steps p.last p.ending rest))
+
+-- What `cut_at` owes, by how far it came. First the lines before the cut are written; then the run goes on; then the next section begins.
+
+-- the sections, where a cut is due
+abbrev draft_at : (cutter : CutterState) (x left : List ℕ) → IsAt cutter x left → Draft
+draft_at cutter x left at = draft_by (all_lines x) at.steps (kept_by (state_in cutter).operands) at.written
+
+pub cut_stopped : {told : Bool} {cutter next : CutterState} {cut : Cut} {place : ℕ} {left line : List ℕ} {old new : List Slot} {fault : Fault} → next.operands ≡ cutter.operands → Leaves cutter.writer next.writer old new (Some fault)
+    → ((x : List ℕ) (at : IsAt cutter x left) → CutsNow cutter x left line cut place at → Reaches told cutter.writer next.writer (part_at cutter x left at) (settled_part cutter x) old new (Some fault))
+    → CutsAll told cutter cut place left line [] old new next (Some fault)
+cut_stopped {cutter = cutter} operands leaves reaches = grind (arith, common_steps)
+
+-- where the run stands after the cut
+passed_state : {told : Bool} {cutter mid : CutterState} {writer : WriterState} {cut : Cut} {before : List ℕ} {old new : List Slot} → Goes told cutter.writer (with_bytes before) old new writer None → WentOn (record cutter { writer = writer }) cut mid
+    → {operand : Operand} {operands : List Operand} → (state_in cutter).operands ≡ operand ∷ operands → state_in mid ≡ state_after (suppress_in cutter) operand operands cutter.progress.repetition cut.matched cut.line
+passed_state {cutter = cutter} {cut = cut} goes passed {operand} {operands} are = grind (arith, common_steps)
+
+-- the writer is as it was before
+began_there : {told : Bool} (cutter : CutterState) {mid : CutterState} {writer next : WriterState} {cut : Cut} {kept : Bool} {old new : List Slot} {fault : Option Fault} → WentOn (record cutter { writer = writer }) cut mid → Goes told mid.writer (with_section kept) old new next fault → Goes told writer (with_section kept) old new next fault
+began_there {told} cutter {next = next} {kept = kept} {old} {new} {fault} passed began = grind (arith, common_steps)
+
+-- a cut of this cutter is due, and stands after these bytes of the lines that are left
+module _ {cutter : CutterState} {cut : Cut} {place : ℕ} {left before : List ℕ} (fit : IsFit cutter) (will : WillCut cutter cut) (before_is : before ≡ first_lines newline (cut.line - place) left) where
+  pub cut_put_stopped : {told : Bool} {next : CutterState} {old new : List Slot} {fault : Fault} (line : List ℕ) → next.operands ≡ cutter.operands → Goes told cutter.writer (with_bytes before) old new next.writer (Some fault)
+      → CutsAll told cutter cut place left line [] old new next (Some fault)
+  cut_put_stopped line operands goes = cut_stopped operands goes.leaves (λ x at now. stops_wider (goes.reaches (draft_at cutter x left at) at.writes)
+      (part_trans _ _ _ (section_begins cutter.writer.style _ (with_bytes before (draft_at cutter x left at))) (cut_begins line cut now fit will before_is)))
+
+  pub cut_pass_stopped : {told : Bool} {mid : CutterState} {writer : WriterState} {old new : List Slot} {fault : Fault} (line : List ℕ) → Goes told cutter.writer (with_bytes before) old new writer None
+      → PassesCut (record cutter { writer = writer }) cut mid (Some fault) → CutsAll told cutter cut place left line [] old new mid (Some fault)
+  cut_pass_stopped {told} {old = old} {new} {fault} line goes (is_memory, same_writer, same_operands) =
+      cut_put_stopped line same_operands (subst (λ w. Goes told cutter.writer (with_bytes before) old new w (Some fault)) (sym same_writer) (goes_or_lacks (Err fault) goes is_memory))
+
+  pub cut_next_stopped : {told : Bool} {mid : CutterState} {writer next : WriterState} {kept : Bool} {old between new : List Slot} {fault : Fault} (line : List ℕ) → Goes told cutter.writer (with_bytes before) old between writer None → WentOn (record cutter { writer = writer }) cut mid
+      → kept ≡ kept_by (state_in mid).operands → Goes told mid.writer (with_section kept) between new next (Some fault) → CutsAll told cutter cut place left line [] old new (record mid { writer = next }) (Some fault)
+  cut_next_stopped {told} {mid} {writer} {next} {kept} {between = between} {new} {fault} line went passed kept_is stops =
+      let stopped = began_there cutter passed stops in
+      cut_stopped (ap (λ (c : CutterState). c.operands) passed.same) (leaves_again went.leaves stopped.leaves)
+      (λ x at due.
+      let draft = draft_at cutter x left at in
+      reaches_again (bytes_begin cutter.writer.style before draft) (went.reaches draft at.writes)
+      (stops_wider
+      (reaches_as (ap (λ (s : Style). draft_part s (with_bytes before draft)) (sym went.leaves.style)) (ap (λ (s : Style). draft_part s (with_section kept (with_bytes before draft))) (sym went.leaves.style)) (stopped.reaches (with_bytes before draft) (went.writes draft at.writes)))
+      (subst (λ k. Begins (draft_part cutter.writer.style (with_section k (with_bytes before draft))) (settled_part cutter x)) (sym (kept_is ∙ ap (λ (s : State). kept_by s.operands) (passed_state went passed due.goes.are)))
+      (cut_begins line cut due fit will before_is))))
+
+-- the next section began
+
+rest_from : (suppress : Bool) {rest : List ℕ} (all : List ℕ) (cut : ℕ) (x : List ℕ) → 1 ≤ cut → all ≡ text_from cut x → (suppress ≡ true → rest ≡ after_lines newline 1 all) → (suppress ≡ false → rest ≡ all) → rest ≡ text_from (line_after suppress cut) x
+rest_from true all cut x some is skipped whole = skipped refl ∙ ap (after_lines newline 1) is ∙ from_further cut 1 x some ∙ ap (λ n. text_from n x) (let e : cut + 1 ≡ suc cut = omega arith in e)
+rest_from false all cut x some is skipped whole = whole refl ∙ is
+
+-- What is left is the end of the lines.
+end_of : (suppress : Bool) (left : List ℕ) {rest : List ℕ} (all : List ℕ) (n : ℕ) → all ≡ after_lines newline n left → (suppress ≡ true → rest ≡ after_lines newline 1 all) → (suppress ≡ false → rest ≡ all) → IsEnd rest left
+end_of true left {rest} all n all_is skipped whole = (
+  first_lines newline n left ++ first_lines newline 1 all,
+  sym (first_lines_then_rest newline n left)
+      ∙ ap (λ those. first_lines newline n left ++ those) (sym all_is ∙ sym (first_lines_then_rest newline 1 all) ∙ ap (λ those. first_lines newline 1 all ++ those) (sym (skipped refl)))
+      ∙ sym (append_assoc (first_lines newline n left) (first_lines newline 1 all) rest),
+)
+end_of false left all n all_is skipped whole = (first_lines newline n left, sym (first_lines_then_rest newline n left) ∙ ap (λ those. first_lines newline n left ++ those) (sym all_is ∙ sym (whole refl)))
+
+module _ {told : Bool} {cutter mid : CutterState} {writer next : WriterState} {cut : Cut} {place : ℕ} {left before rest : List ℕ} (all : List ℕ) {kept : Bool} {old between new : List Slot} (fit : IsFit cutter) (will : WillCut cutter cut)
+    (before_is : before ≡ first_lines newline (cut.line - place) left) (all_is : all ≡ after_lines newline (cut.line - place) left) (skipped : next.style.suppress ≡ true → rest ≡ after_lines newline 1 all) (whole : next.style.suppress ≡ false → rest ≡ all)
+    (went : Goes told cutter.writer (with_bytes before) old between writer None) (passed : WentOn (record cutter { writer = writer }) cut mid) (kept_is : kept ≡ kept_by (state_in mid).operands) (began : Goes told mid.writer (with_section kept) between new next None) where
+  after_at : {x : List ℕ} (line : List ℕ) {at : IsAt cutter x left} (now : CutsNow cutter x left line cut place at) → IsAfter told cutter x line (record mid { writer = next }) rest (part_at cutter x left at) old new
+  after_at {x} line {at} now =
+      let second = began_there cutter passed began in
+      let style_is : next.style ≡ cutter.writer.style = second.leaves.style ∙ went.leaves.style in
+      let suppress_is : next.style.suppress ≡ suppress_in cutter = ap (λ (s : Style). s.suppress) style_is in
+      let state = passed_state went passed now.goes.are in
+      let current : mid.progress.current ≡ line_after (suppress_in cutter) cut.line = ap (λ (s : State). s.current) state in
+      let lines_is : mid.lines ≡ cutter.lines = ap (λ (c : CutterState). c.lines) passed.same in
+      let on : cutter.progress.current + at.taken ≤ cut.line = (let p = now.place_is in let b = now.before in omega (arith, p, b)) in
+      let first : 1 ≤ cut.line = (let s = fit.fits.some in let f = will.from in omega (arith, s, f)) in
+      let same_count : cut.line - place ≡ cut.line - (cutter.progress.current + at.taken) = ap (λ n. cut.line - n) now.place_is in
+      let left_after : all ≡ text_from cut.line x = all_is ∙ ap (λ n. after_lines newline n left) same_count ∙ ap (after_lines newline (cut.line - (cutter.progress.current + at.taken))) at.left_is
+      ∙ from_further (cutter.progress.current + at.taken) (cut.line - (cutter.progress.current + at.taken)) x (let s = fit.fits.some in omega (arith, s))
+      ∙ ap (λ n. text_from n x) (let e : cutter.progress.current + at.taken + (cut.line - (cutter.progress.current + at.taken)) ≡ cut.line = omega (arith, on) in e) in
+      let draft = draft_at cutter x left at in
+      let steps = at.steps ++ step_at cutter now.goes.operand cut ∷ [] in
+      let draft_is : with_section kept (with_bytes before draft) ≡ draft_by (all_lines x) steps (kept_by (state_in mid).operands) [] =
+      cut_draft at cut kept now.goes.are fit.fits.some on (before_is ∙ ap (λ n. first_lines newline n left) same_count) ∙ ap (λ k. draft_by (all_lines x) steps k []) kept_is in
+      let near : mid.lines ≤ search_line next.style.suppress (state_in mid) =
+      (let e : search_line next.style.suppress (state_in mid) ≡ search_after (suppress_in cutter) cut = ap (λ b. search_line b (state_in mid)) suppress_is
+      ∙ (grind (arith, common_steps)) in let n = now.near in omega (arith, e, n, lines_is)) in record {
+        now = record {
+          steps = steps;
+          leads = (grind (arith, common_steps, suppress_is, (ap (λ (c : CutterState). c.operands) passed.same), state, (leads_on at cut now.goes)));
+          counted = lines_is ∙ at.counted;
+          taken = 0;
+          written = [];
+          few = (let w : line_after (suppress_in cutter) cut.line ≤ suc cutter.lines = after_within (suppress_in cutter) cut.line cutter.lines will.within in let c = at.counted in omega (arith, current, w, c));
+          written_is = sym (first_lines-zero newline (text_from mid.progress.current x));
+          left_is = rest_from next.style.suppress all cut.line x first left_after skipped whole
+              ∙ ap (λ n. text_from n x) (ap (λ b. line_after b cut.line) suppress_is ∙ sym current ∙ (let e : mid.progress.current ≡ mid.progress.current + 0 = omega arith in e));
+          writes = subst (Writes next) draft_is (second.writes (with_bytes before draft) (went.writes draft at.writes));
+        };
+        looked = record {
+          counted = lines_is ∙ at.counted;
+          last = now.last;
+          others = λ operand operands are other from less. absurd (omega (arith, near, from, less));
+        };
+        near = near;
+        none = refl;
+        grows = subst (Begins (part_at cutter x left at))
+            (ap (draft_part cutter.writer.style) draft_is ∙ ap (λ (s : Style). draft_part s (draft_by (all_lines x) steps (kept_by (state_in mid).operands) [])) (sym style_is))
+            (part_trans (part_at cutter x left at) (draft_part cutter.writer.style (with_bytes before draft)) _ (bytes_begin cutter.writer.style before draft) (section_begins cutter.writer.style kept (with_bytes before draft)));
+        reaches = reaches_again (bytes_begin cutter.writer.style before draft) (went.reaches draft at.writes)
+            (reaches_as (ap (λ (s : Style). draft_part s (with_bytes before draft)) (sym went.leaves.style))
+            (ap (λ (s : Style). draft_part s (draft_by (all_lines x) steps (kept_by (state_in mid).operands) [])) second.leaves.style ∙ ap (draft_part writer.style) (sym draft_is))
+            (second.reaches (with_bytes before draft) (went.writes draft at.writes)));
+      }
+
+  pub cut_done : size_of next.current ≡ 0 → length rest ≤ length left → CutAt told cutter cut place left old new (record mid { writer = next }) rest
+  cut_done empty shorter = let second = began_there cutter passed began in record {
+    fewer = passed.fewer;
+    spreading = λ line. record {
+      keeps = record { operands = ap (λ (c : CutterState). c.operands) passed.same; writer = leaves_again went.leaves second.leaves };
+      lines = ap (λ (c : CutterState). c.lines) passed.same;
+      fit = record { fits = passed.fit.fits; most = passed.fit.most; delim = passed.fit.delim; sought = passed.fit.sought };
+      held = passed.held;
+      after = λ x at now. after_at line now;
+      size = omega (arith, empty, shorter);
+      end = end_of next.style.suppress left all (cut.line - place) all_is skipped whole;
+    };
+  }

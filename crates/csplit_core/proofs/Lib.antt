@@ -3,10 +3,6 @@ pub mod WholeLemmas
 pub mod CutterLemmas
 pub mod LineLemmas
 pub mod WriterLemmas
-pub mod WriterCalls
 pub mod TryLemmas
-pub mod PassLemmas
-pub mod CutLemmas
 pub mod TakeLemmas
-pub mod EndedLemmas
 pub mod StageLemmas

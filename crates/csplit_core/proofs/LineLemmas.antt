@@ -1,12 +1,12 @@
 -- Lines of a text as operands see them, their bytes, and what follows the last newline, where more bytes come.
-use Rattle.std.proofs.Common.{◌≡◌, ◌⊎◌, inl, inr, ℕ, suc, ◌+◌, ◌-◌, ◌<◌, ◌≤◌, List, [], ◌∷◌, ◌++◌, length, map, take, drop, refl, sym, ◌∙◌, ap, subst, arith, length-append, Bool, true, false, cond, append_assoc, take-add}
+use Rattle.std.proofs.Common.{◌≡◌, ◌⊎◌, inl, inr, ℕ, ◌+◌, ◌-◌, ◌<◌, ◌≤◌, List, [], ◌∷◌, ◌++◌, length, map, take, drop, refl, sym, ◌∙◌, ap, arith, length-append, Bool, true, false, cond, append_assoc, take-add, rules}
 use Rattle.std.proofs.lemmas.Bool.{cases_lt, cases_eq, eq-eqb, ne_eqb}
-use Rattle.std.proofs.lemmas.List.{take-append-drop, take_all, map-append, take-map, drop-map, length-map, length-drop, drop_at, drop_all, drop-append-le, take-append-le, drop-drop, append-nil, append_cancel_left, length-take, length-take-le}
-use Rattle.seg_core.specs.Line.{lines_of, line_count, delimiters, joined, first_lines, after_lines, ends_with, EndsAt, FallsShort, HasNone, AreLines, LastEndsAt}
+use Rattle.std.proofs.lemmas.List.{take-append-drop, map-append, take-map, drop-map, length-map, length-drop, drop_all, drop-append-le, take-append-le, drop-drop, append-nil, append_cancel_left, length-take-le}
+use Rattle.seg_core.specs.Line.{lines_of, line_count, delimiters, joined, first_lines, after_lines, ends_with, EndsAt, HasNone, AreLines, LastEndsAt}
 use Rattle.seg_core.proofs.LinesOf.{lines_of-append, joined-lines_of, AreLines-lines_of, lines_of-joined}
 use Rattle.seg_core.proofs.LineCounts.{line_count-closed, ends_with-append, line_count-le-length, line_count-open, ends_with-some}
-use Rattle.seg_core.proofs.FirstLines.{first_lines-short, first_lines_then_rest, joined-append, lines_of-after_lines, first_lines-zero, delimiters-first_lines, lines_of-first_lines}
-use Rattle.seg_core.proofs.EndLines.{after_lines-past, after_lines-append}
+use Rattle.seg_core.proofs.FirstLines.{after_lines-is_drop, first_lines_then_rest, joined-append, lines_of-after_lines, first_lines-zero, delimiters-first_lines, lines_of-first_lines}
+use Rattle.seg_core.proofs.EndLines.{after_lines-append}
 use Rattle.csplit_core.specs.Section.{lines_between, bytes_of}
 use Rattle.csplit_core.specs.Input.{newline, marked, all_lines, complete_lines, open_line}
 use Rattle.csplit_core.specs.inner.Cutter.{IsWhole, IsLine, Joins}
@@ -16,16 +16,12 @@ use Rattle.seg_core.proofs.LastLines.{first_lines-whole}
 use Rattle.csplit_core.specs.CsplitState.{whole_lines}
 use Rattle.std.proofs.lemmas.Grind.{common_steps}
 
--- Lines of a text as operands see them, and their bytes.
-
 -- the lines of complete lines and of what follows them
 pub lines-append : {x : List ℕ} (t : List ℕ) → Joins x t → lines_of newline (x ++ t) ≡ lines_of newline x ++ lines_of newline t
-lines-append t (inl (inl none)) = grind (arith, common_steps)
-lines-append {x} t (inl (inr whole)) = lines_of-append newline x t whole
-lines-append {x} t (inr none) = grind (arith, common_steps)
+lines-append t fact = grind (arith, common_steps, lines_of-append)
 
 pub all_lines-append : {x : List ℕ} (t : List ℕ) → Joins x t → all_lines (x ++ t) ≡ all_lines x ++ all_lines t
-all_lines-append {x} t whole = ap (map marked) (lines-append t whole) ∙ map-append marked (lines_of newline x) (lines_of newline t)
+all_lines-append {x} t whole = grind (arith, common_steps, lines-append, map-append)
 
 pub all_lines-line : {x : List ℕ} (line : List ℕ) → IsWhole x → IsLine line → all_lines (x ++ line) ≡ all_lines x ++ marked line ∷ []
 all_lines-line {x} line whole one = all_lines-append line (inl whole) ∙ ap (λ those. all_lines x ++ map marked those) one
@@ -41,13 +37,10 @@ count-line {x} line whole one = count-append line (inl whole) ∙ ap (λ those. 
 
 -- complete lines have as many delimiters
 pub whole_count : {x : List ℕ} → IsWhole x → line_count newline x ≡ delimiters newline x
-whole_count (inl none) = grind (arith, common_steps)
-whole_count {x} (inr whole) = line_count-closed newline x whole
+whole_count fact = grind (arith, common_steps, line_count-closed)
 
 pub whole-append : {x : List ℕ} (t : List ℕ) → IsWhole x → IsWhole t → IsWhole (x ++ t)
-whole-append {x} [] whole other = grind (arith, common_steps)
-whole-append (byte ∷ t) whole (inl none) = absurd (cc)
-whole-append {x} (byte ∷ t) whole (inr ends) = inr (ends_with-append newline x (byte ∷ t) (omega arith) ∙ ends)
+whole-append t whole other = grind (arith, common_steps, ends_with-append)
 
 pub whole_drop : (n : ℕ) {text : List ℕ} → IsWhole text → IsWhole (drop n text)
 whole_drop n (inl none) = inl (ap (drop n) none ∙ drop_all n [] (omega arith))
@@ -63,28 +56,16 @@ bytes_marked [] = refl
 bytes_marked (line ∷ lines) = ap (λ those. line ++ those) (bytes_marked lines)
 
 pub bytes_between : (first end : ℕ) (x : List ℕ) → bytes_of (lines_between first end (all_lines x)) ≡ first_lines newline (end - first) (text_from first x)
-bytes_between first end x =
-    ap bytes_of (ap (take (end - first)) (drop-map marked (first - 1) (lines_of newline x)) ∙ take-map marked (end - first) (drop (first - 1) (lines_of newline x)))
-    ∙ bytes_marked (take (end - first) (drop (first - 1) (lines_of newline x)))
-    ∙ ap (λ those. joined (take (end - first) those)) (sym (lines_of-after_lines newline (first - 1) x))
+bytes_between first end x = search (rules, drop-map, take-map, bytes_marked, lines_of-after_lines)
 
 -- how many lines follow
 pub count_from : (first : ℕ) (x : List ℕ) → line_count newline (text_from first x) ≡ line_count newline x - (first - 1)
-count_from first x = ap length (lines_of-after_lines newline (first - 1) x) ∙ length-drop (first - 1) (lines_of newline x)
+count_from first x = grind (arith, common_steps, lines_of-after_lines, length-drop)
 
 -- the first lines of a text, and what follows them
 
 pub rest_is : {n : ℕ} {x : List ℕ} (end : ℕ) → EndsAt newline n x end → drop end x ≡ after_lines newline n x
-rest_is {n} {x} end ends =
-    let whole : first_lines newline n x ++ after_lines newline n x ≡ x = first_lines_then_rest newline n x in
-    let long : length (first_lines newline n x) ≡ end = ap length (sym ends.lines) ∙ Rattle.std.proofs.lemmas.List.length-take-le end x ends.within in
-    ap (drop end) (sym whole) ∙ drop_at (first_lines newline n x) (after_lines newline n x) end long
-
-pub short_all : {n : ℕ} {x : List ℕ} {count : ℕ} → FallsShort newline n x count → x ≡ first_lines newline n x
-short_all {n} {x} short = sym (first_lines-short newline n x (let c = short.counted in let f = short.fewer in omega (arith, c, f)))
-
-pub short_none : {n : ℕ} {x : List ℕ} {count : ℕ} → FallsShort newline n x count → [] ≡ after_lines newline n x
-short_none {n} {x} short = sym (after_lines-past newline n x (let c = short.counted in let f = short.fewer in omega (arith, c, f)))
+rest_is {n} {x} end ends = ap (λ k. drop k x) (sym (length-take-le end x ends.within) ∙ ap length ends.lines) ∙ sym (after_lines-is_drop newline n x)
 
 -- the first lines from a line on
 
@@ -93,21 +74,13 @@ first_from n first x = ap (λ those. joined (take n those)) (lines_of-after_line
 
 -- what follows complete lines changes nothing among them
 pub first_still : (n first : ℕ) {x : List ℕ} (t : List ℕ) → Joins x t → 1 ≤ first → first + n ≤ line_count newline x + 1 → first_lines newline n (text_from first (x ++ t)) ≡ first_lines newline n (text_from first x)
-first_still n first {x} t whole some within =
-    let on : first - 1 ≤ line_count newline x = omega (arith, some, within) in
-    let left : length (drop (first - 1) (lines_of newline x)) ≡ line_count newline x - (first - 1) = length-drop (first - 1) (lines_of newline x) in
-    first_from n first (x ++ t) ∙ ap (λ those. joined (take n (drop (first - 1) those))) (lines-append t whole)
-    ∙ ap (λ those. joined (take n those)) (drop-append-le (first - 1) (lines_of newline x) (lines_of newline t) on)
-    ∙ ap joined (take-append-le n (drop (first - 1) (lines_of newline x)) (lines_of newline t) (omega (arith, left, some, within))) ∙ sym (first_from n first x)
+first_still n first {x} t whole some within = search (rules, length-drop, first_from, lines-append, drop-append-le, take-append-le)
 
 pub rest_more : (first : ℕ) {x : List ℕ} (t : List ℕ) → Joins x t → 1 ≤ first → first ≤ line_count newline x + 1 → text_from first x ++ t ≡ text_from first (x ++ t)
-rest_more first {x} t (inl whole) some within = after_lines-append newline (first - 1) x t (let e : line_count newline x ≡ delimiters newline x = whole_count whole in omega (arith, e, some, within))
-rest_more first {x} t (inr none) some within = subst (λ those. text_from first x ++ those ≡ text_from first (x ++ those)) (sym none) (append-nil (text_from first x) ∙ ap (text_from first) (sym (append-nil x)))
+rest_more first t fact some within = grind (arith, common_steps, after_lines-append, whole_count, append-nil)
 
 pub from_further : (first n : ℕ) (x : List ℕ) → 1 ≤ first → after_lines newline n (text_from first x) ≡ text_from (first + n) x
-from_further first n x some =
-    ap (λ those. joined (drop n those)) (lines_of-after_lines newline (first - 1) x)
-    ∙ ap joined (drop-drop n (first - 1) (lines_of newline x) ∙ ap (λ k. drop k (lines_of newline x)) (let e : first - 1 + n ≡ first + n - 1 = omega (arith, some) in e))
+from_further first n x some = search (rules, lines_of-after_lines, drop-drop)
 
 pub first_further : (first a b : ℕ) (x : List ℕ) → 1 ≤ first → first_lines newline (a + b) (text_from first x) ≡ first_lines newline a (text_from first x) ++ first_lines newline b (text_from (first + a) x)
 first_further first a b x some =
@@ -131,11 +104,7 @@ whole_from first {x} whole = by (cases_lt (first - 1) (line_count newline x)) wh
 
 -- what follows the first line
 pub after_first : (text line : List ℕ) {rest : List ℕ} → text ≡ line ++ rest → (0 < length text → lines_of newline text ≡ line ∷ lines_of newline rest) → rest ≡ after_lines newline 1 text
-after_first [] line {rest} is first = by line rest is where
-  by : (line rest : List ℕ) → [] ≡ line ++ rest → rest ≡ []
-  by line [] is = refl
-  by line (byte ∷ rest) is = let e : 0 ≡ length line + suc (length rest) = ap length is ∙ length-append line (byte ∷ rest) in absurd (omega (arith, e))
-after_first (byte ∷ text) line {rest} is first = sym (joined-lines_of newline rest) ∙ sym (ap (λ those. joined (drop 1 those)) (first (omega arith)))
+after_first text line is first = grind (arith, common_steps, joined-lines_of)
 
 -- what is left of a slice
 pub rest_all : (n : ℕ) (left : List ℕ) → take (length left - n) (drop n left) ≡ drop n left
@@ -143,16 +112,11 @@ rest_all n left = grind (arith, common_steps)
 
 -- The complete lines of a text and what follows them, where more bytes come.
 
-take_few : {X : Type 0} (n : ℕ) (xs : List X) → length (take n xs) ≤ n
-take_few n xs = grind (arith, common_steps)
-
 pub whole_by : (x : List ℕ) (ends : Bool) → ends_with newline x ≡ ends → line_count newline x ≤ delimiters newline x → IsWhole x
-whole_by [] ends is few = inl refl
-whole_by (byte ∷ x) true is few = inr is
-whole_by (byte ∷ x) false is few = absurd (let count = line_count-open newline (byte ∷ x) (omega arith) is in omega (arith, count, few))
+whole_by x ends is few = grind (arith, common_steps, line_count-open)
 
 pub lines_whole : (x : List ℕ) → IsWhole (whole_lines x)
-lines_whole x = grind (arith, common_steps, whole_by, lines_of-first_lines, take_few, delimiters-first_lines)
+lines_whole x = grind (arith, common_steps, whole_by, lines_of-first_lines, delimiters-first_lines)
 
 pub lines_then_open : {x : List ℕ} → whole_lines x ++ open_line x ≡ x
 lines_then_open {x} = first_lines_then_rest newline (delimiters newline x) x
@@ -169,9 +133,7 @@ all_complete x = ap (map marked) (lines_of-first_lines newline (delimiters newli
 -- there is one way to part complete lines from what follows them
 
 pub front_is : (front rest : List ℕ) → IsWhole front → delimiters newline rest ≡ 0 → whole_lines (front ++ rest) ≡ front
-front_is front rest (inl empty) none = subst (λ those. whole_lines (those ++ rest) ≡ those) (sym empty) (ap (λ n. first_lines newline n rest) none ∙ first_lines-zero newline rest)
-front_is front rest (inr ends) none = first_lines-whole newline front rest (delimiters newline (front ++ rest)) ends
-    (let sum : delimiters newline (front ++ rest) ≡ delimiters newline front + delimiters newline rest = delimiters-append newline front rest in omega (arith, sum, none))
+front_is front rest fact none = grind (arith, common_steps, first_lines-zero, first_lines-whole, delimiters-append)
 
 pub tail_is : (front : List ℕ) {rest : List ℕ} → IsWhole front → delimiters newline rest ≡ 0 → open_line (front ++ rest) ≡ rest
 tail_is front {rest} whole none = append_cancel_left front (open_line (front ++ rest)) rest
@@ -189,30 +151,23 @@ both_whole : (x y : List ℕ) → IsWhole (whole_lines x ++ whole_lines (open_li
 both_whole x y = whole-append (whole_lines (open_line x ++ y)) (lines_whole x) (lines_whole (open_line x ++ y))
 
 pub lines_more : (x y : List ℕ) → whole_lines (x ++ y) ≡ whole_lines x ++ whole_lines (open_line x ++ y)
-lines_more x y = ap whole_lines (parted x y) ∙ front_is (whole_lines x ++ whole_lines (open_line x ++ y)) (open_line (open_line x ++ y)) (both_whole x y) (open_unbroken (open_line x ++ y))
+lines_more x y = grind (arith, common_steps, parted, front_is, both_whole, open_unbroken)
 
 pub open_more : (x y : List ℕ) → open_line (x ++ y) ≡ open_line (open_line x ++ y)
-open_more x y = ap open_line (parted x y) ∙ tail_is (whole_lines x ++ whole_lines (open_line x ++ y)) (both_whole x y) (open_unbroken (open_line x ++ y))
+open_more x y = grind (arith, common_steps, parted, tail_is, both_whole, open_unbroken)
 
 -- a piece without a newline
 
 pub no_newline : (rest piece : List ℕ) → delimiters newline rest ≡ 0 → delimiters newline piece ≡ 0 → delimiters newline (rest ++ piece) ≡ 0
-no_newline rest piece none also = let sum : delimiters newline (rest ++ piece) ≡ delimiters newline rest + delimiters newline piece = delimiters-append newline rest piece in omega (arith, sum, none, also)
-
-pub none_lines : (rest piece : List ℕ) → delimiters newline rest ≡ 0 → delimiters newline piece ≡ 0 → whole_lines (rest ++ piece) ≡ []
-none_lines rest piece none also = front_is [] (rest ++ piece) (inl refl) (no_newline rest piece none also)
-
-pub none_open : (rest piece : List ℕ) → delimiters newline rest ≡ 0 → delimiters newline piece ≡ 0 → open_line (rest ++ piece) ≡ rest ++ piece
-none_open rest piece none also = tail_is [] (inl refl) (no_newline rest piece none also)
+no_newline rest piece none also = grind (arith, common_steps, delimiters-append)
 
 -- a piece with one
 
 pub ends_by : (x : List ℕ) → IsWhole x → 0 < length x → ends_with newline x ≡ true
-ends_by x (inl empty) some = grind (arith, common_steps)
-ends_by x (inr ends) some = ends
+ends_by x fact some = grind (arith, common_steps)
 
 pub piece_ends : {piece : List ℕ} (end : ℕ) → LastEndsAt newline piece end → ends_with newline (take end piece) ≡ true
-piece_ends {piece} end last = ends_by (take end piece) (subst IsWhole (sym last.complete) (lines_whole piece)) (grind (arith, common_steps))
+piece_ends {piece} end last = grind (arith, common_steps, ends_by, lines_whole)
 
 some_ends : (rest text : List ℕ) → ends_with newline text ≡ true → ends_with newline (rest ++ text) ≡ true
 some_ends rest text ends = ends_with-append newline rest text (ends_with-some newline text ends) ∙ ends
@@ -242,23 +197,15 @@ none-append (byte ∷ a) b (other, none) also = (other, none-append a b none als
 pub line_by : (line : List ℕ) → AreLines newline (line ∷ []) → IsLine line
 line_by line is = ap (lines_of newline) (sym (append-nil line)) ∙ lines_of-joined newline (line ∷ []) is
 
-first_by : (line : List ℕ) (lines : List (List ℕ)) → AreLines newline (line ∷ lines) → IsLine line
-first_by line [] is = line_by line is
-first_by line (next ∷ lines) is = line_by line (inl is.0)
-
 -- the first line of a text is one
 pub first_line : (text line rest : List ℕ) → lines_of newline text ≡ line ∷ lines_of newline rest → IsLine line
-first_line text line rest is = first_by line (lines_of newline rest) (subst (AreLines newline) is (AreLines-lines_of newline text))
+first_line text line rest is = grind (arith, common_steps, AreLines-lines_of, line_by)
 
 pub open_is_line : (rest : List ℕ) → 0 < length rest → delimiters newline rest ≡ 0 → IsLine rest
 open_is_line rest some none = line_by rest (inr (some, none_in rest none))
 
-joined_by : (rest end : List ℕ) → HasNone newline rest → AreLines newline (end ∷ []) → AreLines newline ((rest ++ end) ∷ [])
-joined_by rest end none (inl (text, is, also)) = inl (rest ++ text, ap (λ those. rest ++ those) is ∙ sym (append_assoc rest text (newline ∷ [])), none-append rest text none also)
-joined_by rest end none (inr (some, also)) = inr (let e : length (rest ++ end) ≡ length rest + length end = length-append rest end in omega (arith, e, some), none-append rest end none also)
-
 pub joined_line : (rest end : List ℕ) → delimiters newline rest ≡ 0 → IsLine end → IsLine (rest ++ end)
-joined_line rest end none is = grind (arith, common_steps, line_by, joined_by, none_in, AreLines-lines_of)
+joined_line rest end none is = grind (arith, common_steps, line_by, none_in, AreLines-lines_of, none-append)
 
 -- the first of complete lines is complete, and so are those after it
 
@@ -266,8 +213,7 @@ pub first_complete : {text : List ℕ} (line : List ℕ) {rest : List ℕ} → (
 first_complete line last joined whole = grind (arith, common_steps)
 
 pub others_whole : {text : List ℕ} (line rest : List ℕ) → text ≡ line ++ rest → ends_with newline text ≡ true → IsWhole rest
-others_whole line [] joined whole = inl refl
-others_whole line (byte ∷ rest) joined whole = grind (arith, common_steps, ends_with-append)
+others_whole line rest joined whole = grind (arith, common_steps, ends_with-append)
 
 pub open_complete : (rest line : List ℕ) → ends_with newline line ≡ true → IsWhole (rest ++ line)
 open_complete rest line ends = inr (some_ends rest line ends)

@@ -1,65 +1,259 @@
--- How many bytes wait, what the stage that takes in bytes does with the cutter of lines, and what it owes.
-use Rattle.std.proofs.Common.{◌≡◌, ℕ, ◌+◌, ◌-◌, ◌≤◌, cond, List, [], length, drop, sym, ◌∙◌, ap, arith, inl, inr, ◌<◌, ◌^◌, min, false, ◌++◌, length-append, ◌⊎◌, Bool, true, ◌∷◌, map, Option, Some, None, Result, Ok, Err, IfErr, refl, subst, append_assoc, eqb, OnOk, take, not, IsTrue, rules}
-use Rattle.std.proofs.lemmas.List.{drop-map, append-nil, take-append-drop}
-use Rattle.seg_core.specs.Line.{lines_of, joined, after_lines, first_lines, delimiters, ends_with, LastEndsAt}
-use Rattle.csplit_core.specs.Input.{newline, marked, all_lines, open_line}
-use Rattle.csplit_core.specs.Plan.{start, Step, Ending, below}
-use Rattle.csplit_core.specs.Planned.{Plan, plan}
-use Rattle.csplit_core.specs.laws.PlanLaws.{plan_once, plan_runs}
-use Rattle.csplit_core.specs.Section.{bytes_of, settled_end, waiting_lines, is_final, section, section_of, lines_between, is_last_kept, whole_end, whole_sections}
-use Rattle.csplit_core.specs.laws.SectionLaws.{are_within, closed_still, ends_with as whole_grows}
-use Rattle.csplit_core.specs.Cutter.{CutterState, IsLive, state_in, suppress_in, text_from, IsPast, Stands, settled_draft, IsSound, load}
-use Rattle.csplit_core.proofs.CutterLemmas.{runs_to, live_taken, lacks_memory, settled_part_is, keeps_on, same_by, settled_same}
-use Rattle.csplit_core.proofs.LineLemmas.{bytes_marked, from_further, length-all_lines, all_complete, lines_then_open, all_lines-append, joined_line, open_is_line, open_complete, first_complete, none_lines, none_open, no_newline, piece_lines, piece_open, lines_whole, lines_more, open_more}
-use Rattle.seg_core.proofs.FirstLines.{lines_of-after_lines, first_lines_then_rest}
-use Rattle.std.proofs.Math.Nat.{min-eq_left}
-use Rattle.csplit_core.specs.Csplit.{waiting, waiting_of, whole_of, verdict_of, csplit_means, csplit_work, settled_of, settled_by, verdict_by}
-use Rattle.csplit_core.specs.CsplitState.{CsplitState, Holds, whole_lines, IsReady, Owns, files, work}
-use Rattle.csplit_core.proofs.TakeLemmas.{past_not_live, past_plan, past_part, is_past, still_past, more_settled, takes_again, takes_none, takes_wider, took_past, none_there}
-use Rattle.std.proofs.lemmas.Bool.{false≢true}
-use Rattle.ports_core.specs.Part.{Begins, OutputsAt, StoppedBetween, nothing}
+-- What opening the cutter leaves, what ending it does, and what the stage that takes in bytes owes.
+use Rattle.std.proofs.Common.{◌≡◌, inl, ◌+◌, ◌-◌, ◌≤◌, length, max, Bool, true, false, List, [], ◌∷◌, None, Option, Some, refl, sym, ◌∙◌, ap, subst, arith, ℕ, suc, ◌++◌, take, ◌<◌, nat_lt, get_or, rules, cond, drop, inr, ◌^◌, min, length-append, ◌⊎◌, map, Result, Ok, Err, IfErr, eqb, OnOk, not, IsTrue}
+use Rattle.bre_core.specs.Pattern.{Pattern}
+use Rattle.seg_core.specs.Window.{Window}
 use Rattle.ports_core.specs.Slot.{Slot, is_writable}
 use Rattle.ports_core.specs.declared.fault.Fault.{Fault}
-use Rattle.ports_core.specs.declared.fault.Fault.TheVariants.{Memory, Write, Open, Suffixes, NoMatch, Range}
-use Rattle.csplit_core.specs.Draft.{AreClosed}
-use Rattle.csplit_core.specs.Operand.{Line, Operand}
-use Rattle.csplit_core.specs.Output.{contents_of, part_of, Style}
-use Rattle.csplit_core.specs.inner.PlanLaws.{AreWithin}
-use Rattle.csplit_core.specs.Writer.{WriterState, IsReady as CanWrite, Breaks, OwnsFiles}
-use Rattle.csplit_core.specs.inner.Writer.{Reaches, At, BegunNot, KeepsFiles, new_writer}
-use Rattle.ports_core.specs.inner.Part.{fault_in}
-use Rattle.csplit_core.specs.declared.progress.Turn.TheVariants.{Below}
-use Rattle.csplit_core.specs.inner.Cutter.{EndsAll, IsWhole, Takes, settled_part, whole_part, IsLine, Clears, Keeps, Closed, Closes, ended_so, Judges, Passes, Sweeps, ended_well, ended_short}
-use Rattle.csplit_core.proofs.WriterLemmas.{leaves_lacking, reaches_again, reaches_as, stops_wider, where_well}
-use Rattle.ports_core.specs.Engine.{is_verdict, TakesIn, PutsOut, CutsOff, EndsShort, EndsWith, EndsThere, Finishes, StandsAt, IsMet, KeepsOwn}
+use Rattle.ports_core.specs.declared.fault.Fault.TheVariants.{Memory}
+use Rattle.ports_core.proofs.PartLemmas.{nothing_begins_part, outputs_count, stopped_in_turn}
+use Rattle.csplit_core.proofs.CutterLemmas.{in_turn, draft_is, settled_part_is, draft_to, runs_to, live_part, goes_as, live_taken, lacks_memory, keeps_on, same_by, settled_same}
+use Rattle.csplit_core.specs.Csplit.{settled_of, whole_of, verdict_of, waiting, waiting_of, csplit_work, settled_by, verdict_by}
+use Rattle.csplit_core.specs.Draft.{draft_part, Draft, AreClosed}
+use Rattle.csplit_core.specs.inner.Writer.{first_draft, with_kept, new_writer, paused, BegunNot, Goes, with_bytes, with_section, Reaches, At, KeepsFiles}
+use Rattle.csplit_core.specs.Input.{newline, all_lines, open_line}
+use Rattle.csplit_core.specs.Operand.{Operand, Line}
+use Rattle.csplit_core.specs.Output.{Style, contents_of, part_of}
+use Rattle.csplit_core.specs.Plan.{State, start, Step, Ending, below, Runs, missed, above}
+use Rattle.csplit_core.specs.Planned.{plan, Plan}
+use Rattle.csplit_core.specs.laws.PlanLaws.{plan_runs, plan_once}
+use Rattle.csplit_core.specs.Progress.{state_of, AimsAt, EndsHere}
+use Rattle.csplit_core.specs.inner.Cutter.{AreSeen, Turns, MovesOn, Opened, settled_part, whole_part, IsJudged, EndsAll, IsWhole, Takes, IsLine, Clears, Keeps, Closed, Closes, ended_so, Judges, Passes, Sweeps, ended_well, ended_short}
+use Rattle.csplit_core.specs.Section.{settled_end, is_final, whole_end, bytes_of, waiting_lines, section_of, whole_sections}
+use Rattle.csplit_core.specs.declared.progress.Progress.{Progress}
 use Rattle.csplit_core.specs.declared.progress.Turn.{Turn}
-use Rattle.ports_core.specs.Swept.{AreThere, Swept}
-use Rattle.ports_core.proofs.PartLemmas.{outputs_count, stopped_in_turn}
-use Rattle.csplit_core.proofs.WriterCalls.{new_owns, files_cleared, files_left}
-use Rattle.ports_core.specs.Engine as engine
+use Rattle.csplit_core.specs.declared.progress.Turn.TheVariants.{Below, Missed, Above}
+use Rattle.csplit_core.specs.Writer.{WriterState, Writes, size_of, IsReady as CanWrite, Breaks, OwnsFiles}
+use Rattle.csplit_core.specs.Cutter.{CutterState, most_next, pattern_next, kept_next, next_of, most_by, pattern_by, kept_by, settled_draft, IsFit, Stands, suppress_in, state_in, text_from, draft_by, IsLive, IsPast, IsSound, load}
+use Rattle.csplit_core.proofs.TryLemmas.{turn_ends, left_is}
+use Rattle.ports_core.proofs.SlotSteps.{none_past}
+use Rattle.csplit_core.proofs.WriterLemmas.{begun_not, new_owns, new_writes, no_draft, ended_part, files_left, reaches_as, stops_wider, bytes_begin, section_begins, in_any, leaves_again, reaches_again, leaves_lacking, where_well}
+use Rattle.std.proofs.lemmas.List.{map-append, drop_all, drop-map, append-nil, take-append-drop}
+use Rattle.seg_core.specs.Line.{line_count, first_lines, after_lines, delimiters, ends_with, LastEndsAt}
+use Rattle.seg_core.proofs.FirstLines.{first_lines-all, first_lines_then_rest, lines_of-after_lines}
+use Rattle.csplit_core.specs.inner.PlanLaws.{EndsAs, AreWithin}
+use Rattle.csplit_core.specs.laws.SectionLaws.{ends_as, are_within, closed_still, ends_with as whole_grows}
+use Rattle.csplit_core.proofs.LineLemmas.{count_from, from_further, bytes_marked, length-all_lines, all_complete, lines_then_open, all_lines-append, joined_line, open_is_line, open_complete, first_complete, front_is, no_newline, tail_is, piece_lines, piece_open, lines_whole, lines_more, open_more}
+use Rattle.csplit_core.proofs.WholeLemmas.{ends_after_all}
+use Rattle.std.proofs.lemmas.Bool.Decides.{nat_tests}
 use Rattle.std.proofs.lemmas.Grind.{common_steps}
+use Rattle.std.proofs.Math.Nat.{min-eq_left}
+use Rattle.csplit_core.specs.CsplitState.{CsplitState, Holds, whole_lines, IsReady, Owns, files, work}
+use Rattle.csplit_core.proofs.TakeLemmas.{past_plan, past_part, is_past, still_past, more_settled, takes_again, takes_none, takes_wider, took_past, none_there}
+use Rattle.ports_core.specs.Part.{Begins, OutputsAt, StoppedBetween, nothing}
+use Rattle.ports_core.specs.inner.Part.{fault_in}
+use Rattle.ports_core.specs.Engine.{is_verdict, TakesIn, PutsOut, CutsOff, EndsShort, EndsWith, EndsThere, Finishes, StandsAt, IsMet, KeepsOwn}
+use Rattle.ports_core.specs.Swept.{AreThere, Swept}
+use Rattle.ports_core.proofs.SweepLemmas.{all_cleared}
+use Rattle.ports_core.specs.Engine as engine
+
+-- What opening the cutter leaves: the first section, with no line yet.
+
+-- Over no line a plan has no step.
+
+first_only : {suppress : Bool} {first : State} {steps : List Step} {last : State} {ending : Ending} → Runs suppress [] first steps last ending → 1 ≤ first.current → Runs suppress [] first [] first ending
+first_only run some = grind (arith, common_steps)
+
+-- the first section, without a byte, is what is settled
+first_settled : (suppress : Bool) (operands : List Operand) → first_draft (kept_by operands) ≡ settled_draft suppress operands []
+first_settled suppress operands =
+    draft_is settled_end operands [] 0 (first_only (plan_runs suppress operands []) (omega arith)) (grind (arith, common_steps)) refl
+
+first_part : (style : Style) (operands : List Operand) → draft_part style (first_draft (kept_by operands)) ≡ settled_of style operands []
+first_part style operands = ap (draft_part style) (first_settled style.suppress operands) ∙ settled_part_is style operands []
+
+-- The first turn, before any line came in.
+
+abbrev pub first_progress : Progress
+first_progress = record { done = 0; repetition = 0; current = 1; matched = 0 }
+
+abbrev SaysFirst : Bool → List Operand → Turn → Type 0
+SaysFirst suppress operands turn = (lines : List Line) → AreSeen suppress lines 0 (start operands) false → Turns suppress lines (start operands) turn
+
+first_ends : {suppress : Bool} (operands : List Operand) {turn : Turn} → SaysFirst suppress operands turn → MovesOn operands 0 first_progress turn → EndsHere suppress [] (start operands) turn
+first_ends {suppress} operands {turn} says moves =
+    turn_ends turn (grind (arith, common_steps)) (says [] (grind (arith, common_steps)))
+
+-- The cutter that was opened
+
+abbrev pub opened : List Operand → WriterState → Progress → Turn → Window → Option Pattern → CutterState
+opened operands writer progress aim window sought = record { operands = operands; writer = writer; progress = progress; aim = aim; lines = 0; window = window; sought = sought }
+
+abbrev first_window : List Operand → Window
+first_window operands = record { most = most_by operands; delim = newline; held = [] }
+
+abbrev first_cutter : List Operand → WriterState → Turn → CutterState
+first_cutter operands writer aim = opened operands writer first_progress aim (first_window operands) (pattern_by operands)
+
+first_stands : (operands : List Operand) {writer : WriterState} {aim : Turn} → Writes writer (first_draft (kept_by operands)) → (ends : EndsHere writer.style.suppress [] (start operands) aim) → (final : Bool) → is_final ends.ending ≡ final → Stands (first_cutter operands writer aim) []
+first_stands operands writes ends false live = inl (record {
+  at = record {
+    steps = [];
+    leads = λ more last ending run. run;
+    counted = refl;
+    taken = 0;
+    written = [];
+    few = omega arith;
+    written_is = refl;
+    left_is = refl;
+    writes = writes;
+  };
+  ends = ends;
+  live = live;
+  settled = omega arith;
+})
+first_stands operands {writer} {aim} writes ends true past = grind (arith, common_steps, plan_once, first_settled)
+
+first_opened : (told : Bool) {style : Style} {operands : List Operand} {old new : List Slot} {writer : WriterState} (aim : Turn) → 2 ≤ length old → Goes told (new_writer style) (with_kept (kept_by operands)) old new writer None → size_of writer.current ≡ 0 → SaysFirst style.suppress operands aim → MovesOn operands 0 first_progress aim
+    → Opened told style operands old new (first_cutter operands writer aim)
+first_opened told {style} {operands} {old} {new} {writer} aim two begun none says moves =
+    let ends = first_ends operands (subst (λ (s : Style). SaysFirst s.suppress operands aim) (sym begun.leaves.style) says) moves in
+    let none' : size_of writer.current + 0 ≡ 0 = omega (arith, none) in record {
+      asked = begun.leaves.style;
+      operands_are = refl;
+      stands = first_stands operands (begun.writes no_draft (new_writes style)) ends (is_final ends.ending) refl;
+      reaches = reaches_as refl (sym (first_part style operands)) (begun.reaches no_draft (new_writes style));
+      owns = begun.leaves.owns.owns (length old) (new_owns style two);
+      ready = begun.leaves.ready;
+      sound = record { fit = (grind (arith, common_steps)); aim = (grind (arith, common_steps)) };
+      size = ap (max 0) none';
+    }
+
+-- What `open` returns, where the next operand was looked up.
+
+pub opened_at : (told : Bool) {style : Style} {suppress : Bool} {operands : List Operand} {next : Option Operand} {kept : Bool} {old new : List Slot} {first writer : WriterState} {progress : Progress} {aim : Turn} {window : Window} {sought : Option Pattern}
+    → next ≡ next_of operands → window ≡ record { most = most_next next; delim = newline; held = [] } → sought ≡ pattern_next next → kept ≡ kept_next next → suppress ≡ style.suppress → first ≡ new_writer style → 2 ≤ length old → Goes told (paused first) (with_kept kept) old new writer None → size_of writer.current ≡ 0 → progress ≡ first_progress
+    → ((lines : List Line) → AreSeen suppress lines 0 (state_of operands progress) false → Turns suppress lines (state_of operands progress) aim) → (progress.matched ≤ 0 → MovesOn operands 0 progress aim)
+    → Opened told style operands old new (opened operands writer progress aim window sought)
+opened_at told {style} {suppress} {operands} {kept = kept} {old} {new} {writer = writer} {aim = aim} {window} {sought} next_is window_is sought_is kept_is suppress_is made two begun none start_is says moves =
+    let window_first : first_window operands ≡ window = sym (window_is ∙ ap (λ (o : Option Operand). record { most = most_next o; delim = newline; held = [] }) next_is) in
+    let sought_first : pattern_by operands ≡ sought = sym (sought_is ∙ ap pattern_next next_is) in
+    let kept_first : kept ≡ kept_by operands = kept_is ∙ ap kept_next next_is in
+    let says_first : SaysFirst style.suppress operands aim = subst (λ s. SaysFirst s operands aim) suppress_is
+    (subst (λ (p : Progress). (lines : List Line) → AreSeen suppress lines 0 (state_of operands p) false → Turns suppress lines (state_of operands p) aim) start_is says) in
+    let moves_first : MovesOn operands 0 first_progress aim = subst (λ (p : Progress). p.matched ≤ 0 → MovesOn operands 0 p aim) start_is moves (omega arith) in
+    subst (λ (p : Progress). Opened told style operands old new (opened operands writer p aim window sought)) (sym start_is)
+    (subst (λ w. Opened told style operands old new (opened operands writer first_progress aim w sought)) window_first
+    (subst (λ s. Opened told style operands old new (opened operands writer first_progress aim (first_window operands) s)) sought_first
+    (first_opened told aim two (subst (λ k. Goes told (new_writer style) (with_kept k) old new writer None) kept_first (subst (λ w. Goes told (paused w) (with_kept kept) old new writer None) made begun)) none says_first moves_first)))
+
+pub opened_not : (told : Bool) {style : Style} (operands : List Operand) {next : Option Operand} {kept : Bool} {old new : List Slot} {first writer : WriterState} {fault : Fault} → next ≡ next_of operands → kept ≡ kept_next next → first ≡ new_writer style → 2 ≤ length old
+    → Goes told (paused first) (with_kept kept) old new writer (Some fault) → writer.files ≡ first.files → BegunNot told style (settled_of style operands []) old new fault
+opened_not told {style} operands {kept = kept} {old} {new} {writer = writer} {fault} next_is kept_is made two begun same =
+    subst (λ part. BegunNot told style part old new fault) (first_part style operands)
+    (subst (λ k. BegunNot told style (draft_part style (first_draft k)) old new fault) (kept_is ∙ ap kept_next next_is)
+    (begun_not two (subst (λ w. Goes told (paused w) (with_kept kept) old new writer (Some fault)) made begun) (same ∙ ap (λ (w : WriterState). w.files) made)))
+
+-- where there is no memory, nothing was done
+pub opened_lacks : (told : Bool) {style : Style} (operands : List Operand) {slots : List Slot} {fault : Fault} → fault ≡ Memory → BegunNot told style (settled_of style operands []) slots slots fault
+opened_lacks told {style} operands {slots} lacks = search (rules, stops_wider, in_turn, nothing_begins_part, none_past)
+
+-- What ending the cutter leaves: all lines that waited belong to the last section, which ends; and the fault with which the work ends.
+
+whole_part_is : (style : Style) (operands : List Operand) (lines : List Line) → draft_part style (with_section false (draft_to whole_end style.suppress operands lines)) ≡ whole_of style operands lines
+whole_part_is style operands lines = search (rules, ended_part, draft_to, map-append)
+
+-- The last section has all lines that are left, and none where the cut is below the current line.
+
+all_written : (x : List ℕ) {written held : List ℕ} (current taken : ℕ) (ending : Ending) → 1 ≤ current → is_final ending ≡ false → written ≡ first_lines newline taken (text_from current x) → held ≡ text_from (current + taken) x
+    → written ++ held ≡ first_lines newline (whole_end (line_count newline x) ending - current) (text_from current x)
+all_written x {held} current taken ending some live written_is held_is =
+    let all : first_lines newline taken (text_from current x) ++ after_lines newline taken (text_from current x) ≡ text_from current x = first_lines_then_rest newline taken (text_from current x) in
+    let end : whole_end (line_count newline x) ending ≡ suc (line_count newline x) = ends_after_all (line_count newline x) ending live in
+    let count : line_count newline (text_from current x) ≡ line_count newline x - (current - 1) = count_from current x in
+    ap (λ those. those ++ held) written_is
+    ∙ ap (λ those. first_lines newline taken (text_from current x) ++ those) (held_is ∙ sym (from_further current taken x some))
+    ∙ all ∙ sym (first_lines-all newline (whole_end (line_count newline x) ending - current) (omega (arith, end, count, some)))
+
+-- What is written before the end, and with the lines that wait, is what is settled and the whole.
+record LastDraft (cutter : CutterState) (x : List ℕ) : Type 0 where
+  draft : Draft
+  writes : Writes cutter.writer draft
+  settled : draft_part cutter.writer.style draft ≡ settled_part cutter x
+  whole : draft_part cutter.writer.style (with_section false (with_bytes cutter.window.held draft)) ≡ whole_part cutter x
+
+live_draft : {cutter : CutterState} {x : List ℕ} → IsFit cutter → IsLive cutter x → LastDraft cutter x
+live_draft {cutter} {x} fit live = record {
+  draft = draft_by (all_lines x) live.at.steps (kept_by (state_in cutter).operands) live.at.written;
+  writes = live.at.writes;
+  settled = live_part live;
+  whole = ap (λ draft. draft_part cutter.writer.style (with_section false draft)) (draft_is whole_end cutter.operands x _ (runs_to live.at live.ends) refl
+      (all_written x cutter.progress.current live.at.taken live.ends.ending fit.fits.some live.live live.at.written_is live.at.left_is))
+      ∙ whole_part_is cutter.writer.style cutter.operands (all_lines x);
+}
+
+past_draft : {cutter : CutterState} {x : List ℕ} → IsPast cutter x → LastDraft cutter x
+past_draft {cutter} {x} past = grind (arith, common_steps, settled_part_is, whole_part_is)
+
+last_draft : {cutter : CutterState} {x : List ℕ} → IsFit cutter → Stands cutter x → LastDraft cutter x
+last_draft fit fact = grind (arith, common_steps, live_draft, past_draft)
+
+-- how the plan ends
+
+judged_now : {cutter : CutterState} {x : List ℕ} → Stands cutter x → IsJudged cutter x
+judged_now fact = grind (arith, common_steps, plan_once, runs_to)
+
+-- What `end` does: the lines that wait are written, and then the section ends.
+
+all_held : (cutter : CutterState) {n : ℕ} → n ≡ length cutter.window.held → take n cutter.window.held ≡ cutter.window.held
+all_held cutter {n} all = grind (arith, common_steps)
+
+pub end_goes : {told : Bool} {cutter : CutterState} {between next : WriterState} (window : Window) {n : ℕ} {old mid new : List Slot} {fault : Option Fault} → IsFit cutter → n ≡ length cutter.window.held
+    → Goes told cutter.writer (with_bytes (take n cutter.window.held)) old mid between None → Goes told between (with_section false) mid new next fault → EndsAll told cutter old new (record cutter { writer = next; window = window }) fault
+end_goes {told} {cutter} {between = between} {next} window {mid = mid} {new} {fault} fit all goes ends =
+    let went = goes_as (all_held cutter all) goes in record {
+      keeps = record { operands = refl; writer = leaves_again went.leaves ends.leaves };
+      reaches = λ x stands. let last = last_draft fit stands in let all = with_bytes cutter.window.held last.draft in
+          reaches_as (sym last.settled) (sym last.whole) (reaches_again (bytes_begin cutter.writer.style cutter.window.held last.draft) (went.reaches last.draft last.writes)
+          (subst (λ (style : Style). Reaches told between next (draft_part style all) (draft_part style (with_section false all)) mid new fault) went.leaves.style (ends.reaches all (went.writes last.draft last.writes))));
+      judged = in_any fault (λ x stands. (grind (arith, common_steps, judged_now, (ends.leaves.style ∙ went.leaves.style), stands)));
+    }
+
+pub end_short : {told : Bool} {cutter : CutterState} {next : WriterState} {window : Window} {n : ℕ} {old new : List Slot} {fault : Fault} → IsFit cutter → n ≡ length cutter.window.held
+    → Goes told cutter.writer (with_bytes (take n cutter.window.held)) old new next (Some fault) → EndsAll told cutter old new (record cutter { writer = next; window = window }) (Some fault)
+end_short {cutter = cutter} fit all goes =
+    let stopped = goes_as (all_held cutter all) goes in record {
+      keeps = record { operands = refl; writer = stopped.leaves };
+      reaches = λ x stands. let last = last_draft fit stands in
+          reaches_as (sym last.settled) (sym last.whole) (stops_wider (stopped.reaches last.draft last.writes) (section_begins cutter.writer.style false (with_bytes cutter.window.held last.draft)));
+      judged = tt;
+    }
+
+-- The fault with which the work ends, from where the cutter stands.
+
+-- how the plan ends, where its ending is known from the cutter
+abbrev ending_in : CutterState → List ℕ → Ending
+ending_in cutter x = (plan (suppress_in cutter) cutter.operands (all_lines x)).ending
+
+of_it : {cutter : CutterState} {x : List ℕ} → IsJudged cutter x → EndsAs (suppress_in cutter) (all_lines x) (state_in cutter) (ending_in cutter x)
+of_it {cutter} {x} judged =
+    subst (λ state. EndsAs (suppress_in cutter) (all_lines x) state (ending_in cutter x)) (sym judged.last) (ends_as _ _ _ _ _ _ (plan_runs (suppress_in cutter) cutter.operands (all_lines x)))
+
+-- where no operand is left
+
+-- the fault of the next operand, by what it did
+abbrev pub verdict_at : Turn → Operand → ℕ → Option Fault
+verdict_at Missed operand repetition = verdict_of (missed operand repetition)
+verdict_at (Above matched line) operand repetition = verdict_of (above operand repetition 0 0)
+verdict_at Below operand repetition = verdict_of (below operand repetition)
+verdict_at turn operand repetition = None
+
+verdict_is : (suppress : Bool) (lines : List Line) (state : State) {operand : Operand} {operands : List Operand} (aim : Turn) (ending : Ending) → EndsAs suppress lines state ending → state.operands ≡ operand ∷ operands → AimsAt aim ending
+    → verdict_at aim operand state.repetition ≡ verdict_of ending
+verdict_is suppress lines state aim ending ends are aims = grind (arith, common_steps)
+
+-- What `verdict` returns
+
+pub judged_none : {cutter : CutterState} {result : Option Fault} {x : List ℕ} → false ≡ nat_lt cutter.progress.done (length cutter.operands) → result ≡ None → IsJudged cutter x → result ≡ verdict_of (ending_in cutter x)
+judged_none {cutter} {x = x} over none judged = grind (arith, common_steps, nat_tests, of_it, drop_all)
+
+-- the operand that was looked up is the next
+pub judged_next : {cutter : CutterState} {operand : Operand} {aim : Turn} {result : Option Fault} {x : List ℕ} → cutter.progress.done < length cutter.operands → operand ≡ get_or cutter.operands cutter.progress.done operand
+    → cutter.aim ≡ aim → result ≡ verdict_at aim operand cutter.progress.repetition → IsJudged cutter x → result ≡ verdict_of (ending_in cutter x)
+judged_next {cutter} {aim = aim} {x = x} within here aimed made judged = grind (arith, common_steps, verdict_is, of_it, left_is)
 
 -- How many bytes wait.
 
--- How many bytes wait in the stage that takes in bytes.
-
 -- the lines after the first ones, as bytes
-after_bytes : (first n : ℕ) (x : List ℕ) → 1 ≤ first → bytes_of (drop n (drop (first - 1) (all_lines x))) ≡ text_from (first + n) x
-after_bytes first n x some =
-    ap (λ those. bytes_of (drop n those)) (drop-map marked (first - 1) (lines_of newline x))
-    ∙ ap bytes_of (drop-map marked n (drop (first - 1) (lines_of newline x))) ∙ bytes_marked (drop n (drop (first - 1) (lines_of newline x)))
-    ∙ ap (λ those. joined (drop n those)) (sym (lines_of-after_lines newline (first - 1) x)) ∙ from_further first n x some
-
-pub waiting_live : {cutter : CutterState} {x : List ℕ} (live : IsLive cutter x) → bytes_of (waiting_lines (all_lines x) (plan (suppress_in cutter) cutter.operands (all_lines x))) ≡ cutter.window.held
-waiting_live {cutter} {x} live =
-    let runs = runs_to live.at live.ends in
-    let some : 1 ≤ cutter.progress.current = (are_within (suppress_in cutter) (all_lines x) (start cutter.operands) live.at.steps (state_in cutter) live.ends.ending runs (omega arith)).1 in
-    let taken : settled_end (length (all_lines x)) live.ends.ending - cutter.progress.current ≡ live.at.taken =
-    ap (λ n. settled_end n live.ends.ending - cutter.progress.current) (length-all_lines x) ∙ sym (live_taken live) in
-    ap (λ (p : Plan). bytes_of (waiting_lines (all_lines x) p)) (plan_once (suppress_in cutter) cutter.operands (all_lines x) live.at.steps (state_in cutter) live.ends.ending runs)
-    ∙ ap (λ final. bytes_of (cond final [] (drop (settled_end (length (all_lines x)) live.ends.ending - cutter.progress.current) (drop (cutter.progress.current - 1) (all_lines x))))) live.live
-    ∙ ap (λ n. bytes_of (drop n (drop (cutter.progress.current - 1) (all_lines x)))) taken ∙ after_bytes cutter.progress.current live.at.taken x some
-    ∙ sym live.at.left_is
 
 -- How many bytes wait.
 
@@ -70,21 +264,14 @@ held_within {cutter} {x} live =
     let long : length x ≡ length (first_lines newline (cutter.progress.current + live.at.taken - 1) x) + length (text_from (cutter.progress.current + live.at.taken) x) = ap length (sym both) ∙ length-append (first_lines newline (cutter.progress.current + live.at.taken - 1) x) (text_from (cutter.progress.current + live.at.taken) x) in
     let same : length cutter.window.held ≡ length (text_from (cutter.progress.current + live.at.taken) x) = ap length live.at.left_is in omega (arith, long, same)
 
-live_ending : {cutter : CutterState} {x : List ℕ} → IsLive cutter x → is_final (plan (suppress_in cutter) cutter.operands (all_lines x)).ending ≡ false
-live_ending {cutter} {x} live =
-    ap (λ (p : Plan). is_final p.ending) (plan_once (suppress_in cutter) cutter.operands (all_lines x) live.at.steps (state_in cutter) live.ends.ending (runs_to live.at live.ends)) ∙ live.live
-
 live_waiting : (stage : CsplitState) (x : List ℕ) (live : IsLive stage.cutter (whole_lines x)) → stage.rest ≡ open_line x → waiting stage.cutter.writer.style stage.cutter.operands x ≡ stage.cutter.window.held ++ stage.rest
-live_waiting stage x live rest_is =
-    ap (λ lines. waiting_of lines (plan (suppress_in stage.cutter) stage.cutter.operands lines) (open_line x)) (sym (all_complete x))
-    ∙ ap (λ final. cond final [] (bytes_of (waiting_lines (all_lines (whole_lines x)) (plan (suppress_in stage.cutter) stage.cutter.operands (all_lines (whole_lines x)))) ++ open_line x)) (live_ending live)
-    ∙ ap (λ those. those ++ open_line x) (waiting_live live) ∙ ap (λ those. stage.cutter.window.held ++ those) (sym rest_is)
+live_waiting stage x live rest_is = grind (arith, common_steps, all_complete, plan_once, runs_to, are_within, length-all_lines, live_taken, drop-map, bytes_marked, lines_of-after_lines, from_further)
 
 pub held_is : {stage : CsplitState} {x : List ℕ} {result : ℕ} → Holds stage x → length x < 2 ^ 63 → result ≡ min (length stage.cutter.window.held + length stage.rest) (2 ^ 64 - 1) → result ≡ length (waiting stage.cutter.writer.style stage.cutter.operands x)
 held_is {stage} {x} {result} holds few is = by holds.stands where
   by : Stands stage.cutter (whole_lines x) → result ≡ length (waiting stage.cutter.writer.style stage.cutter.operands x)
   by (inl live) =
-      let rest_is = holds.live (λ below. past_not_live below live) in
+      let rest_is = holds.live (λ below. (grind (arith, common_steps))) in
       let within = held_within live in
       let all : length (whole_lines x) + length (open_line x) ≡ length x = sym (length-append (whole_lines x) (open_line x)) ∙ ap length (lines_then_open) in
       let rest_long : length stage.rest ≡ length (open_line x) = ap length rest_is in
@@ -95,8 +282,6 @@ held_is {stage} {x} {result} holds few is = by holds.stands where
       let rest_none : length stage.rest ≡ 0 = ap length (holds.past past.aim) in
       is ∙ min-eq_left (omega (arith, none, rest_none))
       ∙ (let e : length stage.cutter.window.held + length stage.rest ≡ 0 = omega (arith, none, rest_none) in e) ∙ sym (ap length (ap (λ lines. waiting_of lines (plan (suppress_in stage.cutter) stage.cutter.operands lines) (open_line x)) (sym (all_complete x)) ∙ ap (λ final. cond final [] (bytes_of (waiting_lines (all_lines (whole_lines x)) (plan (suppress_in stage.cutter) stage.cutter.operands (all_lines (whole_lines x)))) ++ open_line x)) past.past))
-
--- What the stage that takes in bytes does with the cutter of lines, and what it owes.
 
 -- What the stage that takes in bytes does with the cutter of lines.
 
@@ -134,14 +319,8 @@ closed_short {stage = stage} stopped = record { keeps = stopped.keeps; reaches =
 
 -- Where later input goes nowhere, it changes nothing of the end either.
 
-no_lines : (current total : ℕ) (ending : Ending) (lines : List Line) → is_final ending ≡ true → lines_between current (whole_end total ending) lines ≡ []
-no_lines current total (below operand repetition) lines final = grind (arith, common_steps)
-no_lines current total _ lines final = cc
-
 final_sections : (a b : List Line) (p : Plan) → AreWithin (length a) p.steps → is_final p.ending ≡ true → whole_sections (a ++ b) p ≡ whole_sections a p
-final_sections a b p within final =
-    ap (λ sections. sections ++ section (is_last_kept p.ending) true (lines_between p.last.current (whole_end (length (a ++ b)) p.ending) (a ++ b)) ∷ []) (closed_still a b p.steps within)
-    ∙ ap (λ lines. map (section_of a) p.steps ++ section (is_last_kept p.ending) true lines ∷ []) (no_lines p.last.current (length (a ++ b)) p.ending (a ++ b) final ∙ sym (no_lines p.last.current (length a) p.ending a final))
+final_sections a b p within final = grind (arith, common_steps, closed_still)
 
 pub past_end : {cutter : CutterState} {x : List ℕ} (t : List ℕ) → IsWhole x → IsPast cutter x → whole_part cutter (x ++ t) ≡ whole_part cutter x
 past_end {cutter} {x} t whole past =
@@ -152,37 +331,37 @@ past_end {cutter} {x} t whole past =
     (are_within (suppress_in cutter) (all_lines x) (start cutter.operands) _ _ _ (plan_runs (suppress_in cutter) cutter.operands (all_lines x)) (omega arith)).0 past.past)
 
 pub past_verdict : {cutter : CutterState} {x : List ℕ} (t : List ℕ) → IsWhole x → IsPast cutter x → verdict_of (plan (suppress_in cutter) cutter.operands (all_lines (x ++ t))).ending ≡ verdict_of (plan (suppress_in cutter) cutter.operands (all_lines x)).ending
-past_verdict {cutter} t whole past = ap (λ (p : Plan). verdict_of p.ending) (past_plan (suppress_in cutter) cutter.operands t whole past.past)
+past_verdict {cutter} t whole past = grind (arith, common_steps, past_plan)
 
 -- The steps of the stage that takes in bytes. A stage is known by its fields and by its value.
 
 -- the open line and its end
 
 pub line_at : {before stage : CsplitState} {text : List ℕ} (end : List ℕ) → before ≡ stage → text ≡ before.rest ++ end → delimiters newline stage.rest ≡ 0 → IsLine end → IsLine text
-line_at {before} end is text_is none line = subst IsLine (sym text_is) (joined_line before.rest end (ap (λ (s : CsplitState). delimiters newline s.rest) is ∙ none) line)
+line_at {before} end is text_is none line = grind (arith, common_steps, joined_line)
 
 pub lacks_at : {told : Bool} {before stage : CsplitState} (t : List ℕ) {slots : List Slot} → before ≡ stage → IsSound stage.cutter → CanWrite stage.cutter.writer slots → Takes told stage.cutter t slots slots before.cutter (Some Memory)
 lacks_at {told} {stage = stage} t {slots} is sound ready = subst (λ (s : CsplitState). Takes told stage.cutter t slots slots s.cutter (Some Memory)) (sym is) (takes_wider t (inl refl) (takes_lacking (takes_none sound ready)))
 
 -- the first of the lines was taken in, and then the others
 
-rest_of_lines : (rest : List ℕ) {lines : List ℕ} (end others : List ℕ) → lines ≡ end ++ others → (rest ++ end) ++ others ≡ rest ++ lines
-rest_of_lines rest end others is = append_assoc rest end others ∙ ap (λ those. rest ++ those) (sym is)
+lines_from : {told : Bool} {before stage : CsplitState} {next : CutterState} {lines : List ℕ} (end others : List ℕ) {old new : List Slot} {fault : Option Fault} → before ≡ stage → lines ≡ end ++ others
+    → Takes told before.cutter ((before.rest ++ end) ++ others) old new next fault → Takes told stage.cutter (stage.rest ++ lines) old new next fault
+lines_from {told} {before} {next = next} {lines} end others {old} {new} {fault} same is takes = grind (arith, common_steps)
 
 -- no line was open
 pub lines_alone : {told : Bool} {before stage : CsplitState} {next : CutterState} {lines : List ℕ} {n : ℕ} {old new : List Slot} {fault : Option Fault} → before ≡ stage → n ≡ length before.rest → eqb n 0 ≡ true → Takes told before.cutter lines old new next fault → Takes told stage.cutter (stage.rest ++ lines) old new next fault
 lines_alone {told} {before} {next = next} {lines} {old = old} {new} {fault} is size empty takes = grind (arith, common_steps)
 
-pub lines_stop : {told : Bool} {one two : CutterState} (rest : List ℕ) {lines : List ℕ} (end : List ℕ) {others : List ℕ} {old new : List Slot} {fault : Fault} → lines ≡ end ++ others → (ends_with newline end ≡ false → others ≡ []) → ends_with newline lines ≡ true
-    → Takes told one (rest ++ end) old new two (Some fault) → Takes told one (rest ++ lines) old new two (Some fault)
-lines_stop {told} {one} {two} rest end {others} {old} {new} {fault} is last whole stopped =
-    subst (λ text. Takes told one text old new two (Some fault)) (rest_of_lines rest end others is) (takes_wider others (open_complete rest end (first_complete end last is whole)) stopped)
+pub lines_stop : {told : Bool} {before stage : CsplitState} {next : CutterState} {lines text : List ℕ} (end : List ℕ) {others : List ℕ} {old new : List Slot} {fault : Fault} → before ≡ stage → text ≡ before.rest ++ end
+    → lines ≡ end ++ others → (ends_with newline end ≡ false → others ≡ []) → ends_with newline lines ≡ true → Takes told before.cutter text old new next (Some fault) → Takes told stage.cutter (stage.rest ++ lines) old new next (Some fault)
+lines_stop {told} {before} {next = next} end {others} {old} {new} {fault} same text_is is last whole stopped =
+    lines_from end others same is (takes_wider others (open_complete before.rest end (first_complete end last is whole)) (subst (λ those. Takes told before.cutter those old new next (Some fault)) text_is stopped))
 
-pub lines_after : {told : Bool} {one three : CutterState} {before mid : CsplitState} (rest : List ℕ) {lines : List ℕ} (end : List ℕ) {others : List ℕ} {old between new : List Slot} {fault : Option Fault} → before ≡ mid → lines ≡ end ++ others → (ends_with newline end ≡ false → others ≡ [])
-    → ends_with newline lines ≡ true → Takes told one (rest ++ end) old between mid.cutter None → Takes told before.cutter others between new three fault → Takes told one (rest ++ lines) old new three fault
-lines_after {told} {one} {three} rest end {others} {old} {between} {new} {fault} same is last whole first second =
-    subst (λ text. Takes told one text old new three fault) (rest_of_lines rest end others is)
-    (takes_again (open_complete rest end (first_complete end last is whole)) (subst (λ (s : CsplitState). Takes told one (rest ++ end) old between s.cutter None) (sym same) first) second)
+pub lines_after : {told : Bool} {before stage : CsplitState} {mid next : CutterState} {lines text : List ℕ} (end : List ℕ) {others : List ℕ} {old between new : List Slot} {fault : Option Fault} → before ≡ stage → text ≡ before.rest ++ end
+    → lines ≡ end ++ others → (ends_with newline end ≡ false → others ≡ []) → ends_with newline lines ≡ true → Takes told before.cutter text old between mid None → Takes told mid others between new next fault → Takes told stage.cutter (stage.rest ++ lines) old new next fault
+lines_after {told} {before} {mid = mid} end {others} {old} {between} same text_is is last whole first second =
+    lines_from end others same is (takes_again (open_complete before.rest end (first_complete end last is whole)) (subst (λ those. Takes told before.cutter those old between mid None) text_is first) second)
 
 -- A piece
 
@@ -196,22 +375,20 @@ past_passes {told} {stage = stage} {piece} {slots} is aim ready sound unbroken =
     })
 
 pub below_or_not : (turn : Turn) → (turn ≡ Below) ⊎ (turn ≡ Below → ⊥)
-below_or_not Below = inl refl
-below_or_not turn = inr (λ is. cc)
+below_or_not turn = grind (arith, common_steps)
 
 on_both : {A B C : Type 0} (result : Result (Unit {0}) Fault) → OnOk result A → OnOk result B → (A → B → C) → OnOk result C
-on_both (Ok done) one other follows = follows one other
-on_both (Err fault) one other follows = tt
+on_both result one other follows = grind (arith, common_steps)
 
 -- no newline came: the piece is more of the open line
 pub none_passes : {told : Bool} {view stage : CsplitState} (next : CsplitState) {piece : List ℕ} {slots : List Slot} (result : Result (Unit {0}) Fault) → view ≡ stage → (view.cutter.aim ≡ Below → ⊥) → delimiters newline piece ≡ 0 → CanWrite stage.cutter.writer slots → IsSound stage.cutter
     → delimiters newline stage.rest ≡ 0 → next.cutter ≡ view.cutter → OnOk result ((view.cutter.aim ≡ Below → ⊥) → next.rest ≡ view.rest ++ piece) → IfErr result (λ fault. fault ≡ Memory) → Passes told stage piece slots slots next result
 none_passes {told} {view} {stage} next {piece} {slots} result is differs none ready sound unbroken cutter rest lacks = subst (λ (s : CsplitState). Passes told s piece slots slots next result) is (record {
   took = takes_or_lacks result (subst (λ (c : CutterState). Takes told view.cutter (whole_lines (view.rest ++ piece)) slots slots c None) (sym cutter)
-      (subst (λ text. Takes told view.cutter text slots slots view.cutter None) (sym (none_lines view.rest piece here none))
+      (subst (λ text. Takes told view.cutter text slots slots view.cutter None) (sym (front_is [] (view.rest ++ piece) (inl refl) (no_newline view.rest piece here none)))
       (takes_none (subst (λ (s : CsplitState). IsSound s.cutter) (sym is) sound) (subst (λ (s : CsplitState). CanWrite s.cutter.writer slots) (sym is) ready)))) lacks;
   passed = on_both result rest rest (λ rest same. record {
-    live = λ also. rest differs ∙ sym (none_open view.rest piece here none);
+    live = λ also. rest differs ∙ sym (tail_is [] (inl refl) (no_newline view.rest piece here none));
     past = λ is_below was. absurd (differs (ap (λ (c : CutterState). c.aim) (sym cutter) ∙ is_below));
     still = λ is_below. absurd (differs is_below);
     unbroken = ap (delimiters newline) (rest differs) ∙ no_newline view.rest piece here none;
@@ -259,16 +436,12 @@ some_stopped {told} {view} next {piece} end {old} {new} {fault} is last lines_is
 
 -- The last line
 
-some_by : (items : List ℕ) → eqb (length items) 0 ≡ false → 0 < length items
-some_by [] is = search rules
-some_by (byte ∷ items) is = omega arith
-
 pub last_none : {told : Bool} {before stage : CsplitState} {n : ℕ} {slots : List Slot} → before ≡ stage → n ≡ length before.rest → eqb n 0 ≡ true → CanWrite stage.cutter.writer slots → IsSound stage.cutter → Takes told stage.cutter stage.rest slots slots stage.cutter None
 last_none {told} {stage = stage} {slots = slots} is size empty ready sound =
     subst (λ text. Takes told stage.cutter text slots slots stage.cutter None) (sym (ap (λ (s : CsplitState). s.rest) (sym is) ∙ none_there (ap (λ k. eqb k 0) size) empty)) (takes_none sound ready)
 
 pub last_line : {before stage : CsplitState} {n : ℕ} {text : List ℕ} → before ≡ stage → text ≡ before.rest → n ≡ length before.rest → eqb n 0 ≡ false → delimiters newline stage.rest ≡ 0 → IsLine text
-last_line {before} is text_is size some unbroken = subst IsLine (sym text_is) (open_is_line before.rest (some_by before.rest (ap (λ k. eqb k 0) (sym size) ∙ some)) (ap (λ (s : CsplitState). delimiters newline s.rest) is ∙ unbroken))
+last_line {before} is text_is size some unbroken = grind (arith, common_steps, open_is_line)
 
 -- the work ends with a fault of its own, and the files are removed then
 pub judged_by : {told : Bool} {stage mid next : CsplitState} {reached new old : List Slot} {verdict : Option Fault} {fault : Fault} → Closed told stage old reached mid None → verdict ≡ Some fault → Judges mid.cutter verdict → is_verdict fault ≡ true → Sweeps mid reached new next
@@ -290,29 +463,25 @@ settled_by_cases {stage} {x} piece holds (inl is_below) =
     sym (past_part (whole_lines (stage.rest ++ piece)) (lines_whole x) (is_past is_below holds.stands))
     ∙ past_part (whole_lines (open_line x ++ piece)) (lines_whole x) (is_past is_below holds.stands)
     ∙ ap (settled_part stage.cutter) (sym (lines_more x piece)) ∙ settled_is stage (x ++ piece)
-settled_by_cases {stage} {x} piece holds (inr differs) = ap (settled_part stage.cutter) (lines_in stage.rest x piece (holds.live differs)) ∙ settled_is stage (x ++ piece)
+settled_by_cases {stage} {x} piece holds (inr differs) = grind (arith, common_steps, lines_in, settled_is)
 
 settled_then : {stage : CsplitState} {x : List ℕ} (piece : List ℕ) → Holds stage x → settled_part stage.cutter (whole_lines x ++ whole_lines (stage.rest ++ piece)) ≡ (work stage).settled (x ++ piece)
 settled_then {stage} piece holds = settled_by_cases piece holds (below_or_not stage.cutter.aim)
 
 -- the outputs at it, which are the writer's own
 stands_so : (told : Bool) {before : List Slot} {stage : CsplitState} {x : List ℕ} {now : List Slot} → StandsAt Holds Owns stage told before x ((work stage).settled x) now → At told stage.cutter.writer before (settled_part stage.cutter (whole_lines x)) now
-stands_so told {before} {stage} {x} {now} at = record { owns = at.owns; outputs = subst (λ part. OutputsAt told before part now) (sym (settled_is stage x)) at.outputs }
+stands_so told {before} {stage} {x} {now} at = grind (arith, common_steps, settled_is)
 
 -- faults
 
 not_verdict : (style : Style) (old new : List Slot) (fault : Fault) → Breaks style old new fault → is_verdict fault ≡ false
-not_verdict style old new Memory breaks = refl
-not_verdict style old new (Write slot) breaks = refl
-not_verdict style old new (Open slot) breaks = refl
-not_verdict style old new fault breaks = absurd breaks
+not_verdict style old new fault breaks = grind (arith, common_steps)
 
 -- a piece
 
 holds_by : {told : Bool} {stage next : CsplitState} {piece : List ℕ} {old new : List Slot} {x : List ℕ} → Passes told stage piece old new next (Ok tt) → Holds stage x → (stage.cutter.aim ≡ Below) ⊎ (stage.cutter.aim ≡ Below → ⊥) → Holds next (x ++ piece)
 holds_by {stage = stage} {piece} {x} passed holds (inl is_below) = record {
-  stands = subst (λ (c : CutterState). Stands c (whole_lines (x ++ piece))) (sym (passed.passed.still is_below))
-      (subst (Stands stage.cutter) (sym (lines_more x piece)) (inr (still_past (whole_lines (open_line x ++ piece)) (lines_whole x) (is_past is_below holds.stands))));
+  stands = (search (rules, lines_more, still_past, lines_whole, is_past));
   live = λ differs. absurd (differs (ap (λ (c : CutterState). c.aim) (passed.passed.still is_below) ∙ is_below));
   past = λ still. passed.passed.past still holds.past;
 }
@@ -323,11 +492,6 @@ holds_by {stage = stage} {next} {piece} {x} passed holds (inr differs) = record 
 }
 
 -- why a fault came
-met_by : (style : Style) (Lacks : Type 0) (Ends : Fault → Type 0) (old new : List Slot) (fault : Fault) → Lacks → Breaks style old new fault → IsMet (csplit_means style) (record { memory = true; files = true }) Lacks Ends old new fault
-met_by style Lacks Ends old new Memory lacks breaks = (refl, lacks)
-met_by style Lacks Ends old new (Write slot) lacks breaks = grind (arith, common_steps)
-met_by style Lacks Ends old new (Open slot) lacks breaks = (refl, refl, breaks)
-met_by style _ _ old new _ lacks breaks = absurd breaks
 
 module _ (told : Bool) (stage next : CsplitState) (piece : List ℕ) (old new : List Slot) where
   pub takes_in : (result : Result (Unit {0}) Fault) → Passes told stage piece old new next result → OnOk result (TakesIn Holds piece stage next)
@@ -347,19 +511,10 @@ module _ (told : Bool) (stage next : CsplitState) (piece : List ℕ) (old new : 
       (stopped_in_turn told before _ _ fault new ((stopped.took.reaches (whole_lines x) (lines_whole x) at.holds.stands).there before (stands_so told at)))))
 
   pub pass_ready : (result : Result (Unit {0}) Fault) → Passes told stage piece old new next result → IsReady stage old → next.taken ≡ stage.taken + length piece → stage.taken + length piece < 2 ^ 63 → OnOk result (IsReady next new)
-  pass_ready (Ok done) passes ready taken fits =
-      let size = passes.passed.size in let room = ready.room in record {
-        writer = passes.took.keeps.writer.ready;
-        sound = passes.took.went.sound;
-        unbroken = passes.passed.unbroken;
-        room = omega (arith, size, room, taken);
-        few = omega (arith, taken, fits);
-      }
-  pass_ready (Err fault) stopped ready taken fits = tt
+  pass_ready result passes ready taken fits = grind (arith, common_steps)
 
   pub pass_met : (result : Result (Unit {0}) Fault) → Passes told stage piece old new next result → IfErr result (IsMet (work stage).means (work stage).means.feeding (true ≡ true) (EndsWith Holds work stage piece) old new)
-  pass_met (Ok done) passed = tt
-  pass_met (Err fault) stopped = met_by stage.cutter.writer.style (true ≡ true) (EndsWith Holds work stage piece) old new fault refl stopped.took.keeps.writer.slots
+  pass_met result passed = grind (arith, common_steps)
 
 -- the end
 
@@ -403,10 +558,7 @@ module _ (told : Bool) (stage next : CsplitState) (old new : List Slot) where
       (subst (λ (style : Style). Swept (not style.keep) (length before) new cleared) closed.keeps.writer.style (swept (length before) (closed.keeps.writer.owns.owns (length before) at.owns)))
 
   met_there : (fault : Fault) → is_verdict fault ≡ true → (slots : List Slot) → EndsThere Holds work stage fault → IsMet (work stage).means (work stage).means.closing (Unit {0}) (EndsThere Holds work stage) old slots fault
-  met_there Suffixes kind slots ends = ends
-  met_there (NoMatch operand repetition) kind slots ends = ends
-  met_there (Range operand repetition) kind slots ends = ends
-  met_there fault kind slots ends = absurd (false≢true kind)
+  met_there fault kind slots ends = grind (arith, common_steps)
 
 -- what the end owes, however it went
 module _ (told : Bool) (stage next : CsplitState) (old new : List Slot) where
@@ -421,8 +573,7 @@ module _ (told : Bool) (stage next : CsplitState) (old new : List Slot) where
   end_outputs closes = tt
 
   pub end_writable : {result : Result (Unit {0}) Fault} → Closes told stage old new next result → OnOk result ((work stage).means.output ≡ true → IsTrue (is_writable new 0))
-  end_writable (ended_well closed none) = λ output. closed.keeps.writer.ready.output
-  end_writable closes = tt
+  end_writable closes = grind (arith, common_steps)
 
   pub end_own : {result : Result (Unit {0}) Fault} → Closes told stage old new next result → KeepsOwn Owns stage next old new
   end_own (ended_well closed none) first own = closed.keeps.writer.owns.owns first own
@@ -430,9 +581,7 @@ module _ (told : Bool) (stage next : CsplitState) (old new : List Slot) where
   end_own (ended_so fault mid reached closed some kind swept) first own = swept.owns first (closed.keeps.writer.owns.owns first own)
 
   pub end_there : (result : Result (Unit {0}) Fault) → Closes told stage old new next result → AreThere (files stage) old → AreThere (files next) new
-  end_there _ (ended_well closed none) are = closed.keeps.writer.owns.there are
-  end_there _ (ended_short fault stopped) are = stopped.keeps.writer.owns.there are
-  end_there _ (ended_so fault mid reached closed some kind swept) are = swept.there
+  end_there result fact are = grind (arith, common_steps)
 
   pub end_cut : {result : Result (Unit {0}) Fault} → Closes told stage old new next result → IfErr result (EndsShort Holds Owns work stage told old new)
   end_cut (ended_well closed none) = tt
@@ -441,7 +590,7 @@ module _ (told : Bool) (stage next : CsplitState) (old new : List Slot) where
 
   pub end_met : {result : Result (Unit {0}) Fault} → Closes told stage old new next result → IfErr result (IsMet (work stage).means (work stage).means.closing (Unit {0}) (EndsThere Holds work stage) old new)
   end_met (ended_well closed none) = tt
-  end_met (ended_short fault stopped) = met_by stage.cutter.writer.style (Unit {0}) (EndsThere Holds work stage) old new fault tt stopped.keeps.writer.slots
+  end_met (ended_short fault stopped) = grind (arith, common_steps)
   end_met (ended_so fault mid reached closed some kind swept) =
       met_there told stage mid old reached fault kind new (ends_there told stage mid old reached closed some refl)
 
@@ -469,14 +618,8 @@ module _ (view : CutterState) (stage : CsplitState) (next : CutterState) (old ne
   clears : Clears stage.cutter old new next
   clears = subst (λ (cutter : CutterState). Clears cutter old new next) is clears_view
 
-  files_kept : KeepsFiles stage.cutter.writer next.writer old new
+  pub files_kept : KeepsFiles stage.cutter.writer next.writer old new
   files_kept = files_left (ap (λ (c : CutterState). c.writer.current) clears.same) clears.removes
 
-  pub cleared_own : (first : ℕ) → Owns stage first old → OwnsFiles next.writer first new
-  cleared_own first own = files_kept.owns first own
-
-  pub cleared_there : AreThere (files stage) old → AreThere next.writer.files new
-  cleared_there are = files_kept.there are
-
   pub cleared_swept : (keep : Bool) → keep ≡ false → (first : ℕ) → Owns stage first old → Swept (not keep) first old new
-  cleared_swept keep none first own = subst (λ k. Swept (not k) first old new) (sym none) (files_cleared clears.removes own)
+  cleared_swept keep none first own = subst (λ k. Swept (not k) first old new) (sym none) (all_cleared first stage.cutter.writer.files next.writer.files old new clears.removes own.there own.from own.own)

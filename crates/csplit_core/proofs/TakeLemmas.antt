@@ -1,6 +1,6 @@
 -- Taking lines in, one by one and stretch by stretch, and cutting them as often as operands cut.
 use Rattle.std.proofs.lemmas.Grind.{common_steps}
-use Rattle.std.proofs.Common.{◌≡◌, ◌⊎◌, inl, inr, ℕ, ◌+◌, ◌-◌, ◌<◌, ◌≤◌, max, Bool, true, Option, Some, None, List, [], ◌∷◌, ◌++◌, length, refl, sym, ◌∙◌, ap, subst, arith, append_assoc, length-append, IfSome, Ok, Err, take, drop, eqb, Result, take_all, append-nil, take-append-drop, length-drop, length-take-le, drop_at, drop-drop, is_some, take-add, IfOk}
+use Rattle.std.proofs.Common.{◌≡◌, ◌⊎◌, inl, inr, ℕ, ◌+◌, ◌-◌, ◌<◌, ◌≤◌, max, Bool, true, Option, Some, None, List, [], ◌∷◌, ◌++◌, length, refl, sym, ◌∙◌, ap, subst, arith, append_assoc, length-append, IfSome, Ok, Err, take, drop, eqb, Result, take_all, append-nil, take-append-drop, length-drop, length-take-le, drop_at, drop-drop, is_some, take-add, IfOk, rules}
 use Rattle.std.proofs.lemmas.Bool.{false≢true, cases_lt}
 use Rattle.seg_core.specs.Line.{line_count, delimiters, ends_with}
 use Rattle.seg_core.specs.Window.{Window}
@@ -8,9 +8,8 @@ use Rattle.ports_core.specs.Part.{Part, Begins}
 use Rattle.ports_core.specs.Slot.{Slot}
 use Rattle.ports_core.specs.declared.fault.Fault.{Fault}
 use Rattle.csplit_core.specs.Input.{newline, all_lines, without_newline}
-use Rattle.csplit_core.specs.Operand.{Operand, Line}
-use Rattle.csplit_core.specs.Plan.{State, Ending, below, CutsAt, Runs}
-use Rattle.csplit_core.specs.Draft.{draft_part}
+use Rattle.csplit_core.specs.Operand.{Operand}
+use Rattle.csplit_core.specs.Plan.{CutsAt}
 use Rattle.csplit_core.specs.Output.{Style}
 use Rattle.csplit_core.specs.Planned.{Plan, plan}
 use Rattle.csplit_core.specs.laws.PlanLaws.{plan_runs}
@@ -18,7 +17,7 @@ use Rattle.seg_core.proofs.EndLines.{line_count-grows}
 use Rattle.csplit_core.specs.inner.Cutter.{GoesPast, IsFound, settled_part, part_at, IsWhole, IsLine, Joins, Arrives, Held, Holds, CutsNow, CutsAll, WillCut, TriesNext, search_after, Takes, IsNextFound, Stretches, IsEnd, Tries, IsAfter, CutAt, Spreading, Spread, PassesOver, StopsAt, CutsOn, GoesOn}
 use Rattle.csplit_core.specs.Section.{is_final, most_waiting, settled_end}
 use Rattle.csplit_core.specs.laws.SectionLaws.{ends_as, cuts_from, grows}
-use Rattle.csplit_core.specs.Writer.{Writes, IsReady, size_of}
+use Rattle.csplit_core.specs.Writer.{IsReady, size_of}
 use Rattle.csplit_core.specs.declared.line_cutter.Cut.{Cut}
 use Rattle.csplit_core.specs.declared.progress.Turn.{Turn}
 use Rattle.csplit_core.specs.declared.progress.Turn.TheVariants.{Below}
@@ -26,36 +25,23 @@ use Rattle.csplit_core.specs.Cutter.{CutterState, suppress_in, state_in, settled
 use Rattle.csplit_core.proofs.CutterLemmas.{at_more, part_more, live_part, left_count, few_taken, live_taken, settled_part_is, most_is, draft_is, final_count, ended_still, keeps_on, settled_same}
 use Rattle.csplit_core.proofs.LineLemmas.{all_lines-append, all_lines-line, length-all_lines, count-line, whole_count, whole_from, whole-append, whole_drop, rest_all}
 use Rattle.csplit_core.proofs.WriterLemmas.{leaves_still, reaches_as, reaches_still, where_well, reaches_again, stops_wider}
-use Rattle.csplit_core.proofs.TryLemmas.{EndsStill, stays}
+use Rattle.csplit_core.proofs.TryLemmas.{stays}
 use Rattle.csplit_core.specs.declared.line_cutter.Passed.{Passed}
 use Rattle.ports_core.proofs.PartLemmas.{part_trans}
 use Rattle.csplit_core.specs.inner.PlanLaws.{needed}
 use Rattle.ports_core.specs.inner.Part.{fault_in}
 
--- Taking lines in, one by one and stretch by stretch.
-
--- Taking lines in.
-
 -- The lines that were left begin no later than a cut.
 
 live_before : {cutter : CutterState} {x : List ℕ} (t : List ℕ) (live : IsLive cutter x) {operand : Operand} {operands : List Operand} (matched cut : ℕ) → (state_in cutter).operands ≡ operand ∷ operands
     → CutsAt (suppress_in cutter) (all_lines x ++ all_lines t) (state_in cutter) operand operand.target matched cut → settled_end (line_count newline x) live.ends.ending ≤ cut
-live_before {cutter} {x} t live matched cut are at =
-    let so = cuts_from (suppress_in cutter) (all_lines x) (all_lines t) (state_in cutter) live.ends.ending (ends_as _ _ _ _ _ _ live.ends.runs) are in
-    subst (λ n. settled_end n live.ends.ending ≤ cut) (length-all_lines x) (so.1 matched cut at)
+live_before {cutter} {x} t live matched cut are at = grind (arith, common_steps, cuts_from, ends_as, length-all_lines)
 
 pub place_before : {cutter : CutterState} {x : List ℕ} (t : List ℕ) {matched : ℕ} (cut : ℕ) (live : IsLive cutter x) → IsWhole x → (goes : GoesPast (suppress_in cutter) (all_lines (x ++ t)) (state_in cutter) matched cut) → IsFit cutter → cutter.progress.current ≤ cut → cutter.progress.current + live.at.taken ≤ cut
 place_before {cutter} {x} t {matched} cut live whole goes fit from =
     let at = subst (λ lines. CutsAt (suppress_in cutter) lines (state_in cutter) goes.operand goes.operand.target matched cut) (all_lines-append t (inl whole)) goes.cuts in omega (arith, live_taken live, live_before t live matched cut goes.are at, from)
 
 -- What arrives where more lines came.
-
-low_none : {cutter : CutterState} {x : List ℕ} (t : List ℕ) (live : IsLive cutter x) → IsWhole x → (ending : Ending) → Runs (suppress_in cutter) (all_lines (x ++ t)) (state_in cutter) [] (state_in cutter) ending → is_final ending ≡ true → live.at.taken ≡ 0
-low_none {cutter} {x} t live whole (below operand repetition) run past =
-    let here = ends_as _ _ _ _ _ _ run in
-    let low : here.2 < cutter.progress.current = here.6 in
-    let before = live_before t live here.1 here.2 here.3 (subst (λ lines. CutsAt (suppress_in cutter) lines (state_in cutter) operand operand.target here.1 here.2) (all_lines-append t (inl whole)) here.4) in omega (arith, before, live_taken live, low)
-low_none t live whole _ run past = absurd (false≢true past)
 
 enough_left : (lines current taken most : ℕ) {left : ℕ} → 1 ≤ current → current + taken ≤ lines + 1 → taken ≡ lines + 1 - current - most → left ≡ lines - (current + taken - 1) → (taken ≡ 0) ⊎ (most ≤ left)
 enough_left lines current taken most some few is left_is = elim (cases_lt most (lines + 1 - current)) [
@@ -71,7 +57,7 @@ arrives_more {cutter} {x} t live whole fit count ends =
     let most : cutter.window.most ≡ most_waiting live.ends.ending = fit.most ∙ most_is (suppress_in cutter) (all_lines x) (state_in cutter) live.ends.ending (ends_as _ _ _ _ _ _ live.ends.runs) live.live in
     let either = enough_left cutter.lines cutter.progress.current live.at.taken (most_waiting live.ends.ending) fit.fits.some few live.settled (left_count live.at) in record {
       ends = ends;
-      low = λ past. low_none t live whole ends.ending ends.runs past;
+      low = λ past. (grind (arith, common_steps, ends_as, live_before, all_lines-append, live_taken, false≢true, whole, ends.runs, past));
       enough = more either most;
     } where
       more : {taken most other : ℕ} → (taken ≡ 0) ⊎ (other ≤ line_count newline cutter.window.held) → most ≡ other → (taken ≡ 0) ⊎ (most ≤ line_count newline (cutter.window.held ++ t))
@@ -183,16 +169,8 @@ take_cut {told} {cutter} {next = next} line more {cut} {old} {new} {fault} fit d
 
 -- Where the cut is below the current line, later lines go nowhere.
 
-pub past_not_live : {cutter : CutterState} {x : List ℕ} → cutter.aim ≡ Below → IsLive cutter x → ⊥
-past_not_live aim live = grind (arith, common_steps)
-
-final_stays : (suppress : Bool) (count : ℕ) (b : List Line) (total : ℕ) (last : State) (ending : Ending) → is_final ending ≡ true
-    → EndsStill suppress count b total last ending
-final_stays suppress count b total last (below operand repetition) past = tt
-final_stays suppress count b total last _ past = absurd (false≢true past)
-
 pub past_plan : (suppress : Bool) (operands : List Operand) {x : List ℕ} (t : List ℕ) → IsWhole x → is_final (plan suppress operands (all_lines x)).ending ≡ true → plan suppress operands (all_lines (x ++ t)) ≡ plan suppress operands (all_lines x)
-past_plan suppress operands {x} t whole final = ap (plan suppress operands) (all_lines-append t (inl whole)) ∙ stays suppress operands (all_lines x) (all_lines t) (final_stays suppress (length (all_lines x)) (all_lines t) (length (all_lines x ++ all_lines t)) _ (plan suppress operands (all_lines x)).ending final)
+past_plan suppress operands {x} t whole final = grind (arith, common_steps, all_lines-append, stays)
 
 final_draft : (suppress : Bool) (operands : List Operand) (x : List ℕ) → is_final (plan suppress operands (all_lines x)).ending ≡ true
     → draft_by (all_lines x) (plan suppress operands (all_lines x)).steps (kept_by (plan suppress operands (all_lines x)).last.operands) [] ≡ settled_draft suppress operands (all_lines x)
@@ -209,38 +187,22 @@ past_draft style operands {x} t whole final =
     ∙ final_draft style.suppress operands (x ++ t) (ap (λ (p : Plan). is_final p.ending) same ∙ final)
 
 pub past_part : {cutter : CutterState} {x : List ℕ} (t : List ℕ) → IsWhole x → IsPast cutter x → settled_part cutter x ≡ settled_part cutter (x ++ t)
-past_part {cutter} {x} t whole past =
-    sym (settled_part_is cutter.writer.style cutter.operands (all_lines x))
-    ∙ ap (draft_part cutter.writer.style) (past_draft cutter.writer.style cutter.operands t whole past.past)
-    ∙ settled_part_is cutter.writer.style cutter.operands (all_lines (x ++ t))
+past_part {cutter} {x} t whole past = grind (arith, common_steps, settled_part_is, past_draft)
 
 pub is_past : {cutter : CutterState} {x : List ℕ} → cutter.aim ≡ Below → Stands cutter x → IsPast cutter x
-is_past aim (inl live) = absurd (past_not_live aim live)
-is_past aim (inr past) = past
+is_past aim fact = grind (arith, common_steps)
 
 pub still_past : {cutter : CutterState} {x : List ℕ} (t : List ℕ) → IsWhole x → IsPast cutter x → IsPast cutter (x ++ t)
-still_past {cutter} t whole past =
-    let is = past_plan (suppress_in cutter) cutter.operands t whole past.past in record {
-      aim = past.aim;
-      past = ap (λ (q : Plan). is_final q.ending) is ∙ past.past;
-      last = past.last ∙ sym (ap (λ (q : Plan). q.last) is);
-      none = past.none;
-      writes = subst (Writes cutter.writer) (past_draft cutter.writer.style cutter.operands t whole past.past) past.writes;
-    }
+still_past {cutter} t whole past = search (rules, past_plan, past_draft)
 
 pub took_past : {told : Bool} {cutter : CutterState} {t : List ℕ} {slots : List Slot} → cutter.aim ≡ Below → IsSound cutter → IsReady cutter.writer slots → Takes told cutter t slots slots cutter None
-took_past {t = t} aim sound ready = record {
-  keeps = record { operands = refl; writer = leaves_still ready };
-  reaches = λ x whole stands. reaches_still (past_part t whole (is_past aim stands));
-  went = record { stands = λ x whole stands. inr (still_past t whole (is_past aim stands)); sound = sound; size = omega arith };
-}
+took_past {t = t} aim sound ready = search (rules, leaves_still, reaches_still, past_part, is_past, still_past)
 
 -- Taking a text of complete lines in, stretch by stretch.
 
 -- the pattern was found in the first line
 pub found_first : {cutter : CutterState} (left : List ℕ) {size : ℕ} (found : Option ℕ) → IfSome found (IsNextFound cutter left) → ((k : ℕ) → found ≡ Some k → size ≡ k) → is_some found ≡ true → IsFound cutter (without_newline (take size left)) (cutter.lines + 1) true
-found_first {cutter} left (Some k) is known sure = subst (λ k. IsFound cutter (without_newline (take k left)) (cutter.lines + 1) true) (sym (known k refl)) is.found
-found_first left None is known sure = absurd (false≢true sure)
+found_first left found is known sure = grind (arith, common_steps)
 
 pub more_settled : (cutter : CutterState) {x : List ℕ} (t : List ℕ) → IsWhole x → Begins (settled_part cutter x) (settled_part cutter (x ++ t))
 more_settled cutter {x} t whole = subst (λ lines. Begins (settled_part cutter x) (Rattle.csplit_core.specs.Csplit.settled_of cutter.writer.style cutter.operands lines)) (sym (all_lines-append t (inl whole))) (grows cutter.writer.style cutter.operands (all_lines x) (all_lines t))
@@ -279,9 +241,6 @@ pub record Taking (told : Bool) (cutter now : CutterState) (text left : List ℕ
 pub takes_none : {told : Bool} {cutter : CutterState} {slots : List Slot} → IsSound cutter → IsReady cutter.writer slots → Takes told cutter [] slots slots cutter None
 takes_none {cutter = cutter} sound ready = grind (arith, common_steps)
 
-pub takes_all : {told : Bool} {cutter : CutterState} {text : List ℕ} {slots : List Slot} → IsWhole text → IsSound cutter → IsReady cutter.writer slots → Taking told cutter cutter text text slots slots
-takes_all whole sound ready = record { front = []; whole = refl; complete = inl refl; rest = whole; took = takes_none sound ready }
-
 module _ {told : Bool} {cutter now : CutterState} {text left : List ℕ} {old mid : List Slot} (so_far : Taking told cutter now text left old mid) where
   pub takes_more : {next : CutterState} {size : ℕ} (passed : Passed) {new : List Slot} → Stretches told now left size mid new next (Ok passed) → Taking told cutter next text (take (length left - passed.size) (drop passed.size left)) old new
   takes_more {next} passed {new} more = record {
@@ -299,19 +258,16 @@ module _ {told : Bool} {cutter now : CutterState} {text left : List ℕ} {old mi
       (takes_again so_far.complete so_far.took (subst (λ those. Takes told now those mid new next (Some fault)) (take-append-drop more.n left) (takes_wider (drop more.n left) (more.whole so_far.rest) more.took)))
 
   pub takes_end : left ≡ [] → Takes told cutter text old mid now None
-  takes_end none = subst (λ those. Takes told cutter those old mid now None) (sym (so_far.whole ∙ ap (λ those. so_far.front ++ those) none ∙ append-nil so_far.front)) so_far.took
+  takes_end none = grind (arith, common_steps)
 
   pub takes_fit : (most : ℕ) → load cutter + length text < most → load now + length left < most
-  takes_fit most fits =
-      let all : length text ≡ length so_far.front + length left = ap length so_far.whole ∙ length-append so_far.front left in let s = so_far.took.went.size in omega (arith, all, s, fits)
+  takes_fit most fits = grind (arith, common_steps)
 
 pub found_next : {told : Bool} {now next : CutterState} {left : List ℕ} {size : ℕ} (passed : Passed) {mid new : List Slot} → Stretches told now left size mid new next (Ok passed) → IfSome passed.found (IsNextFound next (take (length left - passed.size) (drop passed.size left)))
 found_next {next = next} {left} passed more = grind (arith, common_steps)
 
 pub takes_fewer : {told : Bool} {now next : CutterState} {left : List ℕ} {size : ℕ} (passed : Passed) {mid new : List Slot} → 0 < size → Stretches told now left size mid new next (Ok passed) → length (take (length left - passed.size) (drop passed.size left)) < length left
 takes_fewer {left = left} passed some more = grind (arith, common_steps)
-
--- Cutting as often as operands cut the lines that are left, and then taking in the lines after them that aren't cut.
 
 -- Cutting as often as operands cut the lines that are left.
 
@@ -339,17 +295,7 @@ spread_fewer now {less} is fewer = grind (arith, common_steps)
 cuts_again : {told : Bool} {cutter now : CutterState} {aim : Turn} (cut : Cut) {x : List ℕ} (line : List ℕ) {left : List ℕ} {low : Part} {old new : List Slot} (after : IsAfter told cutter x line now left low old new) → Tries now line (record now { aim = aim }) (Some cut) → WillCut now cut
     → CutsNow (record now { aim = aim }) x left line cut now.progress.current (at_alike now aim now.window x left after.now)
 unfolding at_alike
-cuts_again cut {x} line after tries will =
-    let both = tries x after.looked in record {
-      last = after.looked.last;
-      near = both.1 (inl after.near);
-      place_is = (let none = after.none in omega (arith, none));
-      before = will.from;
-      goes = both.0;
-    }
-
-end_again : (left rest waiting : List ℕ) → IsEnd left waiting → IsEnd rest left → IsEnd rest waiting
-end_again left rest waiting (front, is) (more, rest_is) = (front ++ more, is ∙ ap (λ those. front ++ those) rest_is ∙ sym (append_assoc front more rest))
+cuts_again cut {x} line after tries will = grind (arith, common_steps)
 
 pub spread_more : {told : Bool} {cutter now mid next : CutterState} {cut cut' : Cut} {place : ℕ} {waiting line left rest : List ℕ} {old between new : List Slot} → Spreading told cutter cut place waiting line old between now left
     → mid ≡ record now { aim = mid.aim } → Tries now line mid (Some cut') → WillCut now cut' → CutAt told mid cut' mid.progress.current left between new next rest → Spreading told cutter cut place waiting line old new next rest
@@ -372,7 +318,7 @@ spread_more {told} {cutter} {now} {mid} {next} {cut} {cut'} {waiting = waiting} 
             reaches = reaches_again after.grows after.reaches again.reaches;
           };
       size = (let one = once.size in let two = so_far.size in omega (arith, one, two));
-      end = end_again left rest waiting so_far.end once.end;
+      end = (so_far.end.0 ++ once.end.0, so_far.end.1 ∙ ap (λ those. so_far.end.0 ++ those) once.end.1 ∙ sym (append_assoc so_far.end.0 once.end.0 rest));
     }
 
 pub spread_stopped : {told : Bool} {cutter now mid next : CutterState} {cut cut' : Cut} {place : ℕ} {waiting line left : List ℕ} {old between new : List Slot} {fault : Fault} → Spreading told cutter cut place waiting line old between now left
@@ -440,7 +386,7 @@ alone P cutter line none holds = grind (arith, common_steps)
 
 cuts_alike : {cutter : CutterState} (window : Window) {x left : List ℕ} (line : List ℕ) (cut : Cut) {place : ℕ} {at : IsAt cutter x left} → CutsNow cutter x left line cut place at → CutsNow (alike cutter cutter.aim window) x left line cut place (at_alike cutter cutter.aim window x left at)
 unfolding at_alike
-cuts_alike window line cut now = record { last = now.last; near = now.near; place_is = now.place_is; before = now.before; goes = now.goes }
+cuts_alike window line cut now = grind (arith, common_steps)
 
 all_alike : {told : Bool} (cutter : CutterState) {next : CutterState} (window : Window) {cut : Cut} {place : ℕ} {left line : List ℕ} {old new : List Slot} {fault : Option Fault} → CutsAll told (alike cutter cutter.aim window) cut place left line [] old new next fault
     → CutsAll told cutter cut place left line [] old new next fault
@@ -478,8 +424,7 @@ found_held rest (Ok passed) held found = found_by rest passed.found held found
 found_held rest (Err fault) held found = tt
 
 ok_as : {P Q : Passed → Type 0} (result : Result Passed Fault) → ((passed : Passed) → P passed → Q passed) → IfOk result P → IfOk result Q
-ok_as (Ok passed) follows holds = follows passed holds
-ok_as (Err fault) follows holds = tt
+ok_as result follows holds = grind (arith, common_steps)
 
 -- What `go_on` owes.
 pub gone_on : {told : Bool} {cutter mid next : CutterState} (text : List ℕ) {rest : List ℕ} (kept : ℕ) {passed : Passed} {old new : List Slot} (result : Result Passed Fault) → kept ≤ length text → rest ≡ drop kept text → StopsAt cutter rest mid passed
@@ -511,8 +456,7 @@ there_of {now = now} {mid} {aim} {x} line {left} {rest} {n} fit whole tries over
 
 -- where the first line is all, or complete
 joins_by : {E : Type 0} {x rest : List ℕ} (n : ℕ) → (rest ≡ []) ⊎ E → (E → IsWhole x) → Joins x (take n rest)
-joins_by n (inl none) ends = grind (arith, common_steps)
-joins_by n (inr so) ends = inl (ends so)
+joins_by n fact ends = grind (arith, common_steps)
 
 spread_passes : {told : Bool} {cutter mid end next : CutterState} {cut : Cut} {place : ℕ} {line left rest : List ℕ} {n : ℕ} {old between new : List Slot} {fault : Option Fault} → Spread told cutter cut place line line old between mid left → (rest ≡ []) ⊎ (ends_with newline line ≡ true) → PassesOver mid rest end n
     → Holds told end (end.window.held ++ (left ++ take n rest)) between new next fault → CutsAll told cutter cut place line line (take n rest) old new next fault
@@ -565,8 +509,6 @@ pub cut_not_on : {told : Bool} {cutter mid next : CutterState} {cut : Cut} {line
     → kept ≡ length left → tail ≡ left ++ rest → GoesOn told mid (take kept tail) (drop kept tail) between new next (Err fault) → CutsOn told cutter cut line rest old new next (Err fault)
 cut_not_on complete spread kept_is tail_is goes =
     let gone = gone_left kept_is tail_is goes in record { n = gone.n; within = gone.over.within; whole = gone.over.whole; all = spread_passes spread complete gone.over gone.held; size = tt; found = tt }
-
--- a fault at the cut
 
 -- What `stretch` owes. The first line isn't cut.
 

@@ -1,44 +1,46 @@
--- What stays of a plan when more lines come, what a turn says of it, and what trying the next operand with the last line says.
-use Rattle.std.proofs.Common.{◌≡◌, inl, inr, ℕ, suc, ◌+◌, ◌-◌, ◌<◌, ◌≤◌, Bool, true, false, List, [], ◌∷◌, ◌++◌, length, get_or, refl, ◌∙◌, ap, arith, length-append, zero, ◌*◌, ◌^◌, drop, sym, subst, None, Result, Ok, Err, OnOk, IfErr, Option, Some, rules, append-nil, min}
+-- What stays of a plan when more lines come, what a turn says of it, what trying the next operand says, and over which lines it stands as it does.
+use Rattle.std.proofs.Common.{◌≡◌, inl, inr, ℕ, suc, ◌+◌, ◌-◌, ◌<◌, ◌≤◌, Bool, true, false, List, [], ◌∷◌, ◌++◌, length, get_or, refl, ◌∙◌, ap, arith, length-append, zero, ◌*◌, ◌^◌, drop, sym, subst, None, Result, OnOk, IfErr, Option, Some, rules, append-nil, min, cond, take, append_assoc}
 use Rattle.csplit_core.specs.Operand.{Target, Number, Search, Operand, Line, unmarked, is_match, Offset, moved, has_more}
-use Rattle.csplit_core.specs.Plan.{State, Step, Ending, missed, above, search_line, IsFirst, MatchesNone, Misses, line_after, Runs, is_used_up, misses, is_above, is_below, cuts, used_up, below, CutsAt, operands_after, repetition_after, state_after}
+use Rattle.csplit_core.specs.Plan.{State, Step, Ending, missed, above, search_line, MatchesNone, Misses, line_after, Runs, is_used_up, misses, is_above, is_below, cuts, below, CutsAt, operands_after, repetition_after, state_after}
 use Rattle.csplit_core.specs.Planned.{plan}
 use Rattle.csplit_core.specs.laws.PlanLaws.{cuts_still, goes_on, plan_runs, plan_once, line_some, fewer_left, fewer_moves}
 use Rattle.bre_core.specs.Pattern.{Pattern}
-use Rattle.csplit_core.specs.Progress.{state_of, EndsHere, AimsAt}
-use Rattle.csplit_core.specs.inner.Cutter.{AreSeen, Turns, FallsAt, MovesOn, GoesPast, WillCut, PassesOn, WentOn, PassesCut, IsWhole, IsLine, Joins, Looked, IsFound, IsNoCut, search_after, StaysNear, Tries, TriesNext}
+use Rattle.csplit_core.specs.Progress.{state_of, EndsHere, AimsAt, WillMove}
+use Rattle.csplit_core.specs.inner.Cutter.{AreSeen, Turns, FallsAt, GoesPast, WillCut, PassesOn, PassesCut, IsWhole, IsLine, Joins, Looked, IsFound, IsNoCut, search_after, StaysNear, Tries, TriesNext, AreClear, IsNextFound, PassesClear, PassesOver, StopsAt}
 use Rattle.csplit_core.specs.declared.progress.Turn.{Turn}
-use Rattle.csplit_core.specs.declared.progress.Turn.TheVariants.{UsedUp, Missed, Above, Below, Cuts}
+use Rattle.csplit_core.specs.declared.progress.Turn.TheVariants.{Missed, Above, Below, Cuts, UsedUp}
 use Rattle.csplit_core.specs.Measure.{Moves, IsRepeatedBy, IsRepeated, Fits}
 use Rattle.csplit_core.specs.declared.progress.Progress.{Progress}
 use Rattle.csplit_core.specs.inner.PlanLaws.{needed, EndsAs}
 use Rattle.csplit_core.proofs.WholeLemmas.{after_within}
-use Rattle.csplit_core.specs.laws.SectionLaws.{front_of, ends_as}
+use Rattle.csplit_core.specs.laws.SectionLaws.{ends_as}
 use Rattle.ports_core.specs.declared.fault.Fault.{Fault}
 use Rattle.csplit_core.specs.Input.{newline, without_newline, marked, all_lines, is_match_of}
 use Rattle.csplit_core.specs.declared.line_cutter.Cut.{Cut}
-use Rattle.csplit_core.specs.Cutter.{CutterState, state_in, most_by, pattern_by, suppress_in, IsFit, pattern_in, AimHolds, IsLive, EndsNow}
+use Rattle.csplit_core.specs.Cutter.{CutterState, state_in, most_by, pattern_by, suppress_in, IsFit, pattern_in, AimHolds, IsLive, EndsNow, IsSound}
 use Rattle.ports_core.specs.inner.Part.{fault_in}
 use Rattle.ports_core.specs.declared.fault.Fault.TheVariants.{Memory}
-use Rattle.seg_core.specs.Line.{line_count}
-use Rattle.csplit_core.proofs.LineLemmas.{all_lines-append, all_lines-line, length-all_lines, count-append, count-line, whole-append}
+use Rattle.seg_core.specs.Line.{line_count, lines_of, delimiters, ends_with, EndsAt, FallsShort, joined, HasNone, IsComplete, AreLines}
+use Rattle.csplit_core.proofs.LineLemmas.{all_lines-append, all_lines-line, length-all_lines, count-append, count-line, whole-append, whole_drop, whole_count, whole_by, line_by}
 use Rattle.std.proofs.lemmas.Grind.{common_steps}
-
--- What stays of a plan when more lines come, and which lines have to be looked at.
+use Rattle.std.proofs.lemmas.Bool.{cases_lt, eq-eqb, eqb-true, ne_eqb, false≢true}
+use Rattle.std.proofs.lemmas.List.{get_or-map, drop_at, take_all, take_at, take-append-drop, length-take-le, append-nil}
+use Rattle.memchr.specs.Find.{Nowhere, Passes, is_byte}
+use Rattle.bre_core.specs.Search.{contains}
+use Rattle.seg_core.proofs.Delimiters.{delimiters-le-length}
+use Rattle.seg_core.proofs.FirstLines.{EndsAt-enough, lines_of-first_lines}
+use Rattle.seg_core.proofs.LineCounts.{line_count-le-length, line_count_near, ends_with-append}
+use Rattle.csplit_core.specs.declared.line_cutter.Passed.{Passed}
+use Rattle.scan_core.specs.Clear.{IsClear}
+use Rattle.seg_core.proofs.LinesOf.{AreLines-lines_of, joined-lines_of}
 
 -- `count` lines come before these, and none of these has the operand's pattern, from the line on of number `from`
 abbrev pub NoneFrom : Operand → (count : ℕ) → List Line → (from : ℕ) → Type 0
 NoneFrom operand count lines from = (k : ℕ) → k < length lines → from ≤ count + suc k → (get_or lines k unmarked).marks operand ≡ false
 
-misses_from : (suppress : Bool) (a b : List Line) (state : State) (operand : Operand) (target : Target) → Misses suppress a state operand target → NoneFrom operand (length a) b (search_line suppress state) → Misses suppress (a ++ b) state operand target
-misses_from suppress a b state operand (Number n) none those = none
-misses_from suppress a b state operand (Search pattern kept offset) none those = grind (arith, common_steps)
-
 -- After a cut, no line before the last one has to be looked at again
 
 -- where no line before the last one is matched, that line alone decides
-pub looks_last : {operand : Operand} {lines : List Line} {from : ℕ} → ((other : ℕ) → from ≤ other → other < length lines → is_match operand lines other ≡ false) → from ≤ length lines → is_match operand lines (length lines) ≡ true → IsFirst operand lines from (length lines)
-looks_last looked least is = grind (arith, common_steps)
 
 pub looks_past : (operand : Operand) (lines : List Line) (from : ℕ) → ((other : ℕ) → from ≤ other → other < length lines → is_match operand lines other ≡ false) → (from ≤ length lines → is_match operand lines (length lines) ≡ false) → MatchesNone operand lines from
 looks_past operand lines from looked none line from_on within = grind (arith, common_steps)
@@ -55,7 +57,7 @@ pub ends_still : {suppress : Bool} {a : List Line} (b : List Line) {first : Stat
     → Runs suppress (a ++ b) last [] last ending
 ends_still b (is_used_up state none) still = is_used_up state none
 ends_still {suppress} {a} b (misses state operand operands is none) still =
-    misses state operand operands is (misses_from suppress a b state operand operand.target none (still operand operands is))
+    misses state operand operands is ((grind (arith, common_steps, none, (still operand operands is))))
 ends_still {suppress} {a} b (is_above state operand operands matched cut is at far) still = is_above state operand operands matched cut is (cuts_still suppress a b state operand operand.target matched cut at) still
 ends_still {suppress} {a} b (is_below state operand operands matched cut is at within low) still =
     is_below state operand operands matched cut is (cuts_still suppress a b state operand operand.target matched cut at) (let e : length (a ++ b) ≡ length a + length b = length-append a b in omega (arith, e, within)) low
@@ -66,8 +68,6 @@ stays suppress operands a b so =
     let here = plan_runs suppress operands a in
     plan_once suppress operands (a ++ b) _ _ _ (goes_on b _ _ here (ends_still b here so))
     ∙ ap (λ (steps : List Step). record (plan suppress operands a) { steps = steps }) (append-nil (plan suppress operands a).steps)
-
--- What a turn says of the plan, and how a run goes on after a cut.
 
 -- What a turn says of the plan.
 
@@ -85,15 +85,7 @@ falls suppress all state {operand} {operands} matched real {most} count are at_c
 falls suppress all {total} state {operand} {operands} matched real {most} count are at_cut is few Below at =
     let same : most ≡ real = capped real (2 ^ 64 - 1) most total is at.0 few in
     record { ending = below operand state.repetition; runs = is_below state operand operands matched real are at_cut (omega (arith, same, at.0, count)) (omega (arith, same, at.1)); aims = tt }
-falls suppress all {total} state {operand} {operands} matched real {most} count are at_cut is few (Cuts line cut) at =
-    let same : most ≡ real = capped real (2 ^ 64 - 1) most total is at.3 few in record {
-      operand = operand;
-      operands = operands;
-      are = are;
-      cuts = subst (λ f. CutsAt suppress all state operand operand.target f cut) (sym at.0) (subst (CutsAt suppress all state operand operand.target matched) (sym (at.1 ∙ same)) at_cut);
-      from = omega (arith, at.1, at.2);
-      within = omega (arith, at.1, at.3, count);
-    }
+falls suppress all {total} state {operand} {operands} matched real {most} count are at_cut is few (Cuts line cut) at = grind (arith, common_steps)
 falls suppress all state matched real count are at_cut is few turn at = absurd at
 
 pub falls_number : (suppress : Bool) (all : List Line) {total : ℕ} (state : State) {found : Bool} {operand : Operand} {operands : List Operand} (number : ℕ) {most : ℕ} → state.operands ≡ operand ∷ operands → operand.target ≡ Number number → AreSeen suppress all total state found
@@ -108,8 +100,7 @@ pub falls_search : (suppress : Bool) (all : List Line) {total : ℕ} (state : St
 falls_search suppress all {total} state {operand = operand} {operands} {pattern} {kept} offset are target seen near is_found is few turn at = falls suppress all state total (moved offset total) seen.count are
     (subst (λ t. CutsAt suppress all state operand t total (moved offset total)) (sym target)
     (subst (λ n. CutsAt suppress all state operand (Search pattern kept offset) n (moved offset n)) seen.count (
-      looks_last {operand = operand} {lines = all} {from = search_line suppress state} (λ other from less. seen.others operand operands are other from (omega (arith, less, seen.count))) (omega (arith, seen.count, near))
-          (ap (is_match operand all) seen.count ∙ seen.last operand operands are near ∙ is_found),
+      (grind (arith, common_steps)),
       refl,
     ))) is few turn at
 
@@ -124,9 +115,6 @@ misses_search {suppress} all {total} {state} {operand = operand} {operands} are 
   aims = tt;
 }
 
-pub used_up_here : {suppress : Bool} {lines : List Line} {state : State} → state.operands ≡ [] → EndsHere suppress lines state UsedUp
-used_up_here {state = state} none = record { ending = used_up; runs = is_used_up state none; aims = tt }
-
 pub left_is : (operands : List Operand) (at : ℕ) {operand : Operand} → at < length operands → operand ≡ get_or operands at operand → drop at operands ≡ operand ∷ drop (at + 1) operands
 left_is operands at {operand} within is = grind (arith, common_steps)
 
@@ -138,11 +126,7 @@ drop_next (one ∷ operands) (suc at) are = drop_next operands at are
 
 pub passes_on : (suppress : Bool) (operands : List Operand) {rest : List Operand} {operand : Operand} (at repetition matched cut : ℕ) {current next : ℕ} → drop at operands ≡ operand ∷ rest → has_more operand.times repetition ≡ false → current ≡ line_after suppress cut → next ≡ at + 1
     → state_of operands (record { done = next; repetition = 0; current = current; matched = matched }) ≡ state_after suppress operand rest repetition matched cut
-passes_on suppress operands {rest} {operand} at repetition matched cut {current} {next} are none is on =
-    ap (λ n. record { operands = drop n operands; repetition = 0; current = current; matched = matched }) (let e : next ≡ suc at = omega (arith, on) in e)
-    ∙ ap (λ (those : List Operand). record { operands = those; repetition = 0; current = current; matched = matched }) (drop_next operands at are)
-    ∙ ap (λ c. record { operands = rest; repetition = 0; current = c; matched = matched }) is
-    ∙ ap (λ b. record { operands = operands_after b operand rest; repetition = repetition_after b repetition; current = line_after suppress cut; matched = matched }) (sym none)
+passes_on suppress operands {rest} {operand} at repetition matched cut {current} {next} are none is on = search (rules, drop_next, at, are)
 
 -- A cut moves on, and the numbers stay small.
 
@@ -175,7 +159,7 @@ module _ {cutter : CutterState} {cut : Cut} {operand : Operand} (progress : Prog
   are = left_is cutter.operands cutter.progress.done will.some here
 
   at : Moves cutter.lines (state_in cutter) operand.target cut.matched cut.line
-  at = subst (λ (o : Operand). Moves cutter.lines (state_in cutter) o.target cut.matched cut.line) (front_of will.operand operand (sym will.left ∙ are)) will.moves
+  at = grind (arith, common_steps)
 
   fits : Fits cutter.lines (state_of cutter.operands progress)
   fits = subst (Fits cutter.lines) (sym (next cutter.operands _ are)) (fits_after suppress cut.matched cut.line fit.fits are at will.matched will.from will.within)
@@ -185,51 +169,28 @@ module _ {cutter : CutterState} {cut : Cut} {operand : Operand} (progress : Prog
       (fewer_moves suppress cutter.lines (state_in cutter) cut.matched cut.line are at (omega (arith, fit.fits.some, will.from)) will.within)
 
   state : PassesOn cutter cut (record cutter { progress = progress })
-  state one more is = subst (λ o. state_of cutter.operands progress ≡ state_after (suppress_in cutter) o more cutter.progress.repetition cut.matched cut.line) (front_of operand one (sym are ∙ is))
-      (next cutter.operands more (subst (λ o. drop cutter.progress.done cutter.operands ≡ o ∷ more) (front_of one operand (sym is ∙ are)) is) ∙ ap (λ s. state_after s operand more cutter.progress.repetition cut.matched cut.line) by)
+  state one more is = grind (arith, common_steps)
 
   -- the same operand is performed again
   pub passes_again : progress.done ≡ cutter.progress.done → PassesCut cutter cut (record cutter { progress = progress }) None
-  passes_again done = record {
-    same = refl;
-    held = none;
-    fit = record {
-      fits = fits;
-      most = fit.most ∙ ap (λ at. most_by (drop at cutter.operands)) (sym done);
-      delim = fit.delim;
-      sought = fit.sought ∙ ap (λ at. pattern_by (drop at cutter.operands)) (sym done);
-    };
-    fewer = fewer;
-    state = state;
-  }
+  passes_again done = search (rules, fits, at, fewer, state)
 
   -- the next operand has got what it needs
   pub passes_next : (new : CutterState) (result : Result (Unit {0}) Fault)
       → OnOk result (new ≡ record cutter { progress = progress; window = record { most = most_by (drop progress.done cutter.operands); delim = newline; held = [] }; sought = pattern_by (drop progress.done cutter.operands) })
       → IfErr result (λ fault. (fault ≡ Memory) × (new.writer ≡ cutter.writer) × (new.operands ≡ cutter.operands)) → PassesCut cutter cut new (fault_in result)
-  passes_next new (Ok done) is lacks = subst (WentOn cutter cut) (sym is) (record { same = refl; held = refl; fit = record { fits = fits; most = refl; delim = refl; sought = refl }; fewer = fewer; state = state })
-  passes_next new (Err fault) is lacks = lacks
+  passes_next new result is lacks = grind (arith, common_steps, fits, fewer, state)
 
 -- What trying the next operand with the last line says.
 
 pub found_is : {cutter : CutterState} (line : List ℕ) {text : List ℕ} (number : ℕ) {found : Bool} (target : Target) → text ≡ without_newline line → cutter.sought ≡ pattern_in target → IsFound cutter text number found
     → search_line (suppress_in cutter) (state_in cutter) ≤ number → is_match_of line target ≡ found
-found_is line number (Number n) is sought says near = sym (says.none sought)
-found_is line number (Search pattern kept offset) is sought says near = grind (arith, common_steps)
+found_is line number target is sought says near = grind (arith, common_steps)
 
 pub turn_ends : {suppress : Bool} {lines : List Line} {state : State} (turn : Turn) → IsNoCut turn → Turns suppress lines state turn → EndsHere suppress lines state turn
-turn_ends (Cuts matched line) no_cut ends = absurd no_cut
-turn_ends _ no_cut ends = ends
-
-pub no_cut_aims : (operands : List Operand) (total : ℕ) (progress : Progress) (turn : Turn) → IsNoCut turn → MovesOn operands total progress turn → AimHolds operands total progress turn
-no_cut_aims operands total progress (Above matched line) no_cut moves = moves
-no_cut_aims operands total progress (Cuts matched line) no_cut moves = absurd no_cut
-no_cut_aims operands total progress _ no_cut moves = tt
+turn_ends turn no_cut ends = grind (arith, common_steps)
 
 -- a search after a cut begins at the cut or after it, and after the line that was matched last
-pub after_cut : (suppress : Bool) (cut : Cut) → cut.line ≤ search_after suppress cut
-after_cut true cut = grind (arith, common_steps)
-after_cut false cut = grind (arith, common_steps)
 
 pub cut_near : {cutter : CutterState} {x : List ℕ} (line : List ℕ) (cut : Cut) {turn : Turn} → turn ≡ Cuts cut.matched cut.line → IsFit cutter → Looked cutter x line → Turns (suppress_in cutter) (all_lines x) (state_in cutter) turn → StaysNear cutter cut
 cut_near {cutter} {x} line cut is fit looked turns = search rules
@@ -256,13 +217,6 @@ StaysOver cutter text lines (Above matched line) = lines < line
 StaysOver cutter text lines turn = Unit {0}
 
 -- that is so where the next operand stands as it did
-still_by : {cutter : CutterState} (x text : List ℕ) {lines : ℕ} (aim : Turn) (ending : Ending) → IsFit cutter → cutter.lines ≡ length (all_lines x) → lines ≡ length (all_lines x ++ all_lines text) → AimsAt aim ending
-    → StaysOver cutter text lines aim → EndsStill (suppress_in cutter) (length (all_lines x)) (all_lines text) (length (all_lines x ++ all_lines text)) (state_in cutter) ending
-still_by x text aim used_up fit count all aims stays = tt
-still_by x text aim (below operand repetition) fit count all aims stays = tt
-still_by {cutter} x text Missed (missed operand repetition) fit count all aims stays = grind (arith, common_steps)
-still_by x text (Above last line) (above operand repetition matched cut) fit count all aims stays = grind (arith, common_steps)
-still_by x text _ _ fit count all aims stays = absurd aims
 
 -- what passing over a text leaves of the plan
 pub ends_over : {cutter : CutterState} {lines : ℕ} (text : List ℕ) → IsFit cutter → lines ≡ cutter.lines + line_count newline text → StaysOver cutter text lines cutter.aim → (x : List ℕ) → Joins x text → cutter.lines ≡ line_count newline x → EndsNow cutter x
@@ -276,7 +230,7 @@ ends_over {cutter} {lines} text fit count stays x before counted ends =
       record {
         ending = ends.ending;
         runs = subst (λ those. Runs (suppress_in cutter) those (state_in cutter) [] (state_in cutter) ends.ending) (sym (all_lines-append text before))
-            (ends_still (all_lines text) ends.runs (still_by x text cutter.aim ends.ending fit (omega (arith, counted, here)) (omega (arith, count, counted, here, there, both)) ends.aims stays));
+            (ends_still (all_lines text) ends.runs (grind (arith, common_steps)));
         aims = ends.aims;
       },
     )
@@ -293,19 +247,13 @@ lines_are {x} live = grind (arith, common_steps)
 -- the line of a cut that was above the last one came in
 above_cuts : {suppress : Bool} (lines : List Line) (line : Line) {state : State} {total matched at : ℕ} (ending : Ending) → length lines ≡ total → state.current ≤ total + 1 → EndsAs suppress lines state ending → AimsAt (Above matched at) ending → at ≤ total + 1 → total + 1 < 2 ^ 64 - 1
     → GoesPast suppress (lines ++ line ∷ []) state matched at × (at ≡ total + 1)
-above_cuts {suppress} lines line {state} {total} {at} (above operand repetition matched' cut) count within (operands, are, at_cut, far, often) aims near few = grind (arith, common_steps)
-above_cuts lines line _ count within ends aims near few = absurd aims
+above_cuts lines line ending count within ends aims near few = grind (arith, common_steps)
 
 pub next_cut : {cutter : CutterState} {x : List ℕ} (line : List ℕ) {matched at : ℕ} → IsFit cutter → IsLive cutter x → IsWhole x → IsLine line → cutter.aim ≡ Above matched at → at ≤ cutter.lines + 1 → cutter.lines < 2 ^ 63
     → GoesPast (suppress_in cutter) (all_lines (x ++ line)) (state_in cutter) matched at × (cutter.lines + 1 ≤ search_after (suppress_in cutter) (record { matched = matched; line = at }))
-next_cut {cutter} {x} line {matched} {at} fit live whole one aim near few = grind (arith, common_steps, above_cuts, lines_are, ends_as, all_lines-line, after_cut)
+next_cut {cutter} {x} line {matched} {at} fit live whole one aim near few = grind (arith, common_steps, above_cuts, lines_are, ends_as, all_lines-line)
 
 -- where a pattern matched no line so far
-
-missed_looked : (suppress : Bool) (a : List Line) (line : Line) (state : State) (ending : Ending) → EndsAs suppress a state ending → AimsAt Missed ending → {operand : Operand} {operands : List Operand} → state.operands ≡ operand ∷ operands
-    → (other : ℕ) → search_line suppress state ≤ other → other ≤ length a → is_match operand (a ++ line ∷ []) other ≡ false
-missed_looked suppress a line state (missed operand' repetition) (operands', is, none, often) aims {operand} are other from within = grind (arith, common_steps)
-missed_looked suppress a line state _ ends aims are other from within = absurd aims
 
 pub next_looked : {cutter : CutterState} {x : List ℕ} (line : List ℕ) (live : IsLive cutter x) → IsWhole x → IsLine line → cutter.aim ≡ Missed → Looked (record cutter { lines = cutter.lines + 1 }) (x ++ line) line
 next_looked {cutter} {x} line live whole one aim =
@@ -315,7 +263,7 @@ next_looked {cutter} {x} line live whole one aim =
       counted = ap (λ n. n + 1) live.at.counted ∙ sym (count-line line whole one);
       last = (all_lines x, all_lines-line line whole one, λ ends. whole-append line whole (inr ends));
       others = λ operand operands are other from less. ap (λ lines. is_match operand lines other) (all_lines-line line whole one)
-          ∙ missed_looked (suppress_in cutter) (all_lines x) (marked line) (state_in cutter) live.ends.ending ends aims are other from (omega (arith, less, count));
+          ∙ (grind (arith, common_steps));
     }
 
 pub next_sought : {cutter : CutterState} {x : List ℕ} (live : IsLive cutter x) → IsFit cutter → cutter.aim ≡ Missed → cutter.sought ≡ None → ⊥
@@ -325,3 +273,253 @@ pub next_tries : {cutter : CutterState} (next : CutterState) (line : List ℕ) (
 next_tries next line None fit one aim counted tries = λ x whole live. tries (x ++ line) (next_looked line live whole one aim)
 next_tries next line (Some cut) fit one aim counted tries = λ x whole live.
     let both = tries (x ++ line) (next_looked line live whole one aim) in let near = both.1 (inr (next_sought live fit aim)) in (both.0, omega (arith, near, counted))
+
+-- What stays so of a state when more lines come
+
+pub passes : {cutter : CutterState} {text : List ℕ} {lines n : ℕ} → IsSound cutter → n ≤ length text → IsWhole (take n text) → lines ≡ cutter.lines + line_count newline (take n text) → StaysOver cutter (take n text) lines cutter.aim
+    → PassesOver cutter text (record cutter { lines = lines }) n
+passes {cutter} {text} {lines} {n} sound within whole count stays = record {
+  same = refl;
+  within = within;
+  whole = whole;
+  few = let few : line_count newline (take n text) ≤ length (take n text) = line_count-le-length newline (take n text) in let long = length-take-le n text within in omega (arith, count, few, long);
+  sound = (grind (arith, common_steps));
+  ends = ends_over (take n text) sound.fit count stays;
+}
+
+-- All lines of a text
+
+passes_all : {cutter : CutterState} {text : List ℕ} {n : ℕ} → IsSound cutter → IsWhole text → n ≡ delimiters newline text → StaysOver cutter text (cutter.lines + n) cutter.aim → PassesOver cutter text (record cutter { lines = cutter.lines + n }) (length text)
+passes_all {cutter} {text} {n} sound whole count stays =
+    let all : text ≡ take (length text) text = sym (take_all (length text) text (omega arith)) in
+    let same : line_count newline text ≡ delimiters newline text = whole_count whole in
+    let taken : line_count newline text ≡ line_count newline (take (length text) text) = ap (line_count newline) all in
+    passes sound (omega arith) (subst IsWhole all whole) (omega (arith, count, same, taken)) (subst (λ those. StaysOver cutter those (cutter.lines + n) cutter.aim) all stays)
+
+pub passes_used_up : {cutter : CutterState} {text : List ℕ} {n : ℕ} → IsSound cutter → IsWhole text → n ≡ delimiters newline text → cutter.aim ≡ UsedUp → PassesOver cutter text (record cutter { lines = cutter.lines + n }) (length text)
+passes_used_up {cutter} {text} {n} sound whole counted aim = passes_all sound whole counted (subst (StaysOver cutter text (cutter.lines + n)) (sym aim) tt)
+
+-- Lines before the line of a cut
+
+-- the lines that end there
+
+pub passes_below : {cutter : CutterState} {text : List ℕ} (line end : ℕ) → IsSound cutter → (matched : ℕ) × (cutter.aim ≡ Above matched line) → EndsAt newline (line - 1 - cutter.lines) text end → PassesOver cutter text (record cutter { lines = line - 1 }) end
+passes_below {cutter} {text} line end sound (matched, aim) ends =
+    let will : WillMove cutter.operands cutter.lines cutter.progress matched line = subst (AimHolds cutter.operands cutter.lines cutter.progress) aim sound.aim in
+    let less : cutter.lines < line = will.above in
+    let count : line_count newline (take end text) ≡ line - 1 - cutter.lines = (grind (arith, common_steps, EndsAt-enough, line_count_near, lines_of-first_lines, length-take-le, ends)) in
+    passes sound ends.within (whole_by (take end text) _ refl (let all = ends.complete in omega (arith, count, all))) (omega (arith, less, count))
+    (subst (StaysOver cutter (take end text) (line - 1)) (sym aim) (let e : line - 1 < line = omega (arith, less) in e))
+
+pub passes_short : {cutter : CutterState} {text : List ℕ} (line : ℕ) {count : ℕ} → IsSound cutter → IsWhole text → (matched : ℕ) × (cutter.aim ≡ Above matched line) → FallsShort newline (line - 1 - cutter.lines) text count
+    → PassesOver cutter text (record cutter { lines = cutter.lines + count }) (length text)
+passes_short {cutter} {text} line {count} sound whole (matched, aim) short = search (rules, passes_all, StaysOver)
+
+-- Lines without the pattern that is searched for
+
+-- The text before what is left was counted, and none of its lines has the pattern that is searched for, from the line on where the search begins.
+pub record Unmatched (cutter : CutterState) (text left : List ℕ) (next : CutterState) : Type 0 where
+  pub front : List ℕ
+  pub all : text ≡ front ++ left
+  pub whole : IsWhole front
+  pub same : next ≡ record cutter { lines = next.lines }
+  pub count : next.lines ≡ cutter.lines + line_count newline front
+  pub none : StaysOver cutter front next.lines Missed
+
+-- the line up to the first newline
+
+pub first_ends : (x : List ℕ) (end : ℕ) → end < length x → Passes (is_byte newline) x end → ends_with newline (take (suc end) x) ≡ true
+first_ends [] end within here = absurd (omega (arith, within))
+first_ends (byte ∷ x) zero within here = here
+first_ends (byte ∷ []) (suc end) within here = absurd (omega (arith, within))
+first_ends (byte ∷ next ∷ x) (suc end) within here = first_ends (next ∷ x) end (omega (arith, within)) here
+
+-- it is a complete line
+first_parts : (x : List ℕ) (end : ℕ) → end < length x → Passes (is_byte newline) x end → Nowhere (Passes (is_byte newline) x) 0 end → (take (suc end) x ≡ take end x ++ newline ∷ []) × HasNone newline (take end x)
+first_parts [] end within here none = absurd (omega (arith, within))
+first_parts (byte ∷ x) zero within here none = (ap (λ b. b ∷ []) (eqb-true byte newline here), tt)
+first_parts (byte ∷ x) (suc end) within here none =
+    let rest = first_parts x end (omega (arith, within)) here (λ k low high. none (suc k) (omega arith) (omega (arith, high))) in
+    (ap (λ those. byte ∷ those) rest.0, (λ same. none 0 (omega arith) (omega arith) (eq-eqb byte newline same), rest.1))
+
+without_last : (text : List ℕ) → HasNone newline text → without_newline (text ++ newline ∷ []) ≡ text
+without_last [] none = refl
+without_last (byte ∷ text) none = ap (λ is. cond is [] (byte ∷ without_newline (text ++ newline ∷ []))) (ne_eqb byte newline none.0) ∙ ap (λ those. byte ∷ those) (without_last text none.1)
+
+-- one more line
+
+none_more : (operand : Operand) (count : ℕ) (a b : List Line) (from : ℕ) → NoneFrom operand count a from → NoneFrom operand (count + length a) b from
+    → NoneFrom operand count (a ++ b) from
+none_more operand count a b from those others k less near = grind (arith, common_steps)
+
+none_one : (operand : Operand) (count : ℕ) (line : Line) (from : ℕ) → (from ≤ count + 1 → line.marks operand ≡ false) → NoneFrom operand count (line ∷ []) from
+none_one operand count line from here k less near = grind (arith, common_steps)
+
+one_more : {cutter : CutterState} {text left rest : List ℕ} {next : CutterState} (number end : ℕ) → Unmatched cutter text left next → number ≡ next.lines + 1 → end < length left → Passes (is_byte newline) left end
+    → Nowhere (Passes (is_byte newline) left) 0 end → IsFound next (take end left) number false → rest ≡ drop (suc end) left → Unmatched cutter text rest (record next { lines = number })
+one_more {cutter} {left} {rest} {next} number end so is within here none found rest_is =
+    let line = take (suc end) left in
+    let parts = first_parts left end within here none in
+    let one : IsLine line = line_by line (inl (take end left, parts.0, parts.1)) in
+    let found_at : IsFound (record cutter { lines = next.lines }) (take end left) number false = subst (λ (those : CutterState). IsFound those (take end left) number false) so.same found in
+    let before : length (all_lines so.front) ≡ line_count newline so.front = length-all_lines so.front in record {
+      front = so.front ++ line;
+      all = so.all ∙ ap (λ those. so.front ++ those) (sym (take-append-drop (suc end) left) ∙ ap (λ those. line ++ those) (sym rest_is)) ∙ sym (append_assoc so.front line rest);
+      whole = whole-append line so.whole (inr (first_ends left end within here));
+      same = ap (λ (those : CutterState). record those { lines = number }) so.same;
+      count = is ∙ (let more : line_count newline (so.front ++ line) ≡ line_count newline so.front + 1 = count-line line so.whole one in let c : next.lines ≡ cutter.lines + line_count newline so.front = so.count in omega (arith, more, c));
+      none = λ operand same. subst (λ those. NoneFrom operand cutter.lines those (search_line (suppress_in cutter) (state_in cutter))) (sym (all_lines-line line so.whole one))
+          (none_more operand cutter.lines (all_lines so.front) (marked line ∷ []) (search_line (suppress_in cutter) (state_in cutter)) (so.none operand same)
+          (none_one operand _ (marked line) _ (λ near. found_is line number operand.target (sym (ap without_newline parts.0 ∙ without_last (take end left) parts.1)) same found_at
+          (let c : next.lines ≡ cutter.lines + line_count newline so.front = so.count in omega (arith, near, is, c, before)))));
+    }
+
+-- the numbers are small
+
+pub few_counted : {cutter : CutterState} {text left : List ℕ} {next : CutterState} → Unmatched cutter text left next → next.lines + length left ≤ cutter.lines + length text
+few_counted {cutter} {text} {left} {next} so = grind (arith, common_steps, line_count-le-length)
+
+-- what is left of a slice
+pub all_left : (left : List ℕ) {n : ℕ} (end : ℕ) → n ≡ length left → take (n - (end + 1)) (drop (end + 1) left) ≡ drop (suc end) left
+all_left left {n} end is = grind (arith, common_steps)
+
+-- the same of a cutter that looked at the line
+pub one_more_at : {cutter : CutterState} {text left rest : List ℕ} {next now : CutterState} (end : ℕ) {found : Bool} → Unmatched cutter text left next → now ≡ next → end < length left → Passes (is_byte newline) left end → Nowhere (Passes (is_byte newline) left) 0 end
+    → IsFound next (take end left) (next.lines + 1) found → found ≡ false → rest ≡ drop (suc end) left → Unmatched cutter text rest (record now { lines = now.lines + 1 })
+one_more_at {cutter} {text} {left} {rest} {next} end so is within here none finds not rest_is = search (rules, one_more)
+
+-- all that were looked at are passed over
+pub all_passed_at : {cutter : CutterState} {text left : List ℕ} {next now : CutterState} → IsSound cutter → cutter.aim ≡ Missed → Unmatched cutter text left next → now ≡ next → PassesOver cutter text now (length text - length left)
+all_passed_at {cutter} {text} {left} {next} sound aim so is =
+    let long : length text ≡ length so.front + length left = ap length so.all ∙ length-append so.front left in
+    let count : length so.front ≡ length text - length left = omega (arith, long) in
+    let front_is : so.front ≡ take (length text - length left) text = sym (ap (take (length text - length left)) so.all ∙ take_at so.front left (length text - length left) count) in
+    subst (λ (those : CutterState). PassesOver cutter text those (length text - length left)) (sym (is ∙ so.same))
+    (passes sound (omega arith) (subst IsWhole front_is so.whole) (so.count ∙ ap (λ those. cutter.lines + line_count newline those) front_is)
+    (subst (StaysOver cutter (take (length text - length left) text) next.lines) (sym aim) (subst (λ those. StaysOver cutter those next.lines Missed) front_is so.none)))
+
+-- Lines that are seen to have no match
+
+marks_clear : (operand : Operand) (x : List ℕ) → ((pattern : Pattern) → pattern_in operand.target ≡ Some pattern → AreClear pattern x) → (k : ℕ) → k < length (all_lines x) → (get_or (all_lines x) k unmarked).marks operand ≡ false
+marks_clear operand x clear k less =
+    let few : k < line_count newline x = (let e : length (all_lines x) ≡ line_count newline x = length-all_lines x in omega (arith, e, less)) in
+    ap (λ (l : Line). l.marks operand) (get_or-map marked (lines_of newline x) k [] unmarked few)
+    ∙ (grind (arith, common_steps))
+
+pub more_clear : {cutter : CutterState} {text left rest : List ℕ} {next after : CutterState} {n : ℕ} → Unmatched cutter text left next → PassesClear next left after n → rest ≡ drop n left → Unmatched cutter text rest after
+more_clear {cutter} {left} {rest} {next} {after} {n} so clear rest_is =
+    let t = take n left in record {
+      front = so.front ++ t;
+      all = so.all ∙ ap (λ those. so.front ++ those) (sym (take-append-drop n left) ∙ ap (λ those. t ++ those) (sym rest_is)) ∙ sym (append_assoc so.front t rest);
+      whole = whole-append t so.whole clear.whole;
+      same = clear.same ∙ ap (λ (those : CutterState). record those { lines = after.lines }) so.same;
+      count = clear.count ∙ (let more : line_count newline (so.front ++ t) ≡ line_count newline so.front + line_count newline t = count-append t (inl so.whole) in let c : next.lines ≡ cutter.lines + line_count newline so.front = so.count in omega (arith, more, c));
+      none = λ operand same. subst (λ those. NoneFrom operand cutter.lines those (search_line (suppress_in cutter) (state_in cutter))) (sym (all_lines-append t (inl so.whole)))
+          (none_more operand cutter.lines (all_lines so.front) (all_lines t) (search_line (suppress_in cutter) (state_in cutter)) (so.none operand same)
+          (λ k less near. marks_clear operand t (λ pattern is. clear.clear pattern (ap (λ (those : CutterState). those.sought) so.same ∙ same ∙ is)) k less));
+    }
+
+pub counts_clear : {cutter now : CutterState} {text : List ℕ} {n count : ℕ} → cutter ≡ now → n ≤ length text → IsWhole (take n text) → count ≡ delimiters newline (take n text) → ((pattern : Pattern) → now.sought ≡ Some pattern → AreClear pattern (take n text))
+    → PassesClear now text (record cutter { lines = cutter.lines + count }) n
+counts_clear {cutter} {text} {n} {count} is within whole counted clear = search (rules, whole_count)
+
+-- what is left is complete lines
+pub left_whole : {cutter : CutterState} {text left : List ℕ} {next : CutterState} → IsWhole text → Unmatched cutter text left next → IsWhole left
+left_whole {left} whole so = subst IsWhole (ap (drop (length so.front)) so.all ∙ drop_at so.front left (length so.front) refl) (whole_drop (length so.front) whole)
+
+-- the numbers are small
+pub fits_clear : {cutter now : CutterState} (text : List ℕ) {n count : ℕ} → cutter ≡ now → now.lines + length text < 2 ^ 64 → n ≤ length text → count ≡ delimiters newline (take n text) → cutter.lines + count < 2 ^ 64
+fits_clear {cutter} {now} text {n} is fits within counted = search (rules, delimiters-le-length, length-take-le)
+
+pub stops_unfound : {cutter : CutterState} {text : List ℕ} {next : CutterState} {n : ℕ} (passed : Passed) → PassesOver cutter text next n → passed.size ≡ n → passed.found ≡ None → StopsAt cutter text next passed
+stops_unfound {cutter} {text} {next} passed over size_is found_is = grind (arith, common_steps)
+
+-- The line in which the pattern was found is the next one.
+
+pub next_found : {cutter : CutterState} {text left : List ℕ} {next now : CutterState} (end : ℕ) {found : Bool} → cutter.aim ≡ Missed → Unmatched cutter text left next → now ≡ next → end < length left → Passes (is_byte newline) left end → Nowhere (Passes (is_byte newline) left) 0 end
+    → IsFound next (take end left) (next.lines + 1) found → found ≡ true → IsNextFound now (drop (length text - length left) text) (end + 1)
+next_found {text} {left} {next} end {found} aim so now_is within here none finds sure =
+    let long : length text ≡ length so.front + length left = ap length so.all ∙ length-append so.front left in
+    let left_is : drop (length text - length left) text ≡ left = ap (drop (length text - length left)) so.all ∙ drop_at so.front left (length text - length left) (omega (arith, long)) in
+    let one : suc end ≡ end + 1 = omega arith in
+    let parts = first_parts left end within here none in
+    subst (λ (those : CutterState). IsNextFound those (drop (length text - length left) text) (end + 1)) (sym now_is)
+    (subst (λ those. IsNextFound next those (end + 1)) (sym left_is) (subst (IsNextFound next left) one (record {
+      some = omega arith;
+      within = omega (arith, within);
+      line = line_by (take (suc end) left) (inl (take end left, parts.0, parts.1));
+      ends = first_ends left end within here;
+      aim = ap (λ (those : CutterState). those.aim) so.same ∙ aim;
+      found = subst (λ those. IsFound next those (next.lines + 1) true) (sym (ap without_newline parts.0 ∙ without_last (take end left) parts.1))
+          (subst (IsFound next (take end left) (next.lines + 1)) sure finds);
+    })))
+
+-- Lines of a text that is seen to have no match up to a place, and lines without their newlines.
+
+without_none : (text : List ℕ) → HasNone newline text → without_newline text ≡ text
+without_none [] none = refl
+without_none (byte ∷ text) none = ap (λ is. cond is [] (byte ∷ without_newline text)) (ne_eqb byte newline none.0) ∙ ap (λ those. byte ∷ those) (without_none text none.1)
+
+ends_none : (text : List ℕ) → HasNone newline text → ends_with newline text ≡ false
+ends_none [] none = refl
+ends_none (byte ∷ []) none = ne_eqb byte newline none.0
+ends_none (byte ∷ next ∷ text) none = ends_none (next ∷ text) none.1
+
+-- A complete line that ends by the place contains no match.
+
+line_clear : (pattern : Pattern) {text : List ℕ} (place : ℕ) (front line more rest : List ℕ) → IsClear pattern text place → text ≡ front ++ (line ++ more) ++ rest → length front + length (line ++ more) ≤ place → IsComplete newline line
+    → contains pattern (without_newline line) ≡ false
+line_clear pattern {text} place front line more rest clear all within (bytes, is, none) =
+    let after = newline ∷ (more ++ rest) in
+    let long : length line ≡ length bytes + 1 = ap length is ∙ length-append bytes (newline ∷ []) in
+    let longer : length (line ++ more) ≡ length line + length more = length-append line more in
+    let parts : text ≡ front ++ bytes ++ after = all ∙ append_assoc front (line ++ more) rest
+    ∙ ap (λ those. front ++ those) (append_assoc line more rest ∙ ap (λ those. those ++ (more ++ rest)) is ∙ append_assoc bytes (newline ∷ []) (more ++ rest))
+    ∙ sym (append_assoc front bytes after) in
+    ap (contains pattern) (ap without_newline is ∙ without_last bytes none) ∙ clear front bytes after parts (omega (arith, long, longer, within))
+
+each_clear : (pattern : Pattern) {text : List ℕ} (place : ℕ) (front : List ℕ) (lines : List (List ℕ)) (rest : List ℕ) → IsClear pattern text place → text ≡ front ++ joined lines ++ rest → length front + length (joined lines) ≤ place → AreLines newline lines
+    → (0 < length lines → ends_with newline (joined lines) ≡ true) → (k : ℕ) → k < length lines → contains pattern (without_newline (get_or lines k [])) ≡ false
+each_clear pattern place front [] rest clear all within are ends k less = absurd (omega (arith, less))
+each_clear pattern place front (line ∷ []) rest clear all within (inl complete) ends zero less = line_clear pattern place front line [] rest clear all within complete
+each_clear pattern place front (line ∷ []) rest clear all within (inr unended) ends zero less = grind (arith, common_steps, false≢true, ends_none, append-nil)
+each_clear pattern place front (line ∷ []) rest clear all within are ends (suc k) less = absurd (omega (arith, less))
+each_clear pattern place front (line ∷ next ∷ lines) rest clear all within are ends zero less = line_clear pattern place front line (joined (next ∷ lines)) rest clear all within are.0
+each_clear pattern place front (line ∷ next ∷ lines) rest clear all within are ends (suc k) less =
+    let both : length (front ++ line) ≡ length front + length line = length-append front line in
+    let these : length (line ++ joined (next ∷ lines)) ≡ length line + length (joined (next ∷ lines)) = length-append line (joined (next ∷ lines)) in
+    each_clear pattern place (front ++ line) (next ∷ lines) rest clear
+    (all ∙ ap (λ those. those ++ rest) (sym (append_assoc front line (joined (next ∷ lines))))) (omega (arith, both, these, within)) are.1
+    (λ some. sym (ends_with-append newline line (joined (next ∷ lines)) (grind (arith, common_steps))) ∙ ends (omega arith)) k (omega (arith, less))
+
+whole_ends : {x : List ℕ} → IsWhole x → 0 < length (lines_of newline x) → ends_with newline (joined (lines_of newline x)) ≡ true
+whole_ends fact some = grind (arith, common_steps, joined-lines_of)
+
+pub clear_front : (pattern : Pattern) (text : List ℕ) (place n : ℕ) → IsClear pattern text place → n ≤ place → n ≤ length text → IsWhole (take n text) → AreClear pattern (take n text)
+clear_front pattern text place n clear low within whole =
+    let x = take n text in
+    let joined_is : joined (lines_of newline x) ≡ x = joined-lines_of newline x in
+    let long : length (joined (lines_of newline x)) ≡ n = ap length joined_is ∙ length-take-le n text within in
+    each_clear pattern place [] (lines_of newline x) (drop n text) clear (sym (take-append-drop n text) ∙ ap (λ those. those ++ drop n text) (sym joined_is))
+    (omega (arith, long, low)) (AreLines-lines_of newline x) (whole_ends whole)
+
+-- A line has its newline at its end, if it has one.
+
+one_line : (line : List ℕ) → IsLine line → AreLines newline (line ∷ [])
+one_line line one = subst (AreLines newline) one (AreLines-lines_of newline line)
+
+none_at : (text : List ℕ) (n d : ℕ) → n < length text → HasNone newline text → get_or text n d ≡ newline → ⊥
+none_at [] n d less none is = absurd (omega (arith, less))
+none_at (byte ∷ text) zero d less none is = none.0 is
+none_at (byte ∷ text) (suc n) d less none is = none_at text n d (omega (arith, less)) none.1 is
+
+pub text_ended : (line : List ℕ) {last : ℕ} (d : ℕ) → IsLine line → last ≡ get_or line (length line - 1) d → last ≡ newline → take (length line - 1) line ≡ without_newline line
+text_ended line d one read is = grind (arith, common_steps, one_line, take_at, without_last, none_at)
+
+pub text_open : (line : List ℕ) {last : ℕ} (d : ℕ) → IsLine line → last ≡ get_or line (length line - 1) d → (last ≡ newline → ⊥) → line ≡ without_newline line
+text_open line d one read differs = grind (arith, common_steps, one_line, without_none)
+
+-- where a text ends after a newline, lines end
+
+pub ends_there : (text : List ℕ) (n : ℕ) → n ≤ length text → (0 < n → Passes (is_byte newline) text (n - 1)) → IsWhole (take n text)
+ends_there text n within here = search (rules, cases_lt, first_ends)

@@ -1,9 +1,9 @@
 -- The last section and the lines that wait are all lines that are left.
-use Rattle.std.proofs.Common.{ℕ, suc, ◌≤◌, Bool, true, false, arith, ◌≡◌, ◌-◌, List, length, drop, refl, sym, ◌+◌, [], ◌∷◌, ◌++◌, map, ◌∙◌, ap, append_assoc, cond, append-nil, take-append-drop, drop-drop}
-use Rattle.csplit_core.specs.Plan.{line_after, start, Ending, below, State, Step, Runs, cuts}
+use Rattle.std.proofs.Common.{ℕ, suc, ◌≤◌, Bool, true, false, arith, ◌≡◌, ◌-◌, List, length, drop, refl, sym, ◌+◌, [], ◌∷◌, ◌++◌, map, ◌∙◌, ap, append_assoc, append-nil, take-append-drop, drop-drop}
+use Rattle.csplit_core.specs.Plan.{line_after, start, Ending, State, Step, Runs, cuts}
 use Rattle.csplit_core.specs.Operand.{Operand, Line}
 use Rattle.csplit_core.specs.Planned.{plan}
-use Rattle.csplit_core.specs.Section.{waiting_lines, most_waiting, Section, section, section_of, lines_between, is_last_kept, whole_end, settled_end, whole_sections, settled_sections, is_final, lines_in}
+use Rattle.csplit_core.specs.Section.{waiting_lines, most_waiting, Section, section, section_of, lines_between, is_last_kept, whole_end, whole_sections, settled_sections, is_final, lines_in}
 use Rattle.csplit_core.specs.laws.PlanLaws.{plan_runs}
 use Rattle.csplit_core.specs.laws.SectionLaws.{are_within}
 use Rattle.std.proofs.lemmas.Grind.{common_steps}
@@ -12,8 +12,7 @@ use Rattle.std.proofs.lemmas.Grind.{common_steps}
 
 -- the current line is at most one past the last
 pub after_within : (suppress : Bool) (cut total : ℕ) → cut ≤ total → line_after suppress cut ≤ suc total
-after_within true cut total within = omega (arith, within)
-after_within false cut total within = omega (arith, within)
+after_within suppress cut total within = grind (arith, common_steps)
 
 -- Few lines wait.
 
@@ -51,15 +50,10 @@ all_with closed operands {x} end rest is =
 
 pub none_lost : (operands : List Operand) (x : List Line) → is_final (plan false operands x).ending ≡ false
     → lines_in (settled_sections x (plan false operands x)) ++ waiting_lines x (plan false operands x) ≡ x
-none_lost operands x live =
-    let plan' = plan false operands x in
-    ap (λ final. lines_in (settled_sections x plan') ++ cond final [] (drop (settled_end (length x) plan'.ending - plan'.last.current) (drop (plan'.last.current - 1) x))) live
-    ∙ all_with false operands (lines_between plan'.last.current (settled_end (length x) plan'.ending) x) (drop (settled_end (length x) plan'.ending - plan'.last.current) (drop (plan'.last.current - 1) x))
-    (take-append-drop (settled_end (length x) plan'.ending - plan'.last.current) (drop (plan'.last.current - 1) x))
+none_lost operands x live = grind (arith, common_steps, all_with)
 
 pub ends_after_all : (total : ℕ) (ending : Ending) → is_final ending ≡ false → whole_end total ending ≡ suc total
-ends_after_all total (below operand repetition) live = cc
-ends_after_all total ending live = refl
+ends_after_all total ending live = grind (arith, common_steps)
 
 rest_is_all : (x : List Line) (current : ℕ) → 1 ≤ current → lines_between current (suc (length x)) x ≡ drop (current - 1) x
 rest_is_all x current some = grind (arith, common_steps)

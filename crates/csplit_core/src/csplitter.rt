@@ -97,25 +97,10 @@ impl<'o> Csplitter<'o> {
             return self.cutter.take(lines, outs);
         }
         let (end, others) = next_line(lines, NEWLINE);
-        self.take_open(end, outs)?;
-        self.cutter.take(others, outs)
-    }
-
-    /// Takes in the open line, of which this is the end.
-    fn take_open<O: Outs>(&mut self, end: &[u8], outs: &mut O) -> Result<(), Fault>
-        requires fits { load self.old.cutter + length self.old.rest + length end.now < 2 ^ 63 }
-        requires open { delimiters newline self.old.rest ≡ 0 }
-        requires line { IsLine end.now }
-        requires sound { IsSound self.old.cutter }
-        requires ready { CanWrite self.old.cutter.writer (O.slots outs.old) }
-        ensures taken { self.new.taken ≡ self.old.taken }
-        ensures rest { OnOk result (self.new.rest ≡ []) }
-        ensures takes { Takes O.told self.old.cutter (self.old.rest ++ end.now) (O.slots outs.old) (O.slots outs.new) self.new.cutter (fault_in result) }
-    {
         self.rest.extend_from_slice(end)?;
         self.cutter.take_line(&self.rest, outs)?;
         self.rest.clear();
-        Ok(())
+        self.cutter.take(others, outs)
     }
 
     /// Keeps more bytes of the open line, unless later input goes nowhere.

@@ -83,7 +83,7 @@ impl<'o> LineCutter<'o> {
         requires output { IsTrue (is_writable (O.slots outs.old) 0) }
         ensures { Opens O.told style operands.now (O.slots outs.old) (O.slots outs.new) result }
     {
-        let next = operands.first();
+        let next = next_operand(operands, 0);
         let matcher = find_matcher(alloc, next)?;
         let window = find_window(alloc, next)?;
         let suppress = style.suppress;
@@ -299,21 +299,12 @@ impl<'o> LineCutter<'o> {
         match self.aim {
             Turn::Above(_, line) => unfound(self.pass_below(line, text)),
             Turn::Missed => self.pass_unmatched(text),
-            Turn::UsedUp => unfound(self.pass_all(text)),
+            Turn::UsedUp => {
+                self.lines += count_delimiters(text, NEWLINE) as u64;
+                unfound(text.len())
+            }
             Turn::Below | Turn::Cuts(_, _) => unfound(0),
         }
-    }
-
-    /// Counts the lines of a text.
-    fn pass_all(&mut self, text: &[u8]) -> usize
-        requires whole { IsWhole text.now }
-        requires fits { self.old.lines + length text.now < 2 ^ 63 }
-        requires sound { IsSound (seen self.old) }
-        requires aim { self.old.aim ≡ turn_is.UsedUp }
-        ensures { PassesOver (seen self.old) text.now (seen self.new) result }
-    {
-        self.lines += count_delimiters(text, NEWLINE) as u64;
-        text.len()
     }
 
     /// Counts the lines of a text before the line of this number.
@@ -444,7 +435,12 @@ impl<'o> LineCutter<'o> {
         ensures cuts { IfSome result (WillCut (seen self.old)) }
         ensures tries { (line : List ℕ) → IsFound (seen self.old) (without_newline line) self.old.lines found → Tries (seen self.old) line (seen self.new) result }
     {
-        let turn = self.find_turn(found);
+        let turn = self.progress.turn(
+            self.writer.style().suppress,
+            self.operands,
+            self.lines,
+            found,
+        );
         match cut_of(turn) {
             Some(cut) => Some(cut),
             None => {
@@ -452,21 +448,6 @@ impl<'o> LineCutter<'o> {
                 None
             }
         }
-    }
-
-    /// What the next operand does, where `found` says whether the last line has its pattern.
-    fn find_turn(&self, found: bool) -> Turn
-        requires few { self.now.lines ≤ 2 ^ 63 }
-        requires fit { IsFit (seen self.now) }
-        ensures says { (lines : List Line) → AreSeen (suppress_in (seen self.now)) lines self.now.lines (state_in (seen self.now)) found → Turns (suppress_in (seen self.now)) lines (state_in (seen self.now)) result }
-        ensures moves { MovesOn (seen self.now).operands self.now.lines self.now.progress result }
-    {
-        self.progress.turn(
-            self.writer.style().suppress,
-            self.operands,
-            self.lines,
-            found,
-        )
     }
 
     /// Whether a line has the pattern that is searched for, if the search reaches the line of this number. The text is

@@ -2,7 +2,7 @@
 ghost use Rattle.std.specs.Prelude.{◌≡◌, ◌+◌, ◌<◌, ◌≤◌, ◌^◌, ◌++◌, ◌∷◌, [], false, length, decimal, vec_capacity, vec_len, IfErr, IsTrue, OnOk};
 ghost use Rattle.ports_core.specs.Slot.{is_writable};
 ghost use Rattle.ports_core.specs.Swept.{AreThere, Removes};
-ghost use Rattle.csplit_core.specs.inner.Writer.{with_bytes, with_kept, with_section, Goes, new_writer, Appends, Makes};
+ghost use Rattle.csplit_core.specs.inner.Writer.{with_bytes, with_kept, with_section, Goes, new_writer, paused, Appends, Makes};
 ghost use Rattle.ports_core.specs.inner.Part.{fault_in};
 ghost use Rattle.ports_core.specs.inner.Write.{Wrote};
 ghost use Rattle.csplit_core.specs.Input.{newline};
@@ -88,15 +88,14 @@ impl SectionWriter {
         }
     }
 
-    /// Begins a section, which is kept or skipped, where none is open.
+    /// Begins a section, which is kept or skipped. One that was open is left as it is, and goes on no more.
     ///
     /// # Errors
     ///
     /// `Memory` where there is no room for a name, `Open` where the section's file can't be opened.
     pub(crate) fn begin<O: Outs>(&mut self, is_kept: bool, outs: &mut O) -> Result<(), Fault>
-        requires none { self.old.current ≡ Skipped }
-        requires ready { IsReady (seen_writer self.old) (O.slots outs.old) }
-        ensures goes { Goes O.told (seen_writer self.old) (with_kept is_kept) (O.slots outs.old) (O.slots outs.new) (seen_writer self.new) (fault_in result) }
+        requires { IsReady (seen_writer self.old) (O.slots outs.old) }
+        ensures goes { Goes O.told (paused (seen_writer self.old)) (with_kept is_kept) (O.slots outs.old) (O.slots outs.new) (seen_writer self.new) (fault_in result) }
         ensures size { OnOk result (size_of self.new.current ≡ 0) }
         ensures made { IfErr result (λ fault. (seen_writer self.new).files ≡ (seen_writer self.old).files) }
     {
@@ -142,7 +141,14 @@ impl SectionWriter {
                 self.current = Current::Skipped;
                 Ok(())
             }
-            Current::File { slot, size } => self.end_file(slot, size, outs),
+            Current::File { slot, size } => {
+                self.current = Current::Skipped;
+                outs.close(slot)?;
+                if self.style().quiet {
+                    return Ok(());
+                }
+                write_size(size, outs)
+            }
             Current::Unopened => Err(Fault::Failed),
         }
     }
@@ -196,21 +202,6 @@ impl SectionWriter {
             size: size + bytes.len() as u64,
         };
         Ok(())
-    }
-
-    /// Closes the file of the open section, and writes its size.
-    fn end_file<O: Outs>(&mut self, slot: usize, size: u64, outs: &mut O) -> Result<(), Fault>
-        requires ready { IsReady (seen_writer self.old) (O.slots outs.old) }
-        requires file { self.old.current ≡ File slot size }
-        ensures goes { Goes O.told (seen_writer self.old) (with_section false) (O.slots outs.old) (O.slots outs.new) (seen_writer self.new) (fault_in result) }
-        ensures none { self.new.current ≡ Skipped }
-    {
-        self.current = Current::Skipped;
-        outs.close(slot)?;
-        if self.style().quiet {
-            return Ok(());
-        }
-        write_size(size, outs)
     }
 }
 

@@ -5,8 +5,6 @@ use Rattle.csplit_core.specs.Plan.{IsFirst, MatchesNone, State, Step, Ending, Ru
 use Rattle.csplit_core.specs.Planned.{Plan, Turn, ends, goes, turn, ended, with_step, plan_within, plan}
 use Rattle.csplit_core.specs.Section.{Section, settled_end}
 
--- What private calls say: laws of the first match of an operand.
-
 abbrev pub MatchesAs : Operand → List Line → ℕ → Option ℕ → Type 0
 MatchesAs operand lines from None = MatchesNone operand lines from
 MatchesAs operand lines from (Some line) = IsFirst operand lines from line
@@ -38,8 +36,6 @@ so steps last ending = record { steps = steps; last = last; ending = ending }
 -- There is a plan
 abbrev pub RunsAs : Bool → List Line → State → Plan → Type 0
 RunsAs suppress lines state plan = Runs suppress lines state plan.steps plan.last plan.ending
-
--- What private calls say: what sections are when more lines come.
 
 -- What stands at the end of a plan
 

@@ -3,8 +3,8 @@ use Rattle.std.specs.Prelude.{Bool, true, List, [], ◌∷◌, ◌++◌, ℕ, �
 use Rattle.ports_core.specs.Part.{Part, OutputsAt, nothing}
 use Rattle.csplit_core.specs.Output.{Style}
 use Rattle.csplit_core.specs.Draft.{Draft, last_contents, draft_part}
-use Rattle.ports_core.specs.inner.Part.{IsThere, fault_in}
-use Rattle.ports_core.specs.Slot.{Slot, FailsToOpen, opened, told_of, with_written}
+use Rattle.ports_core.specs.inner.Part.{IsThere}
+use Rattle.ports_core.specs.Slot.{Slot, FailsToOpen, opened}
 use Rattle.ports_core.specs.inner.Slot.{KeepsBroken}
 use Rattle.ports_core.specs.Swept.{AreThere, HasNoFiles}
 use Rattle.ports_core.specs.declared.fault.Fault.{Fault}
@@ -14,8 +14,6 @@ use Rattle.ports_core.specs.Name.{numbered_name}
 use Rattle.ports_core.specs.inner.Write.{Wrote}
 use Rattle.ports_core.specs.declared.fault.Fault.TheVariants.{Memory}
 use Rattle.ports_core.specs.declared.slot.Mode.TheVariants.{Fresh}
-
--- What private calls say: what stands of all sections at some moment: those that ended, and the one that is open.
 
 -- Where no section is open, one that is skipped and has no bytes stands for it.
 
@@ -34,8 +32,6 @@ with_section kept draft = record { ended = draft.ended ++ last_contents true dra
 -- a section begins where none is open
 abbrev pub with_kept : Bool → Draft → Draft
 with_kept kept draft = record { ended = draft.ended; is_kept = kept; bytes = [] }
-
--- What private calls say: what contracts see of the writer of sections, and what its calls do.
 
 -- The outputs have this part, and those after the first ones are the writer's own.
 pub record At (told : Bool) (writer : WriterState) (before : List Slot) (part : Part) (now : List Slot) : Type 0 where
@@ -67,6 +63,10 @@ pub record Leaves (writer next : WriterState) (old new : List Slot) (fault : Opt
 -- a writer that has begun no section
 abbrev pub new_writer : Style → WriterState
 new_writer style = record { style = style; files = []; current = Skipped }
+
+-- the writer as it is where no section is open
+abbrev pub paused : WriterState → WriterState
+paused writer = record writer { current = Skipped }
 
 -- The sections changed as this says, and so did the outputs; or a fault stopped them.
 pub record Goes (told : Bool) (writer : WriterState) (change : Draft → Draft) (old new : List Slot) (next : WriterState) (fault : Option Fault) : Type 0 where

@@ -1,24 +1,20 @@
 -- Laws that traits cite: the plan that is computed is the one plan there is, and it goes on as the lines do.
 use Rattle.std.proofs.lemmas.Grind.{common_steps}
-use Rattle.std.proofs.Common.{◌≡◌, inl, inr, ℕ, zero, suc, ◌+◌, ◌-◌, ◌<◌, ◌≤◌, Bool, true, false, cond, List, [], ◌∷◌, ◌++◌, append_assoc, length, drop, take, get_or, Option, Some, None, refl, sym, ◌∙◌, ap, arith, length-append, ◌*◌, nat_lt, subst}
+use Rattle.std.proofs.Common.{◌≡◌, inl, inr, ℕ, zero, suc, ◌+◌, ◌-◌, ◌<◌, ◌≤◌, Bool, true, false, cond, List, [], ◌∷◌, ◌++◌, append_assoc, length, drop, take, get_or, Option, Some, None, refl, sym, ◌∙◌, ap, arith, length-append, ◌*◌, nat_lt, subst, rules}
 use Rattle.std.proofs.lemmas.Bool.{cases_lt}
 use Rattle.std.proofs.lemmas.List.{drop_all, length-take-le, take-append-drop}
 use Rattle.std.proofs.Math.Seq.{get_or-append_seam}
-use Rattle.csplit_core.specs.Operand.{Operand, Line, unmarked, is_match, Offset, Target, Number, Search, moved, has_more}
-use Rattle.csplit_core.specs.Plan.{State, search_line, IsFirst, start, Step, Ending, used_up, missed, above, below, CutsAt, Misses, line_after, operands_after, repetition_after, state_after, step_of, Runs, is_used_up, misses, is_above, is_below, cuts}
-use Rattle.csplit_core.specs.Planned.{first_among, first_match, Turn, ends, goes, turn_at, turn_from, turn_to, turn_of, ended, with_step, plan_within, plan}
+use Rattle.csplit_core.specs.Operand.{Operand, Line, unmarked, is_match, Offset, Target, Number, Search, has_more}
+use Rattle.csplit_core.specs.Plan.{State, search_line, start, Step, Ending, used_up, missed, above, below, CutsAt, Misses, line_after, operands_after, repetition_after, state_after, step_of, Runs, is_used_up, misses, is_above, is_below, cuts}
+use Rattle.csplit_core.specs.Planned.{first_among, first_match, ends, goes, turn_at, turn_from, turn_to, turn_of, ended, with_step, plan_within, plan}
 use Rattle.csplit_core.specs.inner.PlanLaws.{MatchesAs, after, left_of, needed_by, needed, so, RunsAs}
 use Rattle.std.proofs.lemmas.Bool.Decides.{nat_tests}
 use Rattle.bre_core.specs.Pattern.{Pattern}
 use Rattle.csplit_core.specs.Measure.{Moves}
 
--- Laws that traits cite: laws of the first match of an operand.
-
 matched_on : (operand : Operand) (lines : List Line) {from : ℕ} (has : Bool) → is_match operand lines from ≡ has → from ≤ length lines
     → (matched : Option ℕ) → MatchesAs operand lines (suc from) matched → MatchesAs operand lines from (cond has (Some from) matched)
-matched_on operand lines true is within matched rest = grind (arith, common_steps)
-matched_on operand lines {from} false is within None none = grind (arith, common_steps)
-matched_on operand lines {from} false is within (Some line) some = grind (arith, common_steps)
+matched_on operand lines has is within matched rest = grind (arith, common_steps)
 
 among : (operand : Operand) (front rest : List Line) {from : ℕ} → from ≡ length front + 1 → MatchesAs operand (front ++ rest) from (first_among operand from rest)
 among operand front [] is = grind (arith, common_steps)
@@ -38,25 +34,15 @@ first_match_as operand lines from some = elim (cases_lt (length lines) (from - 1
 ]
 
 -- no other line is the first
-pub one_first : {operand : Operand} {lines : List Line} {from : ℕ} (one other : ℕ) → IsFirst operand lines from one
-    → IsFirst operand lines from other → one ≡ other
-one_first one other is are = grind (arith, common_steps)
 
 -- so there is one first match
-matches_once : (operand : Operand) (lines : List Line) (from : ℕ) (one other : Option ℕ) → MatchesAs operand lines from one → MatchesAs operand lines from other → one ≡ other
-matches_once operand lines from None None none also = refl
-matches_once operand lines from None (Some line) none is = grind (arith, common_steps)
-matches_once operand lines from (Some line) None is none = grind (arith, common_steps)
-matches_once operand lines from (Some line) (Some other) is are = ap Some (one_first line other is are)
 
 pub search_some : (suppress : Bool) (state : State) → 1 ≤ search_line suppress state
-search_some true state = omega arith
-search_some false state = grind (arith, common_steps)
+search_some suppress state = grind (arith, common_steps)
 
 first_is : (suppress : Bool) (operand : Operand) (lines : List Line) (state : State) (matched : Option ℕ) → MatchesAs operand lines (search_line suppress state) matched
     → first_match operand lines (search_line suppress state) ≡ matched
-first_is suppress operand lines state matched is =
-    matches_once operand lines (search_line suppress state) (first_match operand lines (search_line suppress state)) matched (first_match_as operand lines (search_line suppress state) (search_some suppress state)) is
+first_is suppress operand lines state matched is = grind (arith, common_steps, first_match_as, search_some)
 
 -- Laws that traits cite: the plan that is computed is the one plan there is, and it goes on as the lines do.
 
@@ -93,11 +79,6 @@ fewer_operands : (total : ℕ) (state : State) (operands : List Operand) → nee
 fewer_operands total state [] = omega arith
 fewer_operands total state (operand ∷ operands) = grind (arith, common_steps)
 
-pub moves_of : (suppress : Bool) (lines : List Line) (state : State) (operand : Operand) (target : Target)
-    (matched cut : ℕ) → CutsAt suppress lines state operand target matched cut → Moves (length lines) state target matched cut
-moves_of suppress lines state operand (Number n) matched cut at = at.1
-moves_of suppress lines state operand (Search pattern kept offset) matched cut at = grind (arith, common_steps)
-
 pub fewer_left : (total : ℕ) (state next : State) (target : Target) {matched : ℕ} (cut : ℕ) → Moves total state target matched cut → 1 ≤ cut → cut ≤ total
     → next.repetition ≡ state.repetition + 1 → next.matched ≡ matched → left_of total next target < left_of total state target
 fewer_left total state next (Number zero) cut at some within again same = grind (arith, common_steps)
@@ -129,24 +110,16 @@ fewer_moves suppress total state {operand} {operands} matched cut is at some wit
 pub fewer : (suppress : Bool) (lines : List Line) (state : State) {operand : Operand} {operands : List Operand}
     (matched cut : ℕ) → state.operands ≡ operand ∷ operands → CutsAt suppress lines state operand operand.target matched cut → 1 ≤ cut → cut ≤ length lines
     → needed (length lines) (state_after suppress operand operands state.repetition matched cut) < needed (length lines) state
-fewer suppress lines state {operand} matched cut is at some within =
-    fewer_moves suppress (length lines) state matched cut is (moves_of suppress lines state operand operand.target matched cut at) some within
+fewer suppress lines state {operand} matched cut is at some within = grind (arith, common_steps, fewer_moves)
 
 pub line_some : (suppress : Bool) (cut : ℕ) → cut ≤ line_after suppress cut
-line_some true cut = omega arith
-line_some false cut = omega arith
-
-turns_to : (bound : ℕ) (suppress : Bool) (lines : List Line) (state : State) {operand : Operand}
-    {operands : List Operand} {turn' : Turn} → state.operands ≡ operand ∷ operands → turn_to suppress lines state operand operands operand.target ≡ turn'
-    → plan_within (suc bound) suppress lines state ≡ after bound suppress lines state turn'
-turns_to bound suppress lines state is e = grind (arith, common_steps)
+line_some suppress cut = grind (arith, common_steps)
 
 ends_within : (bound : ℕ) (suppress : Bool) (lines : List Line) (state : State) {operand : Operand}
     {operands : List Operand} {ending : Ending} → state.operands ≡ operand ∷ operands
     → turn_to suppress lines state operand operands operand.target ≡ ends ending → needed (length lines) state ≤ bound
     → plan_within bound suppress lines state ≡ so [] state ending
-ends_within zero suppress lines state is e enough = grind (arith, common_steps)
-ends_within (suc bound) suppress lines state is e enough = grind (arith, common_steps)
+ends_within bound suppress lines state is e enough = grind (arith, common_steps)
 
 tested : (suppress : Bool) (total : ℕ) (state : State) (operand : Operand) (operands : List Operand) (matched cut : ℕ)
     {far low : Bool} → nat_lt total cut ≡ far → nat_lt cut state.current ≡ low → turn_at suppress total state operand operands matched cut
@@ -169,8 +142,13 @@ computed {suppress} {lines} all end (is_below state operand operands matched cut
     ∙ tested suppress (length lines) state operand operands matched cut (not_less_test (length lines) cut within) (less_test cut state.current low)) enough
 computed {lines} all end (cuts state operand operands matched cut steps last ending is at from within rest) zero enough some = grind (arith, common_steps)
 computed {suppress} {lines} all end (cuts state operand operands matched cut steps last ending is at from within rest) (suc bound) enough some =
-    turns_to bound suppress lines state is (turn_at_cut suppress lines state operand operands operand.target matched cut at
-    ∙ tested suppress (length lines) state operand operands matched cut (not_less_test (length lines) cut within) (not_less_test cut state.current from))
+    (grind (
+      arith,
+      common_steps,
+      is,
+      (turn_at_cut suppress lines state operand operands operand.target matched cut at
+          ∙ tested suppress (length lines) state operand operands matched cut (not_less_test (length lines) cut within) (not_less_test cut state.current from)),
+    ))
     ∙ ap (with_step (step_of state operand matched cut)) (computed steps last rest bound
     (let less : needed (length lines) (state_after suppress operand operands state.repetition matched cut) < needed
     (length lines) state = fewer suppress lines state matched cut is at (omega (arith, some, from)) within in omega (arith, less, enough))
@@ -197,15 +175,12 @@ module _ (bound : ℕ) (suppress : Bool) (lines : List Line) (state : State) {op
       → MatchesAs operand lines (search_line suppress state) matched → RunsAs suppress lines state (after bound suppress lines state
       (turn_from suppress (length lines) state operand operands offset matched))
   runs_matched offset target None none = misses state operand operands is (subst (Misses suppress lines state operand) (sym target) none)
-  runs_matched offset target (Some matched) first = runs_at matched (moved offset matched)
-      (subst (λ t. CutsAt suppress lines state operand t matched (moved offset matched)) (sym target) (first, refl)) _ _ refl refl
+  runs_matched offset target (Some matched) first = search (rules, runs_at)
 
   runs_target : (target : Target) → operand.target ≡ target
       → RunsAs suppress lines state (after bound suppress lines state (turn_to suppress lines state operand operands target))
-  runs_target (Number n) target = runs_at state.matched (n * (state.repetition + 1))
-      (subst (λ t. CutsAt suppress lines state operand t state.matched (n * (state.repetition + 1))) (sym target) (refl, refl)) _ _ refl refl
-  runs_target (Search pattern' kept offset) target = runs_matched offset target (first_match operand lines (search_line suppress state))
-      (first_match_as operand lines (search_line suppress state) (search_some suppress state))
+  runs_target (Number n) target = search (rules, runs_at)
+  runs_target (Search pattern' kept offset) target = search (rules, runs_matched, first_match_as, search_some)
 
 mutual_runs : (bound : ℕ) (suppress : Bool) (lines : List Line) (state : State) (operands : List Operand) → state.operands ≡ operands
     → ((operand : Operand) (rest : List Operand) → state.operands ≡ operand ∷ rest → (matched cut : ℕ)
@@ -236,20 +211,17 @@ enough_at_start : (total : ℕ) (operands : List Operand) → needed total (star
 enough_at_start total operands = let less = fewer_operands total (start operands) operands in omega (arith, less)
 
 pub plan_runs : (suppress : Bool) (operands : List Operand) (lines : List Line) → RunsAs suppress lines (start operands) (plan suppress operands lines)
-plan_runs suppress operands lines = runs (length operands * (length lines + 1)) suppress lines (start operands)
-    (enough_at_start (length lines) operands) (omega arith)
+plan_runs suppress operands lines = search (rules, runs, enough_at_start)
 
 pub plan_once : (suppress : Bool) (operands : List Operand) (lines : List Line) (steps : List Step) (last : State)
     (ending : Ending) → Runs suppress lines (start operands) steps last ending → plan suppress operands lines ≡ so steps last ending
-plan_once suppress operands lines steps last ending is =
-    computed steps last is (length operands * (length lines + 1)) (enough_at_start (length lines) operands) (omega arith)
+plan_once suppress operands lines steps last ending is = grind (arith, common_steps, computed, enough_at_start)
 
 -- What was cut off stays so
 
 pub cuts_still : (suppress : Bool) (a b : List Line) (state : State) (operand : Operand) (target : Target)
     (matched cut : ℕ) → CutsAt suppress a state operand target matched cut → CutsAt suppress (a ++ b) state operand target matched cut
-cuts_still suppress a b state operand (Number n) matched cut at = at
-cuts_still suppress a b state operand (Search pattern kept offset) matched cut at = grind (arith, common_steps)
+cuts_still suppress a b state operand target matched cut at = grind (arith, common_steps)
 
 pub goes_on : {suppress : Bool} {a : List Line} (b : List Line) {first : State} {steps : List Step} {last : State} {ending : Ending}
     (more : List Step) (end : State) {how : Ending} → Runs suppress a first steps last ending → Runs suppress (a ++ b) last more end how

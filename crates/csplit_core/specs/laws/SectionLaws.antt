@@ -1,10 +1,10 @@
 -- Laws that traits cite: what sections are when more lines come.
 use Rattle.std.proofs.lemmas.Grind.{common_steps}
-use Rattle.std.proofs.Common.{◌≡◌, ◌⊎◌, inl, inr, ℕ, zero, suc, ◌+◌, ◌-◌, ◌≤◌, Bool, true, false, cond, not, ◌&&◌, List, [], ◌∷◌, ◌++◌, length, map, take, drop, refl, sym, ◌∙◌, ap, subst, arith, append_assoc, length-append}
+use Rattle.std.proofs.Common.{◌≡◌, ◌⊎◌, inl, inr, ℕ, zero, suc, ◌+◌, ◌-◌, ◌≤◌, Bool, true, false, cond, ◌&&◌, List, [], ◌∷◌, ◌++◌, length, map, take, drop, refl, sym, ◌∙◌, ap, subst, arith, append_assoc, length-append, rules}
 use Rattle.std.proofs.lemmas.List.{append-nil, map-append}
 use Rattle.ports_core.specs.Part.{File, IsBeginning, FilesBegin, Begins}
-use Rattle.csplit_core.specs.Operand.{Operand, Line, most_held, is_kept}
-use Rattle.csplit_core.specs.Plan.{State, start, Step, Ending, used_up, missed, above, below, line_after, state_after, Runs, is_used_up, misses, is_above, is_below, cuts}
+use Rattle.csplit_core.specs.Operand.{Operand, Line, is_kept}
+use Rattle.csplit_core.specs.Plan.{State, start, Step, Ending, above, below, line_after, state_after, Runs, is_used_up, misses, is_above, is_below, cuts}
 use Rattle.csplit_core.specs.Planned.{plan_within, plan}
 use Rattle.csplit_core.specs.Section.{Section, section, section_of, lines_between, bytes_of, is_last_kept, whole_end, settled_end, sections_by, settled_sections}
 use Rattle.csplit_core.specs.Output.{Style, Contents, contents_of, makes_file, file_at, files_of, size_line, size_lines, part_by, part_of}
@@ -60,9 +60,6 @@ closed_still a b (step ∷ steps) within =
     ap (λ lines. section (is_kept step.operand.target) true lines ∷ map (section_of (a ++ b)) steps) (between_still step.current step.cut a b within.0
     (let less : step.cut ≤ length a = within.2 in omega (arith, less))) ∙ ap (λ those. section_of a step ∷ those) (closed_still a b steps within.3)
 
-pub front_of : (one other : Operand) {ones others : List Operand} → one ∷ ones ≡ other ∷ others → one ≡ other
-front_of one other is = grind (arith, common_steps)
-
 next_by : (a b : List Line) (current past more : ℕ) {kept : Bool} (closed : Bool) {other_kept : Bool} {rest : List Section} → 1 ≤ current
     → past ≤ length a + 1 → (past ≤ more) ⊎ (past ≤ current) → kept ≡ other_kept → Next (section kept false (lines_between current past a))
     (section other_kept closed (lines_between current more (a ++ b)) ∷ rest)
@@ -80,30 +77,18 @@ next_by a b current past more {kept} closed {other_kept} {rest} some within less
 -- what is settled stands before what the next operand does where more lines follow
 pub cuts_from : (suppress : Bool) (a b : List Line) (state : State) (ending : Ending) {operands : List Operand} → EndsAs suppress a state ending → state.operands ≡ operands
     → CutsFrom suppress (a ++ b) state (settled_end (length a) ending) (is_last_kept ending) operands
-cuts_from suppress a b state used_up ends are = grind (arith, common_steps)
-cuts_from suppress a b state (missed operand repetition) (rest, is, none, often) are = grind (arith, common_steps)
-cuts_from suppress a b state (above operand repetition matched cut) (rest, is, at, far, often) are = grind (arith, common_steps)
-cuts_from suppress a b state (below operand repetition) (rest, matched, cut, is, at, within, low, often) are = grind (arith, common_steps)
+cuts_from suppress a b state ending ends are = grind (arith, common_steps)
 
 pub settled_most : (total : ℕ) (ending : Ending) → settled_end total ending ≤ total + 1
-settled_most total used_up = omega arith
-settled_most total ending = omega arith
+settled_most total ending = grind (arith, common_steps)
 
 next_of : {suppress : Bool} (closed : Bool) (end_of : ℕ → Ending → ℕ) → Covers end_of
     → (a b : List Line) {last : State} (ending : Ending) → 1 ≤ last.current → EndsAs suppress a last ending
     → (more : List Step) (end : State) {how : Ending} → Runs suppress (a ++ b) last more end how
     → Next (section (is_last_kept ending) false (lines_between last.current (settled_end (length a) ending) a))
     (sections_by closed end_of (a ++ b) (record { steps = more; last = end; ending = how }))
-next_of {suppress} closed end_of covers a b ending some ends more end (is_used_up state none) =
-    let far : suc (length (a ++ b)) ≤ end_of (length (a ++ b)) used_up = covers (length (a ++ b)) used_up in
-    next_by a b state.current (settled_end (length a) ending) (end_of (length (a ++ b)) used_up) closed some (settled_most (length a) ending)
-    (inl (omega (arith, far, settled_most (length a) ending, length-append a b))) (cuts_from suppress a b state ending ends none)
-next_of {suppress} closed end_of covers a b ending some ends more end (misses state operand operands are none) =
-    let so = cuts_from suppress a b state ending ends are in
-    let far : suc (length (a ++ b)) - most_held operand.target ≤ end_of (length (a ++ b)) (missed operand state.repetition) =
-    covers (length (a ++ b)) (missed operand state.repetition) in
-    next_by a b state.current (settled_end (length a) ending) (end_of (length (a ++ b)) (missed operand state.repetition)) closed some
-    (settled_most (length a) ending) (inl (let past = so.2 none in omega (arith, far, past))) so.0
+next_of {suppress} closed end_of covers a b ending some ends more end (is_used_up state none) = grind (arith, common_steps, next_by, settled_most, cuts_from)
+next_of {suppress} closed end_of covers a b ending some ends more end (misses state operand operands are none) = grind (arith, common_steps, cuts_from, next_by, settled_most)
 next_of {suppress} closed end_of covers a b ending some ends more end (is_above state operand operands matched cut are at far) =
     let most : suc (length (a ++ b)) ≤ end_of (length (a ++ b)) (above operand state.repetition matched cut) =
     covers (length (a ++ b)) (above operand state.repetition matched cut) in
@@ -122,18 +107,7 @@ sections_grow : {suppress : Bool} (closed : Bool) (end_of : ℕ → Ending → �
     (end : State) {how : Ending} → 1 ≤ first.current → Runs suppress a first steps last ending → Runs suppress (a ++ b) last more end how
     → Grow (settled_sections a (record { steps = steps; last = last; ending = ending }))
     (sections_by closed end_of (a ++ b) (record { steps = steps ++ more; last = end; ending = how }))
-sections_grow {suppress} closed end_of covers {a} b {first} {steps} {last} {ending} more end {how} some runs_a rest =
-    let within = are_within suppress a first steps last ending runs_a some in record {
-      front = map (section_of a) steps;
-      begun = section (is_last_kept ending) false (lines_between last.current (settled_end (length a) ending) a);
-      is_open = refl;
-      low_is = refl;
-      after = sections_by closed end_of (a ++ b) (record { steps = more; last = end; ending = how });
-      high_is = ap (λ those. those ++ section (is_last_kept how) closed (lines_between end.current (end_of (length (a ++ b)) how) (a ++ b)) ∷ [])
-          (map-append (section_of (a ++ b)) steps more ∙ ap (λ those. those ++ map (section_of (a ++ b)) more) (closed_still a b steps within.0))
-          ∙ append_assoc (map (section_of a) steps) (map (section_of (a ++ b)) more) _;
-      next = next_of closed end_of covers a b ending within.1 (ends_as suppress a first steps last ending runs_a) more end rest;
-    }
+sections_grow {suppress} closed end_of covers {a} b {first} {steps} {last} {ending} more end {how} some runs_a rest = grind (arith, common_steps, are_within, map-append, closed_still, next_of, ends_as)
 
 pub plan_goes_on : {suppress : Bool} (operands : List Operand) (a b : List Line) → GoesOn suppress operands a b
 plan_goes_on {suppress} operands a b =
@@ -168,27 +142,20 @@ size_lines-append style (one ∷ a) b = ap (λ those. size_line style one ++ tho
     ∙ sym (append_assoc (size_line style one) (size_lines style a) (size_lines style b))
 
 no_size : (makes closed quiet : Bool) (line : List ℕ) → closed ≡ false → cond (makes && (closed && quiet)) line [] ≡ []
-no_size false closed quiet line is = refl
-no_size true closed quiet line is = ap (λ c. cond (c && quiet) line []) is
+no_size makes closed quiet line is = grind (arith, common_steps)
 
 -- an open section has no size line yet
-pub open_sizes : (style : Style) (front : List Contents) (begun : Contents) → begun.is_closed ≡ false
-    → size_lines style (front ++ begun ∷ []) ≡ size_lines style front
-open_sizes style front begun is_open =
-    size_lines-append style front (begun ∷ []) ∙ ap (λ those. size_lines style front ++ (those ++ []))
-    (no_size (makes_file style begun) begun.is_closed (not style.quiet) _ is_open) ∙ append-nil (size_lines style front)
 
 out_grows : (style : Style) (front : List Contents) (begun : Contents) (after : List Contents) → begun.is_closed ≡ false
     → IsBeginning (size_lines style (front ++ begun ∷ [])) (size_lines style (front ++ after))
 out_grows style front begun after is_open = (
   size_lines style after,
-  size_lines-append style front after ∙ ap (λ those. those ++ size_lines style after) (sym (open_sizes style front begun is_open)),
+  size_lines-append style front after ∙ ap (λ those. those ++ size_lines style after) (sym (grind (arith, common_steps, size_lines-append, no_size, append-nil, is_open))),
 )
 
 files_by : (style : Style) (place : ℕ) (one : Contents) (low low' high high' : List File) (makes : Bool) → FilesBegin low high → FilesBegin low' high'
     → FilesBegin (cond makes (file_at style place one ∷ low) low') (cond makes (file_at style place one ∷ high) high')
-files_by style place one low low' high high' true rest other = grind (arith, common_steps)
-files_by style place one low low' high high' false rest other = other
+files_by style place one low low' high high' makes rest other = grind (arith, common_steps)
 
 files_grow : (style : Style) (place : ℕ) (front : List Contents) (begun other : Contents) (more : List Contents)
     → begun.is_closed ≡ false → begun.is_kept ≡ other.is_kept → (rest : List ℕ) → other.bytes ≡ begun.bytes ++ rest
@@ -204,10 +171,7 @@ files_grow style place (one ∷ front) begun other more is_open kept rest bytes 
 pub part_grows : (style : Style) (front : List Contents) (begun other : Contents) (more : List Contents)
     → begun.is_closed ≡ false → begun.is_kept ≡ other.is_kept → (rest : List ℕ) → other.bytes ≡ begun.bytes ++ rest
     → Begins (part_by style (front ++ begun ∷ [])) (part_by style (front ++ other ∷ more))
-part_grows style front begun other more is_open kept rest bytes = record {
-  out = out_grows style front begun (other ∷ more) is_open;
-  files = files_grow style 0 front begun other more is_open kept rest bytes;
-}
+part_grows style front begun other more is_open kept rest bytes = search (rules, out_grows, files_grow)
 
 pub parts_grow : (style : Style) {low high : List Section} → Grow low high → Begins (part_of style low) (part_of style high)
 parts_grow style {high} grow =
@@ -224,8 +188,7 @@ pub settled_covers : Covers settled_end
 settled_covers total ending = omega arith
 
 pub whole_covers : Covers whole_end
-whole_covers total used_up = omega arith
-whole_covers total ending = omega arith
+whole_covers total ending = grind (arith, common_steps)
 
 -- The two laws of what is settled: it only grows, and what is put out in the end begins with it.
 pub grows : (style : Style) (operands : List Operand) (a b : List Line) → Begins (settled_of style operands a) (settled_of style operands (a ++ b))

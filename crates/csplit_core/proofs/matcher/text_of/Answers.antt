@@ -1,5 +1,5 @@
 use Rattle.std.proofs.Common.{refl}
-use Rattle.csplit_core.proofs.PassLemmas.{text_ended, text_open}
+use Rattle.csplit_core.proofs.TryLemmas.{text_ended, text_open}
 use Rattle.csplit_core.proofs.matcher.text_of.Goals as goal
 
 pub returns-then-line-end-eq-NEWLINE : goal.returns-then-line-end-eq-NEWLINE

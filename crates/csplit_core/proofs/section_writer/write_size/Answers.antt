@@ -4,8 +4,7 @@ use Rattle.ports_core.specs.Slot.{told_of, with_written}
 use Rattle.ports_core.specs.Write.{BrokeAfter}
 use Rattle.ports_core.specs.inner.Write.{broke, Wrote}
 use Rattle.ports_core.proofs.HandedOn.{of_write}
-use Rattle.csplit_core.proofs.WriterLemmas.{stop_is}
-use Rattle.csplit_core.proofs.WriterCalls.{line_is}
+use Rattle.csplit_core.proofs.WriterLemmas.{stop_is, line_is}
 use Rattle.csplit_core.proofs.section_writer.write_size.Goals as goal
 
 pub returns : goal.returns

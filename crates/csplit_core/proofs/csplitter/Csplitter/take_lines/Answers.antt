@@ -4,7 +4,7 @@ use Rattle.std.proofs.lemmas.Grind.{common_steps}
 use Rattle.seg_core.proofs.LineCounts.{ends_with-some}
 use Rattle.csplit_core.specs.Input.{newline}
 use Rattle.csplit_core.proofs.LineLemmas.{first_line, others_whole}
-use Rattle.csplit_core.proofs.StageLemmas.{lines_alone, lines_stop, lines_after}
+use Rattle.csplit_core.proofs.StageLemmas.{lacks_at, line_at, lines_alone, lines_stop, lines_after}
 use Rattle.csplit_core.proofs.csplitter.Csplitter.take_lines.Goals as goal
 
 pub returns-then-is_empty-clause-rest : goal.returns-then-is_empty-clause-rest
@@ -13,15 +13,19 @@ returns-then-is_empty-clause-rest g c = grind (arith, common_steps)
 pub returns-then-is_empty-clause-takes : goal.returns-then-is_empty-clause-takes
 returns-then-is_empty-clause-takes g c = lines_alone c.self.view_is (omega arith) (sym c.is_empty.ensures ∙ c.if-is_empty.true) c.take.ensures
 
-pub take_open-requires-clause-fits : goal.take_open-requires-clause-fits
-take_open-requires-clause-fits g c = grind (arith, common_steps)
+pub returns-in_err-extend_from_slice-clause-takes : goal.returns-in_err-extend_from_slice-clause-takes
+returns-in_err-extend_from_slice-clause-takes g c = rw (handed_on _ _ c.from_residual.ensures.1) (lacks_at _ c.self.view_is c.requires.sound c.requires.ready)
 
-pub take_open-requires-clause-line : goal.take_open-requires-clause-line
-take_open-requires-clause-line g c = first_line c.args.lines.now c.next_line.result.0.now c.next_line.result.1.now (c.next_line.ensures.first (ends_with-some newline c.args.lines.now c.requires.whole))
+pub take_line-requires-clause-fits : goal.take_line-requires-clause-fits
+take_line-requires-clause-fits g c = grind (arith, common_steps)
 
-pub returns-in_err-take_open-clause-takes : goal.returns-in_err-take_open-clause-takes
-returns-in_err-take_open-clause-takes g c = rw (handed_on _ _ c.from_residual.ensures.1)
-    (lines_stop c.args.self.now.rest c.next_line.result.0.now c.next_line.ensures.joined c.next_line.ensures.last c.requires.whole c.in_err-take_open.ensures.takes)
+pub take_line-requires-clause-line : goal.take_line-requires-clause-line
+take_line-requires-clause-line g c = line_at c.next_line.result.0.now c.self.view_is (c.deref.ensures.value ∙ c.in_ok-extend_from_slice.ensures.items) c.requires.open
+    (first_line c.args.lines.now c.next_line.result.0.now c.next_line.result.1.now (c.next_line.ensures.first (ends_with-some newline c.args.lines.now c.requires.whole)))
+
+pub returns-in_err-take_line-clause-takes : goal.returns-in_err-take_line-clause-takes
+returns-in_err-take_line-clause-takes g c = rw (handed_on _ _ c.from_residual-in_err-take_line.ensures.1)
+    (lines_stop c.next_line.result.0.now c.self.view_is (c.deref.ensures.value ∙ c.in_ok-extend_from_slice.ensures.items) c.next_line.ensures.joined c.next_line.ensures.last c.requires.whole c.in_err-take_line.ensures)
 
 pub take-requires-2-clause-whole : goal.take-requires-2-clause-whole
 take-requires-2-clause-whole g c = others_whole c.next_line.result.0.now c.next_line.result.1.now c.next_line.ensures.joined c.requires.whole
@@ -30,5 +34,5 @@ pub take-requires-2-clause-fits : goal.take-requires-2-clause-fits
 take-requires-2-clause-fits g c = grind (arith, common_steps)
 
 pub returns-clause-takes : goal.returns-clause-takes
-returns-clause-takes g c = lines_after c.args.self.now.rest c.next_line.result.0.now c.self-2.view_is c.next_line.ensures.joined c.next_line.ensures.last c.requires.whole
-    c.in_ok-take_open.ensures.takes c.take-2.ensures
+returns-clause-takes g c = lines_after c.next_line.result.0.now c.self.view_is (c.deref.ensures.value ∙ c.in_ok-extend_from_slice.ensures.items) c.next_line.ensures.joined c.next_line.ensures.last c.requires.whole
+    c.in_ok-take_line.ensures c.take-2.ensures

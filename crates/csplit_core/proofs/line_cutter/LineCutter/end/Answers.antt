@@ -1,5 +1,5 @@
 use Rattle.ports_core.proofs.HandedOn.{handed_on}
-use Rattle.csplit_core.proofs.EndedLemmas.{end_goes, end_short}
+use Rattle.csplit_core.proofs.StageLemmas.{end_goes, end_short}
 use Rattle.csplit_core.proofs.line_cutter.LineCutter.end.Goals as goal
 
 pub returns-in_err-write_front : goal.returns-in_err-write_front

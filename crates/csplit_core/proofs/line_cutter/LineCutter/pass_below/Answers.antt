@@ -1,4 +1,4 @@
-use Rattle.csplit_core.proofs.PassLemmas.{passes_below, passes_short}
+use Rattle.csplit_core.proofs.TryLemmas.{passes_below, passes_short}
 use Rattle.csplit_core.proofs.line_cutter.LineCutter.pass_below.Goals as goal
 
 pub returns-in-Ends : goal.returns-in-Ends

@@ -1,5 +1,5 @@
 use Rattle.std.proofs.Common.{arith}
-use Rattle.csplit_core.proofs.PassLemmas.{counts_clear, fits_clear}
+use Rattle.csplit_core.proofs.TryLemmas.{counts_clear, fits_clear}
 use Rattle.csplit_core.proofs.line_cutter.LineCutter.pass_clear.Goals as goal
 
 pub overflow_add-self : goal.overflow_add-self

@@ -1,11 +1,11 @@
 use Rattle.ports_core.proofs.HandedOn.{handed_on}
-use Rattle.std.proofs.Common.{◌^◌, ◌∙◌, inr, sym, take, arith, length-take-le}
-use Rattle.csplit_core.proofs.TakeLemmas.{found_first, none_there, takes_all, takes_more, takes_stopped, takes_end, takes_fit, takes_fewer, found_next}
+use Rattle.std.proofs.Common.{◌^◌, ◌∙◌, [], inl, inr, refl, sym, take, arith, length-take-le}
+use Rattle.csplit_core.proofs.TakeLemmas.{found_first, none_there, takes_none, takes_more, takes_stopped, takes_end, takes_fit, takes_fewer, found_next}
 use Rattle.csplit_core.proofs.LineLemmas.{ends_by, whole_drop}
 use Rattle.csplit_core.proofs.line_cutter.LineCutter.take.Goals as goal
 
 pub stretches-init : goal.stretches-init
-stretches-init g c = (takes_all c.requires.whole c.requires.sound c.requires.ready, tt)
+stretches-init g c = (record { front = []; whole = refl; complete = inl refl; rest = c.requires.whole; took = takes_none c.requires.sound c.requires.ready }, tt)
 
 pub stretch-requires : goal.stretch-requires
 stretch-requires g c = let so_far = c.stretches.invariant.0 in record {

@@ -1,5 +1,5 @@
 use Rattle.std.proofs.Common.{refl}
-use Rattle.csplit_core.proofs.EndedLemmas.{judged_none, judged_next}
+use Rattle.csplit_core.proofs.StageLemmas.{judged_none, judged_next}
 use Rattle.csplit_core.proofs.line_cutter.LineCutter.verdict.Goals as goal
 
 pub returns-in_err-operand-clause-judges : goal.returns-in_err-operand-clause-judges

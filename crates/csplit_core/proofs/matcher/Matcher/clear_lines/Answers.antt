@@ -1,6 +1,6 @@
 use Rattle.std.proofs.Common.{take, subst, arith}
 use Rattle.csplit_core.specs.inner.Cutter.{AreClear}
-use Rattle.csplit_core.proofs.PassLemmas.{clear_front, ends_there}
+use Rattle.csplit_core.proofs.TryLemmas.{clear_front, ends_there}
 use Rattle.csplit_core.proofs.matcher.Matcher.clear_lines.Goals as goal
 
 pub returns-clause-whole : goal.returns-clause-whole

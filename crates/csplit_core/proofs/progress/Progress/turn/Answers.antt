@@ -1,13 +1,14 @@
 use Rattle.std.proofs.Common.{arith}
 use Rattle.std.proofs.lemmas.Bool.Decides.{nat_tests}
 use Rattle.std.proofs.lemmas.List.{drop_all}
+use Rattle.csplit_core.specs.Plan.{used_up, is_used_up}
 use Rattle.csplit_core.specs.Progress.{state_of}
-use Rattle.csplit_core.proofs.TryLemmas.{left_is, falls_number, falls_search, misses_search, used_up_here}
+use Rattle.csplit_core.proofs.TryLemmas.{left_is, falls_number, falls_search, misses_search}
 use Rattle.csplit_core.proofs.progress.Progress.turn.Goals as goal
 
 pub returns-in_default-clause-says : goal.returns-in_default-clause-says
 returns-in_default-clause-says c lines seen =
-    used_up_here (drop_all c.args.self.now.done c.args.operands.now (let beyond = c.in_default.ensures.lookup.0 in grind (arith, nat_tests, beyond)))
+    record { ending = used_up; runs = is_used_up _ (drop_all c.args.self.now.done c.args.operands.now (let beyond = c.in_default.ensures.lookup.0 in grind (arith, nat_tests, beyond))); aims = tt }
 
 pub returns-then-total-search_line-clause-says : goal.returns-then-total-search_line-clause-says
 returns-then-total-search_line-clause-says c lines seen =

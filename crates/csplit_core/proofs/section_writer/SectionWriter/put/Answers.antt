@@ -1,7 +1,7 @@
 use Rattle.ports_core.proofs.HandedOn.{handed_on}
 use Rattle.std.proofs.Common.{arith}
 use Rattle.std.proofs.lemmas.Grind.{common_steps}
-use Rattle.csplit_core.proofs.WriterCalls.{put_skipped, put_file, some_bytes, put_first, put_unmade}
+use Rattle.csplit_core.proofs.WriterLemmas.{put_skipped, put_file, some_bytes, put_first, goes_unmade, unwritten}
 use Rattle.csplit_core.proofs.section_writer.SectionWriter.put.Goals as goal
 
 pub returns-in-Skipped-clause-goes : goal.returns-in-Skipped-clause-goes
@@ -9,7 +9,7 @@ returns-in-Skipped-clause-goes g c = put_skipped c.args.bytes.now c.in-Skipped.i
 
 pub returns-in_err-slot-in-Unmade-clause-goes : goal.returns-in_err-slot-in-Unmade-clause-goes
 returns-in_err-slot-in-Unmade-clause-goes g c = rw (handed_on _ _ c.from_residual.ensures.1)
-    (put_unmade c.args.bytes.now c.in-Unmade.is (some_bytes c.args.bytes.now c.if-is_empty.ensures) c.in_err-slot-in-Unmade.ensures)
+    (goes_unmade (λ draft writes. unwritten c.args.bytes.now c.in-Unmade.is (some_bytes c.args.bytes.now c.if-is_empty.ensures) writes) c.in_err-slot-in-Unmade.ensures)
 
 pub returns-in_ok-slot-in-Unmade-clause-goes : goal.returns-in_ok-slot-in-Unmade-clause-goes
 returns-in_ok-slot-in-Unmade-clause-goes g c =
