@@ -132,6 +132,10 @@ halts {before = before} {names} {few = few} {many} {from} {to} place part some {
             marks = marks_by (IsDue names some many) _ why reached now (λ name due. next_due names part last name (due.0, omega (arith, due.1, back.more))) marks;
             from = subst (IsAt why (length before) place) (sym (length-map-range_with_len (λ i. file_at names i (part i)) 0 some)) came;
           };
+      own = λ other is. elim (subst (λ (those : Fault). IsAt those (length before) place some) is came) [
+        | inl none ↦ absurd (omega (arith, none, outputs.standard))
+        | inr same ↦ omega (arith, same, after)
+      ];
     } where
       done : {most end : ℕ} (last : ℕ → Share) → Grow place end part some last most
           → take place (map (λ i. file_at names i (part i)) (range_with_len 0 some)) ≡ take place (map (λ i. file_at names i (last i)) (range_with_len 0 most))
@@ -210,6 +214,7 @@ adds_then {told} {files} {between} {next} {first} {second} {from} {to} {low} {hi
         stops = λ start last fewest most end front back. stop.stops start last fewest most end
             (grow_trans 0 (low + 1) front (grow_by from to first (length files.outputs) one.outside (λ i. refl)) (omega arith) (omega arith) (omega arith)
             (omega arith)) back;
+        own = λ place is. omega (arith, stop.own place is, less);
       }
 
 -- a fault on the way to more than was to be added
@@ -232,6 +237,7 @@ adds_wider {files = files} {some} {more} {from} {to} low most rest {new = new} {
         (grow_by low most rest (max (length files.outputs) to) none
         (λ i. is i ∙ ap (λ bytes. had i ++ bytes) (are i) ∙ sym (append_assoc (had i) (some i) (rest i))))) back
         (omega arith) (omega arith) (omega arith) (omega arith));
+    own = (adds.leaves before had _ at (λ i. refl)).own;
   };
 }
 

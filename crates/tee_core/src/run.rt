@@ -1,5 +1,5 @@
 //! A whole run of `tee`.
-ghost use Rattle.std.specs.Prelude.{◌≡◌, ◌∷◌, ◌+◌, ◌-◌, ◌^◌, ◌<◌, ◌≤◌, not, ◌&&◌, ◌||◌, replicate, suc, ◌++◌, ℕ, List, Option, Bool, [], true, false, map, length, get_or, IfOk, IfErr, IsTrue, is_none, if◌then◌else◌};
+ghost use Rattle.std.specs.Prelude.{◌≡◌, ◌∷◌, ◌+◌, ◌-◌, ◌^◌, ◌<◌, ◌≤◌, not, ◌&&◌, ◌||◌, replicate, suc, ◌++◌, ℕ, List, Option, Bool, [], true, false, map, length, get_or, IfOk, IfErr, OnOk, IsTrue, is_none, if◌then◌else◌};
 ghost use Rattle.ports_core.specs.declared.fault.Fault.{Fault};
 ghost use Rattle.ports_core.specs.declared.slot.Mode.{Mode};
 ghost use Rattle.ports_core.specs.Slot.{Slot, is_open, slot_at, streams};
@@ -66,6 +66,7 @@ fn copy_input<I: Inputs, O: Outs>(
     requires outputs { O.slots outs.old ≡ streams }
     ensures copied { IfOk result (λ failed. OfContent I.told (source_at (I.sources inputs.old) 0).left (λ content. EndsAs I.told O.told mode (map (λ name. name.now) names.now) content (source_at (I.sources inputs.new) 0) (O.slots outs.new) (if failed then 1 else 0)
         × BreaksOnly I.told content (source_at (I.sources inputs.new) 0))) }
+    ensures looked { OnOk result (0 < (source_at (I.sources inputs.new) 0).asked) }
     ensures err { IfErr result (λ fault. (fault ≡ Fault.Memory) × (O.slots outs.new ≡ O.slots outs.old) × (I.sources inputs.new ≡ I.sources inputs.old)) }
     ensures others { KeepsOthers 0 (I.sources inputs.old) (I.sources inputs.new) }
     ensures asked { AsksAtMost largest_piece (I.sources inputs.new) }
@@ -97,6 +98,7 @@ fn copy_all<I: Inputs, O: Outs>(
     ensures copied { (mode : Mode) → Opens mode (map (λ name. name.now) names.now) streams (O.slots outs.old)
         → OfContent I.told (source_at (I.sources inputs.old) 0).left (λ content. EndsAs I.told O.told mode (map (λ name. name.now) names.now) content (source_at (I.sources inputs.new) 0) (O.slots outs.new) (if result then 1 else 0)
         × BreaksOnly I.told content (source_at (I.sources inputs.new) 0)) }
+    ensures looked { 0 < (source_at (I.sources inputs.new) 0).asked }
     ensures others { KeepsOthers 0 (I.sources inputs.old) (I.sources inputs.new) }
     ensures asked { AsksAtMost largest_piece (I.sources inputs.new) }
 {
@@ -139,6 +141,7 @@ fn copy_pieces<I: Inputs, O: Outs>(
         × BreaksOnly I.told content (source_at (I.sources inputs.new) 0)) }
     ensures others { KeepsOthers 0 (I.sources inputs.old) (I.sources inputs.new) }
     ensures asked { (source_at (I.sources inputs.old) 0).asked ≤ length buffer.old → (source_at (I.sources inputs.new) 0).asked ≤ length buffer.old }
+    ensures looked { 0 < (source_at (I.sources inputs.new) 0).asked }
 {
     let mut fed = 0;
     'pieces: loop {

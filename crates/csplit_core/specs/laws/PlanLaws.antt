@@ -33,10 +33,6 @@ first_match_as operand lines from some = elim (cases_lt (length lines) (from - 1
       (among operand (take (from - 1) lines) (drop (from - 1) lines) (let e = length-take-le (from - 1) lines on in omega (arith, e, some)))
 ]
 
--- no other line is the first
-
--- so there is one first match
-
 pub search_some : (suppress : Bool) (state : State) → 1 ≤ search_line suppress state
 search_some suppress state = grind (arith, common_steps)
 

@@ -5,7 +5,7 @@ use Rattle.ports_core.specs.Name.{Naming, with_one_drawn}
 use Rattle.ports_core.specs.Slot.{Slot}
 use Rattle.ports_core.specs.Part.{Part, OutputsAt, IsBeginning, StoppedBetween}
 use Rattle.ports_core.specs.declared.fault.Fault.{Fault}
-use Rattle.ports_core.specs.declared.fault.Fault.TheVariants.{Suffixes}
+use Rattle.ports_core.specs.declared.fault.Fault.TheVariants.{Suffixes, Write}
 use Rattle.ports_core.specs.declared.slot.State.TheVariants as state
 use Rattle.split_core.specs.Split.{Share, share, from_start, file_at, only_files}
 use Rattle.ports_core.specs.inner.Slot.{KeepsBroken}
@@ -58,6 +58,8 @@ pub record Halts (told : Bool) (before : List Slot) (names : Naming) (low : ℕ 
   pub stops : (first last : ℕ → Share) (fewest most end : ℕ) → Grow 0 (from + 1) first fewest low few
       → Grow (to - 1) end high many last most
       → StoppedBetween told before (part_by names first fewest) (part_by names last most) fault now
+  -- it was a write to none of the files before them
+  pub own : (place : ℕ) → fault ≡ Write (length before + place) → from ≤ place
 
 -- they have got it all, or a fault stopped them
 abbrev pub Leaves : Bool → List Slot → Naming → (ℕ → Share) → ℕ → (ℕ → Share) → ℕ → ℕ → ℕ → List Slot
