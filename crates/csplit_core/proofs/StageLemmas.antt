@@ -121,7 +121,9 @@ first_opened told {style} {operands} {old} {new} {writer} aim two begun none say
 -- What `open` returns, where the next operand was looked up.
 
 pub opened_at : (told : Bool) {style : Style} {suppress : Bool} {operands : List Operand} {next : Option Operand} {kept : Bool} {old new : List Slot} {first writer : WriterState} {progress : Progress} {aim : Turn} {window : Window} {sought : Option Pattern}
-    → next ≡ next_of operands → window ≡ record { most = most_next next; delim = newline; held = [] } → sought ≡ pattern_next next → kept ≡ kept_next next → suppress ≡ style.suppress → first ≡ new_writer style → 2 ≤ length old → Goes told (paused first) (with_kept kept) old new writer None → size_of writer.current ≡ 0 → progress ≡ first_progress
+    → next ≡ next_of operands → window ≡ record { most = most_next next; delim = newline; held = [] } → sought ≡ pattern_next next → kept ≡ kept_next next
+    → suppress ≡ style.suppress → first ≡ new_writer style → 2 ≤ length old → Goes told (paused first) (with_kept kept) old new writer None
+    → size_of writer.current ≡ 0 → progress ≡ first_progress
     → ((lines : List Line) → AreSeen suppress lines 0 (state_of operands progress) false → Turns suppress lines (state_of operands progress) aim) → (progress.matched ≤ 0 → MovesOn operands 0 progress aim)
     → Opened told style operands old new (opened operands writer progress aim window sought)
 opened_at told {style} {suppress} {operands} {kept = kept} {old} {new} {writer = writer} {aim = aim} {window} {sought} next_is window_is sought_is kept_is suppress_is made two begun none start_is says moves =
@@ -136,8 +138,10 @@ opened_at told {style} {suppress} {operands} {kept = kept} {old} {new} {writer =
     (subst (λ s. Opened told style operands old new (opened operands writer first_progress aim (first_window operands) s)) sought_first
     (first_opened told aim two (subst (λ k. Goes told (new_writer style) (with_kept k) old new writer None) kept_first (subst (λ w. Goes told (paused w) (with_kept kept) old new writer None) made begun)) none says_first moves_first)))
 
-pub opened_not : (told : Bool) {style : Style} (operands : List Operand) {next : Option Operand} {kept : Bool} {old new : List Slot} {first writer : WriterState} {fault : Fault} → next ≡ next_of operands → kept ≡ kept_next next → first ≡ new_writer style → 2 ≤ length old
-    → Goes told (paused first) (with_kept kept) old new writer (Some fault) → writer.files ≡ first.files → BegunNot told style (settled_of style operands []) old new fault
+pub opened_not : (told : Bool) {style : Style} (operands : List Operand) {next : Option Operand} {kept : Bool} {old new : List Slot}
+    {first writer : WriterState} {fault : Fault} → next ≡ next_of operands → kept ≡ kept_next next → first ≡ new_writer style → 2 ≤ length old
+    → Goes told (paused first) (with_kept kept) old new writer (Some fault) → writer.files ≡ first.files
+    → BegunNot told style (settled_of style operands []) old new fault
 opened_not told {style} operands {kept = kept} {old} {new} {writer = writer} {fault} next_is kept_is made two begun same =
     subst (λ part. BegunNot told style part old new fault) (first_part style operands)
     (subst (λ k. BegunNot told style (draft_part style (first_draft k)) old new fault) (kept_is ∙ ap kept_next next_is)
@@ -345,7 +349,8 @@ lacks_at {told} {stage = stage} t {slots} is sound ready = subst (λ (s : Csplit
 
 -- the first of the lines was taken in, and then the others
 
-lines_from : {told : Bool} {before stage : CsplitState} {next : CutterState} {lines : List ℕ} (end others : List ℕ) {old new : List Slot} {fault : Option Fault} → before ≡ stage → lines ≡ end ++ others
+lines_from : {told : Bool} {before stage : CsplitState} {next : CutterState} {lines : List ℕ} (end others : List ℕ) {old new : List Slot} {fault : Option Fault}
+    → before ≡ stage → lines ≡ end ++ others
     → Takes told before.cutter ((before.rest ++ end) ++ others) old new next fault → Takes told stage.cutter (stage.rest ++ lines) old new next fault
 lines_from {told} {before} {next = next} {lines} end others {old} {new} {fault} same is takes = grind (arith, common_steps)
 
@@ -353,13 +358,18 @@ lines_from {told} {before} {next = next} {lines} end others {old} {new} {fault} 
 pub lines_alone : {told : Bool} {before stage : CsplitState} {next : CutterState} {lines : List ℕ} {n : ℕ} {old new : List Slot} {fault : Option Fault} → before ≡ stage → n ≡ length before.rest → eqb n 0 ≡ true → Takes told before.cutter lines old new next fault → Takes told stage.cutter (stage.rest ++ lines) old new next fault
 lines_alone {told} {before} {next = next} {lines} {old = old} {new} {fault} is size empty takes = grind (arith, common_steps)
 
-pub lines_stop : {told : Bool} {before stage : CsplitState} {next : CutterState} {lines text : List ℕ} (end : List ℕ) {others : List ℕ} {old new : List Slot} {fault : Fault} → before ≡ stage → text ≡ before.rest ++ end
-    → lines ≡ end ++ others → (ends_with newline end ≡ false → others ≡ []) → ends_with newline lines ≡ true → Takes told before.cutter text old new next (Some fault) → Takes told stage.cutter (stage.rest ++ lines) old new next (Some fault)
+pub lines_stop : {told : Bool} {before stage : CsplitState} {next : CutterState} {lines text : List ℕ} (end : List ℕ) {others : List ℕ} {old new : List Slot}
+    {fault : Fault} → before ≡ stage → text ≡ before.rest ++ end
+    → lines ≡ end ++ others → (ends_with newline end ≡ false → others ≡ []) → ends_with newline lines ≡ true
+    → Takes told before.cutter text old new next (Some fault) → Takes told stage.cutter (stage.rest ++ lines) old new next (Some fault)
 lines_stop {told} {before} {next = next} end {others} {old} {new} {fault} same text_is is last whole stopped =
     lines_from end others same is (takes_wider others (open_complete before.rest end (first_complete end last is whole)) (subst (λ those. Takes told before.cutter those old new next (Some fault)) text_is stopped))
 
-pub lines_after : {told : Bool} {before stage : CsplitState} {mid next : CutterState} {lines text : List ℕ} (end : List ℕ) {others : List ℕ} {old between new : List Slot} {fault : Option Fault} → before ≡ stage → text ≡ before.rest ++ end
-    → lines ≡ end ++ others → (ends_with newline end ≡ false → others ≡ []) → ends_with newline lines ≡ true → Takes told before.cutter text old between mid None → Takes told mid others between new next fault → Takes told stage.cutter (stage.rest ++ lines) old new next fault
+pub lines_after : {told : Bool} {before stage : CsplitState} {mid next : CutterState} {lines text : List ℕ} (end : List ℕ) {others : List ℕ}
+    {old between new : List Slot} {fault : Option Fault} → before ≡ stage → text ≡ before.rest ++ end
+    → lines ≡ end ++ others → (ends_with newline end ≡ false → others ≡ []) → ends_with newline lines ≡ true
+    → Takes told before.cutter text old between mid None → Takes told mid others between new next fault
+    → Takes told stage.cutter (stage.rest ++ lines) old new next fault
 lines_after {told} {before} {mid = mid} end {others} {old} {between} same text_is is last whole first second =
     lines_from end others same is (takes_again (open_complete before.rest end (first_complete end last is whole)) (subst (λ those. Takes told before.cutter those old between mid None) text_is first) second)
 

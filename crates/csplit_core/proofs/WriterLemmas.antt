@@ -41,7 +41,8 @@ pub more_files : (front more : List PartFile) → FilesBegin front (front ++ mor
 more_files [] more = tt
 more_files (file ∷ front) more = (refl, refl, refl, inr refl, begins_itself file.bytes, more_files front more)
 
-pub line_begins : {out : List ℕ} (line : List ℕ) {files : List PartFile} → Begins (record { out = out; files = files }) (record { out = out ++ line; files = files })
+pub line_begins : {out : List ℕ} (line : List ℕ) {files : List PartFile}
+    → Begins (record { out = out; files = files }) (record { out = out ++ line; files = files })
 line_begins {out} line {files} = record { out = begins_more out line; files = files_begin_themselves files }
 
 pub file_begins : {out : List ℕ} (front : List PartFile) (file : PartFile) → Begins (record { out = out; files = front }) (with_last out front file)
@@ -383,11 +384,14 @@ pub record Unwritten (writer : WriterState) (draft next : Draft) : Type 0 where
 made_count : {writer : WriterState} {draft : Draft} → makes_file writer.style (last_contents false draft) ≡ false → Writes writer draft → length writer.files ≡ length (files_of writer.style 0 draft.ended)
 made_count {writer} {draft} none writes = writes.made ∙ (ap (λ (part : Part). length part.files) (part_none writer.style draft.ended (last_contents false draft) none))
 
-pub unwritten : {writer : WriterState} (bytes : List ℕ) {draft : Draft} → writer.current ≡ Unmade → is_empty bytes ≡ false → Writes writer draft → Unwritten writer draft (with_bytes bytes draft)
+pub unwritten : {writer : WriterState} (bytes : List ℕ) {draft : Draft} → writer.current ≡ Unmade → is_empty bytes ≡ false → Writes writer draft
+    → Unwritten writer draft (with_bytes bytes draft)
 unwritten {writer} bytes {draft} is some writes = grind (arith, common_steps)
 
 -- it could not be made
-pub goes_unmade : {told : Bool} {writer next : WriterState} {change : Draft → Draft} {old new : List Slot} {f : Fault} → ((draft : Draft) → Writes writer draft → Unwritten writer draft (change draft)) → Makes writer old new next (Err f) → Goes told writer change old new next (Some f)
+pub goes_unmade : {told : Bool} {writer next : WriterState} {change : Draft → Draft} {old new : List Slot} {f : Fault}
+    → ((draft : Draft) → Writes writer draft → Unwritten writer draft (change draft)) → Makes writer old new next (Err f)
+    → Goes told writer change old new next (Some f)
 goes_unmade {told} {writer} {change = change} {old} {new} {f} of makes = record {
   leaves = unmade_leaves makes;
   reaches = (search (rules, reaches_as, part_none, reaches_by, unmade_leaves, unmade_falls, made_count));
@@ -417,16 +421,19 @@ paused_ready : {writer : WriterState} {slots : List Slot} → IsReady writer slo
 paused_ready ready = record { streams = ready.streams; output = ready.output; files = ready.files; current = tt }
 
 -- one without a file
-pub begun_none : {told : Bool} {writer : WriterState} {kept : Bool} (current : Current) {slots : List Slot} → makes_file writer.style (begun kept) ≡ false → IsCurrent writer.style kept [] current → IsOpenAt current slots → IsLast current slots
+pub begun_none : {told : Bool} {writer : WriterState} {kept : Bool} (current : Current) {slots : List Slot} → makes_file writer.style (begun kept) ≡ false
+    → IsCurrent writer.style kept [] current → IsOpenAt current slots → IsLast current slots
     → IsReady writer slots → Goes told (paused writer) (with_kept kept) slots slots (record writer { current = current }) None
 begun_none {writer = writer} current none is_current at last ready = goes_still current (paused_ready ready) at (λ before. last)
     (λ draft writes. (parts_none writer.style draft.ended _ _ (skips_file writer.style (last_contents false draft) writes.current) none, writes.closed, is_current))
 
 -- one with a file
-pub begun_file : (writer : WriterState) {kept : Bool} → kept ≡ true → writer.style.elide ≡ false → (draft : Draft) → Writes (paused writer) draft → Unwritten (paused writer) draft (with_kept kept draft)
+pub begun_file : (writer : WriterState) {kept : Bool} → kept ≡ true → writer.style.elide ≡ false → (draft : Draft) → Writes (paused writer) draft
+    → Unwritten (paused writer) draft (with_kept kept draft)
 begun_file writer kept_is elide draft writes = grind (arith, common_steps)
 
-pub begin_made : {told : Bool} {writer next : WriterState} {kept : Bool} {slot : ℕ} {old new : List Slot} → kept ≡ true → writer.style.elide ≡ false → IsReady writer old → Made writer old new next slot → Goes told (paused writer) (with_kept kept) old new next None
+pub begin_made : {told : Bool} {writer next : WriterState} {kept : Bool} {slot : ℕ} {old new : List Slot} → kept ≡ true → writer.style.elide ≡ false
+    → IsReady writer old → Made writer old new next slot → Goes told (paused writer) (with_kept kept) old new next None
 begin_made {writer = writer} {next} {kept} {slot} {old} {new} kept_is elide ready made = record {
   leaves = made_leaves (paused_ready ready) made_so;
   reaches = λ draft writes. let so = begun_file writer kept_is elide draft writes in reaches_as (part_none writer.style draft.ended (last_contents false draft) so.none) (open_part writer.style (with_kept kept draft) so.makes)
@@ -474,7 +481,8 @@ end_none {writer = writer} current {slots} is none ready = goes_still current re
 
 -- A section with one
 
-file_ends : {writer : WriterState} {draft : Draft} (slot size : ℕ) → writer.current ≡ File slot size → Writes writer draft → Writes (paused writer) (with_section false draft)
+file_ends : {writer : WriterState} {draft : Draft} (slot size : ℕ) → writer.current ≡ File slot size → Writes writer draft
+    → Writes (paused writer) (with_section false draft)
 file_ends {writer} {draft} slot size is writes = record {
   closed = all_closed draft.ended (last_contents true draft) writes.closed refl;
   made = writes.made ∙ count_made writer.style draft.ended (last_contents false draft) (now_is is writes).0
@@ -485,15 +493,18 @@ file_ends {writer} {draft} slot size is writes = record {
 file_closed : {writer : WriterState} {old new : List Slot} → KeepsMade old new → KeepsFiles writer (paused writer) old new
 file_closed keeps = owned_same refl (λ last. tt) keeps
 
-closed_ready : {writer : WriterState} (slot size : ℕ) {old new : List Slot} → writer.current ≡ File slot size → IsReady writer old → new ≡ changed_at slot closes old → IsReady (paused writer) new
+closed_ready : {writer : WriterState} (slot size : ℕ) {old new : List Slot} → writer.current ≡ File slot size → IsReady writer old
+    → new ≡ changed_at slot closes old → IsReady (paused writer) new
 closed_ready {writer} slot size {old} {new} is ready closed = search (rules, made_close, at_file, writable_elsewhere, there_same)
 
-closed_leaves : {writer : WriterState} (slot size : ℕ) {old new : List Slot} → writer.current ≡ File slot size → IsReady writer old → new ≡ changed_at slot closes old → Leaves writer (paused writer) old new None
+closed_leaves : {writer : WriterState} (slot size : ℕ) {old new : List Slot} → writer.current ≡ File slot size → IsReady writer old
+    → new ≡ changed_at slot closes old → Leaves writer (paused writer) old new None
 closed_leaves slot size {old} {new} is ready closed =
     record { style = refl; owns = file_closed (made_close slot old new (at_file is ready).1 closed); slots = keeps_close slot old new closed; ready = closed_ready slot size is ready closed }
 
 -- the same of the size line
-line_leaves : (told : Bool) (writer : WriterState) (line : List ℕ) {old new : List Slot} (fault : Option Fault) → writer.style.quiet ≡ false → IsReady (paused writer) old → Wrote told 0 line old new fault → Leaves (paused writer) (paused writer) old new fault
+line_leaves : (told : Bool) (writer : WriterState) (line : List ℕ) {old new : List Slot} (fault : Option Fault) → writer.style.quiet ≡ false
+    → IsReady (paused writer) old → Wrote told 0 line old new fault → Leaves (paused writer) (paused writer) old new fault
 line_leaves told writer line fault said_so ready wrote = grind (arith, common_steps, made_write, owned_same, keeps_write, written_writable, there_same, made_short, line_breaks)
 
 -- the part of the ended section, with its size line
@@ -504,7 +515,8 @@ quiet_part {writer} {draft} slot size is quiet writes =
     closed_part writer.style draft [] (now_is is writes).0 (line_of writer.style draft true (now_is is writes).0 quiet)
     ∙ ap (λ out. with_last out (files_of writer.style 0 draft.ended) (file_of (name_after writer.style draft.ended) draft.bytes state.Closed)) (append-nil (size_lines writer.style draft.ended))
 
-pub end_quiet : {told : Bool} {writer : WriterState} (slot size : ℕ) {old new : List Slot} → writer.current ≡ File slot size → IsReady writer old → writer.style.quiet ≡ true → new ≡ changed_at slot closes old → Goes told writer (with_section false) old new (paused writer) None
+pub end_quiet : {told : Bool} {writer : WriterState} (slot size : ℕ) {old new : List Slot} → writer.current ≡ File slot size → IsReady writer old
+    → writer.style.quiet ≡ true → new ≡ changed_at slot closes old → Goes told writer (with_section false) old new (paused writer) None
 end_quiet {told} {writer} slot size {old} {new} is ready quiet closed = record {
   leaves = closed_leaves slot size is ready closed;
   reaches = λ draft writes. reaches_as (open_part writer.style draft (now_is is writes).0) (quiet_part slot size is quiet writes) (reaches_by (closed_leaves slot size is ready closed).owns
@@ -566,7 +578,8 @@ pub next_not_ended : {told : Bool} {writer next : WriterState} (kept : Bool) {ol
 next_not_ended {writer = writer} kept ended = goes_wider (with_section kept) (λ draft. subst (λ part. Begins part (draft_part writer.style (with_section kept draft))) (sym (ended_part writer.style draft))
     (more_begins writer.style (draft.ended ++ last_contents true draft ∷ []) (last_contents false (with_section kept draft)))) ended
 
-pub next_begun : {told : Bool} {writer mid next : WriterState} {kept : Bool} {old between new : List Slot} {fault : Option Fault} → Goes told writer (with_section false) old between mid None → mid.current ≡ Skipped → Goes told (paused mid) (with_kept kept) between new next fault
+pub next_begun : {told : Bool} {writer mid next : WriterState} {kept : Bool} {old between new : List Slot} {fault : Option Fault}
+    → Goes told writer (with_section false) old between mid None → mid.current ≡ Skipped → Goes told (paused mid) (with_kept kept) between new next fault
     → Goes told writer (with_section kept) old new next fault
 next_begun {told} {writer} {mid} {next} {kept} {between = between} {new} {fault} ended none start = goes_again (with_section kept) (λ draft. refl) (section_begins writer.style false) ended
     (subst (λ current. Goes told (record mid { current = current }) (with_kept kept) between new next fault) (sym none) start)

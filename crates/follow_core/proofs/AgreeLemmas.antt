@@ -195,6 +195,7 @@ from_first : (start : List ℕ → List ℕ) (by_name : Bool) (name : List ℕ) 
 from_first start by_name name {world} groups sound seen None is = refines groups seen world gap (record { sound = sound; leads = λ _. is; matches = tt })
 from_first start by_name name {world} groups sound seen (Some file) is = grind (arith, common_steps, refines)
 
-pub text_of_singles : (start : List ℕ → List ℕ) (by_name : Bool) (name : List ℕ) (first : List Edit) (groups : List (List Edit)) → AllSeen groups → AreKept (entries_of by_name name (snapshots_of (first ∷ groups)))
+pub text_of_singles : (start : List ℕ → List ℕ) (by_name : Bool) (name : List ℕ) (first : List Edit) (groups : List (List Edit)) → AllSeen groups
+    → AreKept (entries_of by_name name (snapshots_of (first ∷ groups)))
     → name_text start (entries_of by_name name (snapshots_of (first ∷ groups))) ≡ gains_after start [] (entries_of by_name name (snapshots_of (first ∷ singles (all_edits groups))))
 text_of_singles start by_name name first groups seen kept = grind (arith, common_steps, text_is_gains, from_first, sound_all)

@@ -374,7 +374,8 @@ module _ {told_in told : Bool} {name : List ℕ} {opened : Option ℕ} {position
 -- where the name leads
 
 -- nothing is due where nothing changed
-pub nothing_led : (name : List ℕ) (snapshot : Snapshot) (last : Entry) (led : Option ℕ) {opened : Option ℕ} → opened ≡ file_of last → change_between opened led ≡ None
+pub nothing_led : (name : List ℕ) (snapshot : Snapshot) (last : Entry) (led : Option ℕ) {opened : Option ℕ} → opened ≡ file_of last
+    → change_between opened led ≡ None
     → (gains_later last (entries_led snapshot opened led) ≡ []) × (said_of name last (entries_led snapshot opened led) ≡ [])
     × (last_from last (entries_led snapshot opened led) ≡ last) × (led ≡ opened)
 nothing_led name snapshot gap None here is = rw here (refl, refl, refl, refl)

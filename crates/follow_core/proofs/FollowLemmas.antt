@@ -115,7 +115,8 @@ shares_next ways looks look names now {place} same within =
 
 pub visited_more : {told_in told : Bool} {ways : Ways} {looks : List Look} {snapshot : Snapshot} {names now : List NameState} {one : NameState} {place : ℕ}
     {printer mid after : PrinterState} {old slots new : List Slot} {watched watched_new : List Watched} {before failed : Bool} → place < length now
-    → Visits told_in told ways snapshot (ways.first + place) (state_at now place).text (state_at now place).standing watched mid slots one.standing watched_new after new (Ok failed)
+    → Visits told_in told ways snapshot (ways.first + place)
+    (state_at now place).text (state_at now place).standing watched mid slots one.standing watched_new after new (Ok failed)
     → one.text ≡ (state_at now place).text → VisitedTo told_in told ways looks snapshot place names printer old mid slots watched now before
     → VisitedTo told_in told ways looks snapshot (place + 1) names printer old after new watched_new (set now place one) (before || failed)
 visited_more {told_in} {told} {ways} {looks} {snapshot} {names} {now} {one} {place} {mid} {after} {slots} {new} {watched} {watched_new} {before} {failed} within visits same sofar = record {
@@ -169,7 +170,8 @@ opens_failed (name ∷ names) (suc place) (suc other) file = opens_failed names 
 -- a look that was stopped at a name
 pub visited_short : {told_in told : Bool} {ways : Ways} {looks : List Look} {snapshot : Snapshot} {names now : List NameState} {standing : Standing} {place : ℕ}
     {printer mid after : PrinterState} {old slots new : List Slot} {watched watched_new : List Watched} {before : Bool} {why : Fault} → place < length now
-    → Visits told_in told ways snapshot (ways.first + place) (state_at now place).text (state_at now place).standing watched mid slots standing watched_new after new (Err why)
+    → Visits told_in told ways snapshot (ways.first + place)
+    (state_at now place).text (state_at now place).standing watched mid slots standing watched_new after new (Err why)
     → VisitedTo told_in told ways looks snapshot place names printer old mid slots watched now before → length watched_new ≡ ways.first + length names
     → (more : List Share) × Begun told_in ways (texts names) looks snapshot watched_new more × AllShort told printer more old new why
 visited_short {told_in} {told} {ways} {looks} {snapshot} {names} {now} {place} {mid} {slots} {new} {watched} {watched_new} {why} within visits sofar many = (

@@ -48,7 +48,8 @@ pub entries_more : (ways : Ways) (name : List ℕ) (before : Look) (looks : List
 entries_more ways name before looks look = search (rules, map-append, entries-append)
 
 -- what a look adds to the entries
-new_are : (ways : Ways) (name : List ℕ) (looks : List Look) (look : Look) {more : List Entry} → entries_in ways name (looks ++ look ∷ []) ≡ entries_in ways name looks ++ more
+new_are : (ways : Ways) (name : List ℕ) (looks : List Look) (look : Look) {more : List Entry}
+    → entries_in ways name (looks ++ look ∷ []) ≡ entries_in ways name looks ++ more
     → new_entries ways name looks look ≡ more
 new_are ways name looks look {more} is = ap (drop (length (entries_in ways name looks))) is ∙ drop_front (entries_in ways name looks) more
 
@@ -590,7 +591,8 @@ still_left {ways} (before ∷ looks) look {place} {name} {watched} fine left = r
   ];
 }
 
-pub left_visited : {told_in told : Bool} {ways : Ways} {snapshot : Snapshot} {place : ℕ} {name : List ℕ} {printer : PrinterState} {slots : List Slot} {watched : Watched}
+pub left_visited : {told_in told : Bool} {ways : Ways} {snapshot : Snapshot} {place : ℕ} {name : List ℕ} {printer : PrinterState} {slots : List Slot}
+    {watched : Watched}
     (looks : List Look) → IsLeft told_in ways looks place name watched → Visited told_in told ways looks snapshot place name printer slots printer slots watched Left false
 left_visited {snapshot} {place} {name} looks left = elim left.why [
   | inl dropped ↦ record {

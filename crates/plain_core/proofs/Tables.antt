@@ -68,7 +68,8 @@ settled_is line current before frame e made = let at_last = rw e at frame in rw 
 
 -- a group is closed
 pub closed_is : {line : List ℕ} (current : Pattern) (around : List Pattern) {old new : Plain} (below : List (List (List Bool)))
-    → (outer : List (List Bool)) {inner : List (List Bool)} → Means line current around old → old.around.items ≡ below ++ outer ∷ [] → IsTable (length line) (matches current line) inner
+    → (outer : List (List Bool)) {inner : List (List Bool)} → Means line current around old → old.around.items ≡ below ++ outer ∷ []
+    → IsTable (length line) (matches current line) inner
     → new.around.items ≡ below → new.before ≡ outer → new.last ≡ Some inner → Means line (group_closed current around) (drop 1 around) new
 closed_is current [] below outer m e is a b l = absurd (no_end below outer (sym e ∙ m.outer))
 closed_is current (pattern ∷ around) below outer m e is a b l = search (rules, same_from_push)

@@ -46,11 +46,13 @@ cleared_one : {one : ℕ} {change : Slot → Slot} {kept : List ℕ} {slot : Slo
 cleared_one goes has = removed has
 cleared_one stays has = stuck has
 
-kept_has : {one : ℕ} {change : Slot → Slot} {kept : List ℕ} (left : List ℕ) (slot : Slot) → Tries one change kept → is_among one left ≡ false → has_file (change slot).state ≡ is_among one (kept ++ left)
+kept_has : {one : ℕ} {change : Slot → Slot} {kept : List ℕ} (left : List ℕ) (slot : Slot) → Tries one change kept → is_among one left ≡ false
+    → has_file (change slot).state ≡ is_among one (kept ++ left)
 kept_has left slot goes apart = sym apart
 kept_has {one} left slot stays apart = sym (ap (λ b. b || is_among one left) (eq-eqb one one refl))
 
-kept_apart : {one : ℕ} {change : Slot → Slot} {kept : List ℕ} (left : List ℕ) (place : ℕ) → Tries one change kept → eqb place one ≡ false → is_among place (kept ++ left) ≡ is_among place left
+kept_apart : {one : ℕ} {change : Slot → Slot} {kept : List ℕ} (left : List ℕ) (place : ℕ) → Tries one change kept → eqb place one ≡ false
+    → is_among place (kept ++ left) ≡ is_among place left
 kept_apart left place goes other = refl
 kept_apart left place stays other = ap (λ b. b || is_among place left) other
 
@@ -126,7 +128,8 @@ left_apart files left old new place (tried one places kept left' change old' new
     let both = or_parts (eqb place one) (is_among place places) apart in kept_apart left' place tries both.0 ∙ left_apart places left' _ new' place rest both.1
 
 -- what the slot of the first one is at the end
-first_is : {one : ℕ} {places left : List ℕ} (change : Slot → Slot) (old : List Slot) {new : List Slot} → AreThere (one ∷ places) old → Removes places (changed_at one change old) left new → slot_at new one ≡ change (slot_at old one)
+first_is : {one : ℕ} {places left : List ℕ} (change : Slot → Slot) (old : List Slot) {new : List Slot} → AreThere (one ∷ places) old
+    → Removes places (changed_at one change old) left new → slot_at new one ≡ change (slot_at old one)
 first_is {one} change old are rest = others_same one rest are.1 ∙ there one change old are.0.1
 
 -- each slot whose file was among them is cleared away

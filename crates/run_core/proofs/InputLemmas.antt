@@ -411,11 +411,13 @@ walk_begins {told} {names} {laid} {sources} {slots} fresh are alone =
     }
 
 -- where names are left, no file was removed
-pub slots_at : {told_in told : Bool} {task : Task} {world : World} {names left : List (List ℕ)} {progress : Progress} {laid : ℕ → List ℕ → Option Content} {sources : List Source} {slots : List Slot} → 1 ≤ length left
+pub slots_at : {told_in told : Bool} {task : Task} {world : World} {names left : List (List ℕ)} {progress : Progress} {laid : ℕ → List ℕ → Option Content}
+    {sources : List Source} {slots : List Slot} → 1 ≤ length left
     → (walked : Walked told_in told task world names left progress laid sources slots) → OutputsAt told (streams_with walked.error) walked.made.part slots
 slots_at {slots} some walked = grind (arith, common_steps)
 
-pub walked_error : {told_in : Bool} (told : Bool) {task : Task} {world : World} {names left : List (List ℕ)} {progress : Progress} {laid : ℕ → List ℕ → Option Content} {sources : List Source} {slots : List Slot}
+pub walked_error : {told_in : Bool} (told : Bool) {task : Task} {world : World} {names left : List (List ℕ)} {progress : Progress}
+    {laid : ℕ → List ℕ → Option Content} {sources : List Source} {slots : List Slot}
     → (walked : Walked told_in told task world names left progress laid sources slots) → is_open walked.error.state ≡ true
 walked_error told {task} walked = ap is_open (all_said_state told task.tool walked.made.messages standard_error walked.error walked.says)
 
@@ -443,7 +445,8 @@ Takes told_in told task most progress laid sources new_sources name so_far error
     (λ input. TookInput told_in told task most input (of_input task progress.is_first input) progress.is_first progress.failed (progress.was_read || is_dash name) so_far error (length slots) new_sources new result)
 
 -- one more name was taken
-pub walk_goes_on : {told_in told : Bool} {task : Task} {world : World} {names : List (List ℕ)} {name : List ℕ} {left : List (List ℕ)} {progress next : Progress} {laid new_laid : ℕ → List ℕ → Option Content} {sources new_sources : List Source} {slots new : List Slot}
+pub walk_goes_on : {told_in told : Bool} {task : Task} {world : World} {names : List (List ℕ)} {name : List ℕ} {left : List (List ℕ)} {progress next : Progress}
+    {laid new_laid : ℕ → List ℕ → Option Content} {sources new_sources : List Source} {slots new : List Slot}
     → (walked : Walked told_in told task world names (name ∷ left) progress laid sources slots)
     → TakesOne largest_piece progress.was_read name sources new_sources → length new_sources ≡ next_slot (length sources) name → new_laid ≡ laid
     → Takes told_in told task largest_piece progress laid sources new_sources name walked.made.part walked.error slots new (Ok next)
@@ -486,7 +489,8 @@ walk_goes_on {told_in} {told} {task} {world} {names} {name} {left} {progress} {n
     }
 
 -- a fault stopped the run at a name
-pub walk_stops : {told_in : Bool} (told : Bool) {task : Task} {world : World} {names : List (List ℕ)} {name : List ℕ} {left : List (List ℕ)} {progress : Progress} {laid : ℕ → List ℕ → Option Content} {sources new_sources : List Source} {slots new : List Slot} (fault : Fault)
+pub walk_stops : {told_in : Bool} (told : Bool) {task : Task} {world : World} {names : List (List ℕ)} {name : List ℕ} {left : List (List ℕ)}
+    {progress : Progress} {laid : ℕ → List ℕ → Option Content} {sources new_sources : List Source} {slots new : List Slot} (fault : Fault)
     → (walked : Walked told_in told task world names (name ∷ left) progress laid sources slots)
     → TakesOne largest_piece progress.was_read name sources new_sources
     → Takes told_in told task largest_piece progress laid sources new_sources name walked.made.part walked.error slots new (Err fault)

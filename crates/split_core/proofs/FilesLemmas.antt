@@ -144,7 +144,8 @@ halts {before = before} {names} {few = few} {many} {from} {to} place part some {
           ∙ sym (take-map-range_with_len _ 0 most place (omega (arith, inside, left.more)))
 
       untouched : {fewest : ℕ} (first : ℕ → Share) → Grow 0 (place + 1) first fewest part some
-          → drop (suc place) (map (λ i. file_at names i (part i)) (range_with_len 0 some)) ≡ drop (suc place) (map (λ i. file_at names i (first i)) (range_with_len 0 fewest))
+          → drop (suc place) (map (λ i. file_at names i (part i)) (range_with_len 0 some)) ≡ drop (suc place)
+          (map (λ i. file_at names i (first i)) (range_with_len 0 fewest))
       untouched {fewest} first risen =
           let left : some - suc place ≡ fewest - suc place = omega (arith, risen.more, risen.new) in
           drop_by _ (suc place) 0 some (zero-add (suc place)) ∙ ap (λ n. map (λ i. file_at names i (part i)) (range_with_len (suc place) n)) left

@@ -405,7 +405,8 @@ file_flag told (file_unopened kept named) = refl
 file_flag told (file_cut before that after n is within) = refl
 file_flag told file_unclosed = refl
 
-file_flags : (told : Bool) {mode : Mode} {pieces : List (List ℕ)} {names : List (List ℕ)} {broke : List (Option ℕ)} {files : List Slot} → FilesLeft told mode pieces names broke files → flags files ≡ map (λ (when : Option ℕ). not (is_none when)) broke
+file_flags : (told : Bool) {mode : Mode} {pieces : List (List ℕ)} {names : List (List ℕ)} {broke : List (Option ℕ)} {files : List Slot}
+    → FilesLeft told mode pieces names broke files → flags files ≡ map (λ (when : Option ℕ). not (is_none when)) broke
 file_flags told no_file = refl
 file_flags told (one_file name names first broke file files one rest) =
     ap (λ (flag : Bool). flag ∷ flags files) (file_flag told one) ∙ ap (λ flags. not (is_none first) ∷ flags) (file_flags told rest)

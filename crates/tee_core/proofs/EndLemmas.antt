@@ -97,7 +97,9 @@ one_fails sound whole = grind (arith, nat_tests)
 status_is : (broke : List (Option ℕ)) (fault : Option Fault) (failed : Bool) {known : List Bool} → failed ≡ (not (is_none fault) || any_of known) → known ≡ map (λ (when : Option ℕ). not (is_none when)) broke → (if failed then 1 else 0) ≡ status_of broke fault
 status_is broke fault failed failing is = cc (failing, is, any_broken broke, one_fails (is_none fault) (are_sound broke))
 
-pub ends_copied : {told_in : Bool} (told : Bool) {mode : Mode} {names : List (List ℕ)} {content : Content} {source : Source} {pieces : List (List ℕ)} {fault : Option Fault} {is_vain failed : Bool} {slots : List Slot} {known : List Bool} → failed ≡ (not (is_none fault) || any_of known) → ComesIn told_in content source is_vain pieces fault
+pub ends_copied : {told_in : Bool} (told : Bool) {mode : Mode} {names : List (List ℕ)} {content : Content} {source : Source} {pieces : List (List ℕ)}
+    {fault : Option Fault} {is_vain failed : Bool} {slots : List Slot} {known : List Bool} → failed ≡ (not (is_none fault) || any_of known)
+    → ComesIn told_in content source is_vain pieces fault
     → HasCopied told mode names pieces fault is_vain slots known → EndsAs told_in told mode names content source slots (if failed then 1 else 0)
 ends_copied {told_in} told {content} {source} {pieces} {fault} {failed = failed} failing read left =
     copied pieces fault left.first left.broke left.output left.error left.files (rw left.vain_is read) left.some_left left.output_left left.files_left left.said left.are

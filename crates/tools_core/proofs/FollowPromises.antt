@@ -166,7 +166,8 @@ wrote_text ways name shows count seen watched new keeps_bytes (looked looks shar
 wrote_text ways name shows count seen watched new keeps_bytes (stopped mid why stop says failed) = search rules
 wrote_text ways name shows count seen watched new keeps_bytes (no_room unseen unwatched says failed) = search rules
 
-pub follows_text : {run : FollowRun} {options : EndsAsked} {followed : Followed} {name : List ℕ} → Follows run options followed → IsBare options → options.names ≡ name ∷ [] → (run.seen ≡ seen_first run.shows (length run.seen) → AreKept (entries_of (is_name followed) name run.seen))
+pub follows_text : {run : FollowRun} {options : EndsAsked} {followed : Followed} {name : List ℕ} → Follows run options followed → IsBare options
+    → options.names ≡ name ∷ [] → (run.seen ≡ seen_first run.shows (length run.seen) → AreKept (entries_of (is_name followed) name run.seen))
     → WroteText (ways_of 0 (is_name followed) (start_of options)) name run.shows run.count run.seen run.outputs
 follows_text {run} {options} {followed} {name} follows bare named keeps_bytes =
     let ways = ways_of 0 (is_name followed) (start_of options) in
