@@ -6,7 +6,7 @@ use Rattle.std.proofs.lemmas.Bool.{cases_Bool, false≢true}
 use Rattle.std.proofs.lemmas.List.{get_or_push}
 use Rattle.std.proofs.lemmas.List.Elements.{All-append}
 use Rattle.ports_core.specs.Message.{SaysAll, output_named}
-use Rattle.ports_core.specs.Part.{IsAt, IsNext, Marks, Part, StoppedBetween}
+use Rattle.ports_core.specs.Part.{Output, IsAt, IsNext, Marks, Part, StoppedBetween}
 use Rattle.ports_core.specs.Slot.{Slot, breaks, no_slot, slot_at, unopened}
 use Rattle.ports_core.specs.Source.{Content, Source}
 use Rattle.ports_core.specs.Streams.{standard_error, streams_with}
@@ -113,12 +113,12 @@ blamed fault place before sound marked = absurd marked
 
 -- Standard error stays the slot after the first.
 
-stopped_error : (clears : Bool) {error : Slot} {low high : Part} {fault : Fault} {reached : List Slot} (new : List Slot) → StoppedBetween true (streams_with error) low high fault reached → Swept clears 2 reached new → slot_at new 1 ≡ error
-stopped_error clears {high} {fault} {reached} new between swept = grind (arith, common_steps)
+stopped_error : {output : Output} (clears : Bool) {error : Slot} {low high : Part} {fault : Fault} {reached : List Slot} (new : List Slot) → StoppedBetween output true (streams_with error) low high fault reached → Swept clears 2 reached new → slot_at new 1 ≡ error
+stopped_error clears {high = high} {fault} {reached} new between swept = grind (arith, common_steps)
 
-stopped_broke : {which : Tool} {clears : Bool} {error : Slot} {low high : Part} {fault : Fault} {reached : List Slot} (new : List Slot) (lines : List (List ℕ)) → AreLive high.files → StoppedBetween true (streams_with error) low high fault reached → Swept clears 2 reached new
+stopped_broke : {output : Output} {which : Tool} {clears : Bool} {error : Slot} {low high : Part} {fault : Fault} {reached : List Slot} (new : List Slot) (lines : List (List ℕ)) → AreLive high.files → StoppedBetween output true (streams_with error) low high fault reached → Swept clears 2 reached new
     → SaysLines which (lines ++ message_of which fault (output_named new fault) ∷ []) (slot_at new 1) → (place : ℕ) → (place ≡ 1 → ⊥) → (slot_at new place).is_broken ≡ true → IsToldOf which new place ⊎ IsStuck clears new place
-stopped_broke {which} {clears} {error} {high} {fault} {reached} new lines live between swept says place differs broken =
+stopped_broke {which = which} {clears} {error} {high} {fault} {reached} new lines live between swept says place differs broken =
     let kept = swept_kept clears reached new swept place in
     let sound = subst (λ slots. IsSoundAt slots place) (sym (slots_at between.outputs)) (outputs_live between.part error place (live_begin between.part.files high.files between.below.files live) differs) in
     elim (cases_Bool (slot_at reached place).is_broken) [
