@@ -9,9 +9,11 @@ empty = record { bytes = []; breaks_off = false }
 abbrev pub OfContent : Bool → Content → (Content → Type 0) → Type 0
 OfContent told there P = (content : Content) × (told ≡ true → content ≡ there) × P content
 
--- an input that doesn't tell its bytes is one that breaks off only where its source is broken
-abbrev pub BreaksOnly : Bool → Content → Source → Type 0
-BreaksOnly told content source = told ≡ false → content.breaks_off ≡ true → source.is_broken ≡ true
+-- An input came from this source: it was open. Where inputs don't tell their bytes, the input breaks off just where the
+-- source is broken.
+pub record CameFrom (told : Bool) (content : Content) (source : Source) : Type 0 where
+  pub was_open : source.is_open ≡ true
+  pub breaks : told ≡ false → content.breaks_off ≡ source.is_broken
 
 -- no input but this one was touched
 pub record KeepsOthers (slot : ℕ) (old new : List Source) : Type 0 where
