@@ -1,6 +1,6 @@
 ghost use Rattle.std.specs.Prelude.{◌≡◌, ◌++◌, ◌∷◌, [], ℕ, ◌+◌, ◌≤◌, ◌<◌, List, Bool, Option, Some, None, true, false, length, nat_le, take, drop, map, string_bytes, IsTrue, IfOk, IfErr, IfSome, IfNone, OnOk, OnErr};
 ghost use Rattle.ports_core.specs.Slot.{changed_at};
-ghost use Rattle.ports_core.specs.Source.{Source, Content, source_of, missing, gives, gets_back, fails, skips, Gave, BrokeOff, Shows, count_left, holds, cut, is_readable, source_at};
+ghost use Rattle.ports_core.specs.Source.{Source, Content, source_of, missing, gives, gets_back, fails, looks, skips, Gave, BrokeOff, Shows, count_left, holds, cut, is_readable, source_at};
 ghost use Rattle.mem_core.specs.MemInState.{MemInState, Laid, laid_at, laid_in, breaks_in, content_of, with_break};
 
 use ports_core::{Fault, Inputs};
@@ -16,7 +16,7 @@ struct MemSource {
     breaks_off: bool,
     is_open: bool,
     is_broken: bool,
-    /// The length of the largest buffer that it was to fill.
+    /// The length of the largest buffer that it was to fill, by a read or a look.
     asked: usize,
     /// How many of the bytes reads gave, also where some of these were given back.
     reached: usize,
@@ -101,11 +101,20 @@ impl MemSource {
         if !self.breaks_off { Some(count) } else { None }
     }
 
-    /// Fills the buffer with the bytes from a place on, where there are as many.
-    fn read_at(&self, place: u64, buffer: &mut [u8]) -> bool
-        ensures could { result ≡ nat_le (place + length buffer.old) (length self.now.left.bytes) }
-        ensures shows { IsTrue result → Shows self.now.left.bytes place buffer.new }
+    /// Notes that a look asked for so many bytes.
+    fn note_look(&mut self, size: usize)
+        ensures { self.new ≡ looks size self.old }
     {
+        self.asked = self.asked.max(size);
+    }
+
+    /// Fills the buffer with the bytes from a place on, where there are as many.
+    fn read_at(&mut self, place: u64, buffer: &mut [u8]) -> bool
+        ensures could { result ≡ nat_le (place + length buffer.old) (length self.old.left.bytes) }
+        ensures shows { IsTrue result → Shows self.old.left.bytes place buffer.new }
+        ensures rest { self.new ≡ looks (length buffer.old) self.old }
+    {
+        self.note_look(buffer.len());
         let left = &self.bytes[self.given..];
         if (left.len() as u64) < place {
             return false;
@@ -347,10 +356,11 @@ impl Inputs for MemIn {
     }
 
     /// Fills the buffer with the input's bytes from a place on, wherever it has as many there.
-    fn read_at(&self, slot: usize, place: u64, buffer: &mut [u8]) -> bool
-        requires { IsTrue (is_readable self.now.sources slot) }
-        ensures could { result ≡ nat_le (place + length buffer.old) (length (source_at self.now.sources slot).left.bytes) }
-        ensures shows { IsTrue result → Shows (source_at self.now.sources slot).left.bytes place buffer.new }
+    fn read_at(&mut self, slot: usize, place: u64, buffer: &mut [u8]) -> bool
+        requires { IsTrue (is_readable self.old.sources slot) }
+        ensures could { result ≡ nat_le (place + length buffer.old) (length (source_at self.old.sources slot).left.bytes) }
+        ensures shows { IsTrue result → Shows (source_at self.old.sources slot).left.bytes place buffer.new }
+        ensures rest { self.new ≡ record self.old { sources = changed_at slot (looks (length buffer.old)) self.old.sources } }
     {
         self.sources[slot].read_at(place, buffer)
     }

@@ -1,8 +1,8 @@
 use Rattle.std.proofs.lemmas.List.{length-take-le, take_at}
-use Rattle.ports_core.proofs.LoadLemmas.{passed_at}
+use Rattle.ports_core.proofs.LoadLemmas.{looked_readable, passed_at}
 use Rattle.std.proofs.Common.{◌&&◌, not, Err, inl, inr, ◌≡◌, ◌≤◌, drop, length, ◌++◌, ◌∙◌, [], true, false, sym, ap, refl, take, arith, append_assoc, append-nil, length-append}
 use Rattle.std.proofs.lemmas.Bool.{false≢true, not-false}
-use Rattle.ports_core.specs.Source.{gets_back, Source, source_at}
+use Rattle.ports_core.specs.Source.{gets_back, skips, Source, source_at}
 use Rattle.ports_core.specs.Work.{Work, IsSettled}
 use Rattle.ports_core.specs.Engine.{EndsWith, is_verdict}
 use Rattle.ports_core.proofs.SpareLemmas.{complete_used, spare_within, none_spare}
@@ -16,7 +16,7 @@ use Rattle.run_core.proofs.feeding.feed_input.Goals as goal
 pub pieces-init : goal.pieces-init
 pieces-init g c =
     let loads = c.load.ensures.loads in
-    let passed = passed_at _ _ _ _ c.requires.input loads.passed in record {
+    let passed = passed_at _ _ _ _ (looked_readable loads.looked c.requires.input) loads.passed ∙ ap (skips c.load.result) loads.looked.looked in record {
       fed = loads.front;
       feeds = record {
         same = c.load.ensures.same;
@@ -26,7 +26,7 @@ pieces-init g c =
         bound = rw c.load.ensures.fed c.load.ensures.bound;
       };
       readable = rw (passed, c.requires.input);
-      others = keeps_others _ _ _ _ loads.passed;
+      others = keeps_again _ _ _ _ loads.looked.others (keeps_others _ _ _ _ loads.passed);
       read = λ told. record { bytes = loads.there told; breaks_off = rw passed };
       took = λ told. record {
         taken = rw (passed, loads.there told, loads.long, take_at loads.front _ (length loads.front) refl);
@@ -40,7 +40,7 @@ pieces-init g c =
       ];
       room = c.load.auto.buffer;
       needed = needed_front loads.going;
-      asked = λ within. rw (ap (λ (source : Source). source.asked) passed) within;
+      asked = λ within. omega (arith, ap (λ (source : Source). source.asked) passed, within, loads.looked.within);
       laid = c.load.ensures.laid;
       ready = loads.ready _ c.requires.output;
     }
