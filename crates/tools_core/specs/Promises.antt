@@ -184,6 +184,7 @@ pub record AreLinePieces (delim n : ℕ) (input : List ℕ) (pieces : List (List
 -- n, or those that have a line, where the others are left out.
 pub record AreDealt (delim n : ℕ) (elide : Bool) (input : List ℕ) (contents : List (List ℕ)) : Type 0 where
   pub lines : (i : ℕ) → text_at (lines_of delim input) i ≡ text_at (lines_of delim (text_at contents (i % n))) (i / n)
+  -- each line has a place of its own in the files; these have no more bytes than the input, and so no others
   pub all : length (joined contents) ≡ length input
   pub count : elide ≡ false → length contents ≡ n
   pub left_out : elide ≡ true → All (λ bytes. 0 < length bytes) contents
@@ -293,8 +294,9 @@ pub data WhyBroken (run : Run) (asked : Settings) (place : ℕ) : Type 0 where
   unremoved : removes_files asked ≡ true → (slot_at run.outputs place).state ≡ Closed
       → ((other : ℕ) → 2 ≤ other → IsGone (slot_at run.outputs other)) → WhyBroken run asked place
 
--- No fault stopped a run over its inputs. It went on where one was missing or broke off, and where the tool's own work
--- ended with a fault: no match, a line out of range, names that ran out. These are told, and its status is 1.
+-- A run over its inputs ended in the first of the three ways in which one can (`EndsAs`): it did all that it had to do,
+-- and no fault stopped it. It went on where an input was missing or broke off, and where the tool's own work ended with a
+-- fault: no match, a line out of range, names that ran out. These are told, and its status is 1.
 abbrev pub IsUnstopped : {told_in told : Bool} {task : Task} {inputs : List Input} {sources : List Source}
     {new : List Slot} {status : ℕ} → EndsAs told_in told task inputs sources new status → Type 0
 IsUnstopped (as_defined error reached says outputs swept done is) = Unit {0}
