@@ -135,9 +135,6 @@ ending bytes = record { bytes = bytes; breaks_off = false }
 abbrev pub part_of : Task → List ℕ → List ℕ → Part
 part_of task name bytes = after_part (only_out (header_text task.with_header true name)) (task.work.whole bytes)
 
-pub made_one : (task : Task) (input : Input) {bytes : List ℕ} → input.content ≡ Some (ending bytes) → (made_by task (input ∷ [])).part ≡ part_of task input.name bytes
-made_one task input is = cc (is, nothing_after)
-
 -- What a step has written is a beginning of what is made of its input.
 
 pub record IsGrowing (work : Work) (content : Content) : Type 0 where

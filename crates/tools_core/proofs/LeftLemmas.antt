@@ -220,18 +220,18 @@ fits_joined {Line} first next one other = record {
 -- the lines that tell what is wrong with an input are such ones
 pub record TellsInput (Line : List ℕ → Type 0) (task : Task) (name : List ℕ) (there : Option Content) : Type 0 where
   pub missing : there ≡ None → Line (message_of task.tool (CannotOpen 0) name)
-  pub broken_off : (content : Content) → there ≡ Some content → content.breaks_off ≡ true → Line (message_of task.tool (Read 0) name)
-  pub judged : (content : Content) (fault : Fault) → there ≡ Some content → Judges task.work content.bytes fault → Line (message_of task.tool fault (task.subject fault))
+  pub broken_off : (content : Content) → there ≡ Some content → is_enough task.work content ≡ false → Line (message_of task.tool (Read 0) name)
+  pub judged : (content : Content) (fault : Fault) → there ≡ Some content → is_enough task.work content ≡ true → Judges task.work content.bytes fault → Line (message_of task.tool fault (task.subject fault))
 
 given_fits : {Line : List ℕ → Type 0} (task : Task) (header name bytes : List ℕ) (enough : Bool) (verdict : Option Fault)
-    → (enough ≡ false → Line (message_of task.tool (Read 0) name)) → ((fault : Fault) → verdict ≡ Some fault → Line (message_of task.tool fault (task.subject fault))) → IsLiving task.work → Fits Line task.work.clears (record {
+    → (enough ≡ false → Line (message_of task.tool (Read 0) name)) → ((fault : Fault) → enough ≡ true → verdict ≡ Some fault → Line (message_of task.tool fault (task.subject fault))) → IsLiving task.work → Fits Line task.work.clears (record {
       part = after_part (only_out header) (cond enough (task.work.whole bytes) (task.work.settled bytes));
       messages = cond enough (verdict_messages task verdict) (message_of task.tool (Read 0) name ∷ []);
       failed = cond enough (is_some verdict) true;
       sweeps = task.work.clears && cond enough (is_some verdict) true;
     })
 given_fits task header name bytes true None breaks judges living = fits_well _ _ (grind (arith, common_steps)) (grind (arith, common_steps))
-given_fits task header name bytes true (Some fault) breaks judges living = fits_fault _ _ (judges fault refl) (λ is. (and_parts task.work.clears true is).0) (living.whole bytes)
+given_fits task header name bytes true (Some fault) breaks judges living = fits_fault _ _ (judges fault refl refl) (λ is. (and_parts task.work.clears true is).0) (living.whole bytes)
 given_fits task header name bytes false verdict breaks judges living = fits_fault _ _ (breaks refl) (λ is. (and_parts task.work.clears true is).0) (living.settled bytes)
 
 breaks_short : (work : Work) (content : Content) → is_enough work content ≡ false → content.breaks_off ≡ true
@@ -241,7 +241,7 @@ content_fits : {Line : List ℕ → Type 0} (task : Task) (is_first : Bool) (nam
 content_fits task is_first name None tells living = fits_fault nothing false (tells.missing refl) (λ is. absurd (false≢true is)) no_live
 content_fits task is_first name (Some content) tells living =
     given_fits task (header_text task.with_header is_first name) name content.bytes (is_enough task.work content) (task.work.verdict content.bytes)
-    (λ short. tells.broken_off content refl (breaks_short task.work content short)) (λ fault is. tells.judged content fault refl is) living
+    (λ short. tells.broken_off content refl short) (λ fault enough is. tells.judged content fault refl enough is) living
 
 abbrev pub TellsAll : (List ℕ → Type 0) → Task → List Input → Type 0
 TellsAll Line task inputs = All (λ (input : Input). TellsInput Line task input.name input.content) inputs
@@ -265,11 +265,18 @@ tool_is (Tee asked) task is = absurd is
 pub met_line : {run : Run} (asked : Settings) (task : Task) (fault : Fault) (name : List ℕ) → IsTask asked task → IsMet run asked fault name → TellsMet run asked (message_of task.tool fault name)
 met_line asked task fault name of met = (fault, name, met, ap (λ which. message_of which fault name) (tool_is asked task of))
 
+one_task : (asked : Settings) (one other : Task) → IsTask asked one → IsTask asked other → one ≡ other
+one_task (Csplit asked) one other (operands, asks, is) (operands_too, asks_too, is_too) = rw (is, asks_once asked.operands operands operands_too asks asks_too, is_too)
+one_task (Head asked) one other is is_too = is ∙ sym is_too
+one_task (Tail asked) one other is is_too = is ∙ sym is_too
+one_task (Split asked) one other is is_too = is ∙ sym is_too
+one_task (Tee asked) one other is is_too = absurd is
+
 found_tells : {run : Run} (asked : Settings) {task : Task} (input : Input) → IsTask asked task → IsFound run asked input → TellsInput (TellsMet run asked) task input.name input.content
 found_tells asked {task} input of found = record {
   missing = λ none. met_line asked task (CannotOpen 0) input.name of (inr (missing input found none));
-  broken_off = λ content is breaks. met_line asked task (Read 0) input.name of (inr (broken_off input content found is breaks));
-  judged = λ content fault is judges. met_line asked task fault (task.subject fault) of (inr (judged input content task fault found is of judges));
+  broken_off = λ content is short. met_line asked task (Read 0) input.name of (inr (broken_off input content found is (breaks_short task.work content short) (λ other of_too. rw (one_task asked other task of_too of) short)));
+  judged = λ content fault is enough judges. met_line asked task fault (task.subject fault) of (inr (judged input content task fault found is of enough judges));
 }
 
 -- these inputs, which the run found after others and before others
@@ -333,7 +340,7 @@ failing_file state.Removed has = absurd (cc)
 failing_file state.Unopened has = absurd (cc)
 failing_file which has = refl
 
-abbrev gone : Slot → Slot
+abbrev pub gone : Slot → Slot
 gone slot = cond (has_file slot.state) (removes slot) slot
 
 abbrev remains : Bool → ℕ → Slot → Slot
@@ -439,7 +446,7 @@ left_whole {made} fits left well =
 abbrev pub copy : Mode → List ℕ → List ℕ → Slot
 copy mode bytes name = closes (adds bytes (opened name mode))
 
-abbrev met_by : Bool → Option Fault
+abbrev pub met_by : Bool → Option Fault
 met_by true = Some (Read 0)
 met_by false = None
 
@@ -475,7 +482,7 @@ met_status : (breaks_off : Bool) → ◌≡◌ {A = ℕ} (cond (is_none (met_by 
 met_status true = refl
 met_status false = refl
 
-quiet_outputs : (names : List (List ℕ)) (broke : List (Option ℕ)) (pieces : ℕ) (fault : Option Fault) → are_sound broke ≡ true → messages_of names broke pieces fault ≡ said_of_input fault
+pub quiet_outputs : (names : List (List ℕ)) (broke : List (Option ℕ)) (pieces : ℕ) (fault : Option Fault) → are_sound broke ≡ true → messages_of names broke pieces fault ≡ said_of_input fault
 quiet_outputs names broke pieces fault sound = search (rules, nothing_before, nothing_in)
 
 -- no output is left only where the first broke
@@ -541,7 +548,7 @@ does_left run (Tee asked) does unstopped = record {
   made = tee_made asked does.content;
   of = (does.content, does.input, refl);
   fits = tee_fits asked does.content.bytes does.content.breaks_off
-      (λ breaks. (Read 0, codes "standard input", inr (broken_off (standard_input does.content) does.content ([], [], does.input) refl breaks), refl));
+      (λ breaks. (Read 0, codes "standard input", inr (broken_off (standard_input does.content) does.content ([], [], does.input) refl breaks (λ task of. absurd of)), refl));
   left = tee_left does.ends unstopped;
 }
 

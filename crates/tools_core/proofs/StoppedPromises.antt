@@ -189,7 +189,7 @@ tee_stop {run} {asked} {error = error} fault left rest says slots failed why nam
 -- what is told of the input was met
 input_tells : (run : Run) (asked : TeeAsked) {content : Content} (Leaves : List ℕ → Type 0) {is_vain : Bool} {x : List ℕ} {fault : Option Fault} → inputs_at run.world (names_of (Tee asked)) ≡ standard_input content ∷ [] → IsRead content Leaves is_vain x fault → TellsOfInput (TellsMet run (Tee asked)) fault
 input_tells run asked Leaves only (tee.to_end x is ended leaves) = tt
-input_tells run asked {content} Leaves only (tee.to_break x is broke leaves) = (Read 0, codes "standard input", inr (broken_off (standard_input content) content ([], [], only) refl broke), refl)
+input_tells run asked {content} Leaves only (tee.to_break x is broke leaves) = (Read 0, codes "standard input", inr (broken_off (standard_input content) content ([], [], only) refl broke (λ task of. absurd of)), refl)
 input_tells run asked {content} Leaves only (tee.to_limit x piece rest is many within leaves) =
     let size = ap length is in let all = length-append (x ++ piece) rest in
     (TooLong, codes "standard input", inl (standard_input content, content, ([], [], only), refl, omega (arith, size, all, many)), refl)

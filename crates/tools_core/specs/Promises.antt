@@ -32,6 +32,7 @@ use Rattle.csplit_core.specs.Output.{contents_of as contents_in, files_of as fil
 use Rattle.csplit_core.specs.Plan.{Step}
 use Rattle.csplit_core.specs.Planned.{Plan, plan}
 use Rattle.csplit_core.specs.Section.{lines_between, section_of, whole_end, whole_sections}
+use Rattle.run_core.specs.Feeding.{is_enough}
 use Rattle.run_core.specs.Input.{Input, World, inputs_at, is_dash}
 use Rattle.run_core.specs.RunEnds.{EndsAs, RunsOver, as_defined, no_room, stopped}
 use Rattle.run_core.specs.Task.{Task}
@@ -311,16 +312,21 @@ IsTask (Csplit asked) task = (operands : List Operand) × Asks asked.operands op
     × (task ≡ csplit_task asked operands)
 IsTask (Tee asked) task = ⊥
 
--- A fault after which a run goes on, and the name that its line has: an input of this name is missing, or breaks off;
--- or the tool's own work over an input ends with it, as where names run out or no line matches. The number of an input
--- stands in no line.
+-- the tool has not enough of what an input gives before it breaks off, and `tee` never has
+abbrev pub WantsMore : Settings → Content → Type 0
+WantsMore asked content = (task : Task) → IsTask asked task → is_enough task.work content ≡ false
+
+-- A fault after which a run goes on, and the name that its line has: an input of this name is missing, or breaks off
+-- before the tool has enough of it; or the tool has, and its own work over that input ends with the fault, as where
+-- names run out or no line matches. The number of an input stands in no line.
 pub data GoesOnAfter (run : Run) (asked : Settings) : Fault → List ℕ → Type 0 where
   missing : (input : Input) → IsFound run asked input → input.content ≡ None
       → GoesOnAfter run asked (fault.Open 0) input.name
   broken_off : (input : Input) (content : Content) → IsFound run asked input → input.content ≡ Some content
-      → content.breaks_off ≡ true → GoesOnAfter run asked (fault.Read 0) input.name
+      → content.breaks_off ≡ true → WantsMore asked content → GoesOnAfter run asked (fault.Read 0) input.name
   judged : (input : Input) (content : Content) (task : Task) (why : Fault) → IsFound run asked input
-      → input.content ≡ Some content → IsTask asked task → Judges task.work content.bytes why
+      → input.content ≡ Some content → IsTask asked task → is_enough task.work content ≡ true
+      → Judges task.work content.bytes why
       → GoesOnAfter run asked why (task.subject why)
 
 -- a fault that the run met, and the name that its line has

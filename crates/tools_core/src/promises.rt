@@ -13,13 +13,13 @@ ghost use Rattle.seg_core.specs.declared.cut.Cut.TheVariants.{Bytes, LineBytes, 
 ghost use Rattle.operand_core.specs.Reading.{Asks};
 ghost use Rattle.operand_core.specs.declared.operand.Operand.{Operand};
 ghost use Rattle.tools_core.specs.Following.{is_name};
-ghost use Rattle.tools_core.specs.Promises.{AreCopies, AreDealt, AreLinePieces, AreListed, AreNumbered, ArePieces, AreSections, AreUncut, BeginsEach, Completes, CountAlike, Does, AsksToFollow, FindAlike, Follows, HasInput, IsBare, IsHead, IsOfProgram, IsStopped, IsTail, SaysWhy, LeaveAlike, OnlyGrows, Ran, Run, SkipNothing, WhyBroken, contents_of, files_of, output_of};
+ghost use Rattle.tools_core.specs.Promises.{AreCopies, AreDealt, AreLinePieces, AreListed, AreNumbered, ArePieces, AreSections, AreUncut, BeginsEach, Completes, CountAlike, Does, AsksToFollow, FindAlike, Follows, HasInput, HasLong, IsBare, IsHead, IsOfProgram, IsStopped, IsTail, SaysWhy, LeaveAlike, OnlyGrows, Ran, Run, SkipNothing, WhyBroken, contents_of, files_of, output_of};
 ghost use Rattle.tools_core.specs.Tasks.{is_plus};
 ghost use Rattle.words_core.specs.CsplitAsked.{CsplitAsked};
 ghost use Rattle.words_core.specs.EndsAsked.{EndsAsked};
 ghost use Rattle.words_core.specs.SplitAsked.{SplitAsked};
 ghost use Rattle.words_core.specs.TeeAsked.{TeeAsked};
-ghost use Rattle.words_core.specs.Words.{follows, settings_of};
+ghost use Rattle.words_core.specs.Words.{HasOperands, follows, settings_of};
 ghost use Rattle.words_core.specs.declared.settings.Settings.{Settings};
 ghost use Rattle.words_core.specs.declared.settings.Settings.TheVariants.{Csplit, Split, Tee};
 ghost use Rattle.words_core.specs.declared.value.Followed.{Followed};
@@ -85,12 +85,14 @@ pub fn csplit_loses_nothing()
 {}
 
 /// Nothing after a fault but a beginning. Whatever a run met over its inputs, standard output and each file have a beginning of
-/// what they have after a run that no fault stopped, which is asked for the same, over the same inputs. A run
-/// whose status is 1 told a fault, as far as standard error takes lines. So it did where standard output or a file broke: that
-/// it can't be written, or not be opened, is told by its name. That a file of `csplit` couldn't be removed need not be told,
-/// nor then what broke it before; each other file of that run is gone, or broken too.
+/// what they have after a run that no fault stopped, which is asked for the same, over the same inputs. There is such a run,
+/// unless operands of `csplit` are wrong or an input has more than any tool takes. A run whose status is 1 told a fault that it
+/// met, as far as standard error takes lines, and each line tells one. So it did where standard output or a file broke: that it
+/// can't be written, or not be opened, is told by its name. That a file of `csplit` couldn't be removed need not be told, nor
+/// then what broke it before; each other file of that run is gone, or broken too.
 pub fn faults_leave_a_beginning()
     ensures begins { (run well : Run) (asked : Settings) → Ran run asked → Completes well asked → FindAlike run well → BeginsEach run well }
+    ensures beside { (run : Run) (asked : Settings) → Ran run asked → HasOperands asked → (HasLong run asked → ⊥) → (well : Run) × FindAlike run well × Completes well asked }
     ensures says { (run : Run) (asked : Settings) → Ran run asked → run.status ≡ 1 → SaysWhy run asked }
     ensures broken { (run : Run) (asked : Settings) (place : ℕ) → Ran run asked → (place ≡ 1 → ⊥) → (slot_at run.outputs place).is_broken ≡ true → (run.status ≡ 1) × WhyBroken run asked place }
 {}
