@@ -287,9 +287,9 @@ abbrev pub HasLong : Run → Settings → Type 0
 HasLong run asked = (input : Input) × (content : Content) × IsFound run asked input × (input.content ≡ Some content)
     × (2 ^ 63 ≤ length content.bytes)
 
--- A fault that stops a run, and the name that its line has: there was no memory; an input has more than any tool takes;
--- operands of `csplit` are wrong, the first of them this word; or the output of this name broke. Where one of `tee`
--- broke it went on with the others: that counts as well.
+-- A fault that stops a run, and the name that its line has: there was no memory, which nothing that is left could show;
+-- an input has more than any tool takes; operands of `csplit` are wrong, the first of them this word; or the output of
+-- this name broke. Where one of `tee` broke it went on with the others: that counts as well.
 abbrev pub StopsRun : Run → Settings → List ℕ → Fault → Type 0
 StopsRun run asked name fault.Memory = Unit {0}
 StopsRun run asked name fault.TooLong = HasLong run asked
