@@ -37,16 +37,14 @@ pub record StandsAt (last : Entry) (opened : Option ℕ) (position : ℕ) : Type
   pub seen : position ≡ seen_length last
 
 -- The name of this number broke just as these looks tell, if it did: at the first call on it that failed, by its fault.
+-- Where names aren't followed, that was at the first look, or a read: at no other is a file opened.
 pub record BrokeIn (ways : Ways) (looks : List Look) (place : ℕ) (failed : Option Fault) : Type 0 where
   pub fault : failed ≡ failed_in place looks
-  -- Where names aren't followed, no file is opened after the first look. So what the first look tells is all, a fault
-  -- or none; or a read failed.
   pub opened : ways.by_name ≡ false
       → (failed_in place (take 1 looks) ≡ failed_in place looks) ⊎ (failed_in place looks ≡ Some (Read place))
 
--- Which names are watched, and by which fault each broke. Once a look was made all are, in their order, the first under
--- the number `ways.first`; where the first look found no memory to add them, perhaps only the first ones are. Of each
--- the watch keeps the fault of which these looks tell, or none where they tell of none.
+-- From the number of the first on as many are watched as there are names, once a look was made; where the first look
+-- found no memory to add them, perhaps fewer. Each that is broke just as these looks tell, if it did.
 abbrev pub AreBroken : Ways → List Look → List (List ℕ) → List Watched → Type 0
 AreBroken ways looks names watched = (length watched ≤ ways.first + length names)
     × (0 < length looks → length watched ≡ ways.first + length names)
