@@ -87,8 +87,10 @@ pub record Holds (told_in told : Bool) (ways : Ways) (headers : Bool) (names : L
   pub shared : AllShared told (fresh_printer headers) shares first follow.printer slots
   pub failed : any_failed shares ≡ follow.has_failed
 
--- What a look that was stopped gave: nothing; or all of the names before one, with their fates, and of that one, for
--- which no call failed, a beginning. A name broke only where one of these looks tells so.
+-- What a look that was stopped gave: nothing; or it came to the name at a place. How each name before that came through
+-- is known, and no call on this one failed, nor on those after it: there are fates up to its number, and from there on
+-- none. With these the look gives each name before it a share, and they have it whole; of what it gives this name, the
+-- name has a beginning. A name broke only where one of these looks tells so.
 pub data Begun (told_in : Bool) (ways : Ways) (names : List (List ℕ)) (looks : List Look) (snapshot : Snapshot)
     (watched : List Watched) : List Share → Type 0 where
   nothing : AreBroken ways looks names watched → Begun told_in ways names looks snapshot watched []

@@ -132,8 +132,8 @@ pub record Loads {E : Type 0} (Holds : E → List ℕ → Type 0) (Ready : E →
   pub idle : (work before).settled front ≡ (work before).settled []
   pub going : (front ≡ []) ⊎ ((work before).is_complete front ≡ false)
 
--- The next piece may have this many bytes: fed them after any x with which its output isn't complete, the engine leaves no
--- more than its work's `ahead` of them unused.
+-- The next piece may have this many bytes. Whatever x the engine was fed, if more can change the output: where a piece of
+-- no more bytes than that completes it, those of its bytes that are not used, n at its end, are at most `ahead`.
 abbrev pub MayGet : {E : Type 0} → (E → List ℕ → Type 0) → (E → Work) → E → ℕ → Type 0
 MayGet {E = E} Holds work engine most = (x piece : List ℕ) (after : E) (n : ℕ) → Holds engine x
     → (work engine).is_complete x ≡ false → length piece ≤ most → work after ≡ work engine → Holds after (x ++ piece)

@@ -137,15 +137,18 @@ is_stop (Err fault) = not (is_verdict fault)
 abbrev pub IsUnread : Source → Type 0
 IsUnread source = (source.taken ≡ []) × (source.reached ≡ 0)
 
--- What is left of an input that was done: all but what was read of it. That was enough, for nothing is left or the
--- output was complete with it; and it was needed, where the work ends well to the last byte. Of standard input, which
--- others may read after it, reads gave at most `ahead` bytes more.
+-- What a tool that is done with an input took of it, and what it left: it took enough, and no more than it needed.
 pub record Uses (work : Work) (most slot : ℕ) (there : Content) (source : Source) : Type 0 where
+  -- it took the front of what was there, and left the rest
   pub read : List ℕ
   pub joined : there.bytes ≡ read ++ source.left.bytes
+  -- that was enough: there is no more, or no more could change its output
   pub enough : (source.left.bytes ≡ []) ⊎ (work.is_complete read ≡ true)
+  -- and it was needed: without its last piece, of at most `most` bytes, the output could still change
   pub needed : IsNeeded work.is_complete most read
+  -- where the work ends without a fault of its own, each byte was: without the last one the output could still change
   pub exact : work.verdict read ≡ None → IsNeeded work.is_complete 1 read
+  -- of standard input, which others may read after it, reads gave at most this much more, and that was given back
   pub few : slot ≡ 0 → source.reached ≤ length read + work.ahead
 
 -- of the input that was there, this is left, and what was read was needed
