@@ -5,7 +5,7 @@ use Rattle.std.proofs.Math.Seq.{get_or-append_seam}
 use Rattle.std.proofs.lemmas.Bool.{cases_Bool, cases_lt, false≢true}
 use Rattle.std.proofs.lemmas.List.{length-map}
 use Rattle.std.proofs.lemmas.List.Elements.{All-map}
-use Rattle.ports_core.specs.Inputs.{largest_piece}
+use Rattle.ports_core.specs.Inputs.{CameFrom, largest_piece}
 use Rattle.ports_core.specs.Message.{SaysAll, whole}
 use Rattle.ports_core.specs.Part.{File, OutputsAt, Part, file_of, told_file}
 use Rattle.ports_core.specs.Slot.{Slot, adds, closes, has_file, opened, slot_at}
@@ -51,6 +51,10 @@ front_from work x (byte ∷ rest) needed = elim (cases_Bool (work.is_complete x)
   | inr going ↦ subst (Front work) (append_assoc x (byte ∷ []) rest) (front_from work (x ++ byte ∷ []) rest (inr (x, byte ∷ [], refl, omega arith, going)))
 ]
 
+-- an open source that tells its bytes, whatever it holds
+came_from : {content : Content} (source : Source) → source.is_open ≡ true → CameFrom true content source
+came_from source is = record { was_open = is; breaks = λ untold. absurd (false≢true (sym untold)) }
+
 -- such a reader leaves this of an input, or of one that is missing
 record LeftFor (work : Work) (there : Option Content) : Type 0 where
   pub source : Source
@@ -60,10 +64,11 @@ left_for : (work : Work) (there : Option Content) → LeftFor work there
 left_for work None = record { source = missing; is = λ slot. refl }
 left_for work (Some content) =
     let front = front_from work [] content.bytes (inl refl) in record {
-      source = record (source_of content) { left = record { bytes = front.rest; breaks_off = content.breaks_off }; taken = front.read; reached = length front.read };
+      source = record (source_of content) { left = record { bytes = front.rest; breaks_off = content.breaks_off }; taken = front.read; reached = length front.read; ended = true };
       is = λ slot. (
         λ told. record { read = front.read; joined = front.joined; enough = front.enough; needed = needed_within (omega arith) front.needed; exact = λ well. front.needed; few = λ standard. omega arith },
-        λ untold breaks. absurd (false≢true (sym untold)),
+        came_from _ refl,
+        λ ends goes. refl,
       );
     }
 
@@ -211,7 +216,7 @@ tee_well asked world few = record {
   sources = source ∷ [];
   new = left lines.error;
   status = tee.status_of (None ∷ unbroken asked.names) fault;
-  does = record { content = content; input = refl; ends = ends; breaks = λ untold breaks. absurd (false≢true (sym untold)); whole = λ told well. all content.breaks_off well };
+  does = record { content = content; input = refl; ends = ends; came = came_from source refl; whole = λ told well. all content.breaks_off well };
   unstopped = (all_sound asked.names, pieces_are content.bytes);
 } where
   content : Content
@@ -224,7 +229,7 @@ tee_well asked world few = record {
   fault = met_by content.breaks_off
 
   source : Source
-  source = record (source_of content) { left = record { bytes = []; breaks_off = content.breaks_off }; is_broken = content.breaks_off; taken = content.bytes; reached = length content.bytes }
+  source = record (source_of content) { left = record { bytes = []; breaks_off = content.breaks_off }; is_broken = content.breaks_off; taken = content.bytes; reached = length content.bytes; ended = true }
 
   lines : TookLines tool.Tee (said_of_input fault) standard_error
   lines = took_lines tool.Tee (said_of_input fault) standard_error refl
@@ -239,6 +244,7 @@ tee_well asked world few = record {
         sizes = All-map (λ (piece : List ℕ). (0 < length piece) × (length piece ≤ largest_piece)) (λ byte. byte ∷ []) content.bytes (λ k byte within. (omega arith, omega arith));
         few = rw (pieces_are content.bytes) few;
         met = met_or_sound content.breaks_off;
+        ended = λ none some. refl;
       })
       refl tee.output_whole (copies_left asked.mode pieces asked.names)
       (rw (quiet_outputs asked.names (None ∷ unbroken asked.names) (length pieces) fault (all_sound asked.names)) lines.says) refl refl
