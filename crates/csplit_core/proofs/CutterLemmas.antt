@@ -8,7 +8,7 @@ use Rattle.csplit_core.specs.Csplit.{settled_of}
 use Rattle.csplit_core.specs.Draft.{draft_part, Draft, last_contents, AreClosed}
 use Rattle.csplit_core.specs.Input.{newline, all_lines}
 use Rattle.csplit_core.specs.Operand.{Operand, Line, is_kept}
-use Rattle.csplit_core.specs.Output.{Style, makes_file, files_of, contents_of, part_by}
+use Rattle.csplit_core.specs.Output.{Style, makes_file, files_of, contents_of, part_by, sizes_wanted}
 use Rattle.csplit_core.specs.Plan.{State, start, Step, Ending, Runs, search_line, line_after, state_after, step_of, is_used_up, misses, is_above, is_below, cuts}
 use Rattle.csplit_core.specs.Planned.{Plan, plan, plan_within}
 use Rattle.csplit_core.specs.Section.{lines_between, is_last_kept, settled_end, is_final, most_waiting, bytes_of, Section, section, section_of}
@@ -24,9 +24,10 @@ use Rattle.csplit_core.proofs.LineLemmas.{all_lines-append, bytes_between, lengt
 use Rattle.ports_core.specs.Slot.{Slot}
 use Rattle.ports_core.specs.declared.fault.Fault.{Fault}
 use Rattle.csplit_core.specs.inner.Writer.{with_bytes, Goes, Reaches, with_section, Leaves}
-use Rattle.ports_core.specs.inner.Part.{fault_in, InTurn}
+use Rattle.ports_core.specs.inner.Part.{fault_in, InTurn, LinesTo}
+use Rattle.ports_core.proofs.PartSteps.{lines_of_front}
 use Rattle.csplit_core.specs.Writer.{WriterState, Writes, IsReady, size_of}
-use Rattle.csplit_core.proofs.WriterLemmas.{leaves_again, bytes_begin, leaves_lacking, leaves_still, reaches_again, reaches_as, reaches_still, where_three, section_begins, stops_wider, goes_again, goes_wider, open_part, part_none, closed_files}
+use Rattle.csplit_core.proofs.WriterLemmas.{lines_all, sizes_told, leaves_again, bytes_begin, leaves_lacking, leaves_still, reaches_again, reaches_as, reaches_still, where_three, section_begins, stops_wider, goes_again, goes_wider, open_part, part_none, closed_files}
 use Rattle.std.proofs.Math.Nat.{min-eq_left, min-eq_right}
 use Rattle.std.proofs.Math.Seq.{take-add, take-append-add}
 use Rattle.seg_core.specs.Window.{Window, without_first}
@@ -158,21 +159,25 @@ at_held cutter writer x left bytes held n some at same within bytes_is held_is w
 
 -- want of memory leaves the outputs as they are
 
-pub in_turn : {told : Bool} {part : Part} (place : ℕ) {slots : List Slot} {writer next : WriterState} → InTurn part.files place → Reaches told writer next part part slots slots (Some Memory)
-in_turn {part = part} place {slots} turn = search (rules, part_begins_itself)
+pub in_turn : {told : Bool} {part : Part} (place : ℕ) {slots : List Slot} {writer next : WriterState} → InTurn part.files place → LinesTo (sizes_wanted writer.style) part place Memory → Reaches told writer next part part slots slots (Some Memory)
+in_turn {part = part} place {slots} turn lines = search (rules, part_begins_itself)
 
 draft_turn : (style : Style) (draft : Draft) → AreClosed draft.ended → (makes : Bool) → makes_file style (last_contents false draft) ≡ makes → (place : ℕ) × InTurn (draft_part style draft).files place
+    × LinesTo (sizes_wanted style) (draft_part style draft) place Memory
 draft_turn style draft closed true is = (
   length (files_of style 0 draft.ended),
   subst (λ (part : Part). InTurn part.files (length (files_of style 0 draft.ended))) (sym (open_part style draft is)) (turn_last (files_of style 0 draft.ended) _ _ refl (closed_files style 0 draft.ended closed)),
+  subst (λ (part : Part). LinesTo (sizes_wanted style) part (length (files_of style 0 draft.ended)) Memory) (sym (open_part style draft is)) (lines_of_front (sizes_wanted style) _ (files_of style 0 draft.ended) _ Memory (sizes_told style 0 draft.ended)),
 )
 draft_turn style draft closed false is = (
   length (files_of style 0 draft.ended),
   subst (λ (part : Part). InTurn part.files (length (files_of style 0 draft.ended))) (sym (part_none style draft.ended (last_contents false draft) is)) (turn_next (files_of style 0 draft.ended) (closed_files style 0 draft.ended closed)),
+  subst (λ (part : Part). LinesTo (sizes_wanted style) part (length (files_of style 0 draft.ended)) Memory) (sym (part_none style draft.ended (last_contents false draft) is)) (lines_all (sizes_wanted style) true _ (files_of style 0 draft.ended) (sizes_told style 0 draft.ended) Memory),
 )
 
-pub lacks_memory : {told : Bool} (style : Style) (draft : Draft) {slots : List Slot} {writer next : WriterState} → AreClosed draft.ended → Reaches told writer next (draft_part style draft) (draft_part style draft) slots slots (Some Memory)
-lacks_memory style draft closed = let turn = draft_turn style draft closed (makes_file style (last_contents false draft)) refl in in_turn turn.0 turn.1
+pub lacks_memory : {told : Bool} (style : Style) {writer next : WriterState} → writer.style ≡ style → (draft : Draft) {slots : List Slot} → AreClosed draft.ended → Reaches told writer next (draft_part style draft) (draft_part style draft) slots slots (Some Memory)
+lacks_memory style same draft closed =
+    let turn = draft_turn style draft closed (makes_file style (last_contents false draft)) refl in in_turn turn.0 turn.1 (subst (λ (those : Style). LinesTo (sizes_wanted those) (draft_part style draft) turn.0 Memory) (sym same) turn.2)
 
 -- bytes that are written after others
 
@@ -283,7 +288,7 @@ pub goes_or_lacks : {told : Bool} {writer next : WriterState} {bytes : List ℕ}
 goes_or_lacks (Ok done) went lacks = went
 goes_or_lacks {told} {writer} {next} {bytes} {old} {new} (Err fault) went lacks = subst (λ why. Goes told writer (with_bytes bytes) old new next (Some why)) (sym lacks) (record {
   leaves = leaves_again went.leaves leaves_lacking;
-  reaches = λ draft writes. reaches_again (bytes_begin writer.style bytes draft) (went.reaches draft writes) (lacks_memory writer.style (with_bytes bytes draft) writes.closed);
+  reaches = λ draft writes. reaches_again went.leaves.style (bytes_begin writer.style bytes draft) (went.reaches draft writes) (lacks_memory writer.style went.leaves.style (with_bytes bytes draft) writes.closed);
   writes = tt;
 })
 
@@ -498,7 +503,7 @@ module _ {cutter : CutterState} {cut : Cut} {place : ℕ} {left before : List �
       cut_stopped (ap (λ (c : CutterState). c.operands) passed.same) (leaves_again went.leaves stopped.leaves)
       (λ x at due.
       let draft = draft_at cutter x left at in
-      reaches_again (bytes_begin cutter.writer.style before draft) (went.reaches draft at.writes)
+      reaches_again went.leaves.style (bytes_begin cutter.writer.style before draft) (went.reaches draft at.writes)
       (stops_wider
       (reaches_as (ap (λ (s : Style). draft_part s (with_bytes before draft)) (sym went.leaves.style)) (ap (λ (s : Style). draft_part s (with_section kept (with_bytes before draft))) (sym went.leaves.style)) (stopped.reaches (with_bytes before draft) (went.writes draft at.writes)))
       (subst (λ k. Begins (draft_part cutter.writer.style (with_section k (with_bytes before draft))) (settled_part cutter x)) (sym (kept_is ∙ ap (λ (s : State). kept_by s.operands) (passed_state went passed due.goes.are)))
@@ -566,7 +571,7 @@ module _ {told : Bool} {cutter mid : CutterState} {writer next : WriterState} {c
         grows = subst (Begins (part_at cutter x left at))
             (ap (draft_part cutter.writer.style) draft_is ∙ ap (λ (s : Style). draft_part s (draft_by (all_lines x) steps (kept_by (state_in mid).operands) [])) (sym style_is))
             (part_trans (part_at cutter x left at) (draft_part cutter.writer.style (with_bytes before draft)) _ (bytes_begin cutter.writer.style before draft) (section_begins cutter.writer.style kept (with_bytes before draft)));
-        reaches = reaches_again (bytes_begin cutter.writer.style before draft) (went.reaches draft at.writes)
+        reaches = reaches_again went.leaves.style (bytes_begin cutter.writer.style before draft) (went.reaches draft at.writes)
             (reaches_as (ap (λ (s : Style). draft_part s (with_bytes before draft)) (sym went.leaves.style))
             (ap (λ (s : Style). draft_part s (draft_by (all_lines x) steps (kept_by (state_in mid).operands) [])) second.leaves.style ∙ ap (draft_part writer.style) (sym draft_is))
             (second.reaches (with_bytes before draft) (went.writes draft at.writes)));

@@ -5,20 +5,21 @@ use Rattle.seg_core.specs.Window.{Window}
 use Rattle.ports_core.specs.Slot.{Slot, is_writable}
 use Rattle.ports_core.specs.declared.fault.Fault.{Fault}
 use Rattle.ports_core.specs.declared.fault.Fault.TheVariants.{Memory}
-use Rattle.ports_core.proofs.PartLemmas.{nothing_begins_part, outputs_count, stopped_in_turn}
+use Rattle.ports_core.proofs.PartLemmas.{nothing_begins_part, outputs_count, stopped_in_turn, lines_before}
+use Rattle.ports_core.specs.inner.Part.{HasLines, LinesTo}
 use Rattle.csplit_core.proofs.CutterLemmas.{in_turn, draft_is, settled_part_is, draft_to, runs_to, live_part, goes_as, live_taken, lacks_memory, keeps_on, same_by, settled_same}
 use Rattle.csplit_core.specs.Csplit.{settled_of, whole_of, verdict_of, waiting, waiting_of, csplit_work, settled_by, verdict_by}
 use Rattle.csplit_core.specs.Draft.{draft_part, Draft, AreClosed}
 use Rattle.csplit_core.specs.inner.Writer.{first_draft, with_kept, new_writer, paused, BegunNot, Goes, with_bytes, with_section, Reaches, At, KeepsFiles}
 use Rattle.csplit_core.specs.Input.{newline, all_lines, open_line}
 use Rattle.csplit_core.specs.Operand.{Operand, Line}
-use Rattle.csplit_core.specs.Output.{Style, contents_of, part_of}
+use Rattle.csplit_core.specs.Output.{Style, contents_of, part_of, sizes_wanted}
 use Rattle.csplit_core.specs.Plan.{State, start, Step, Ending, below, Runs, missed, above}
 use Rattle.csplit_core.specs.Planned.{plan, Plan}
 use Rattle.csplit_core.specs.laws.PlanLaws.{plan_runs, plan_once}
 use Rattle.csplit_core.specs.Progress.{state_of, AimsAt, EndsHere}
 use Rattle.csplit_core.specs.inner.Cutter.{AreSeen, Turns, MovesOn, Opened, settled_part, whole_part, IsJudged, EndsAll, IsWhole, Takes, IsLine, Clears, Keeps, Closed, Closes, ended_so, Judges, Passes, Sweeps, ended_well, ended_short}
-use Rattle.csplit_core.specs.Section.{settled_end, is_final, whole_end, bytes_of, waiting_lines, section_of, whole_sections}
+use Rattle.csplit_core.specs.Section.{settled_sections, settled_end, is_final, whole_end, bytes_of, waiting_lines, section_of, whole_sections}
 use Rattle.csplit_core.specs.declared.progress.Progress.{Progress}
 use Rattle.csplit_core.specs.declared.progress.Turn.{Turn}
 use Rattle.csplit_core.specs.declared.progress.Turn.TheVariants.{Below, Missed, Above}
@@ -26,7 +27,7 @@ use Rattle.csplit_core.specs.Writer.{WriterState, Writes, size_of, IsReady as Ca
 use Rattle.csplit_core.specs.Cutter.{CutterState, most_next, pattern_next, kept_next, next_of, most_by, pattern_by, kept_by, settled_draft, IsFit, Stands, suppress_in, state_in, text_from, draft_by, IsLive, IsPast, IsSound, load}
 use Rattle.csplit_core.proofs.TryLemmas.{turn_ends, left_is}
 use Rattle.ports_core.proofs.SlotSteps.{none_past}
-use Rattle.csplit_core.proofs.WriterLemmas.{begun_not, new_owns, new_writes, no_draft, ended_part, files_left, reaches_as, stops_wider, bytes_begin, section_begins, in_any, leaves_again, reaches_again, leaves_lacking, where_well}
+use Rattle.csplit_core.proofs.WriterLemmas.{sizes_told, begun_not, new_owns, new_writes, no_draft, ended_part, files_left, reaches_as, stops_wider, bytes_begin, section_begins, in_any, leaves_again, reaches_again, leaves_lacking, where_well}
 use Rattle.std.proofs.lemmas.List.{map-append, drop_all, drop-map, append-nil, take-append-drop}
 use Rattle.seg_core.specs.Line.{line_count, first_lines, after_lines, delimiters, ends_with, LastEndsAt}
 use Rattle.seg_core.proofs.FirstLines.{first_lines-all, first_lines_then_rest, lines_of-after_lines}
@@ -39,7 +40,7 @@ use Rattle.std.proofs.lemmas.Grind.{common_steps}
 use Rattle.std.proofs.Math.Nat.{min-eq_left}
 use Rattle.csplit_core.specs.CsplitState.{CsplitState, Holds, whole_lines, IsReady, Owns, files, work}
 use Rattle.csplit_core.proofs.TakeLemmas.{past_plan, past_part, is_past, still_past, more_settled, takes_again, takes_none, takes_wider, took_past, none_there}
-use Rattle.ports_core.specs.Part.{Begins, OutputsAt, StoppedBetween, nothing}
+use Rattle.ports_core.specs.Part.{Begins, OutputsAt, StoppedBetween, nothing, writes}
 use Rattle.ports_core.specs.inner.Part.{fault_in}
 use Rattle.ports_core.specs.Engine.{is_verdict, TakesIn, PutsOut, CutsOff, EndsShort, EndsWith, EndsThere, Finishes, StandsAt, IsMet, KeepsOwn}
 use Rattle.ports_core.specs.Swept.{AreThere, Swept}
@@ -147,9 +148,12 @@ opened_not told {style} operands {kept = kept} {old} {new} {writer = writer} {fa
     (subst (λ k. BegunNot told style (draft_part style (first_draft k)) old new fault) (kept_is ∙ ap kept_next next_is)
     (begun_not two (subst (λ w. Goes told (paused w) (with_kept kept) old new writer (Some fault)) made begun) (same ∙ ap (λ (w : WriterState). w.files) made)))
 
+none_told : (style : Style) → LinesTo (sizes_wanted style) nothing 0 Memory
+none_told style = lines_before (sizes_wanted style) nothing 0 Memory (sizes_told style 0 [])
+
 -- where there is no memory, nothing was done
 pub opened_lacks : (told : Bool) {style : Style} (operands : List Operand) {slots : List Slot} {fault : Fault} → fault ≡ Memory → BegunNot told style (settled_of style operands []) slots slots fault
-opened_lacks told {style} operands {slots} lacks = search (rules, stops_wider, in_turn, nothing_begins_part, none_past)
+opened_lacks told {style} operands {slots} lacks = search (rules, stops_wider, in_turn, none_told, nothing_begins_part, none_past)
 
 -- What ending the cutter leaves: all lines that waited belong to the last section, which ends; and the fault with which the work ends.
 
@@ -207,7 +211,7 @@ end_goes {told} {cutter} {between = between} {next} window {mid = mid} {new} {fa
     let went = goes_as (all_held cutter all) goes in record {
       keeps = record { operands = refl; writer = leaves_again went.leaves ends.leaves };
       reaches = λ x stands. let last = last_draft fit stands in let all = with_bytes cutter.window.held last.draft in
-          reaches_as (sym last.settled) (sym last.whole) (reaches_again (bytes_begin cutter.writer.style cutter.window.held last.draft) (went.reaches last.draft last.writes)
+          reaches_as (sym last.settled) (sym last.whole) (reaches_again went.leaves.style (bytes_begin cutter.writer.style cutter.window.held last.draft) (went.reaches last.draft last.writes)
           (subst (λ (style : Style). Reaches told between next (draft_part style all) (draft_part style (with_section false all)) mid new fault) went.leaves.style (ends.reaches all (went.writes last.draft last.writes))));
       judged = in_any fault (λ x stands. (grind (arith, common_steps, judged_now, (ends.leaves.style ∙ went.leaves.style), stands)));
     }
@@ -298,7 +302,7 @@ closed_steps lines (step ∷ steps) = (refl, closed_steps lines steps)
 pub takes_lacking : {told : Bool} {cutter next : CutterState} {t : List ℕ} {old new : List Slot} → Takes told cutter t old new next None → Takes told cutter t old new next (Some Memory)
 takes_lacking {cutter = cutter} {t = t} took = record {
   keeps = keeps_on took.keeps (record { operands = refl; writer = leaves_lacking });
-  reaches = λ x whole stands. reaches_again (more_settled cutter t whole) (took.reaches x whole stands) (let is = sym (settled_part_is cutter.writer.style cutter.operands (all_lines (x ++ t))) in reaches_as is is (lacks_memory cutter.writer.style (settled_draft (suppress_in cutter) cutter.operands (all_lines (x ++ t))) (closed_steps (all_lines (x ++ t)) (plan (suppress_in cutter) cutter.operands (all_lines (x ++ t))).steps)));
+  reaches = λ x whole stands. reaches_again took.keeps.writer.style (more_settled cutter t whole) (took.reaches x whole stands) (let is = sym (settled_part_is cutter.writer.style cutter.operands (all_lines (x ++ t))) in reaches_as is is (lacks_memory cutter.writer.style took.keeps.writer.style (settled_draft (suppress_in cutter) cutter.operands (all_lines (x ++ t))) (closed_steps (all_lines (x ++ t)) (plan (suppress_in cutter) cutter.operands (all_lines (x ++ t))).steps)));
   went = tt;
 }
 
@@ -312,7 +316,7 @@ takes_or_lacks {told} {cutter} {next} {t} {old} {new} (Err fault) took lacks = s
 pub closed_on : {told : Bool} {stage : CsplitState} (last : CsplitState) {next : CsplitState} {two : CutterState} {old mid new : List Slot} {fault : Option Fault} → two ≡ last.cutter → Takes told stage.cutter stage.rest old mid last.cutter None → EndsAll told two mid new next.cutter fault → Closed told stage old new next fault
 closed_on {told} {stage} last {old = old} {mid} {fault = fault} is took second = let first = subst (λ c. Takes told stage.cutter stage.rest old mid c None) (sym is) took in record {
   keeps = keeps_on first.keeps second.keeps;
-  reaches = λ x front stands. reaches_again (more_settled stage.cutter stage.rest front) (first.reaches x front stands)
+  reaches = λ x front stands. reaches_again first.keeps.writer.style (more_settled stage.cutter stage.rest front) (first.reaches x front stands)
       (reaches_as (sym (settled_same (x ++ stage.rest) first.keeps)) (sym (same_by (λ style operands. whole_of style operands (all_lines (x ++ stage.rest))) first.keeps)) (second.reaches (x ++ stage.rest) (first.went.stands x front stands)));
   judged = where_well fault second.judged (λ judged x front stands. judged (x ++ stage.rest) (first.went.stands x front stands));
 }
@@ -501,6 +505,10 @@ holds_by {stage = stage} {next} {piece} {x} passed holds (inr differs) = record 
   past = λ is_below. passed.passed.past is_below holds.past;
 }
 
+-- standard output has the sizes of what is settled
+has_settled : (stage : CsplitState) (x : List ℕ) → HasLines (sizes_wanted stage.cutter.writer.style) (settled_part stage.cutter x).out (settled_part stage.cutter x).files
+has_settled stage x = sizes_told stage.cutter.writer.style 0 (map contents_of (settled_sections (all_lines x) (plan (suppress_in stage.cutter) stage.cutter.operands (all_lines x))))
+
 -- why a fault came
 
 module _ (told : Bool) (stage next : CsplitState) (piece : List ℕ) (old new : List Slot) where
@@ -516,9 +524,9 @@ module _ (told : Bool) (stage next : CsplitState) (piece : List ℕ) (old new : 
   pub cuts_off : (result : Result (Unit {0}) Fault) → Passes told stage piece old new next result → IfErr result (CutsOff Holds Owns work stage piece told old new)
   cuts_off (Ok done) passed = tt
   cuts_off (Err fault) stopped = λ before x at. engine.cut (not_verdict stage.cutter.writer.style old new fault stopped.took.keeps.writer.slots)
-      (subst (λ low. StoppedBetween told before low ((work stage).settled (x ++ piece)) fault new) (settled_is stage x)
-      (subst (λ high. StoppedBetween told before (settled_part stage.cutter (whole_lines x)) high fault new) (settled_then piece at.holds)
-      (stopped_in_turn told before _ _ fault new ((stopped.took.reaches (whole_lines x) (lines_whole x) at.holds.stands).there before (stands_so told at)))))
+      (subst (λ low. StoppedBetween (work stage).means.output told before low ((work stage).settled (x ++ piece)) fault new) (settled_is stage x)
+      (subst (λ high. StoppedBetween (work stage).means.output told before (settled_part stage.cutter (whole_lines x)) high fault new) (settled_then piece at.holds)
+      (stopped_in_turn (work stage).means.output told before _ _ fault new (has_settled stage (whole_lines x)) ((stopped.took.reaches (whole_lines x) (lines_whole x) at.holds.stands).there before (stands_so told at)))))
 
   pub pass_ready : (result : Result (Unit {0}) Fault) → Passes told stage piece old new next result → IsReady stage old → next.taken ≡ stage.taken + length piece → stage.taken + length piece < 2 ^ 63 → OnOk result (IsReady next new)
   pass_ready result passes ready taken fits = grind (arith, common_steps)
@@ -556,9 +564,9 @@ module _ (told : Bool) (stage next : CsplitState) (old new : List Slot) where
 
   pub ends_short : {fault : Fault} → Closed told stage old new next (Some fault) → EndsShort Holds Owns work stage told old new fault
   ends_short {fault} stopped before x at = engine.cut (not_verdict stage.cutter.writer.style old new fault stopped.keeps.writer.slots)
-      (subst (λ low. StoppedBetween told before low ((work stage).whole x) fault new) (settled_is stage x)
-      (subst (λ high. StoppedBetween told before (settled_part stage.cutter (whole_lines x)) high fault new) (whole_then stage x at.holds)
-      (stopped_in_turn told before _ _ fault new ((stopped.reaches (whole_lines x) (lines_whole x) at.holds.stands).there before (stands_so told at)))))
+      (subst (λ low. StoppedBetween (work stage).means.output told before low ((work stage).whole x) fault new) (settled_is stage x)
+      (subst (λ high. StoppedBetween (work stage).means.output told before (settled_part stage.cutter (whole_lines x)) high fault new) (whole_then stage x at.holds)
+      (stopped_in_turn (work stage).means.output told before _ _ fault new (has_settled stage (whole_lines x)) ((stopped.reaches (whole_lines x) (lines_whole x) at.holds.stands).there before (stands_so told at)))))
 
   -- the fault is the work's own, and the files were cleared away after it
   pub ends_judged : Closed told stage old new next None → {verdict : Option Fault} → Judges next.cutter verdict → {fault : Fault} → verdict ≡ Some fault → is_verdict fault ≡ true → (cleared : List Slot) → ((first : ℕ) → Owns next first new → Swept (work next).clears first new cleared)
@@ -582,7 +590,7 @@ module _ (told : Bool) (stage next : CsplitState) (old new : List Slot) where
       (sym (judged_then told stage next old new closed none at.holds), whole_out told stage next old new closed at)
   end_outputs closes = tt
 
-  pub end_writable : {result : Result (Unit {0}) Fault} → Closes told stage old new next result → OnOk result ((work stage).means.output ≡ true → IsTrue (is_writable new 0))
+  pub end_writable : {result : Result (Unit {0}) Fault} → Closes told stage old new next result → OnOk result (writes (work stage).means.output ≡ true → IsTrue (is_writable new 0))
   end_writable closes = grind (arith, common_steps)
 
   pub end_own : {result : Result (Unit {0}) Fault} → Closes told stage old new next result → KeepsOwn Owns stage next old new
@@ -617,10 +625,10 @@ begins_at told style {new} same two reaches before at =
     subst (λ those. OutputsAt told before (settled_of style those []) new) same (reaches.there before (none_stands told style two at)).outputs
 
 pub cannot_begin : (told : Bool) {style : Style} {given operands : List Operand} {old new : List Slot} {fault : Fault} → given ≡ operands → 2 ≤ length old → BegunNot told style (settled_of style given []) old new fault
-    → (before : List Slot) → OutputsAt told before nothing old → StoppedBetween told before nothing (settled_by style operands []) fault new
+    → (before : List Slot) → OutputsAt told before nothing old → StoppedBetween (sizes_wanted style) told before nothing (settled_by style operands []) fault new
 cannot_begin told {style} {given} {new} {fault} same two stopped before at =
-    subst (λ those. StoppedBetween told before nothing (settled_of style those []) fault new) same
-    (stopped_in_turn told before nothing (settled_of style given []) fault new (stopped.reaches.there before (none_stands told style two at)))
+    subst (λ those. StoppedBetween (sizes_wanted style) told before nothing (settled_of style those []) fault new) same
+    (stopped_in_turn (sizes_wanted style) told before nothing (settled_of style given []) fault new (sizes_told style 0 []) (stopped.reaches.there before (none_stands told style two at)))
 
 -- The files are removed.
 

@@ -212,7 +212,7 @@ more_settled cutter {x} t whole = subst (λ lines. Begins (settled_part cutter x
 pub takes_again : {told : Bool} {one two three : CutterState} {a b : List ℕ} {old mid new : List Slot} {fault : Option Fault} → IsWhole a → Takes told one a old mid two None → Takes told two b mid new three fault → Takes told one (a ++ b) old new three fault
 takes_again {one = one} {three = three} {a} {b} {fault = fault} whole first second = record {
   keeps = keeps_on first.keeps second.keeps;
-  reaches = λ x before stands. reaches_again (more_settled one a before) (first.reaches x before stands)
+  reaches = λ x before stands. reaches_again first.keeps.writer.style (more_settled one a before) (first.reaches x before stands)
       (reaches_as (sym (settled_same (x ++ a) first.keeps)) (ap (settled_part one) (sym (append_assoc x a b)) ∙ sym (settled_same ((x ++ a) ++ b) first.keeps))
       (second.reaches (x ++ a) (whole-append a before whole) (first.went.stands x before stands)));
   went = where_well fault second.went (λ went. record {
@@ -315,7 +315,7 @@ spread_more {told} {cutter} {now} {mid} {next} {cut} {cut'} {waiting = waiting} 
             near = again.near;
             none = again.none;
             grows = part_trans (part_at cutter x waiting at) (part_at now x left after.now) (part_at next x rest again.now) after.grows again.grows;
-            reaches = reaches_again after.grows after.reaches again.reaches;
+            reaches = reaches_again so_far.keeps.writer.style after.grows after.reaches again.reaches;
           };
       size = (let one = once.size in let two = so_far.size in omega (arith, one, two));
       end = (so_far.end.0 ++ once.end.0, so_far.end.1 ∙ ap (λ those. so_far.end.0 ++ those) once.end.1 ∙ sym (append_assoc so_far.end.0 once.end.0 rest));
@@ -328,7 +328,7 @@ spread_stopped {told} {now = now} {mid} {next} {cut' = cut'} {line = line} {left
     let tried = subst (λ (m : CutterState). Tries now line m (Some cut')) is tries in
     let stopped = subst (λ (m : CutterState). CutsAll told m cut' m.progress.current left line [] between new next (Some fault)) is stops in record {
       keeps = keeps_on so_far.keeps (record { operands = stopped.keeps.operands; writer = stopped.keeps.writer });
-      reaches = λ x at here. let after = so_far.after x at here in reaches_again after.grows after.reaches
+      reaches = λ x at here. let after = so_far.after x at here in reaches_again so_far.keeps.writer.style after.grows after.reaches
           (reaches_as refl (sym (settled_same (x ++ []) so_far.keeps)) (stopped.reaches x (at_alike now mid.aim now.window x left after.now) (cuts_again cut' line after tried will)));
       went = tt;
     }
@@ -342,7 +342,7 @@ pub spread_on : {told : Bool} {cutter now next : CutterState} {lines : ℕ} {aim
 spread_on {cutter = cutter} {next = next} {lines} {left = left} {more} {fault = fault} so_far sound few reached held = record {
   keeps = keeps_on so_far.keeps (record { operands = held.keeps.operands; writer = held.keeps.writer });
   reaches = λ x at here. let after = so_far.after x at here in let there = reached x at here in
-      reaches_again after.grows after.reaches (reaches_as there.same (sym (settled_same (x ++ more) so_far.keeps)) (held.reaches (x ++ more) there.at there.arrives));
+      reaches_again so_far.keeps.writer.style after.grows after.reaches (reaches_as there.same (sym (settled_same (x ++ more) so_far.keeps)) (held.reaches (x ++ more) there.at there.arrives));
   went = where_well fault held.went (λ went. record {
     lines = (let l : next.lines ≡ lines = ap (λ (c : CutterState). c.lines) went.same in omega (arith, l, few));
     sound = sound_held went sound;

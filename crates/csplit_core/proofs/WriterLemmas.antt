@@ -1,18 +1,18 @@
 -- From one state of the outputs to another, what is written of a draft, whose the files are, and what the calls of the writer of sections do.
 use Rattle.std.proofs.lemmas.Grind.{common_steps}
 use Rattle.std.proofs.Common.{◌≡◌, ℕ, ◌<◌, Bool, false, List, [], ◌∷◌, ◌++◌, length, take, Option, Some, None, inl, inr, refl, sym, arith, true, Result, OnOk, IsErrAnd, subst, append_assoc, IfNone, append-nil, rules, ◌+◌, suc, cond, not, ◌&&◌, decimal, ◌∙◌, ap, length-append, ◌≤◌, eqb, eq-eqb, ne_eqb, ◌||◌, IsTrue, zero, drop, replicate, Err}
-use Rattle.ports_core.specs.Slot.{Slot, broke, numberless, with_written, told_of, has_file, slot_at, changed_at, opened, closes, with_broken, is_writable}
-use Rattle.ports_core.specs.Part.{Part, OutputsAt, Begins, FilesBegin, IsNext, IsBeginning, File as PartFile}
-use Rattle.ports_core.specs.inner.Part.{AllClosed, IsThere, fault_in}
+use Rattle.ports_core.specs.Slot.{Slot, broke, numberless, with_written, told_of, has_file, is_open, slot_at, changed_at, opened, closes, with_broken, is_writable}
+use Rattle.ports_core.specs.Part.{Part, OutputsAt, Begins, FilesBegin, IsNext, IsBeginning, Output, gets_none, gets_lines, lines_for, File as PartFile}
+use Rattle.ports_core.specs.inner.Part.{AllClosed, HasLines, IsThere, LinesTo, fault_in}
 use Rattle.ports_core.specs.declared.fault.Fault.{Fault}
 use Rattle.ports_core.proofs.PartSteps.{Becomes, becomes_again, with_last, halts_here, there_from, file_of, writes_to, opens, falls_wider, close_begins, closes_last, closes_not}
 use Rattle.ports_core.proofs.SlotLemmas.{length-changed_at}
-use Rattle.ports_core.proofs.PartLemmas.{begins_itself, begins_more, take_begins_after, files_begin_themselves, part_begins_itself, out_more, turn_between, turn_next}
-use Rattle.csplit_core.specs.inner.Writer.{MakesNone, unnamed, failed, with_bytes, with_section, At, KeepsFiles, KeepsOrBreaks, Leaves, Reaches, Made, next_name, Appends, Makes, with_kept, first_draft, Goes, BegunNot, new_writer, paused}
+use Rattle.ports_core.proofs.PartLemmas.{begins_itself, begins_more, take_begins_after, files_begin_themselves, part_begins_itself, out_more, turn_between, turn_next, turn_last, lines_before}
+use Rattle.csplit_core.specs.inner.Writer.{MakesNone, unnamed, failed, with_bytes, with_section, At, KeepsFiles, KeepsOrBreaks, Leaves, Reaches, Made, next_name, Appends, Makes, with_kept, first_draft, Goes, BegunNot, new_writer, paused, TellsSize}
 use Rattle.ports_core.specs.inner.Write.{Wrote, WritesShort}
 use Rattle.ports_core.specs.declared.fault.Fault.TheVariants.{Memory}
 use Rattle.ports_core.proofs.HandedOn.{handed_on}
-use Rattle.csplit_core.specs.Output.{Style, part_by, Contents, makes_file, file_at, files_of, size_line, size_lines, is_empty}
+use Rattle.csplit_core.specs.Output.{Style, part_by, Contents, makes_file, file_at, files_of, size_line, size_lines, size_text, sizes_wanted, is_empty}
 use Rattle.csplit_core.specs.Draft.{Draft, draft_part, last_contents, AreClosed}
 use Rattle.csplit_core.specs.laws.SectionLaws.{part_grows, size_lines-append}
 use Rattle.csplit_core.specs.Writer.{WriterState, IsLast, IsReady, IsOpenAt, Breaks, Writes, IsCurrent, OwnsFiles}
@@ -28,7 +28,9 @@ use Rattle.csplit_core.specs.declared.section_writer.Current.TheVariants.{File, 
 use Rattle.ports_core.proofs.SlotSteps.{KeepsMade, none_past, file_before, at_end, opened_last, writable_within, write_rose, close_rose, keeps_write, made_write, written_writable, made_short, keeps_open, writable_before, made_again, made_close, made_break, keeps_close, writable_elsewhere}
 use Rattle.ports_core.proofs.SweepLemmas.{by_place, left_apart, left_has, left_there, same_size}
 use Rattle.std.proofs.Math.Bool.{or-false}
-use Rattle.std.proofs.Math.Seq.{take-append-add}
+use Rattle.std.proofs.Math.Seq.{take-append-add, take-append_seam, drop-append_seam}
+use Rattle.std.proofs.lemmas.List.{take-append-drop, take_all}
+use Rattle.ports_core.specs.declared.slot.State.{State}
 use Rattle.std.proofs.lemmas.List.Recursion.{or_push}
 use Rattle.csplit_core.specs.declared.section_writer.Current.{Current}
 
@@ -50,24 +52,40 @@ file_begins {out} front file = record { out = begins_itself out; files = more_fi
 
 -- Steps
 
-module _ (told : Bool) (out : List ℕ) (front : List PartFile) where
+module _ (output : Output) (told : Bool) (out : List ℕ) (front : List PartFile) (has : HasLines output out front) where
+  pub lines_all : (fault : Fault) → LinesTo output (record { out = out; files = front }) (length front) fault
+  lines_all fault = lines_before output (record { out = out; files = front }) (length front) fault (subst (HasLines output out) (sym (take_all (length front) front (omega arith))) has)
+
   pub opens_not : {name : List ℕ} {high : Part} {old new : List Slot} {fault : Fault} → AllClosed front → Begins (record { out = out; files = front }) high → IsNext (record { out = out; files = front }) high name
-      → MakesNone old name new fault → Becomes told (record { out = out; files = front }) high old new (Some fault)
-  opens_not closed begins next (unnamed same) = halts_here begins (turn_next front closed) same (λ before at. tt)
+      → MakesNone old name new fault → Becomes output told (record { out = out; files = front }) high old new (Some fault)
+  opens_not closed begins next (unnamed same) = halts_here begins (turn_next front closed) (lines_all _) same (λ before at. tt)
   opens_not {name} closed begins next (failed _ (broke slot kept number is added)) =
-      halts_here begins (turn_next front closed) (number, (name, kept, next, is, added)) (λ before at. refl)
-  opens_not closed begins next (failed _ (numberless full same)) = halts_here begins (turn_next front closed) same (λ before at. tt)
+      halts_here begins (turn_next front closed) (lines_all _) (number, (name, kept, next, is, added)) (λ before at. refl)
+  opens_not closed begins next (failed _ (numberless full same)) = halts_here begins (turn_next front closed) (lines_all _) same (λ before at. tt)
 
-  -- standard output gets a line
-  line_added : (line : List ℕ) (old : List Slot) {new : List Slot} → new ≡ with_written 0 (told_of told line) old → Becomes told (record { out = out; files = front }) (record { out = out ++ line; files = front }) old new None
-  line_added line old {new} wrote = record { gets = λ before at. out_more told before (record { out = out; files = front }) old new line at wrote }
+-- standard output gets the line for the last file, which is closed
+module _ (line : PartFile → List ℕ) (told : Bool) (out : List ℕ) (front : List PartFile) (has : out ≡ lines_for line front) (file : PartFile) (shut : file.state ≡ state.Closed) where
+  line_added : (text : List ℕ) (old : List Slot) {new : List Slot} → new ≡ with_written 0 (told_of told text) old → Becomes (gets_lines line) told (with_last out front file) (with_last (out ++ text) front file) old new None
+  line_added text old {new} wrote = record { gets = λ before at. out_more told before (with_last out front file) old new text at wrote }
 
-  pub tells_line : (line : List ℕ) (old : List Slot) {new : List Slot} (fault : Option Fault) → AllClosed front → 0 < length old → Wrote told 0 line old new fault
-      → Becomes told (record { out = out; files = front }) (record { out = out ++ line; files = front }) old new fault
-  tells_line line old None closed some wrote = line_added line old wrote
-  tells_line line old (Some _) closed some (short.broke n cut) =
-      becomes_again (line_begins (take n line)) (line_added (take n line) old refl) (halts_here (record { out = take_begins_after n out line; files = files_begin_themselves front })
-      (turn_next front closed) (let size : length (with_written 0 (told_of told (take n line)) old) ≡ length old = length-changed_at 0 _ old in omega (arith, some), cut.slots)
+  -- the line of the last file alone is cut short
+  cut_short : (n : ℕ) → LinesTo (gets_lines line) (with_last (out ++ take n (line file)) front file) (length front) (fault.Write 0)
+  cut_short n = record {
+    next = take n (line file);
+    all = ap (λ lines. lines ++ take n (line file)) (has ∙ ap (lines_for line) (sym (take-append_seam front (file ∷ []))));
+    cut = inr (
+      refl,
+      subst (IsBeginning (take n (line file))) (sym (ap (λ files. lines_for line (take 1 files)) (drop-append_seam front (file ∷ [])) ∙ ap (λ (is : State). cond (is_open is) [] (line file) ++ []) shut ∙ append-nil (line file)))
+          (drop n (line file), sym (take-append-drop n (line file))),
+    );
+  }
+
+  pub tells_line : (old : List Slot) {new : List Slot} (fault : Option Fault) → AllClosed front → 0 < length old → Wrote told 0 (line file) old new fault
+      → Becomes (gets_lines line) told (with_last out front file) (with_last (out ++ line file) front file) old new fault
+  tells_line old None closed some wrote = line_added (line file) old wrote
+  tells_line old (Some _) closed some (short.broke n cut) =
+      becomes_again (line_begins (take n (line file))) (line_added (take n (line file)) old refl) (halts_here (record { out = take_begins_after n out (line file); files = files_begin_themselves (front ++ file ∷ []) })
+      (turn_last front file (length front) refl closed) (cut_short n) (let size : length (with_written 0 (told_of told (take n (line file))) old) ≡ length old = length-changed_at 0 _ old in omega (arith, some), cut.slots)
       (λ before at. inl refl))
 
 -- a `?` handed a fault on
@@ -76,19 +94,20 @@ stop_is P result fault handed holds = subst (λ given. P (fault_in given)) (sym 
 
 -- From one state of the outputs to another. The writers follow from the steps.
 
-pub reaches_again : {told : Bool} {low middle high : Part} {old mid new : List Slot} {fault : Option Fault} {one two three : WriterState} → Begins low middle → Reaches told one two low middle old mid None → Reaches told two three middle high mid new fault
+pub reaches_again : {told : Bool} {low middle high : Part} {old mid new : List Slot} {fault : Option Fault} {one two three : WriterState} → two.style ≡ one.style → Begins low middle → Reaches told one two low middle old mid None → Reaches told two three middle high mid new fault
     → Reaches told one three low high old new fault
-reaches_again {told} {high = high} {new = new} {fault} {three = three} begins first second = grind (arith, common_steps, there_from)
+reaches_again {told} {low} {high = high} {new = new} {fault} {two = two} {three = three} same begins first second =
+    record { there = λ before at. subst (λ style. IsThere (sizes_wanted style) told (At told three before high new) before low high new fault) same (there_from (sizes_wanted two.style) told _ before high new fault begins (second.there before (first.there before at))) }
 
 -- it was stopped on its way to more
 pub stops_wider : {told : Bool} {low middle high : Part} {old new : List Slot} {fault : Fault} {writer next : WriterState} → Reaches told writer next low middle old new (Some fault) → Begins middle high → Reaches told writer next low high old new (Some fault)
-stops_wider {told} {low} {middle} {high} {new = new} {fault = fault} stops begins =
-    record { there = λ before at. turn_between told before low low middle high fault new (part_begins_itself low) (stops.there before at) begins }
+stops_wider {told} {low} {middle} {high} {new = new} {fault = fault} {writer = writer} stops begins =
+    record { there = λ before at. turn_between (sizes_wanted writer.style) told before low low middle high fault new (part_begins_itself low) (stops.there before at) begins }
 
 -- a step that is known of the outputs alone, as long as the file of the open section is the last
-pub reaches_by : {told : Bool} {low high : Part} {old new : List Slot} {fault : Option Fault} {writer next : WriterState} → KeepsFiles writer next old new → (IsLast writer.current old → Becomes told low high old new fault) → Reaches told writer next low high old new fault
+pub reaches_by : {told : Bool} {low high : Part} {old new : List Slot} {fault : Option Fault} {writer next : WriterState} → KeepsFiles writer next old new → (IsLast writer.current old → Becomes (sizes_wanted writer.style) told low high old new fault) → Reaches told writer next low high old new fault
 reaches_by {told} {low} {high} {old} {new} {fault} {writer} {next} keeps becomes = record { there = λ before at. by fault before at ((becomes at.owns.last).gets before at.outputs) } where
-  by : (fault : Option Fault) (before : List Slot) → At told writer before low old → IsThere told (OutputsAt told before high new) before low high new fault → IsThere told (At told next before high new) before low high new fault
+  by : (fault : Option Fault) (before : List Slot) → At told writer before low old → IsThere (sizes_wanted writer.style) told (OutputsAt told before high new) before low high new fault → IsThere (sizes_wanted writer.style) told (At told next before high new) before low high new fault
   by None before at outputs = record { owns = keeps.owns (length before) at.owns; outputs = outputs }
   by (Some why) before at stops = stops
 
@@ -194,6 +213,26 @@ closed_part style draft line makes is = search (rules, ended_part, part_made, wi
 pub line_of : (style : Style) (draft : Draft) (quiet : Bool) → makes_file style (last_contents true draft) ≡ true → style.quiet ≡ quiet
     → size_line style (last_contents true draft) ≡ cond (not quiet) (decimal (length draft.bytes) ++ newline ∷ []) []
 line_of style draft quiet makes is = grind (arith, common_steps)
+
+-- what standard output has of sections is the lines for their files
+
+sizes_by : (style : Style) → style.quiet ≡ false → (place : ℕ) (one : Contents) (rest : List Contents) (makes closed : Bool) → makes_file style one ≡ makes → one.is_closed ≡ closed
+    → ((from : ℕ) → size_lines style rest ≡ lines_for (λ (file : PartFile). size_text file.bytes) (files_of style from rest))
+    → size_lines style (one ∷ rest) ≡ lines_for (λ (file : PartFile). size_text file.bytes) (files_of style place (one ∷ rest))
+sizes_by style loud place one rest true true makes closed others = grind (arith, common_steps, others (place + 1))
+sizes_by style loud place one rest true false makes closed others = grind (arith, common_steps, others (place + 1))
+sizes_by style loud place one rest false closed makes is others = grind (arith, common_steps, others place)
+
+pub sizes_are : (style : Style) → style.quiet ≡ false → (place : ℕ) (all : List Contents) → size_lines style all ≡ lines_for (λ (file : PartFile). size_text file.bytes) (files_of style place all)
+sizes_are style loud place [] = refl
+sizes_are style loud place (one ∷ rest) = sizes_by style loud place one rest (makes_file style one) one.is_closed refl refl (λ from. sizes_are style loud from rest)
+
+has_sizes : (style : Style) (quiet : Bool) → style.quiet ≡ quiet → (place : ℕ) (all : List Contents) → HasLines (cond quiet gets_none (gets_lines (λ (file : PartFile). size_text file.bytes))) (size_lines style all) (files_of style place all)
+has_sizes style true is place all = tt
+has_sizes style false is place all = sizes_are style is place all
+
+pub sizes_told : (style : Style) (place : ℕ) (all : List Contents) → HasLines (sizes_wanted style) (size_lines style all) (files_of style place all)
+sizes_told style place all = has_sizes style style.quiet refl place all
 
 -- how many files there are
 
@@ -339,8 +378,8 @@ put_file {told} {writer} bytes {old} {fault = fault} is ready appends = record {
   leaves = appends_leaves is ready appends;
   reaches = λ draft writes. let now = now_is is writes in
       reaches_as (open_part writer.style draft now.0) (open_part writer.style (with_bytes bytes draft) (still_makes writer.style draft bytes now.0))
-      (reaches_by (appends_leaves is ready appends).owns (λ last. writes_to told (size_lines writer.style draft.ended) (files_of writer.style 0 draft.ended) (name_after writer.style draft.ended)
-      draft.bytes bytes old fault (closed_files writer.style 0 draft.ended writes.closed) (last_file writer old is last) appends.wrote));
+      (reaches_by (appends_leaves is ready appends).owns (λ last. writes_to _ told (size_lines writer.style draft.ended) (files_of writer.style 0 draft.ended) (name_after writer.style draft.ended)
+      draft.bytes bytes old fault (sizes_told writer.style 0 draft.ended) (closed_files writer.style 0 draft.ended writes.closed) (last_file writer old is last) appends.wrote));
   writes = (grind (arith, common_steps, where_well, now_is, still_makes, count_made));
 }
 
@@ -350,13 +389,13 @@ some_bytes bytes is = grind (arith, common_steps)
 -- A file is made for the open section, and a section begins.
 
 made_becomes : {told : Bool} {writer next : WriterState} (ended : List Contents) {slot : ℕ} {old new : List Slot} → length writer.files ≡ length (files_of writer.style 0 ended) → Made writer old new next slot
-    → Becomes told (part_by writer.style ended) (with_last (size_lines writer.style ended) (files_of writer.style 0 ended) (file_of (name_after writer.style ended) [] state.Open)) old new None
+    → Becomes (sizes_wanted writer.style) told (part_by writer.style ended) (with_last (size_lines writer.style ended) (files_of writer.style 0 ended) (file_of (name_after writer.style ended) [] state.Open)) old new None
 made_becomes {told} {writer} ended {old = old} count made = search (rules, opens)
 
 unmade_falls : {told : Bool} (writer : WriterState) (ended : List Contents) (one : Contents) {old new : List Slot} {f : Fault} → makes_file writer.style one ≡ true → AreClosed ended → length writer.files ≡ length (files_of writer.style 0 ended)
-    → MakesNone old (next_name writer) new f → Becomes told (part_by writer.style ended) (part_by writer.style (ended ++ one ∷ [])) old new (Some f)
+    → MakesNone old (next_name writer) new f → Becomes (sizes_wanted writer.style) told (part_by writer.style ended) (part_by writer.style (ended ++ one ∷ [])) old new (Some f)
 unmade_falls {told} writer ended one {old} {new} {f} makes closed count none =
-    opens_not told (size_lines writer.style ended) (files_of writer.style 0 ended) (closed_files writer.style 0 ended closed) (more_begins writer.style ended one) (grind (arith, common_steps, part_made, makes))
+    opens_not _ told (size_lines writer.style ended) (files_of writer.style 0 ended) (sizes_told writer.style 0 ended) (closed_files writer.style 0 ended closed) (more_begins writer.style ended one) (grind (arith, common_steps, part_made, makes))
     (subst (λ n. MakesNone old (numbered_name writer.style.prefix writer.style.digits n) new f) count none)
 
 pub made_ready : {writer next : WriterState} {slot : ℕ} {old new : List Slot} → IsReady writer old → Made writer old new next slot → IsReady next new
@@ -405,8 +444,8 @@ put_first {told} {writer} {made} {next} {slot} bytes {old} {mid} {new} {fault} i
   reaches = λ draft writes. let so = unwritten bytes is some writes in reaches_as (part_none writer.style draft.ended (last_contents false draft) so.none)
       (open_part writer.style (with_bytes bytes draft) so.makes ∙ ap (λ those. with_last (size_lines writer.style draft.ended) (files_of writer.style 0 draft.ended) (file_of (name_after writer.style draft.ended) (those ++ bytes) state.Open)) (now_is is writes).2)
       (reaches_by leaves.owns (λ last. becomes_again (file_begins (files_of writer.style 0 draft.ended) (file_of (name_after writer.style draft.ended) [] state.Open)) (made_becomes draft.ended (made_count so.none writes) makes)
-      (writes_to told (size_lines writer.style draft.ended) (files_of writer.style 0 draft.ended) (name_after writer.style draft.ended) [] bytes mid fault
-      (closed_files writer.style 0 draft.ended writes.closed) (opened_last old mid slot (next_name writer) Fresh makes.place makes.added) appends.wrote)));
+      (writes_to _ told (size_lines writer.style draft.ended) (files_of writer.style 0 draft.ended) (name_after writer.style draft.ended) [] bytes mid fault
+      (sizes_told writer.style 0 draft.ended) (closed_files writer.style 0 draft.ended writes.closed) (opened_last old mid slot (next_name writer) Fresh makes.place makes.added) appends.wrote)));
   writes = (grind (arith, common_steps, where_well, unwritten, made_count, count_made, now_is));
 } where
   leaves : Leaves writer next old new fault
@@ -520,7 +559,7 @@ pub end_quiet : {told : Bool} {writer : WriterState} (slot size : ℕ) {old new 
 end_quiet {told} {writer} slot size {old} {new} is ready quiet closed = record {
   leaves = closed_leaves slot size is ready closed;
   reaches = λ draft writes. reaches_as (open_part writer.style draft (now_is is writes).0) (quiet_part slot size is quiet writes) (reaches_by (closed_leaves slot size is ready closed).owns
-      (λ last. closes_last told (size_lines writer.style draft.ended) (files_of writer.style 0 draft.ended) (name_after writer.style draft.ended) draft.bytes old (last_file writer old is last) closed));
+      (λ last. closes_last _ told (size_lines writer.style draft.ended) (files_of writer.style 0 draft.ended) (name_after writer.style draft.ended) draft.bytes old (last_file writer old is last) closed));
   writes = λ draft writes. file_ends slot size is writes;
 }
 
@@ -530,32 +569,37 @@ pub close_not : {told : Bool} {writer : WriterState} (slot size : ℕ) {old new 
 close_not {told} {writer} slot size {old} {new} is ready which broken = subst (λ f. Goes told writer (with_section false) old new (paused writer) (Some f)) (sym which) (record {
   leaves = record { style = refl; owns = owns; slots = let at = at_file is ready in (λ none. absurd (omega (arith, at.0, none)), close_rose slot old new at.1 (writable_within slot old at.1) broken); ready = tt };
   reaches = λ draft writes. reaches_as (open_part writer.style draft (now_is is writes).0) (closed_part writer.style draft (size_line writer.style (last_contents true draft)) (now_is is writes).0 refl)
-      (reaches_by owns (λ last. falls_wider (closes_not told (size_lines writer.style draft.ended) (files_of writer.style 0 draft.ended) (name_after writer.style draft.ended) draft.bytes old
-      (closed_files writer.style 0 draft.ended writes.closed) (last_file writer old is last) broken) (line_begins (size_line writer.style (last_contents true draft)))));
+      (reaches_by owns (λ last. falls_wider (closes_not _ told (size_lines writer.style draft.ended) (files_of writer.style 0 draft.ended) (name_after writer.style draft.ended) draft.bytes old
+      (sizes_told writer.style 0 draft.ended) (closed_files writer.style 0 draft.ended writes.closed) (last_file writer old is last) broken) (line_begins (size_line writer.style (last_contents true draft)))));
   writes = tt;
 }) where
   owns : KeepsFiles writer (paused writer) old new
   owns = file_closed (made_again old (changed_at slot closes old) new (made_close slot old _ (at_file is ready).1 refl) (made_break slot _ new broken))
-
-last_closed : (files : List PartFile) (file : PartFile) → AllClosed files → file.state ≡ state.Closed → AllClosed (files ++ file ∷ [])
-last_closed [] file closed is = (is, tt)
-last_closed (first ∷ files) file closed is = (closed.0, last_closed files file closed.1 is)
 
 -- the size is written, or standard output breaks
 pub end_sized : {told : Bool} {writer : WriterState} (slot size : ℕ) {old mid new : List Slot} {fault : Option Fault} → writer.current ≡ File slot size → IsReady writer old → writer.style.quiet ≡ false → mid ≡ changed_at slot closes old
     → Wrote told 0 (decimal size ++ newline ∷ []) mid new fault → Goes told writer (with_section false) old new (paused writer) fault
 end_sized {told} {writer} slot size {old} {mid} {new} {fault} is ready said_so closed wrote = record {
   leaves = leaves;
-  reaches = λ draft writes. reaches_as (open_part writer.style draft (now_is is writes).0) (grind (arith, common_steps, closed_part, now_is, line_of, is, said_so, writes)) (reaches_by leaves.owns (λ last. becomes_again
+  reaches = λ draft writes. reaches_as (open_part writer.style draft (now_is is writes).0) (grind (arith, common_steps, closed_part, now_is, line_of, is, said_so, writes)) (reaches_by leaves.owns (λ last. loud (becomes_again
       (close_begins (size_lines writer.style draft.ended) (files_of writer.style 0 draft.ended) (name_after writer.style draft.ended) draft.bytes)
-      (closes_last told (size_lines writer.style draft.ended) (files_of writer.style 0 draft.ended) (name_after writer.style draft.ended) draft.bytes old (last_file writer old is last) closed)
-      (tells_line told (size_lines writer.style draft.ended) _ (decimal size ++ newline ∷ []) mid fault
-      (last_closed (files_of writer.style 0 draft.ended) (file_of (name_after writer.style draft.ended) draft.bytes state.Closed) (closed_files writer.style 0 draft.ended writes.closed) refl)
-      (let two = (closed_ready slot size is ready closed).streams in omega (arith, two)) wrote)));
+      (closes_last _ told (size_lines writer.style draft.ended) (files_of writer.style 0 draft.ended) (name_after writer.style draft.ended) draft.bytes old (last_file writer old is last) closed)
+      (tells_line (λ (file : PartFile). size_text file.bytes) told (size_lines writer.style draft.ended) (files_of writer.style 0 draft.ended) (sizes_are writer.style said_so 0 draft.ended)
+      (file_of (name_after writer.style draft.ended) draft.bytes state.Closed) refl mid fault (closed_files writer.style 0 draft.ended writes.closed)
+      (let two = (closed_ready slot size is ready closed).streams in omega (arith, two)) (subst (λ n. Wrote told 0 (decimal n ++ newline ∷ []) mid new fault) (now_is is writes).1 wrote)))));
   writes = in_any fault (λ draft writes. file_ends slot size is writes);
 } where
+  loud : {low high : Part} → Becomes (gets_lines (λ (file : PartFile). size_text file.bytes)) told low high old new fault → Becomes (sizes_wanted writer.style) told low high old new fault
+  loud {low} {high} becomes = subst (λ quiet. Becomes (cond quiet gets_none (gets_lines (λ (file : PartFile). size_text file.bytes))) told low high old new fault) (sym said_so) becomes
+
   leaves : Leaves writer (paused writer) old new fault
   leaves = leaves_again (closed_leaves slot size is ready closed) (line_leaves told writer (decimal size ++ newline ∷ []) fault said_so (closed_ready slot size is ready closed) wrote)
+
+pub end_told : {told : Bool} {writer : WriterState} (quiet : Bool) (slot size : ℕ) {old mid new : List Slot} {fault : Option Fault} → writer.style.quiet ≡ quiet → writer.current ≡ File slot size → IsReady writer old
+    → mid ≡ changed_at slot closes old → TellsSize told quiet size mid new fault → Goes told writer (with_section false) old new (paused writer) fault
+end_told {told} {writer} true slot size {old} {new = new} is current ready closed (well, same) =
+    subst (λ fault. Goes told writer (with_section false) old new (paused writer) fault) (sym well) (end_quiet slot size current ready is (same ∙ closed))
+end_told false slot size is current ready closed wrote = end_sized slot size current ready is closed wrote
 
 -- One change after another
 
@@ -563,7 +607,7 @@ pub goes_again : {told : Bool} {one two three : WriterState} {first second : Dra
     → Goes told one first old mid two None → Goes told two second mid new three fault → Goes told one both old new three fault
 goes_again {one = one} {three = three} {first} {second} both {fault = fault} is begins before after = record {
   leaves = leaves_again before.leaves after.leaves;
-  reaches = λ draft writes. reaches_again (begins draft) (before.reaches draft writes)
+  reaches = λ draft writes. reaches_again before.leaves.style (begins draft) (before.reaches draft writes)
       (reaches_as (ap (λ s. draft_part s (first draft)) (sym before.leaves.style)) (ap (draft_part one.style) (sym (is draft)) ∙ ap (λ s. draft_part s (second (first draft))) (sym before.leaves.style))
       (after.reaches (first draft) (before.writes draft writes)));
   writes = where_well fault after.writes (λ more draft writes. subst (Writes three) (is draft) (more (first draft) (before.writes draft writes)));

@@ -8,7 +8,7 @@ use Rattle.csplit_core.specs.Operand.{Operand, Line, is_endless, is_number}
 use Rattle.csplit_core.specs.Plan.{Ending, used_up, missed, above, below}
 use Rattle.csplit_core.specs.Planned.{Plan, plan}
 use Rattle.csplit_core.specs.Section.{settled_sections, whole_sections, bytes_of, is_final, waiting_lines}
-use Rattle.csplit_core.specs.Output.{Style, part_of}
+use Rattle.csplit_core.specs.Output.{Style, part_of, sizes_wanted}
 use Rattle.csplit_core.specs.Input.{all_lines, complete_lines, open_line}
 
 -- what is written of complete lines, where more may follow, and of all lines
@@ -42,7 +42,7 @@ verdict_by suppress operands x = verdict_of (plan suppress operands (all_lines x
 -- line then, and may end several sections.
 abbrev pub csplit_means : Style → Means
 csplit_means style = record {
-  output = not style.quiet;
+  output = sizes_wanted style;
   files = true;
   feeding = record { memory = true; files = true };
   closing = record { memory = true; files = true };

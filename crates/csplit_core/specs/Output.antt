@@ -2,7 +2,7 @@
 -- csplit; `elide` is GNU's).
 use Rattle.std.specs.Prelude.{ℕ, ◌+◌, Bool, true, false, not, ◌&&◌, List, [], ◌∷◌, ◌++◌, length, map, decimal, if◌then◌else◌}
 use Rattle.ports_core.specs.Name.{numbered_name}
-use Rattle.ports_core.specs.Part.{File, Part}
+use Rattle.ports_core.specs.Part.{File, Part, Output, gets_none, gets_lines}
 use Rattle.ports_core.specs.declared.slot.Mode.TheVariants.{Fresh}
 use Rattle.ports_core.specs.declared.slot.State.TheVariants as state
 pub use Rattle.operand_core.specs.Style.{Style}
@@ -46,14 +46,21 @@ files_of style place [] = []
 files_of style place (contents ∷ rest) = if makes_file style contents
     then file_at style place contents ∷ files_of style (place + 1) rest else files_of style place rest
 
--- the size of a file, in bytes, once all of it came in
+-- the size of a file, in bytes, as a line
+abbrev pub size_text : List ℕ → List ℕ
+size_text bytes = decimal (length bytes) ++ newline ∷ []
+
+-- standard output is told it once all of the file came in, where sizes are wanted
 abbrev pub size_line : Style → Contents → List ℕ
 size_line style contents = if makes_file style contents && (contents.is_closed && not style.quiet)
-    then decimal (length contents.bytes) ++ newline ∷ [] else []
+    then size_text contents.bytes else []
 
 abbrev pub size_lines : Style → List Contents → List ℕ
 size_lines style [] = []
 size_lines style (contents ∷ rest) = size_line style contents ++ size_lines style rest
+
+abbrev pub sizes_wanted : Style → Output
+sizes_wanted style = if style.quiet then gets_none else gets_lines (λ (file : File). size_text file.bytes)
 
 abbrev pub part_by : Style → List Contents → Part
 part_by style all = record { out = size_lines style all; files = files_of style 0 all }

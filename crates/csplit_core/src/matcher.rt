@@ -52,7 +52,7 @@ impl<'o> Matcher<'o> {
         ensures exact { result ≡ contains self.old text.now }
         ensures same { self.new ≡ self.old }
     {
-        self.scan.contains(self.pattern, text)
+        self.scan.search(self.pattern, text).found
     }
 
     /// How many bytes the lines at the beginning of a text of complete lines are that are seen to have no match without

@@ -2,7 +2,7 @@
 ghost use Rattle.std.specs.Prelude.{◌≡◌, ◌+◌, ◌<◌, ◌≤◌, ◌^◌, ◌++◌, ◌∷◌, [], false, length, decimal, vec_capacity, vec_len, IfErr, IsTrue, OnOk};
 ghost use Rattle.ports_core.specs.Slot.{is_writable};
 ghost use Rattle.ports_core.specs.Swept.{AreThere, Removes};
-ghost use Rattle.csplit_core.specs.inner.Writer.{with_bytes, with_kept, with_section, Goes, new_writer, paused, Appends, Makes};
+ghost use Rattle.csplit_core.specs.inner.Writer.{with_bytes, with_kept, with_section, Goes, new_writer, paused, Appends, Makes, TellsSize};
 ghost use Rattle.ports_core.specs.inner.Part.{fault_in};
 ghost use Rattle.ports_core.specs.inner.Write.{Wrote};
 ghost use Rattle.csplit_core.specs.Input.{newline};
@@ -144,13 +144,21 @@ impl SectionWriter {
             Current::File { slot, size } => {
                 self.current = Current::Skipped;
                 outs.close(slot)?;
-                if self.style().quiet {
-                    return Ok(());
-                }
-                write_size(size, outs)
+                self.tell_size(size, outs)
             }
             Current::Unopened => Err(Fault::Failed),
         }
+    }
+
+    /// Tells the size of a file that is closed, where sizes are wanted.
+    fn tell_size<O: Outs>(&self, size: u64, outs: &mut O) -> Result<(), Fault>
+        requires { IsTrue (is_writable (O.slots outs.old) 0) }
+        ensures { TellsSize O.told self.now.style.quiet size (O.slots outs.old) (O.slots outs.new) (fault_in result) }
+    {
+        if self.style().quiet {
+            return Ok(());
+        }
+        write_size(size, outs)
     }
 
     /// Removes all files that are still there, in order. One that can't be removed is broken and closed, and the next

@@ -6,7 +6,7 @@ use Rattle.std.proofs.lemmas.List.{nil_from_length, append-nil, append_cancel_le
 use Rattle.std.proofs.lemmas.List.Elements.{All-replicate}
 use Rattle.ports_core.specs.Slot.{Slot, is_writable, with_written, told_of}
 use Rattle.ports_core.specs.Source.{Source}
-use Rattle.ports_core.specs.Part.{OutputsAt, StoppedBetween, only_out}
+use Rattle.ports_core.specs.Part.{Output, Part, OutputsAt, StoppedBetween, gets_bytes, only_out}
 use Rattle.ports_core.proofs.PartLemmas.{out_more}
 use Rattle.ports_core.specs.Work.{Means, Needs, on_output, IsNeeded, IsSpare}
 use Rattle.ports_core.specs.Engine.{Loads, TakesIn, PutsOut, CutsOff, Finishes, EndsShort, IsMet, cut, MayGet}
@@ -64,9 +64,14 @@ pub puts_out : (told : Bool) (ends : Ends) (piece : List ℕ) {old new : List Sl
 puts_out told ends piece {old} {new} wrote before x at =
     subst (λ part. OutputsAt told before part new) (went_out ends piece at.holds) (out_more told before _ old new (due ends piece) at.outputs wrote)
 
+-- what stopped it stopped an output of bytes
+stops_bytes : {told : Bool} (ends : Ends) {before : List Slot} {low high : Part} {f : Fault} {new : List Slot} → StoppedBetween gets_bytes told before low high f new → StoppedBetween (work ends).means.output told before low high f new
+stops_bytes {told} ends {before} {low} {high} {f} {new} stops =
+    subst (λ (output : Output). StoppedBetween output told before low high f new) (sym (ap (λ means. means.output) (on_means (stretch_of ends) (delim_of ends) (unit_of ends) (count_of ends)))) stops
+
 pub cuts_off : (told : Bool) {lacks : Bool} (ends : Ends) (piece : List ℕ) {old new : List Slot} {f : Fault} → Stops told lacks (due ends piece) old new f → CutsOff Holds OwnsNone work ends piece told old new f
 cuts_off told ends piece {new} {f} stops before x at =
-    cut (stop.unjudged told stops) (subst (λ part. StoppedBetween told before ((work ends).settled x) part f new) (went_out ends piece at.holds) (stop.between told at.outputs stops))
+    cut (stop.unjudged told stops) (stops_bytes ends (subst (λ part. StoppedBetween gets_bytes told before ((work ends).settled x) part f new) (went_out ends piece at.holds) (stop.between told at.outputs stops)))
 
 pub finishes : (told : Bool) (ends : Ends) {old new : List Slot} → new ≡ with_written 0 (told_of told (due_at_end ends)) old → Finishes Holds OwnsNone work ends told old new
 finishes told ends {old} {new} wrote before x at = (
@@ -76,7 +81,7 @@ finishes told ends {old} {new} wrote before x at = (
 
 pub ends_short : (told : Bool) {lacks : Bool} (ends : Ends) {old new : List Slot} {f : Fault} → Stops told lacks (due_at_end ends) old new f → EndsShort Holds OwnsNone work ends told old new f
 ends_short told ends {new} {f} stops before x at =
-    cut (stop.unjudged told stops) (subst (λ part. StoppedBetween told before ((work ends).settled x) part f new) (rest_out ends at.holds) (stop.between told at.outputs stops))
+    cut (stop.unjudged told stops) (stops_bytes ends (subst (λ part. StoppedBetween gets_bytes told before ((work ends).settled x) part f new) (rest_out ends at.holds) (stop.between told at.outputs stops)))
 
 minus_both : (n a b : ℕ) → (n - a) - b ≡ n - (a + b)
 minus_both n a b = omega arith

@@ -71,7 +71,7 @@ fn each_unclear(scan: &mut Scan, bre: &Bre, text: &[u8]) -> u64
             [_, more @ ..] => more,
             [] => after,
         };
-        if scan.contains(bre, line) {
+        if scan.search(bre, line).found {
             lines = lines.wrapping_add(1);
         }
     }

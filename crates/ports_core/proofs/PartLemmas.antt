@@ -5,8 +5,8 @@ use Rattle.std.proofs.lemmas.List.{append-nil, take-append-drop, drop_all, lengt
 use Rattle.std.proofs.lemmas.Bool.{false≢true, and_parts, not-true}
 use Rattle.ports_core.specs.Slot.{Slot, is_open, slot_at, is_writable, with_written, with_broken, told_of}
 use Rattle.ports_core.specs.Write.{BrokeAfter}
-use Rattle.ports_core.specs.Part.{File, Part, nothing, only_out, OutputsAt, IsBeginning, FilesBegin, Begins, IsNext, Marks, IsAt, InOrder, StoppedBetween}
-use Rattle.ports_core.specs.inner.Part.{AllClosed, InTurn, StoppedInTurn}
+use Rattle.ports_core.specs.Part.{File, Part, nothing, only_out, OutputsAt, IsBeginning, FilesBegin, Begins, IsNext, Marks, IsAt, InOrder, StoppedBetween, Output, gets_none, gets_bytes, gets_lines, lines_for, LinesInOrder, AreLines}
+use Rattle.ports_core.specs.inner.Part.{AllClosed, InTurn, StoppedInTurn, HasLines, LinesTo}
 use Rattle.ports_core.specs.declared.slot.State.{State}
 use Rattle.ports_core.specs.declared.slot.State.TheVariants as state
 use Rattle.ports_core.specs.declared.fault.Fault.{Fault}
@@ -75,14 +75,21 @@ outputs_count told before part now at = grind (arith, common_steps, length-chang
 pub still_in_order : (files : List File) → InOrder files files files 0
 still_in_order files = grind (arith, common_steps)
 
+-- nothing was written
+pub lines_still : (output : Output) (part : Part) (place : ℕ) (fault : Fault) → LinesInOrder output part part place fault
+lines_still gets_none part place fault = tt
+lines_still gets_bytes part place fault = tt
+lines_still (gets_lines line) part place fault = inl refl
+
 -- a write of which the beginning was written before the output broke
-pub out_cut : (told : Bool) (before : List Slot) (part : Part) (old new : List Slot) (more : List ℕ) (n : ℕ) → OutputsAt told before part old → BrokeAfter told old new 0 more n → StoppedBetween told before part (record part { out = part.out ++ more }) (Write 0) new
+pub out_cut : (told : Bool) (before : List Slot) (part : Part) (old new : List Slot) (more : List ℕ) (n : ℕ) → OutputsAt told before part old → BrokeAfter told old new 0 more n → StoppedBetween gets_bytes told before part (record part { out = part.out ++ more }) (Write 0) new
 out_cut told before part old new more n at broke = record {
   part = record part { out = part.out ++ take n more };
   above = record { out = begins_more part.out (take n more); files = files_begin_themselves part.files };
   below = record { out = take_begins_after n part.out more; files = files_begin_themselves part.files };
   place = 0;
   order = still_in_order part.files;
+  lines = tt;
   reached = with_written 0 (told_of told (take n more)) old;
   outputs = out_more told before part old _ (take n more) at refl;
   marks = (there, broke.slots);
@@ -92,8 +99,8 @@ out_cut told before part old new more n at broke = record {
   there = rw (length-changed_at 0 _ old) (omega (arith, at.standard, outputs_count told before part old at))
 
 -- a fault that came before anything was written, and from no output
-pub stopped_here : (told : Bool) (before : List Slot) (low high : Part) (fault : Fault) (old new : List Slot) → OutputsAt told before low old → Begins low high → Marks (IsNext low high) fault old new → IsAt fault (length before) 0 (length low.files) → StoppedBetween told before low high fault new
-stopped_here told before low high fault old new at begins marks from = grind (arith, common_steps, part_begins_itself)
+pub stopped_here : (output : Output) (told : Bool) (before : List Slot) (low high : Part) (fault : Fault) (old new : List Slot) → OutputsAt told before low old → Begins low high → Marks (IsNext low high) fault old new → IsAt fault (length before) 0 (length low.files) → StoppedBetween output told before low high fault new
+stopped_here output told before low high fault old new at begins marks from = grind (arith, common_steps, part_begins_itself, lines_still)
 
 -- an output that could be written broke
 pub broken_at : (place : ℕ) (slots : List Slot) → IsTrue (is_writable slots place) → (slot_at (with_broken place slots) place).is_broken ≡ true
@@ -127,8 +134,8 @@ next_wider {part} more begins name next =
     record { front = found.0; file = found.1; rest = found.2; files = found.3; place = found.4; name_is = found.5 }
 
 -- what stopped in turn between two parts stopped between one that begins the lower and one that the higher begins
-pub turn_between : (told : Bool) (before : List Slot) (less low high more : Part) (fault : Fault) (now : List Slot) → Begins less low → StoppedInTurn told before low high fault now → Begins high more → StoppedInTurn told before less more fault now
-turn_between told before less low high more fault now lower stop wider = search (rules, part_trans, marks_by, next_wider)
+pub turn_between : (output : Output) (told : Bool) (before : List Slot) (less low high more : Part) (fault : Fault) (now : List Slot) → Begins less low → StoppedInTurn output told before low high fault now → Begins high more → StoppedInTurn output told before less more fault now
+turn_between output told before less low high more fault now lower stop wider = search (rules, part_trans, marks_by, next_wider)
 
 closed_stays : {file : File} (whole : File) → file.state ≡ state.Closed → (file.state ≡ state.Open) ⊎ (file ≡ whole) → file ≡ whole
 closed_stays whole closed (inl is) = cc
@@ -150,8 +157,20 @@ no_fewer (file ∷ low) (whole ∷ part) begins = omega (arith, no_fewer low par
 pub in_order : {low part high : List File} {place : ℕ} → FilesBegin low part → FilesBegin part high → InTurn part place → InOrder low part high place
 in_order {low} {part} {high} {place} above below turn = grind (arith, common_steps, done_by, drop_all, no_fewer)
 
-pub stopped_in_turn : (told : Bool) (before : List Slot) (low high : Part) (fault : Fault) (now : List Slot) → StoppedInTurn told before low high fault now → StoppedBetween told before low high fault now
-stopped_in_turn told before low high fault now stop = search (rules, in_order)
+-- the lines that standard output had in the lower part, and those that it got since
+lines_in_order : (output : Output) (low part : Part) (place : ℕ) (fault : Fault) → IsBeginning low.out part.out → HasLines output low.out low.files → LinesTo output part place fault → LinesInOrder output low part place fault
+lines_in_order gets_none low part place fault above has lines = tt
+lines_in_order gets_bytes low part place fault above has lines = tt
+lines_in_order (gets_lines line) low part place fault (since, is) has lines = inr (since, is, record { next = lines.next; all = ap (λ had. had ++ since) (sym has) ∙ sym is ∙ lines.all; cut = lines.cut })
+
+pub stopped_in_turn : (output : Output) (told : Bool) (before : List Slot) (low high : Part) (fault : Fault) (now : List Slot) → HasLines output low.out low.files → StoppedInTurn output told before low high fault now → StoppedBetween output told before low high fault now
+stopped_in_turn output told before low high fault now has stop = search (rules, in_order, lines_in_order)
+
+-- where no more is known of a part with these files than that it has their lines
+pub lines_before : (output : Output) (part : Part) (place : ℕ) (fault : Fault) → HasLines output part.out (take place part.files) → LinesTo output part place fault
+lines_before gets_none part place fault has = tt
+lines_before gets_bytes part place fault has = tt
+lines_before (gets_lines line) part place fault has = record { next = []; all = has ∙ sym (append-nil _); cut = inl refl }
 
 -- closed files, and one more
 pub turn_last : (files : List File) (file : File) (place : ℕ) → length files ≡ place → AllClosed files → InTurn (files ++ file ∷ []) place

@@ -4,7 +4,7 @@ use Rattle.std.specs.Prelude.{◌≡◌, ℕ, ◌+◌, ◌≤◌, ◌^◌, Bool,
 use Rattle.ports_core.specs.Slot.{Slot, Rose, changed_at}
 use Rattle.ports_core.specs.Source.{Source, source_at, skips}
 use Rattle.ports_core.specs.Inputs.{HasLooked}
-use Rattle.ports_core.specs.Part.{Part, OutputsAt, StoppedBetween}
+use Rattle.ports_core.specs.Part.{Part, Output, OutputsAt, StoppedBetween, writes}
 use Rattle.ports_core.specs.Swept.{Swept, AreThere}
 use Rattle.ports_core.specs.Work.{Work, Means, Needs, IsSettled, IsSpare, Judges}
 use Rattle.ports_core.specs.declared.fault.Fault.{Fault}
@@ -45,26 +45,27 @@ is_verdict TooLong = false
 
 -- How a fault leaves the outputs: it stopped them between two parts; or they reached all of the second, since the work
 -- ends with this fault, and then files may have been removed.
-pub data Ended (told : Bool) (before : List Slot) (low high : Part) (clears : Bool) (fault : Fault)
+pub data Ended (output : Output) (told : Bool) (before : List Slot) (low high : Part) (clears : Bool) (fault : Fault)
     (now : List Slot) : Type 0 where
-  cut : is_verdict fault ≡ false → StoppedBetween told before low high fault now
-      → Ended told before low high clears fault now
+  cut : is_verdict fault ≡ false → StoppedBetween output told before low high fault now
+      → Ended output told before low high clears fault now
   judged : is_verdict fault ≡ true → (reached : List Slot) → OutputsAt told before high reached
-      → Swept clears (length before) reached now → Ended told before low high clears fault now
+      → Swept clears (length before) reached now → Ended output told before low high clears fault now
 
 -- how a fault leaves the outputs within an input
 abbrev pub CutsOff : {E : Type 0} → (E → List ℕ → Type 0) → (E → ℕ → List Slot → Type 0) → (E → Work) → E → List ℕ
     → Bool → List Slot → List Slot → Fault → Type 0
 CutsOff Holds Owns work engine piece told old new fault = (before : List Slot) (x : List ℕ)
     → StandsAt Holds Owns engine told before x ((work engine).settled x) old
-    → Ended told before ((work engine).settled x) ((work engine).settled (x ++ piece)) (work engine).clears fault new
+    → Ended (work engine).means.output told before ((work engine).settled x) ((work engine).settled (x ++ piece))
+    (work engine).clears fault new
 
 -- The causes of a fault that meets an engine which isn't over: `Lacks` where it may want memory, `Ends` where its work
 -- ends so.
 abbrev pub IsMet : Means → Needs → Type 0 → (Fault → Type 0) → List Slot → List Slot → Fault → Type 0
 IsMet means needs Lacks Ends old new Memory = (needs.memory ≡ true) × Lacks
-IsMet means needs Lacks Ends old new (Write slot) = (slot ≡ 0 → means.output ≡ true) × (means.files ≡ false → slot ≡ 0)
-    × Rose slot old new
+IsMet means needs Lacks Ends old new (Write slot) = (slot ≡ 0 → writes means.output ≡ true)
+    × (means.files ≡ false → slot ≡ 0) × Rose slot old new
 IsMet means needs Lacks Ends old new (Open slot) = (means.files ≡ true) × (needs.files ≡ true) × Rose slot old new
 IsMet means needs Lacks Ends old new Suffixes = Ends Suffixes
 IsMet means needs Lacks Ends old new (NoMatch operand repetition) = Ends (NoMatch operand repetition)
@@ -100,7 +101,8 @@ abbrev pub EndsShort : {E : Type 0} → (E → List ℕ → Type 0) → (E → �
     → List Slot → List Slot → Fault → Type 0
 EndsShort Holds Owns work engine told old new fault = (before : List Slot) (x : List ℕ)
     → StandsAt Holds Owns engine told before x ((work engine).settled x) old
-    → Ended told before ((work engine).settled x) ((work engine).whole x) (work engine).clears fault new
+    → Ended (work engine).means.output told before ((work engine).settled x) ((work engine).whole x)
+    (work engine).clears fault new
 
 -- the slots from this place on are the engine's own, before and after
 abbrev pub KeepsOwn : {E : Type 0} → (E → ℕ → List Slot → Type 0) → E → E → List Slot → List Slot → Type 0

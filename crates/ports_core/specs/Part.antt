@@ -1,6 +1,6 @@
 -- What a tool has written at some moment: bytes on standard output, and files in the order in which they were opened.
-use Rattle.std.specs.Prelude.{◌≡◌, ℕ, ◌+◌, ◌<◌, suc, Bool, List, [], ◌∷◌, ◌++◌, ◌⊎◌, length, map, take, drop}
-use Rattle.ports_core.specs.Slot.{Slot, with_written, with_broken, unopened, told_of}
+use Rattle.std.specs.Prelude.{◌≡◌, ℕ, ◌+◌, ◌<◌, suc, Bool, true, false, List, [], ◌∷◌, ◌++◌, ◌⊎◌, length, map, take, drop, if◌then◌else◌}
+use Rattle.ports_core.specs.Slot.{Slot, is_open, with_written, with_broken, unopened, told_of}
 use Rattle.ports_core.specs.declared.slot.Mode.{Mode}
 use Rattle.ports_core.specs.declared.slot.State.{State}
 use Rattle.ports_core.specs.declared.slot.State.TheVariants as state
@@ -107,15 +107,50 @@ pub record InOrder (low part high : List File) (place : ℕ) : Type 0 where
   pub done : take place part ≡ take place high
   pub untouched : drop (suc place) part ≡ drop (suc place) low
 
+-- What a tool writes to standard output: nothing, bytes of its own, or a line for each of its files, which comes once
+-- the file is closed and before the next is opened.
+pub data Output : Type 0 where
+  gets_none : Output
+  gets_bytes : Output
+  gets_lines : (File → List ℕ) → Output
+
+abbrev pub writes : Output → Bool
+writes gets_none = false
+writes gets_bytes = true
+writes (gets_lines line) = true
+
+-- the lines for these files, but for those that are open
+abbrev pub lines_for : (File → List ℕ) → List File → List ℕ
+lines_for line [] = []
+lines_for line (file ∷ files) = (if is_open file.state then [] else line file) ++ lines_for line files
+
+-- These bytes are the lines for the files before a place, and a beginning of the next line only where standard output
+-- broke in it.
+pub record AreLines (line : File → List ℕ) (bytes : List ℕ) (files : List File) (place : ℕ)
+    (fault : Fault) : Type 0 where
+  pub next : List ℕ
+  pub all : bytes ≡ lines_for line (take place files) ++ next
+  pub cut : (next ≡ [])
+      ⊎ ((fault ≡ Write 0) × IsBeginning next (lines_for line (take 1 (drop place files))))
+
+-- Where files have lines: nothing was written since the lower part; or standard output had the lines for its files, and
+-- with what it got since it has those for the files before this place.
+abbrev pub LinesInOrder : Output → Part → Part → ℕ → Fault → Type 0
+LinesInOrder gets_none low part place fault = Unit {0}
+LinesInOrder gets_bytes low part place fault = Unit {0}
+LinesInOrder (gets_lines line) low part place fault = (part ≡ low) ⊎ ((since : List ℕ) × (part.out ≡ low.out ++ since)
+    × AreLines line (lines_for line low.files ++ since) part.files place fault)
+
 -- A fault stopped the outputs at some part between two, at one of its files, and left its mark. So a file is closed
--- before the next is opened, and nothing is written to a file after one that broke.
-pub record StoppedBetween (told : Bool) (before : List Slot) (low high : Part) (fault : Fault)
+-- before the next is opened, its line comes between the two, and nothing is written after an output that broke.
+pub record StoppedBetween (output : Output) (told : Bool) (before : List Slot) (low high : Part) (fault : Fault)
     (now : List Slot) : Type 0 where
   pub part : Part
   pub above : Begins low part
   pub below : Begins part high
   pub place : ℕ
   pub order : InOrder low.files part.files high.files place
+  pub lines : LinesInOrder output low part place fault
   pub reached : List Slot
   pub outputs : OutputsAt told before part reached
   pub marks : Marks (IsNext part high) fault reached now

@@ -1,6 +1,6 @@
 -- What a tool makes of an input, whatever engine does it: what is written once some bytes came in, and what at the end.
 use Rattle.std.specs.Prelude.{◌≡◌, ◌≤◌, ◌⊎◌, Bool, true, false, List, [], ◌++◌, ℕ, length, Option, Some, None}
-use Rattle.ports_core.specs.Part.{Part, Begins}
+use Rattle.ports_core.specs.Part.{Part, Begins, Output, gets_bytes}
 use Rattle.ports_core.specs.declared.fault.Fault.{Fault}
 
 -- what a call of an engine may need, and so which faults it can give
@@ -12,8 +12,8 @@ pub record Needs : Type 0 where
 
 -- what an engine uses
 pub record Means : Type 0 where
-  -- it writes to standard output
-  pub output : Bool
+  -- what it writes to standard output
+  pub output : Output
   -- it writes to files that it opens
   pub files : Bool
   -- what it may need as it takes in a piece, and at the end
@@ -26,7 +26,7 @@ no_needs = record { memory = false; files = false }
 -- an engine that writes to standard output alone
 abbrev pub on_output : Bool → Means
 on_output memory = record {
-  output = true;
+  output = gets_bytes;
   files = false;
   feeding = record { memory = memory; files = false };
   closing = no_needs;

@@ -1,6 +1,7 @@
 //! Engines: what all of them share around a tool's stage. They count what comes in, take no more than 2^63-1 bytes, and
 //! return `Failed` once a fault or the end came.
 ghost use Rattle.std.specs.Prelude.{◌≡◌, ◌+◌, ◌^◌, ◌<◌, ◌≤◌, ◌↔◌, ℕ, List, [], true, false, length, IfErr, OnOk, OnErr, IsErrOf, IsTrue};
+ghost use Rattle.ports_core.specs.Part.{writes};
 ghost use Rattle.ports_core.specs.Slot.{is_writable};
 ghost use Rattle.ports_core.specs.Source.{is_readable};
 ghost use Rattle.ports_core.specs.Engine.{Loads, TakesIn, PutsOut, CutsOff, Finishes, EndsShort, EndsWith, EndsThere, IsCaused, IsMet, KeepsOwn, KeepsThere, Clears, MayGet};
@@ -117,7 +118,7 @@ impl<S: Stage> Guarded<S> {
         requires { self.old.is_over ≡ false → S.Ready self.old.stage (O.slots outs.old) }
         ensures same { S.work self.new.stage ≡ S.work self.old.stage }
         ensures outputs { OnOk result (Finishes S.Holds S.Owns S.work self.old.stage O.told (O.slots outs.old) (O.slots outs.new)) }
-        ensures writable { OnOk result ((S.work self.old.stage).means.output ≡ true → IsTrue (is_writable (O.slots outs.new) 0)) }
+        ensures writable { OnOk result (writes (S.work self.old.stage).means.output ≡ true → IsTrue (is_writable (O.slots outs.new) 0)) }
         ensures owns { KeepsOwn S.Owns self.old.stage self.new.stage (O.slots outs.old) (O.slots outs.new) }
         ensures there { KeepsThere S.files self.old.stage self.new.stage (O.slots outs.old) (O.slots outs.new) }
         ensures cut { IfErr result (EndsShort S.Holds S.Owns S.work self.old.stage O.told (O.slots outs.old) (O.slots outs.new)) }

@@ -1,4 +1,5 @@
 ghost use Rattle.std.specs.Prelude.{◌≡◌, ◌+◌, ◌^◌, ◌<◌, ◌≤◌, ◌↔◌, ℕ, List, [], Bool, true, false, length, IfErr, OnOk, IsTrue};
+ghost use Rattle.ports_core.specs.Part.{writes};
 ghost use Rattle.ports_core.specs.Slot.{Slot, is_writable};
 ghost use Rattle.ports_core.specs.Source.{is_readable};
 ghost use Rattle.ports_core.specs.Work.{Work, IsLawful, IsSpare};
@@ -80,7 +81,7 @@ pub trait Stage {
         ensures same { work self.new ≡ work self.old }
         ensures size { size self.new ≤ size self.old }
         ensures outputs { OnOk result (Finishes Holds Owns work self.old O.told (O.slots outs.old) (O.slots outs.new)) }
-        ensures writable { OnOk result ((work self.old).means.output ≡ true → IsTrue (is_writable (O.slots outs.new) 0)) }
+        ensures writable { OnOk result (writes (work self.old).means.output ≡ true → IsTrue (is_writable (O.slots outs.new) 0)) }
         ensures owns { KeepsOwn Owns self.old self.new (O.slots outs.old) (O.slots outs.new) }
         ensures there { KeepsThere files self.old self.new (O.slots outs.old) (O.slots outs.new) }
         ensures cut { IfErr result (EndsShort Holds Owns work self.old O.told (O.slots outs.old) (O.slots outs.new)) }

@@ -1,10 +1,10 @@
 -- Lemmas on what is written after what was written before, on outputs that a fault stopped, and on the message that tells it.
 use Rattle.std.proofs.lemmas.Grind.{common_steps}
-use Rattle.std.proofs.Common.{◌≡◌, ℕ, ◌+◌, ◌<◌, ◌≤◌, suc, Bool, true, false, List, [], ◌∷◌, ◌++◌, length, inl, inr, refl, sym, ◌∙◌, ap, arith, append_assoc, length-append, zero, lit<, subst}
+use Rattle.std.proofs.Common.{◌≡◌, ℕ, ◌+◌, ◌<◌, ◌≤◌, suc, Bool, true, false, List, [], ◌∷◌, ◌++◌, length, take, drop, ◌⊎◌, inl, inr, refl, sym, ◌∙◌, ap, arith, append_assoc, length-append, zero, lit<, subst}
 use Rattle.std.proofs.lemmas.List.{map-append, append-nil}
 use Rattle.std.proofs.Math.Seq.{take-append-add, drop-append-add}
 use Rattle.ports_core.specs.Slot.{Slot, with_written, told_of, is_open, slot_at, adds, breaks, unopened, with_broken}
-use Rattle.ports_core.specs.Part.{nothing, Part, File, only_out, OutputsAt, IsBeginning, FilesBegin, Begins, IsNext, IsAt, StoppedBetween, file_of, told_file, Marks}
+use Rattle.ports_core.specs.Part.{nothing, Part, File, only_out, OutputsAt, IsBeginning, FilesBegin, Begins, IsNext, IsAt, StoppedBetween, file_of, told_file, Marks, Output, gets_none, gets_bytes, gets_lines, lines_for, LinesInOrder, AreLines}
 use Rattle.ports_core.specs.Swept.{Swept, SweptFrom, Cleared}
 use Rattle.ports_core.specs.declared.fault.Fault.{Fault}
 use Rattle.ports_core.specs.declared.fault.Fault.TheVariants.{Write, Open}
@@ -59,8 +59,33 @@ from_after (Open slot) base place count first is at = ap (λ n. first + n) at
 from_after fault base place count first is at = tt
 
 -- what stopped after a part, stopped after it
-pub stop_after : {told : Bool} {base : List Slot} {first low high : Part} {fault : Fault} {mid now : List Slot} → OutputsAt told base first mid → StoppedBetween told mid low high fault now → StoppedBetween told base (after_part first low) (after_part first high) fault now
-stop_after {told} {base} {first} {low} {high} {fault} {mid} {now} at stop = record {
+lines_for-append : (line : File → List ℕ) (some more : List File) → lines_for line (some ++ more) ≡ lines_for line some ++ lines_for line more
+lines_for-append line [] more = refl
+lines_for-append line (file ∷ some) more = grind (arith, common_steps, (lines_for-append line some more))
+
+lines_after : (output : Output) (first low part : Part) (place : ℕ) (fault : Fault) → LinesInOrder output low part place fault → LinesInOrder output (after_part first low) (after_part first part) (length first.files + place) fault
+lines_after gets_none first low part place fault lines = tt
+lines_after gets_bytes first low part place fault lines = tt
+lines_after (gets_lines line) first low part place fault (inl same) = inl (ap (after_part first) same)
+lines_after (gets_lines line) first low part place fault (inr (since, is, are)) = inr (
+  since,
+  ap (λ bytes. first.out ++ bytes) is ∙ sym (append_assoc first.out low.out since),
+  record {
+    next = are.next;
+    all = rw (
+      take-append-add first.files part.files place,
+      lines_for-append line first.files (take place part.files),
+      lines_for-append line first.files low.files,
+      append_assoc (lines_for line first.files) (lines_for line low.files) since,
+      are.all,
+      append_assoc (lines_for line first.files) (lines_for line (take place part.files)) are.next,
+    );
+    cut = subst (λ files. (are.next ≡ []) ⊎ ((fault ≡ Write 0) × IsBeginning are.next (lines_for line (take 1 files)))) (sym (drop-append-add first.files part.files place)) are.cut;
+  },
+)
+
+pub stop_after : {output : Output} {told : Bool} {base : List Slot} {first low high : Part} {fault : Fault} {mid now : List Slot} → OutputsAt told base first mid → StoppedBetween output told mid low high fault now → StoppedBetween output told base (after_part first low) (after_part first high) fault now
+stop_after {output} {told} {base} {first} {low} {high} {fault} {mid} {now} at stop = record {
   part = after_part first stop.part;
   above = begins_after first stop.above;
   below = begins_after first stop.below;
@@ -70,6 +95,7 @@ stop_after {told} {base} {first} {low} {high} {fault} {mid} {now} at stop = reco
         done = rw (take-append-add first.files stop.part.files stop.place, stop.order.done, take-append-add first.files high.files stop.place);
         untouched = cc (past, drop-append-add first.files stop.part.files (suc stop.place), stop.order.untouched, drop-append-add first.files low.files (suc stop.place));
       };
+  lines = lines_after output first low stop.part stop.place fault stop.lines;
   reached = stop.reached;
   outputs = at_after at stop.outputs;
   marks = marks_by (IsNext stop.part high) (IsNext (after_part first stop.part) (after_part first high)) fault stop.reached now (λ name next. record {
@@ -118,7 +144,7 @@ marked_error IsName (Write (suc (suc place))) output error since opened marks = 
 marked_error IsName (Open slot) output error since opened marks = shape_of opened marks.1.4
 marked_error IsName fault output error since opened marks = shape_of opened marks
 
-pub stop_error : {told : Bool} {output error : Slot} {low high : Part} {fault : Fault} {now : List Slot} → is_open error.state ≡ true → StoppedBetween told (output ∷ error ∷ []) low high fault now → HasError now
+pub stop_error : {how : Output} {told : Bool} {output error : Slot} {low high : Part} {fault : Fault} {now : List Slot} → is_open error.state ≡ true → StoppedBetween how told (output ∷ error ∷ []) low high fault now → HasError now
 stop_error {told} {output} {error} {high} {fault} opened stop = grind (arith, common_steps, marked_error)
 
 -- a message changes standard error, and no other output
@@ -145,9 +171,9 @@ module _ (told : Bool) (tool : Tool) (text : List ℕ) where
       let said = says output error (since ++ unopened marks.1.1 ∷ []) marks.1.4 in (said.0, said.1, (marks.0, (marks.1.0, marks.1.1, marks.1.2, marks.1.3, said.2)))
   told_marked IsName fault place count output {error} since new from marks says = says output error since marks
 
-  stop_said : {output error : Slot} {low high : Part} {fault : Fault} {mid new : List Slot} → StoppedBetween told (output ∷ error ∷ []) low high fault mid → SaysOn told tool text mid new
-      → (after : Slot) × Says told tool text error after × StoppedBetween told (output ∷ after ∷ []) low high fault new
-  stop_said {output} {high} {fault} {new} stop says =
+  stop_said : {how : Output} {output error : Slot} {low high : Part} {fault : Fault} {mid new : List Slot} → StoppedBetween how told (output ∷ error ∷ []) low high fault mid → SaysOn told tool text mid new
+      → (after : Slot) × Says told tool text error after × StoppedBetween how told (output ∷ after ∷ []) low high fault new
+  stop_said {output = output} {high} {fault} {new} stop says =
       let first = adds (told_of told stop.part.out) output in
       let marked = told_marked (IsNext stop.part high) fault stop.place _ first stop.outputs.since new stop.from (rw stop.outputs.slots at stop.marks) says in (
         marked.0,
@@ -158,6 +184,7 @@ module _ (told : Bool) (tool : Tool) (text : List ℕ) where
           below = stop.below;
           place = stop.place;
           order = stop.order;
+          lines = stop.lines;
           from = stop.from;
           reached = first ∷ marked.0 ∷ stop.outputs.since;
           outputs = record { standard = lit< tt; since = stop.outputs.since; slots = refl; files = stop.outputs.files };
@@ -230,12 +257,12 @@ module _ (told : Bool) (tool : Tool) (text : List ℕ) where
     pub after : Slot
     pub says : Says told tool text error after
     pub reached : List Slot
-    pub stop : StoppedBetween told (output ∷ after ∷ []) low high fault reached
+    pub stop : StoppedBetween step.output told (output ∷ after ∷ []) low high fault reached
     pub why : Stops step reached fault
     pub swept : Swept clears first reached new
     pub named : output_named new fault ≡ output_named mid fault
 
-  pub stop_swept : (step : Step) (clears : Bool) {output error : Slot} {low high : Part} {fault : Fault} {reached mid new : List Slot} {first : ℕ} → 2 ≤ first → is_open error.state ≡ true → StoppedBetween told (output ∷ error ∷ []) low high fault reached
+  pub stop_swept : (step : Step) (clears : Bool) {output error : Slot} {low high : Part} {fault : Fault} {reached mid new : List Slot} {first : ℕ} → 2 ≤ first → is_open error.state ≡ true → StoppedBetween step.output told (output ∷ error ∷ []) low high fault reached
       → Stops step reached fault → Swept clears first reached mid → SaysOn told tool text mid new → ToldStop step output error low high fault clears first mid new
   stop_swept step clears {fault} {reached} {mid} {new} {first} past opened stop why swept says =
       let has = stop_error opened stop in

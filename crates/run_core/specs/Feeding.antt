@@ -2,7 +2,7 @@
 use Rattle.std.specs.Prelude.{◌≡◌, ℕ, ◌≤◌, ◌^◌, Bool, true, false, not, ◌||◌, List, [], ◌+◌, ◌++◌, length, ◌⊎◌, None, Result, Ok, Err, if◌then◌else◌}
 use Rattle.ports_core.specs.Slot.{Slot, slot_at}
 use Rattle.ports_core.specs.Source.{Content, Source}
-use Rattle.ports_core.specs.Part.{Part, OutputsAt, StoppedBetween, nothing}
+use Rattle.ports_core.specs.Part.{Part, Output, OutputsAt, StoppedBetween, nothing, writes}
 use Rattle.ports_core.specs.Swept.{Swept}
 use Rattle.ports_core.specs.Work.{Work, Needs, Judges, IsNeeded}
 use Rattle.ports_core.specs.Engine.{is_verdict}
@@ -25,8 +25,8 @@ made_of work content = if is_enough work content then work.whole content.bytes e
 pub record Step : Type 0 where
   pub low : Part
   pub high : Part
-  -- it writes to standard output, or to files that it opens
-  pub output : Bool
+  -- what it writes to standard output, and whether to files that it opens
+  pub output : Output
   pub files : Bool
   -- it may want memory, or open files
   pub needs : Needs
@@ -40,7 +40,7 @@ pub record Step : Type 0 where
 -- than any tool takes; each only where the step can meet it.
 abbrev pub Stops : Step → List Slot → Fault → Type 0
 Stops step now Memory = step.needs.memory ≡ true
-Stops step now (Write slot) = (slot ≡ 0 → step.output ≡ true) × (step.files ≡ false → slot ≡ 0)
+Stops step now (Write slot) = (slot ≡ 0 → writes step.output ≡ true) × (step.files ≡ false → slot ≡ 0)
     × ((slot_at now slot).is_broken ≡ true)
 Stops step now (Open slot) = (step.files ≡ true) × (step.needs.files ≡ true)
 Stops step now TooLong = 2 ^ 63 ≤ length step.read
@@ -108,7 +108,8 @@ pub data FedAs (told : Bool) (before : List Slot) (work : Work) (opening : Needs
       → FedAs told before work opening most content WasRead new (Err fault)
   stopped : (fault : Fault) → is_verdict fault ≡ false → (call : Step) → IsCall work opening most content call
       → WasRead call → (reached : List Slot) → Stops call reached fault
-      → StoppedBetween told before call.low call.high fault reached → Swept work.clears (length before) reached new
+      → StoppedBetween call.output told before call.low call.high fault reached
+      → Swept work.clears (length before) reached new
       → FedAs told before work opening most content WasRead new (Err fault)
 
 -- What is left of an input where a fault stopped this step: it didn't break, and where inputs tell their bytes, all is left

@@ -2,7 +2,7 @@
 use Rattle.std.specs.Prelude.{◌≡◌, ℕ, ◌≤◌, Bool, true, false, List, [], ◌∷◌, ◌++◌, length, Option, Some}
 use Rattle.ports_core.specs.Slot.{Slot}
 use Rattle.ports_core.specs.Source.{Content, Source}
-use Rattle.ports_core.specs.Part.{Part, OutputsAt, StoppedBetween, only_out}
+use Rattle.ports_core.specs.Part.{Part, OutputsAt, StoppedBetween, only_out, gets_none, gets_bytes}
 use Rattle.ports_core.specs.Swept.{Swept}
 use Rattle.ports_core.specs.Work.{no_needs}
 use Rattle.ports_core.specs.Text.{message_of}
@@ -25,7 +25,7 @@ abbrev pub memory_step : Part → Step
 memory_step so_far = record {
   low = so_far;
   high = so_far;
-  output = false;
+  output = gets_none;
   files = false;
   needs = record { memory = true; files = false };
   read = [];
@@ -38,7 +38,7 @@ abbrev pub header_step : Part → List ℕ → Step
 header_step so_far header = record {
   low = so_far;
   high = after_part so_far (only_out header);
-  output = true;
+  output = gets_bytes;
   files = false;
   needs = no_needs;
   read = [];
@@ -83,7 +83,8 @@ pub data EndsAs (told_in told : Bool) (task : Task) (inputs : List Input) (sourc
       → AreUntouched after sources
       → RunStep told_in task largest_piece (made_by task before).part
       (header_text task.with_header (are_missing before) input.name) input.slot sources input.content step
-      → Stops step reached fault → StoppedBetween told (streams_with error) step.low step.high fault reached
+      → Stops step reached fault
+      → StoppedBetween step.output told (streams_with error) step.low step.high fault reached
       → Swept task.work.clears 2 reached new
       → SaysAll told task.tool ((made_by task before).messages
       ++ message_of task.tool fault (output_named new fault) ∷ []) standard_error error → status ≡ 1

@@ -28,7 +28,7 @@ pub record OpensShort (asked : Work) (opening : Needs) (told : Bool) (old new : 
   pub unjudged : is_verdict fault ≡ false
   pub reached : List Slot
   pub why : Stops (call_of asked opening [] nothing (asked.settled [])) reached fault
-  pub stop : StoppedBetween told old nothing (asked.settled []) fault reached
+  pub stop : StoppedBetween asked.means.output told old nothing (asked.settled []) fault reached
   pub swept : Swept asked.clears (length old) reached new
 
 -- the input for a name, where inputs tell what they have

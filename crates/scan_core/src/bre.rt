@@ -7,7 +7,7 @@ ghost use Rattle.bre_core.specs.Search.{contains};
 ghost use Rattle.bre_core.specs.declared.fault.BreFault.TheVariants.{Memory, TooLarge};
 ghost use Rattle.scan_core.specs.Clear.{IsClear};
 ghost use Rattle.scan_core.specs.Code.{code_of, IsOrdered};
-ghost use Rattle.scan_core.specs.Table.{IsFound, IsOutcome};
+ghost use Rattle.scan_core.specs.Table.{IsOutcome};
 
 use crate::base::{Base, base_of};
 use crate::build::build;
@@ -122,7 +122,8 @@ impl Bre {
     }
 
     /// Whether a line that isn't empty has a match, by the pattern's table; `None` where there is no table, or no room in it
-    /// for a set that the line leads to.
+    /// for a set that the line leads to. It is always inlined, so that a caller that wants no steps counts none.
+    #[inline(always)]
     pub fn walk(&self, line: &[u8]) -> Option<Outcome>
         requires { 0 < length line.now }
         ensures outcome { IfSome result (IsOutcome (code_of self.now) line.now) }
@@ -135,21 +136,6 @@ impl Bre {
         }
         match &self.table {
             Some(table) => walk(table, code, line),
-            None => None,
-        }
-    }
-
-    /// Whether a line that isn't empty has a match, by the pattern's table; `None` as in `walk`.
-    pub(crate) fn find(&self, line: &[u8]) -> Option<bool>
-        requires { 0 < length line.now }
-        ensures found { IfSome result (IsFound (code_of self.now) line.now) }
-        ensures order { IsOrdered self.now }
-    {
-        if let Some(shifts) = &self.shifts {
-            return Some(walk_by_shifts(shifts, &self.code, line).found);
-        }
-        match self.walk(line) {
-            Some(outcome) => Some(outcome.found),
             None => None,
         }
     }

@@ -10,6 +10,7 @@ ghost use Rattle.scan_core.specs.Code.{code_of};
 ghost use Rattle.scan_core.specs.Counted.{HasStepsBefore, IsStepCount};
 
 use crate::bre::Bre;
+use crate::walk::Outcome;
 use bre_core::BreFault;
 use memchr::memrchr;
 use std::alloc::Global;
@@ -85,29 +86,28 @@ impl Scan {
         ensures bound { self.new.steps ≤ (length line.now + 1) * positions_of bre.now }
         ensures positions { self.new.positions ≡ self.old.positions }
     {
-        if !line.is_empty() {
-            if let Some(outcome) = bre.walk(line) {
-                self.steps = outcome.steps;
-                return outcome.found;
-            }
-        }
-        let outcome = bre.search(line, &mut self.words);
+        let outcome = self.search(bre, line);
         self.steps = outcome.steps;
         outcome.found
     }
 
-    /// The same as `matches`, faster: no steps are counted, and `steps` returns what it returned before.
-    pub fn contains(&mut self, bre: &Bre, line: &[u8]) -> bool
+    /// The same as `matches`, with the steps beside it; `Scan::steps` returns what it returned before. It is always inlined:
+    /// a caller that leaves the steps out runs the same search, and counts none.
+    #[inline(always)]
+    pub fn search(&mut self, bre: &Bre, line: &[u8]) -> Outcome
         requires { self.old.positions ≡ positions_of bre.now }
-        ensures exact { result ≡ contains bre.now line.now }
+        ensures exact { result.found ≡ contains bre.now line.now }
+        ensures counted { IsFalse result.found → IsStepCount (code_of bre.now) line.now result.steps }
+        ensures least { IsTrue result.found → HasStepsBefore (code_of bre.now) line.now result.steps }
+        ensures bound { result.steps ≤ (length line.now + 1) * positions_of bre.now }
         ensures same { self.new ≡ self.old }
     {
         if !line.is_empty() {
-            if let Some(found) = bre.find(line) {
-                return found;
+            if let Some(outcome) = bre.walk(line) {
+                return outcome;
             }
         }
-        bre.search(line, &mut self.words).found
+        bre.search(line, &mut self.words)
     }
 
     /// How many bytes the lines at the beginning of a text are that are seen to have no match without matching them, by

@@ -9,7 +9,7 @@ use Rattle.std.proofs.lemmas.List.FromFn.{length-map-range_with_len, take-map-ra
 use Rattle.std.proofs.lemmas.Result.{IfErr-weaker, on_ok_weaker}
 use Rattle.ports_core.specs.Name.{Naming, next_name, has_next}
 use Rattle.ports_core.specs.Slot.{Slot, changed_at, slot_at, opened, adds, closes, is_closable, with_written, with_broken, told_of}
-use Rattle.ports_core.specs.Part.{File, Part, OutputsAt, StoppedBetween, FilesBegin, Begins, IsNext, IsAt, Marks}
+use Rattle.ports_core.specs.Part.{File, Part, OutputsAt, StoppedBetween, gets_none, FilesBegin, Begins, IsNext, IsAt, Marks}
 use Rattle.ports_core.specs.declared.slot.State.TheVariants.{Open, Closed}
 use Rattle.ports_core.specs.declared.fault.Fault.{Fault}
 use Rattle.ports_core.proofs.PartLemmas.{begins_itself, begins_trans, kept_trans, nothing_begins, marks_by, sound_at}
@@ -127,6 +127,7 @@ halts {before = before} {names} {few = few} {many} {from} {to} place part some {
             below = grow_begins names left;
             place = place;
             order = record { done = done last left; untouched = untouched first risen };
+            lines = tt;
             reached = reached;
             outputs = outputs;
             marks = marks_by (IsDue names some many) _ why reached now (λ name due. next_due names part last name (due.0, omega (arith, due.1, back.more))) marks;
@@ -154,12 +155,12 @@ halts {before = before} {names} {few = few} {many} {from} {to} place part some {
 
 -- it stopped them in order
 pub stops_in_order : {told : Bool} {before : List Slot} {names : Naming} {low high : ℕ → Share} {few many from to : ℕ} {why : Fault} {now : List Slot}
-    → Halts told before names low few high many from to why now → StoppedBetween told before (part_by names low few) (part_by names high many) why now
+    → Halts told before names low few high many from to why now → StoppedBetween gets_none told before (part_by names low few) (part_by names high many) why now
 stops_in_order stop = stop.stops _ _ _ _ 0 (grow_same _ _ _ _) (grow_same _ _ _ _)
 
-pub stopped_as : (told : Bool) {before : List Slot} {low low' high high' : Part} {why : Fault} {now : List Slot} → low ≡ low' → high ≡ high' → StoppedBetween told before low high why now → StoppedBetween told before low' high' why now
+pub stopped_as : (told : Bool) {before : List Slot} {low low' high high' : Part} {why : Fault} {now : List Slot} → low ≡ low' → high ≡ high' → StoppedBetween gets_none told before low high why now → StoppedBetween gets_none told before low' high' why now
 stopped_as told {before} {low} {high' = high'} {why} {now} is_low is_high stop =
-    subst (λ part. StoppedBetween told before part high' why now) is_low (subst (λ part. StoppedBetween told before low part why now) is_high stop)
+    subst (λ part. StoppedBetween gets_none told before part high' why now) is_low (subst (λ part. StoppedBetween gets_none told before low part why now) is_high stop)
 
 -- Steps in a row
 

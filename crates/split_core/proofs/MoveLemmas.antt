@@ -8,7 +8,7 @@ use Rattle.ports_core.specs.Slot.{Slot, changed_at, opened, closes, with_broken,
 use Rattle.ports_core.specs.inner.Slot.{KeepsBroken}
 use Rattle.ports_core.specs.declared.slot.Mode.TheVariants.{Fresh}
 use Rattle.ports_core.specs.declared.slot.State.TheVariants as state
-use Rattle.ports_core.specs.Part.{Part, Marks, IsAt}
+use Rattle.ports_core.specs.Part.{Part, Output, Marks, IsAt, gets_none}
 use Rattle.ports_core.specs.inner.Part.{AllClosed, InTurn}
 use Rattle.ports_core.specs.Engine.{IsMet, is_verdict}
 use Rattle.ports_core.specs.declared.fault.Fault.{Fault}
@@ -206,8 +206,8 @@ moves_then {told} {parts} {mid} {first = first} {second} {wet = wet} {new} resul
 
 -- the file of the part that was begun is the last output
 
-becomes_as : {told : Bool} {low low' high high' : Part} {old new : List Slot} {fault : Option Fault} → low ≡ low' → high ≡ high' → Becomes told low' high' old new fault → Becomes told low high old new fault
-becomes_as {told} {low} {high' = high'} {old} {new} {fault} is_low is_high becomes = grind (arith, common_steps)
+becomes_as : {output : Output} {told : Bool} {low low' high high' : Part} {old new : List Slot} {fault : Option Fault} → low ≡ low' → high ≡ high' → Becomes output told low' high' old new fault → Becomes output told low high old new fault
+becomes_as {output} {told} {low} {high' = high'} {old} {new} {fault} is_low is_high becomes = grind (arith, common_steps)
 
 module _ (told : Bool) (names : Naming) (shares : List Share) (begun : List ℕ) (old : List Slot) (shut : AllShut shares) (is : is_named names (length shares) ≡ true) where
   last_one : (one : Share) → part_of names (shares ++ one ∷ []) ≡ with_last [] (named names 0 shares) (file_at names (length shares) one)
@@ -234,7 +234,7 @@ pub open_stops : (told : Bool) {names next : Naming} (current : Option ℕ) (sha
     → names.drawn ≡ length shares → OpensNone names next old new fault → Goes told (from_start names) current shares (shares ++ one ∷ []) old new (Err fault)
 open_stops told {names} {next} current shares one {old} {new} shut drawn none = record {
   grows = shares_more shares (one ∷ []);
-  moves = λ last. halts_here (part_begins (from_start names) shares _ (shares_more shares (one ∷ []))) (turn_next _ (shut_files (from_start names) 0 shares shut))
+  moves = λ last. halts_here (part_begins (from_start names) shares _ (shares_more shares (one ∷ []))) (turn_next _ (shut_files (from_start names) 0 shares shut)) tt
       (opens_marks _ (λ has. record {
         front = named (from_start names) 0 shares;
         file = file_at (from_start names) (length shares) one;
@@ -246,7 +246,7 @@ open_stops told {names} {next} current shares one {old} {new} shut drawn none = 
   short = λ is. ran (subst (OpensNone names next old new) is none);
 } where
   ran : OpensNone names next old new Suffixes → (those : List Share) × RunsShort (from_start names) those (shares ++ one ∷ [])
-      × (IsAtEnd current old → Becomes told (part_of (from_start names) shares) (part_of (from_start names) those) old new None)
+      × (IsAtEnd current old → Becomes gets_none told (part_of (from_start names) shares) (part_of (from_start names) those) old new None)
   ran (no_name none same) = (
     shares,
     grind (arith, common_steps, shut, drawn, none, shares_more, length-append),

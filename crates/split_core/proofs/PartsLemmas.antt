@@ -415,7 +415,7 @@ no_room told parts piece {slots} = record {
       let names = from_start parts.names in
       let turn = turn_by names (full_of parts x) (begun_of parts x) (shut_map (cut_up parts.limit x).full) (are_named_same parts.names names _ refl ∙ stands.enough) in record {
         grows = settled_grow parts.limit x piece;
-        moves = λ last. halts_here (part_begins names _ _ (settled_grow parts.limit x piece)) turn.1 refl (λ before at. tt);
+        moves = λ last. halts_here (part_begins names _ _ (settled_grow parts.limit x piece)) turn.1 tt refl (λ before at. tt);
         short = λ is. absurd (cc);
       };
 }

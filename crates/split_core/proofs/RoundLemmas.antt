@@ -12,7 +12,7 @@ use Rattle.seg_core.proofs.Delimiters.{delimiters-append}
 use Rattle.seg_core.proofs.LineCounts.{line_count_near, line_count-front}
 use Rattle.ports_core.specs.Name.{Naming}
 use Rattle.ports_core.specs.Slot.{Slot}
-use Rattle.ports_core.specs.Part.{Part, OutputsAt, StoppedBetween, nothing}
+use Rattle.ports_core.specs.Part.{Part, OutputsAt, StoppedBetween, nothing, gets_none}
 use Rattle.ports_core.specs.Work.{Work}
 use Rattle.ports_core.specs.Engine.{TakesIn, EndsWith, EndsThere, StandsAt, is_verdict, cut}
 use Rattle.ports_core.specs.declared.fault.Fault.{Fault}
@@ -190,14 +190,14 @@ module _ (told : Bool) (names : Naming) {count : ℕ} {files next : FilesState} 
     (opens : Opens told files 0 count old next new result) where
   -- what is there then is all that must be written of no input
   pub opens_all : {part : Part} → part_by (from_start names) (all_open (λ i. [])) (max 0 count) ≡ part → (before : List Slot) → OutputsAt told before nothing old
-      → (OnOk result (OutputsAt told before part new)) × (IfErr result (λ why. StoppedBetween told before nothing part why new))
+      → (OnOk result (OutputsAt told before part new)) × (IfErr result (λ why. StoppedBetween gets_none told before nothing part why new))
   opens_all {part} made before at = by result ((subst (λ (those : FilesState). Opens told those 0 count old next new result) is opens).adds.leaves before (λ i. []) (λ i. []) (record {
     owns = subst (λ place. OwnsFiles (no_files names) place old) (omega (arith, outputs_count told before nothing old at)) (none_owned names);
     outputs = at;
     none = λ i past. refl;
   }) (λ i. refl)) where
     by : (result : Result (Unit {0}) Fault) → Leaves told before (from_start names) (all_open (λ i. [])) 0 (all_open (λ i. [])) (max 0 count) 0 count new result
-        → (OnOk result (OutputsAt told before part new)) × (IfErr result (λ why. StoppedBetween told before nothing part why new))
+        → (OnOk result (OutputsAt told before part new)) × (IfErr result (λ why. StoppedBetween gets_none told before nothing part why new))
     by (Ok done) leaves = (subst (λ those. OutputsAt told before those new) made leaves, tt)
     by (Err why) leaves = (tt, stopped_as told refl made (stops_in_order leaves))
 

@@ -1,7 +1,7 @@
 ghost use Rattle.std.specs.Prelude.{◌≡◌, ℕ, ◌+◌, ◌%◌, ◌<◌, ◌≤◌, List, [], true, if◌then◌else◌, length, IfOk, IfErr, OnOk};
 ghost use Rattle.seg_core.specs.Line.{delimiters};
 ghost use Rattle.ports_core.specs.Slot.{Slot};
-ghost use Rattle.ports_core.specs.Part.{OutputsAt, StoppedBetween, nothing};
+ghost use Rattle.ports_core.specs.Part.{OutputsAt, StoppedBetween, nothing, gets_none};
 ghost use Rattle.split_core.specs.inner.Dealt.{dealt_first};
 ghost use Rattle.split_core.specs.Round.{AreReady, Holds, Owns, Ready, round_plan, work};
 ghost use Rattle.split_core.specs.inner.Ways.{Deals};
@@ -62,7 +62,7 @@ impl RoundSplitter {
         ensures ready { IfOk result (λ round. Ready round (O.slots outs.new)) }
         ensures owns { IfOk result (λ round. Owns round (length (O.slots outs.old)) (O.slots outs.new)) }
         ensures outputs { OnOk result ((before : List Slot) → OutputsAt O.told before nothing (O.slots outs.old) → OutputsAt O.told before (settled_by (round_plan delim count elide names) []) (O.slots outs.new)) }
-        ensures cut { IfErr result (λ fault. (before : List Slot) → OutputsAt O.told before nothing (O.slots outs.old) → StoppedBetween O.told before nothing (settled_by (round_plan delim count elide names) []) fault (O.slots outs.new)) }
+        ensures cut { IfErr result (λ fault. (before : List Slot) → OutputsAt O.told before nothing (O.slots outs.old) → StoppedBetween gets_none O.told before nothing (settled_by (round_plan delim count elide names) []) fault (O.slots outs.new)) }
         ensures refused { IfErr result (CannotOpen (O.slots outs.old) (O.slots outs.new)) }
     {
         let deal = Deal::new(alloc, count, delim)?;

@@ -1,7 +1,7 @@
 //! The stage of `split`, for all ways to cut.
 ghost use Rattle.std.specs.Prelude.{◌≡◌, ◌^◌, ◌<◌, ◌≤◌, [], List, ℕ, false, true, length, IfOk, IfErr, OnOk};
 ghost use Rattle.ports_core.specs.Guard.{HoldsIn};
-ghost use Rattle.ports_core.specs.Part.{OutputsAt, StoppedBetween, nothing};
+ghost use Rattle.ports_core.specs.Part.{OutputsAt, StoppedBetween, nothing, gets_none};
 ghost use Rattle.ports_core.specs.Slot.{Slot};
 ghost use Rattle.split_core.specs.Sharing.{CannotOpen};
 ghost use Rattle.split_core.specs.Split.{settled_by, split_work};
@@ -55,7 +55,7 @@ impl Splitter {
         ensures ready { IfOk result (λ engine. Ready engine.stage (O.slots outs.new)) }
         ensures owns { IfOk result (λ engine. Owns engine.stage (length (O.slots outs.old)) (O.slots outs.new)) }
         ensures outputs { OnOk result ((before : List Slot) → OutputsAt O.told before nothing (O.slots outs.old) → OutputsAt O.told before (settled_by (record { delim = delim; cut = cut; elide = elide; names = names }) []) (O.slots outs.new)) }
-        ensures cut { IfErr result (λ fault. (before : List Slot) → OutputsAt O.told before nothing (O.slots outs.old) → StoppedBetween O.told before nothing (settled_by (record { delim = delim; cut = cut; elide = elide; names = names }) []) fault (O.slots outs.new)) }
+        ensures cut { IfErr result (λ fault. (before : List Slot) → OutputsAt O.told before nothing (O.slots outs.old) → StoppedBetween gets_none O.told before nothing (settled_by (record { delim = delim; cut = cut; elide = elide; names = names }) []) fault (O.slots outs.new)) }
         ensures refused { IfErr result (CannotOpen (O.slots outs.old) (O.slots outs.new)) }
     {
         let limit = match cut {

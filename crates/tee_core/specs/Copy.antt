@@ -1,7 +1,7 @@
 -- What `tee` makes of an input where no output breaks, and where its bytes go: POSIX.1-2017, XCU tee.
 use Rattle.std.specs.Prelude.{ℕ, ◌+◌, nat_lt, true, false, List, [], ◌∷◌, length, map, if◌then◌else◌}
 use Rattle.ports_core.specs.Agreed.{Spot, spot}
-use Rattle.ports_core.specs.Part.{File, Part}
+use Rattle.ports_core.specs.Part.{File, Part, gets_bytes}
 use Rattle.ports_core.specs.Work.{Work, always_well, no_needs}
 use Rattle.ports_core.specs.declared.slot.Mode.{Mode}
 use Rattle.ports_core.specs.declared.slot.State.{State}
@@ -23,7 +23,7 @@ tee_work mode names = record {
   is_complete = λ x. false;
   verdict = always_well;
   clears = false;
-  means = record { output = true; files = true; feeding = no_needs; closing = no_needs };
+  means = record { output = gets_bytes; files = true; feeding = no_needs; closing = no_needs };
   ahead = 0;
 }
 

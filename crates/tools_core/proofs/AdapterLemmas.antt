@@ -2,7 +2,8 @@
 use Rattle.std.proofs.lemmas.Grind.{common_steps}
 use Rattle.std.proofs.Common.{◌≡◌, ℕ, ◌-◌, ◌<◌, ◌≤◌, ◌^◌, zero, Bool, true, false, not, if◌then◌else◌, List, [], length, Result, Ok, Err, IfOk, IfErr, OnOk, refl, sym, ◌∙◌, ap, arith}
 use Rattle.ports_core.specs.Slot.{Slot}
-use Rattle.ports_core.specs.Part.{OutputsAt, StoppedBetween, nothing, only_out}
+use Rattle.ports_core.specs.Part.{OutputsAt, StoppedBetween, nothing, only_out, writes}
+use Rattle.csplit_core.specs.Output.{sizes_wanted}
 use Rattle.ports_core.specs.Work.{Work, Needs}
 use Rattle.ports_core.specs.Guard.{GuardState, HoldsIn}
 use Rattle.ports_core.specs.Engine.{is_verdict}
@@ -57,7 +58,7 @@ no_memory {told} {work} {slots} may two is = rw is (record {
   unjudged = refl;
   reached = slots;
   why = may;
-  stop = stopped_here told slots nothing _ Memory slots slots (nothing_out told slots (some_there slots two)) (nothing_begins_part _) refl tt;
+  stop = stopped_here _ told slots nothing _ Memory slots slots (nothing_out told slots (some_there slots two)) (nothing_begins_part _) refl tt;
   swept = swept_none work.clears (length slots) slots (none_past slots);
 })
 
@@ -74,15 +75,18 @@ opened_of Holds Owns work Ready told old new (Err fault) is fresh does bound rea
 pub opened_short : {E : Type 0} (told : Bool) {begun asked : Work} {opening : Needs} (old new : List Slot) (result : Result E Fault) (Why Left : Fault → Type 0)
     → begun ≡ asked → 2 ≤ length old → ((fault : Fault) → Why fault → Left fault
     → (is_verdict fault ≡ false) × Stops (call_of begun opening [] nothing (begun.settled [])) new fault × Swept begun.clears (length old) new new)
-    → IfErr result (λ fault. (before : List Slot) → OutputsAt told before nothing old → StoppedBetween told before nothing (begun.settled []) fault new)
+    → IfErr result (λ fault. (before : List Slot) → OutputsAt told before nothing old → StoppedBetween begun.means.output told before nothing (begun.settled []) fault new)
     → IfErr result Why → IfErr result Left → IfErr result (OpensShort asked opening told old new)
 opened_short told old new (Ok e) Why Left is two stops cut why left = tt
 opened_short told old new (Err fault) Why Left is two stops cut why left = grind (arith, common_steps, nothing_out, some_there)
 
+says_sizes : (style : Style) → style.quiet ≡ false → writes (sizes_wanted style) ≡ true
+says_sizes style loud = grind (arith, common_steps)
+
 pub csplit_halts : (style : Style) (operands : List Operand) (old new : List Slot) (fault : Fault) → Breaks style old new fault
     → (is_verdict fault ≡ false) × Stops (call_of (csplit_work style operands) (record { memory = true; files = true }) [] nothing ((csplit_work style operands).settled [])) new fault
 csplit_halts style operands old new Memory breaks = (refl, refl)
-csplit_halts style operands old new (Write slot) breaks = (refl, (λ first. ap not (breaks.0 first), λ none. absurd (false≢true (sym none)), breaks.1.1))
+csplit_halts style operands old new (Write slot) breaks = (refl, (λ first. says_sizes style (breaks.0 first), λ none. absurd (false≢true (sym none)), breaks.1.1))
 csplit_halts style operands old new (Open slot) breaks = (refl, (refl, refl))
 csplit_halts style operands old new fault breaks = absurd breaks
 

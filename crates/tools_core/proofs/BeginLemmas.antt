@@ -9,7 +9,7 @@ use Rattle.std.proofs.lemmas.List.FromFn.{length-map-range_with_len}
 use Rattle.ports_core.specs.Slot.{Slot, breaks, changed_at, slot_at, unopened, adds}
 use Rattle.ports_core.specs.Source.{Content, Source}
 use Rattle.ports_core.specs.Streams.{streams_with, standard_error, standard_output}
-use Rattle.ports_core.specs.Part.{Begins, File, FilesBegin, Marks, OutputsAt, Part, StoppedBetween, only_out, IsBeginning, file_of}
+use Rattle.ports_core.specs.Part.{Begins, File, FilesBegin, Marks, Output, OutputsAt, Part, StoppedBetween, only_out, IsBeginning, file_of}
 use Rattle.ports_core.specs.Swept.{Swept}
 use Rattle.ports_core.specs.Work.{IsLawful, Needs, Work}
 use Rattle.ports_core.specs.Inputs.{largest_piece}
@@ -117,9 +117,9 @@ part_at {low} {high} error (suc (suc place)) begins differs = files_at low.files
 left_begins : (clears : Bool) {low high : Part} {error : Slot} {reached : List Slot} (new : List Slot) {place : ℕ} → Begins low high → (place ≡ 1 → ⊥) → OutputsAt true (streams_with error) low reached → Swept clears 2 reached new → BeginsAs (slot_at new place) (slot_at (slots_of high) place)
 left_begins clears {error} {reached} new {place} begins differs at swept = kept_begins (swept_kept clears reached new swept place) (still_begins place (slots_at at) (part_at error place begins differs))
 
-stopped_begins : (clears : Bool) {high all low : Part} {error : Slot} {fault : Fault} {reached : List Slot} (new : List Slot) {place : ℕ} → Begins high all → (place ≡ 1 → ⊥) → StoppedBetween true (streams_with error) low high fault reached → Swept clears 2 reached new
+stopped_begins : {output : Output} (clears : Bool) {high all low : Part} {error : Slot} {fault : Fault} {reached : List Slot} (new : List Slot) {place : ℕ} → Begins high all → (place ≡ 1 → ⊥) → StoppedBetween output true (streams_with error) low high fault reached → Swept clears 2 reached new
     → BeginsAs (slot_at new place) (slot_at (slots_of all) place)
-stopped_begins clears {high} {all} {fault} {reached} new {place} begins differs between swept =
+stopped_begins clears {high = high} {all} {fault = fault} {reached} new {place} begins differs between swept =
     let begun = left_begins false between.reached (part_trans between.part high all between.below begins) differs between.outputs refl in
     kept_begins (swept_kept clears reached new swept place) (elim (marked_at _ fault between.reached reached place between.marks) [
       | inl same ↦ rw same begun

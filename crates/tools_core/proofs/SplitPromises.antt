@@ -1,22 +1,24 @@
 -- What `split` leaves of its input; and that numbered names are in the order of their numbers, while none has more digits than it is
 -- filled to.
 use Rattle.std.proofs.lemmas.Grind.{common_steps}
-use Rattle.std.proofs.Common.{◌≡◌, ℕ, ◌+◌, ◌-◌, ◌/◌, ◌%◌, ◌^◌, ◌<◌, ◌≤◌, zero, suc, List, [], ◌∷◌, ◌++◌, length, replicate, inl, inr, refl, sym, ◌∙◌, ap, arith, append_assoc, length-append, decimal, Less, nat_cmp, append-nil, div-add-mod', rules, ◌*◌, min, Bool, true, false, not, cond, map, take, drop, filter, get_or, Some, None, All, suc-mul}
+use Rattle.std.proofs.Common.{◌≡◌, ℕ, ◌+◌, ◌-◌, ◌/◌, ◌%◌, ◌^◌, ◌<◌, ◌≤◌, zero, suc, List, [], ◌∷◌, ◌++◌, length, replicate, inl, inr, refl, sym, ◌∙◌, ap, arith, append_assoc, length-append, decimal, Less, nat_cmp, append-nil, div-add-mod', rules, ◌*◌, min, Bool, true, false, not, cond, map, take, drop, subst, filter, get_or, Some, None, All, suc-mul}
 use Rattle.std.specs.Cmp.Lexicographic.{slice_cmp}
 use Rattle.std.proofs.Math.Nat.{mod-lt}
-use Rattle.std.proofs.lemmas.Bool.{cases_lt}
+use Rattle.std.proofs.lemmas.Bool.{cases_lt, false≢true}
 use Rattle.std.proofs.lemmas.Fmt.{decimal_by_steps}
 use Rattle.ports_core.specs.Name.{numbered_name, zero_filled, Naming}
 use Rattle.ports_core.proofs.OrderLemmas.{IsBelow, first_less, same_front, in_order}
 use Rattle.tools_core.specs.Promises.{AreInOrder, text_at, Run, Does, HasInput, AreListed, ArePieces, AreLinePieces, AreUncut, AreDealt, EndsLine, IsFilled, IsSound, contents_of, files_of}
-use Rattle.std.proofs.lemmas.List.{length-map, length-take, length-take-le, length-drop, get_or-take, get_or_past, take-append-drop}
+use Rattle.std.proofs.lemmas.List.{length-map, length-take, length-take-le, length-drop, get_or-take, get_or_past, take-append-drop, take-append-le, take_all}
 use Rattle.std.proofs.lemmas.List.FromFn.{get_or-map-range_with_len, length-map-range_with_len}
 use Rattle.std.proofs.lemmas.Nat.{mod_below}
 use Rattle.std.proofs.lemmas.List.Elements.{All-cons, All-map}
 use Rattle.seg_core.specs.Line.{joined, lines_of, line_count, delimiters, ends_with, first_lines, after_lines}
-use Rattle.seg_core.proofs.Delimiters.{delimiters-le-length}
+use Rattle.seg_core.proofs.Delimiters.{delimiters-append, delimiters-le-length}
+use Rattle.seg_core.proofs.LastLines.{first_lines-whole}
+use Rattle.std.proofs.Math.Seq.{take-append_seam, drop-append_seam, take-append-add}
 use Rattle.seg_core.proofs.LinesOf.{joined-lines_of}
-use Rattle.seg_core.proofs.FirstLines.{delimiters-first_lines, first_lines-append, first_lines-full, first_lines-more, first_lines-short, lines_of-first_lines, lines_of-after_lines}
+use Rattle.seg_core.proofs.FirstLines.{delimiters-first_lines, first_lines-append, first_lines-full, first_lines-more, first_lines-short, length-first_lines-le, lines_of-first_lines, lines_of-after_lines}
 use Rattle.seg_core.proofs.LineCounts.{line_count-open, line_count_near}
 use Rattle.seg_core.specs.declared.cut.Cut.{Cut}
 use Rattle.ports_core.specs.Part.{File}
@@ -34,7 +36,7 @@ use Rattle.split_core.specs.laws.CutLaws.{whole_of_lines, whole_of_none}
 use Rattle.split_core.specs.laws.DealLaws.{share_none}
 use Rattle.split_core.proofs.CutLaws.{first_then_after, bytes_of_shares}
 use Rattle.split_core.proofs.AgreedLemmas.{bytes_named, each_named}
-use Rattle.split_core.proofs.SectionLemmas.{line_at, all_dealt, first_files, joined_parts, part_lines, part_bytes, lines_count, bytes_count, line_bytes_are_parts, line_bytes_within}
+use Rattle.split_core.proofs.SectionLemmas.{line_at, all_dealt, first_files, joined_parts, part_lines, part_bytes, lines_count, bytes_count, line_bytes_are_parts, line_bytes_once, line_bytes_within}
 use Rattle.words_core.specs.declared.settings.Settings.TheVariants.{Split}
 use Rattle.words_core.specs.SplitAsked.{SplitAsked}
 use Rattle.words_core.specs.SplitWords.{CanSplit, IsInLimits}
@@ -309,6 +311,16 @@ each_filled {delim} {n} (piece.more x pieces enough past) zero next =
 each_filled (piece.more x pieces enough past) (suc place) next = each_filled past place (omega (arith, next))
 each_filled are place next = search rules
 
+-- a line that is open after others has room for its delimiter
+rooms : (delim n : ℕ) {x : List ℕ} {pieces : List (List ℕ)} → AreLineByteParts delim n x pieces → (place : ℕ) → place < length pieces → 0 < delimiters delim (text_at pieces place) → ends_with delim (text_at pieces place) ≡ false → length (text_at pieces place) < n
+rooms delim n (piece.one x has short) zero within lines cut = short
+rooms delim n (piece.more x pieces enough past) zero within lines cut = elim (ends_line delim (take n x) (length-take-le n x enough)) [
+  | inl ends ↦ absurd (false≢true (sym cut ∙ ends))
+  | inr long ↦ absurd (omega (arith, lines, long.1))
+]
+rooms delim n (piece.more x pieces enough past) (suc place) within lines cut = rooms delim n past place (omega (arith, within)) lines cut
+rooms delim n are place within lines cut = absurd (omega (arith, within))
+
 pub line_byte_pieces : {delim n : ℕ} {x : List ℕ} → 0 < n → AreLinePieces delim n x (parts (limit.LineBytes n delim) x)
 line_byte_pieces {delim} {n} {x} some =
     let are = line_bytes_are_parts delim n x some in
@@ -318,7 +330,84 @@ line_byte_pieces {delim} {n} {x} some =
       most = λ place less. (within place [] less).1;
       uncut = uncut delim n x (parts (limit.LineBytes n delim) x) are;
       filled = each_filled are;
+      room = rooms delim n are;
     }
+
+-- There is just one list of such pieces.
+
+-- no delimiter stands before the end of the first line
+before_end : (delim m : ℕ) (text : List ℕ) → m < length (first_lines delim 1 (text ++ delim ∷ [])) → delimiters delim (take m text) ≡ 0
+before_end delim m text less = elim (cases_lt 0 (delimiters delim (take m text))) [
+  | inr none ↦ omega (arith, none)
+  | inl some ↦
+      let same : first_lines delim 1 (text ++ delim ∷ []) ≡ first_lines delim 1 (take m text) =
+      ap (λ those. first_lines delim 1 (those ++ delim ∷ [])) (sym (take-append-drop m text)) ∙ ap (first_lines delim 1) (append_assoc (take m text) (drop m text) (delim ∷ [])) ∙ first_lines-full delim 1 (take m text) (drop m text ++ delim ∷ []) some in
+      let short : length (first_lines delim 1 (take m text)) ≤ length (take m text) = length-first_lines-le delim 1 (take m text) in
+      absurd (omega (arith, less, ap length same, short, length-take m text))
+]
+
+-- a piece that is the whole lines of the first n bytes
+piece_before : {delim n : ℕ} (one rest : List ℕ) {pieces : List (List ℕ)} → n ≤ length (one ++ rest) → whole_lines delim (take n (one ++ rest)) ≡ one → AreLineByteParts delim n rest pieces → AreLineByteParts delim n (one ++ rest) (one ∷ pieces)
+piece_before {delim} {n} one rest {pieces} enough whole past = subst (λ part. AreLineByteParts delim n (one ++ rest) (part ∷ pieces)) whole
+    (piece.more (one ++ rest) pieces enough (subst (λ left. AreLineByteParts delim n left pieces) (sym (ap (λ part. drop (length part) (one ++ rest)) whole ∙ drop-append_seam one rest)) past))
+
+closed_some : (delim : ℕ) (text : List ℕ) → ends_with delim text ≡ true → 0 < delimiters delim text
+closed_some delim [] ends = absurd (false≢true ends)
+closed_some delim (byte ∷ []) ends = grind (arith, common_steps)
+closed_some delim (byte ∷ next ∷ text) ends = grind (arith, common_steps, (closed_some delim (next ∷ text) ends))
+
+whole_closed : (delim : ℕ) (text rest : List ℕ) → ends_with delim text ≡ true → delimiters delim rest ≡ 0 → whole_lines delim (text ++ rest) ≡ text
+whole_closed delim text rest ends none =
+    let count : delimiters delim (text ++ rest) ≡ delimiters delim text = delimiters-append delim text rest ∙ ap (λ n. delimiters delim text + n) none ∙ (let e : delimiters delim text + 0 ≡ delimiters delim text = omega arith in e) in
+    whole_of_lines delim (text ++ rest) (omega (arith, count, closed_some delim text ends)) ∙ first_lines-whole delim text rest (delimiters delim (text ++ rest)) ends count
+
+last_piece : (delim n : ℕ) (one : List ℕ) → 0 < length one → length one ≤ n → (0 < delimiters delim one → ends_with delim one ≡ false → length one < n) → AreLineByteParts delim n (one ++ []) (one ∷ [])
+last_piece delim n one some most room = elim (cases_lt (length one) n) [
+  | inl short ↦ subst (λ x. AreLineByteParts delim n x (one ∷ [])) (sym (append-nil one)) (piece.one one some short)
+  | inr full ↦ piece_before one [] (omega (arith, full, length-append one [])) (ap (whole_lines delim) (take_all n (one ++ []) (omega (arith, most, length-append one [])) ∙ append-nil one) ∙ whole (ends_with delim one) refl full) piece.none
+] where
+  whole : (closed : Bool) → ends_with delim one ≡ closed → n ≤ length one → whole_lines delim one ≡ one
+  whole true ends full = ap (whole_lines delim) (sym (append-nil one)) ∙ whole_closed delim one [] ends refl
+  whole false cut full = elim (cases_lt 0 (delimiters delim one)) [
+    | inl lines ↦ absurd (omega (arith, room lines cut, full))
+    | inr none ↦ whole_of_none delim one (omega (arith, none))
+  ]
+
+front_piece : (delim n : ℕ) (one next more : List ℕ) → length one ≤ n → EndsLine delim n one → IsFilled delim n one next → (n ≤ length (one ++ (next ++ more))) × (whole_lines delim (take n (one ++ (next ++ more))) ≡ one)
+front_piece delim n one next more most (inr (long, none)) filled = (
+  omega (arith, long, length-append one (next ++ more)),
+  ap (whole_lines delim) (ap (λ k. take k (one ++ (next ++ more))) (sym long) ∙ take-append_seam one (next ++ more)) ∙ whole_of_none delim one none,
+)
+front_piece delim n one next more most (inl ends) filled =
+    let m = n - length one in
+    let long : length (first_lines delim 1 (next ++ delim ∷ [])) ≤ length next + 1 = (let all : length (next ++ delim ∷ []) ≡ length next + 1 = length-append next (delim ∷ []) in omega (arith, all, length-first_lines-le delim 1 (next ++ delim ∷ []))) in
+    let few : m ≤ length next = omega (arith, filled, long) in
+    let front : take n (one ++ (next ++ more)) ≡ one ++ take m next =
+    ap (λ k. take k (one ++ (next ++ more))) (let e : n ≡ length one + m = omega (arith, most) in e) ∙ take-append-add one (next ++ more) m ∙ ap (λ those. one ++ those) (take-append-le m next more few) in (
+      omega (arith, few, most, length-append one (next ++ more), length-append next more),
+      ap (whole_lines delim) front ∙ whole_closed delim one (take m next) ends (before_end delim m next (omega (arith, filled, most))),
+    )
+
+later_pieces : {delim n : ℕ} {x one : List ℕ} {pieces : List (List ℕ)} → AreLinePieces delim n x (one ∷ pieces) → AreLinePieces delim n (joined pieces) pieces
+later_pieces are = record {
+  all = refl;
+  some = λ place within. are.some (suc place) (omega (arith, within));
+  most = λ place within. are.most (suc place) (omega (arith, within));
+  uncut = λ place within. are.uncut (suc place) (omega (arith, within));
+  filled = λ place within. are.filled (suc place) (omega (arith, within));
+  room = λ place within. are.room (suc place) (omega (arith, within));
+}
+
+pieces_are_parts : (delim n : ℕ) (pieces : List (List ℕ)) {x : List ℕ} → AreLinePieces delim n x pieces → AreLineByteParts delim n (joined pieces) pieces
+pieces_are_parts delim n [] are = piece.none
+pieces_are_parts delim n (one ∷ []) are = last_piece delim n one (are.some 0 (omega arith)) (are.most 0 (omega arith)) (are.room 0 (omega arith))
+pieces_are_parts delim n (one ∷ next ∷ pieces) are =
+    let front = front_piece delim n one next (joined pieces) (are.most 0 (omega arith)) (are.uncut 0 (omega arith)) (are.filled 0 (omega arith)) in
+    piece_before one (next ++ joined pieces) front.0 front.1 (pieces_are_parts delim n (next ∷ pieces) (later_pieces are))
+
+pub one_line_list : (delim n : ℕ) (input : List ℕ) (some other : List (List ℕ)) → 0 < n → AreLinePieces delim n input some → AreLinePieces delim n input other → some ≡ other
+one_line_list delim n input some other positive these those =
+    line_bytes_once positive (subst (λ x. AreLineByteParts delim n x some) these.all (pieces_are_parts delim n some these)) (subst (λ x. AreLineByteParts delim n x other) those.all (pieces_are_parts delim n other those))
 
 -- Lines dealt in turn
 

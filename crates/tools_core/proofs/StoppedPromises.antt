@@ -6,7 +6,7 @@ use Rattle.std.proofs.lemmas.Bool.{cases_Bool, false≢true}
 use Rattle.std.proofs.lemmas.List.{get_or_push}
 use Rattle.std.proofs.lemmas.List.Elements.{All-append}
 use Rattle.ports_core.specs.Message.{SaysAll, output_named}
-use Rattle.ports_core.specs.Part.{IsAt, IsNext, Marks, Part, StoppedBetween}
+use Rattle.ports_core.specs.Part.{Output, IsAt, IsNext, Marks, Part, StoppedBetween}
 use Rattle.ports_core.specs.Slot.{Slot, breaks, no_slot, slot_at, unopened}
 use Rattle.ports_core.specs.Source.{Content, Source}
 use Rattle.ports_core.specs.Streams.{standard_error, streams_with}
@@ -124,15 +124,15 @@ stop_early {run = run} {asked = asked} fault name {error} stops says slots is = 
 
 -- Standard error stays the slot after the first.
 
-stopped_error : (clears : Bool) {error : Slot} {low high : Part} {fault : Fault} {reached : List Slot} (new : List Slot) → StoppedBetween true (streams_with error) low high fault reached → Swept clears 2 reached new → slot_at new 1 ≡ error
-stopped_error clears {high} {fault} {reached} new between swept = grind (arith, common_steps)
+stopped_error : {output : Output} (clears : Bool) {error : Slot} {low high : Part} {fault : Fault} {reached : List Slot} (new : List Slot) → StoppedBetween output true (streams_with error) low high fault reached → Swept clears 2 reached new → slot_at new 1 ≡ error
+stopped_error clears {high = high} {fault} {reached} new between swept = grind (arith, common_steps)
 
 -- what was there before the fault is sound
-sound_before : {error : Slot} {low high : Part} {fault : Fault} {reached : List Slot} → AreLive high.files → (between : StoppedBetween true (streams_with error) low high fault reached) → (place : ℕ) → (place ≡ 1 → ⊥) → IsSoundAt between.reached place
+sound_before : {output : Output} {error : Slot} {low high : Part} {fault : Fault} {reached : List Slot} → AreLive high.files → (between : StoppedBetween output true (streams_with error) low high fault reached) → (place : ℕ) → (place ≡ 1 → ⊥) → IsSoundAt between.reached place
 sound_before {error} {high} live between place differs =
     subst (λ slots. IsSoundAt slots place) (sym (slots_at between.outputs)) (outputs_live between.part error place (live_begin between.part.files high.files between.below.files live) differs)
 
-stopped_broke : {clears : Bool} {run : Run} (asked : Settings) {error : Slot} {low high : Part} {fault : Fault} {reached : List Slot} (lines : List (List ℕ)) → AreLive high.files → StoppedBetween true (streams_with error) low high fault reached → Swept clears 2 reached run.outputs
+stopped_broke : {output : Output} {clears : Bool} {run : Run} (asked : Settings) {error : Slot} {low high : Part} {fault : Fault} {reached : List Slot} (lines : List (List ℕ)) → AreLive high.files → StoppedBetween output true (streams_with error) low high fault reached → Swept clears 2 reached run.outputs
     → SaysLines run asked (lines ++ message_of (tool_of asked) fault (output_named run.outputs fault) ∷ []) → (place : ℕ) → (place ≡ 1 → ⊥) → (slot_at run.outputs place).is_broken ≡ true → IsToldOf run asked place ⊎ IsStuck clears run.outputs place
 stopped_broke {clears} {run} asked {error} {high} {fault} {reached} lines live between swept says place differs broken =
     let new = run.outputs in

@@ -184,7 +184,8 @@ abbrev pub IsFilled : (delim n : ℕ) (piece next : List ℕ) → Type 0
 IsFilled delim n piece next = n < length piece + length (first_lines delim 1 (next ++ delim ∷ []))
 
 -- The pieces are joined the input. None is empty, none has more than n bytes, and between two pieces a line is cut only
--- where it is longer than that. Each has as many lines as fit, where an open last line counts with its delimiter.
+-- where it is longer than that. Each has as many lines as fit, where an open last line counts with its delimiter: so a
+-- piece in which such a line follows others has room for that.
 pub record AreLinePieces (delim n : ℕ) (input : List ℕ) (pieces : List (List ℕ)) : Type 0 where
   pub all : joined pieces ≡ input
   pub some : (place : ℕ) → place < length pieces → 0 < length (text_at pieces place)
@@ -192,6 +193,8 @@ pub record AreLinePieces (delim n : ℕ) (input : List ℕ) (pieces : List (List
   pub uncut : (place : ℕ) → place + 1 < length pieces → EndsLine delim n (text_at pieces place)
   pub filled : (place : ℕ) → place + 1 < length pieces
       → IsFilled delim n (text_at pieces place) (text_at pieces (suc place))
+  pub room : (place : ℕ) → place < length pieces → 0 < delimiters delim (text_at pieces place)
+      → ends_with delim (text_at pieces place) ≡ false → length (text_at pieces place) < n
 
 -- Line i of the input, counted from 0, is line i / n of file i % n, and there is nothing else in the files. There are
 -- n, or those that have a line, where the others are left out.

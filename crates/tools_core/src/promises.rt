@@ -1,7 +1,7 @@
 //! What people rest on, as laws of runs, with no code: each stands on the contract of a function whose body is empty. They
 //! speak of runs over inputs and outputs that tell their bytes, as those in memory do, and of what `run` and `run_follow` ensure of
 //! each; where nothing else is said, of runs whose status is 0. Each run of the program, `run_words`, is one of these.
-ghost use Rattle.std.specs.Prelude.{◌≡◌, ◌⊎◌, ◌+◌, ◌++◌, ◌∷◌, [], ℕ, List, Ok, true, false, length};
+ghost use Rattle.std.specs.Prelude.{◌≡◌, ◌<◌, ◌⊎◌, ◌+◌, ◌++◌, ◌∷◌, [], ℕ, List, Ok, true, false, length};
 ghost use Rattle.ends_core.specs.Ends.{tail_of};
 ghost use Rattle.follow_core.specs.Run.{AreKept, name_text};
 ghost use Rattle.follow_core.specs.Version.{entries_of};
@@ -64,13 +64,15 @@ pub fn cutting_changes_nothing()
 /// `split` loses nothing. Its files have the names that were asked for, and come in the order of these, byte by byte. With
 /// `-l N` and `-b N` they are joined the input, and each but the last has N lines or bytes; `-l` cuts no line. With `-C N`
 /// they are joined the input, each has as many lines as fit into N bytes, where an open last line counts with its delimiter,
-/// and a line is cut only where it is longer than that. With `-n r/N` each line is in just one file, in turn.
+/// and a line is cut only where it is longer than that; an input has just one such list of pieces. With `-n r/N` each line is
+/// in just one file, in turn.
 pub fn split_loses_nothing()
     ensures listed { (split : Run) (asked : SplitAsked) (input : List ℕ) → Does split (Split asked) → HasInput split input → AreListed asked (files_of split) }
     ensures lines { (split : Run) (asked : SplitAsked) (n : ℕ) (input : List ℕ) → Does split (Split asked) → HasInput split input → asked.cut ≡ Lines n → ArePieces (line_count asked.delim) n input (contents_of split) }
     ensures uncut { (split : Run) (asked : SplitAsked) (n : ℕ) (input : List ℕ) → Does split (Split asked) → HasInput split input → asked.cut ≡ Lines n → AreUncut asked.delim (contents_of split) }
     ensures bytes { (split : Run) (asked : SplitAsked) (n : ℕ) (input : List ℕ) → Does split (Split asked) → HasInput split input → asked.cut ≡ Bytes n → ArePieces length n input (contents_of split) }
     ensures line_bytes { (split : Run) (asked : SplitAsked) (n : ℕ) (input : List ℕ) → Does split (Split asked) → HasInput split input → asked.cut ≡ LineBytes n → AreLinePieces asked.delim n input (contents_of split) }
+    ensures one_list { (delim n : ℕ) (input : List ℕ) (some other : List (List ℕ)) → 0 < n → AreLinePieces delim n input some → AreLinePieces delim n input other → some ≡ other }
     ensures dealt { (split : Run) (asked : SplitAsked) (n : ℕ) (input : List ℕ) → Does split (Split asked) → HasInput split input → asked.cut ≡ Round n → AreDealt asked.delim n asked.elide input (contents_of split) }
 {}
 

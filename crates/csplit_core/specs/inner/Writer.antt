@@ -1,8 +1,9 @@
 -- What private calls say: what contracts see of the writer of sections, and what its calls do.
-use Rattle.std.specs.Prelude.{Bool, true, List, [], ◌∷◌, ◌++◌, ℕ, ◌≡◌, length, Option, Some, None, IfNone, Result, Ok, Err, ◌+◌, IfSome}
+use Rattle.std.specs.Prelude.{Bool, true, false, decimal, List, [], ◌∷◌, ◌++◌, ℕ, ◌≡◌, length, Option, Some, None, IfNone, Result, Ok, Err, ◌+◌, IfSome}
 use Rattle.ports_core.specs.Part.{Part, OutputsAt, nothing}
-use Rattle.csplit_core.specs.Output.{Style}
+use Rattle.csplit_core.specs.Output.{Style, sizes_wanted}
 use Rattle.csplit_core.specs.Draft.{Draft, last_contents, draft_part}
+use Rattle.csplit_core.specs.Input.{newline}
 use Rattle.ports_core.specs.inner.Part.{IsThere}
 use Rattle.ports_core.specs.Slot.{Slot, FailsToOpen, opened}
 use Rattle.ports_core.specs.inner.Slot.{KeepsBroken}
@@ -41,7 +42,7 @@ pub record At (told : Bool) (writer : WriterState) (before : List Slot) (part : 
 -- so it is of outputs that had the one part
 pub record Reaches (told : Bool) (writer next : WriterState) (low high : Part) (old new : List Slot) (fault : Option Fault) : Type 0 where
   pub there : (before : List Slot) → At told writer before low old
-      → IsThere told (At told next before high new) before low high new fault
+      → IsThere (sizes_wanted writer.style) told (At told next before high new) before low high new fault
 
 -- the files stay its own, and there
 pub record KeepsFiles (writer next : WriterState) (old new : List Slot) : Type 0 where
@@ -90,6 +91,11 @@ pub record Appends (told : Bool) (writer : WriterState) (slot size : ℕ) (bytes
   pub current : IfNone fault (next.current ≡ File slot (size + length bytes))
   pub still : IfSome fault (λ why. next.current ≡ writer.current)
   pub wrote : Wrote told slot bytes old new fault
+
+-- the size of a file was told, or standard output broke; nothing was where sizes aren't wanted
+abbrev pub TellsSize : Bool → Bool → ℕ → List Slot → List Slot → Option Fault → Type 0
+TellsSize told true size old new fault = (fault ≡ None) × (new ≡ old)
+TellsSize told false size old new fault = Wrote told 0 (decimal size ++ newline ∷ []) old new fault
 
 abbrev pub next_name : WriterState → List ℕ
 next_name writer = numbered_name writer.style.prefix writer.style.digits (length writer.files)

@@ -85,7 +85,8 @@ pub data TookInput (told_in told : Bool) (task : Task) (most : ℕ) (input : Inp
   cut_off : (fault : Fault) (step : Step) (reached : List Slot)
       → RunStep told_in task most so_far (header_text task.with_header is_first input.name) input.slot sources
       input.content step
-      → Stops step reached fault → StoppedBetween told (streams_with error) step.low step.high fault reached
+      → Stops step reached fault
+      → StoppedBetween step.output told (streams_with error) step.low step.high fault reached
       → Swept task.work.clears first reached new
       → TookInput told_in told task most input outcome is_first failed was_read so_far error first sources new
       (Err fault)
@@ -106,7 +107,8 @@ pub data TookAll (told_in told : Bool) (task : Task) (inputs : List Input) (sour
       → RunStep told_in task largest_piece (made_by task before).part
       (header_text task.with_header (are_missing before) input.name) input.slot sources input.content step
       → Stops step reached fault → SaysAll told task.tool (made_by task before).messages standard_error error
-      → StoppedBetween told (streams_with error) step.low step.high fault reached → Swept task.work.clears 2 reached new
+      → StoppedBetween step.output told (streams_with error) step.low step.high fault reached
+      → Swept task.work.clears 2 reached new
       → TookAll told_in told task inputs sources new (Err fault)
   not_begun : new ≡ streams → AreUntouched inputs sources → length sources ≡ 1
       → TookAll told_in told task inputs sources new (Err Memory)

@@ -5,7 +5,7 @@ use Rattle.ports_core.specs.Slot.{Slot, Rose, opened, unopened}
 use Rattle.ports_core.specs.inner.Slot.{KeepsBroken}
 use Rattle.ports_core.specs.declared.slot.Mode.TheVariants.{Fresh}
 use Rattle.ports_core.specs.declared.slot.State.TheVariants as state
-use Rattle.ports_core.specs.Part.{Part}
+use Rattle.ports_core.specs.Part.{Part, gets_none}
 use Rattle.ports_core.proofs.PartSteps.{Becomes}
 use Rattle.ports_core.specs.inner.Part.{fault_in}
 use Rattle.ports_core.specs.inner.Write.{Wrote}
@@ -71,9 +71,9 @@ pub record RunsShort (names : Naming) (those high : List Share) : Type 0 where
 pub record Goes (told : Bool) (names : Naming) (current : Option ℕ) (low high : List Share) (old new : List Slot)
     (result : Result (Unit {0}) Fault) : Type 0 where
   pub grows : SharesBegin low high
-  pub moves : IsAtEnd current old → Becomes told (part_of names low) (part_of names high) old new (fault_in result)
+  pub moves : IsAtEnd current old → Becomes gets_none told (part_of names low) (part_of names high) old new (fault_in result)
   pub short : IfErr result (λ fault. fault ≡ Suffixes → (those : List Share) × RunsShort names those high
-      × (IsAtEnd current old → Becomes told (part_of names low) (part_of names those) old new None))
+      × (IsAtEnd current old → Becomes gets_none told (part_of names low) (part_of names those) old new None))
 
 -- the shares of closed files, and what is written of the part that was begun
 pub record Draft : Type 0 where

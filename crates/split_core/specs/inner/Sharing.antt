@@ -3,7 +3,7 @@ use Rattle.std.specs.Prelude.{◌≡◌, ℕ, ◌+◌, ◌-◌, ◌<◌, ◌≤�
 use Rattle.std.specs.List.{range_with_len}
 use Rattle.ports_core.specs.Name.{Naming, with_one_drawn}
 use Rattle.ports_core.specs.Slot.{Slot}
-use Rattle.ports_core.specs.Part.{Part, OutputsAt, IsBeginning, StoppedBetween}
+use Rattle.ports_core.specs.Part.{Part, OutputsAt, IsBeginning, StoppedBetween, gets_none}
 use Rattle.ports_core.specs.declared.fault.Fault.{Fault}
 use Rattle.ports_core.specs.declared.fault.Fault.TheVariants.{Suffixes, Write}
 use Rattle.ports_core.specs.declared.slot.State.TheVariants as state
@@ -57,7 +57,7 @@ pub record Halts (told : Bool) (before : List Slot) (names : Naming) (low : ℕ 
     (many from to : ℕ) (fault : Fault) (now : List Slot) : Type 0 where
   pub stops : (first last : ℕ → Share) (fewest most end : ℕ) → Grow 0 (from + 1) first fewest low few
       → Grow (to - 1) end high many last most
-      → StoppedBetween told before (part_by names first fewest) (part_by names last most) fault now
+      → StoppedBetween gets_none told before (part_by names first fewest) (part_by names last most) fault now
   -- it was a write to none of the files before them
   pub own : (place : ℕ) → fault ≡ Write (length before + place) → from ≤ place
 
@@ -103,7 +103,7 @@ pub record ClosesAll (told : Bool) (files : FilesState) (old new : List Slot) (r
     : Type 0 where
   pub closed : OnOk result (HaveClosed told files (length files.outputs) old new)
   pub cut : IfErr result (λ fault. (before : List Slot) (had : ℕ → List ℕ) → StandAt told files before had old
-      → StoppedBetween told before (part_by (from_start files.names) (all_open had) (length files.outputs))
+      → StoppedBetween gets_none told before (part_by (from_start files.names) (all_open had) (length files.outputs))
       (part_by (from_start files.names) (closed_first (length files.outputs) had) (length files.outputs)) fault new)
   pub caused : IfErr result (CannotClose old new)
   pub owned : KeepsFiles files old files new

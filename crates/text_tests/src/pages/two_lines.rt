@@ -15,7 +15,7 @@ pub(crate) fn which_match(
     ensures second { IfOk result (λ found. found.1 ≡ contains bre.now second.now) }
 {
     let mut scan = Scan::new(alloc, bre)?;
-    let has_first = scan.contains(bre, first);
-    let has_second = scan.contains(bre, second);
+    let has_first = scan.search(bre, first).found;
+    let has_second = scan.search(bre, second).found;
     Ok((has_first, has_second))
 }

@@ -1,7 +1,7 @@
 use Rattle.std.proofs.Common.{length}
 use Rattle.seg_core.specs.Line.{line_count}
 use Rattle.tools_core.specs.Promises.{AreDealt, AreLinePieces, ArePieces, AreUncut}
-use Rattle.tools_core.proofs.SplitPromises.{by_cut, byte_pieces, dealt_lines, is_split, line_byte_pieces, line_ends, line_pieces}
+use Rattle.tools_core.proofs.SplitPromises.{by_cut, byte_pieces, dealt_lines, is_split, line_byte_pieces, line_ends, line_pieces, one_line_list}
 use Rattle.tools_core.proofs.promises.split_loses_nothing.Goals as goal
 
 pub returns : goal.returns
@@ -11,5 +11,6 @@ returns c = record {
   uncut = λ split asked n input. by_cut (AreUncut asked.delim) (line_ends asked.delim input);
   bytes = λ split asked n input. by_cut (ArePieces length n input) byte_pieces;
   line_bytes = λ split asked n input. by_cut (AreLinePieces asked.delim n input) line_byte_pieces;
+  one_list = one_line_list;
   dealt = λ split asked n input. by_cut (AreDealt asked.delim n asked.elide input) (λ some. dealt_lines some.0);
 }

@@ -2,6 +2,7 @@ use Rattle.std.proofs.Common.{◌≡◌, List, [], length, refl, subst, sym, ap,
 use Rattle.seg_core.specs.Line.{delimiters}
 use Rattle.ports_core.specs.Guard.{GuardState, HoldsIn}
 use Rattle.ports_core.specs.Part.{OutputsAt, StoppedBetween, nothing}
+use Rattle.csplit_core.specs.Output.{sizes_wanted}
 use Rattle.ports_core.specs.Slot.{Slot}
 use Rattle.ports_core.proofs.HandedOn.{fault_is}
 use Rattle.csplit_core.specs.Csplit.{settled_by}
@@ -30,5 +31,5 @@ pub returns-clause-outputs : goal.returns-clause-outputs
 returns-clause-outputs g c = begins_at g.O.Outs.told c.args.style c.as_slice.ensures c.requires.streams c.in_ok-cutter.ensures.reaches
 
 pub returns-in_err-cutter-clause-cut : goal.returns-in_err-cutter-clause-cut
-returns-in_err-cutter-clause-cut g c = fault_is c.from_residual.result (λ fault. (before : List Slot) → OutputsAt g.O.Outs.told before nothing _ → StoppedBetween g.O.Outs.told before nothing (settled_by c.args.style c.args.operands.now []) fault _) _ c.from_residual.ensures.1
+returns-in_err-cutter-clause-cut g c = fault_is c.from_residual.result (λ fault. (before : List Slot) → OutputsAt g.O.Outs.told before nothing _ → StoppedBetween (sizes_wanted c.args.style) g.O.Outs.told before nothing (settled_by c.args.style c.args.operands.now []) fault _) _ c.from_residual.ensures.1
     (cannot_begin g.O.Outs.told c.as_slice.ensures c.requires.streams c.in_err-cutter.ensures)

@@ -1,9 +1,8 @@
-use Rattle.std.proofs.Common.{◌∙◌, ap, refl, sym}
+use Rattle.std.proofs.Common.{refl}
 use Rattle.ports_core.proofs.HandedOn.{handed_on}
 use Rattle.csplit_core.specs.Draft.{last_contents}
-use Rattle.csplit_core.specs.Output.{Style}
 use Rattle.csplit_core.specs.declared.section_writer.Current.TheVariants.{Skipped}
-use Rattle.csplit_core.proofs.WriterLemmas.{close_not, elides_file, end_none, end_quiet, end_sized, now_is, skips_file}
+use Rattle.csplit_core.proofs.WriterLemmas.{close_not, elides_file, end_none, end_told, now_is, skips_file}
 use Rattle.csplit_core.proofs.section_writer.SectionWriter.end.Goals as goal
 
 pub returns-in-Skipped-clause-goes : goal.returns-in-Skipped-clause-goes
@@ -16,8 +15,5 @@ pub returns-in_err-close-in-File-clause-goes : goal.returns-in_err-close-in-File
 returns-in_err-close-in-File-clause-goes g c = rw (handed_on _ _ c.from_residual.ensures.1)
     (close_not _ _ c.in-File.is c.requires c.in_err-close-in-File.ensures.err.0 c.in_err-close-in-File.ensures.err.1)
 
-pub returns-then-style-clause-goes : goal.returns-then-style-clause-goes
-returns-then-style-clause-goes g c = end_quiet _ _ c.in-File.is c.requires (sym (ap (λ (style : Style). style.quiet) (c.behind-self.view_is ∙ c.style.ensures)) ∙ c.if-style.true) c.in_ok-close-in-File.ensures.ok
-
-pub returns-else-style-clause-goes : goal.returns-else-style-clause-goes
-returns-else-style-clause-goes g c = end_sized _ _ c.in-File.is c.requires (sym (ap (λ (style : Style). style.quiet) (c.behind-self.view_is ∙ c.style.ensures)) ∙ c.if-style.false) c.in_ok-close-in-File.ensures.ok c.write_size.ensures
+pub returns-in_ok-close-in-File-clause-goes : goal.returns-in_ok-close-in-File-clause-goes
+returns-in_ok-close-in-File-clause-goes g c = end_told c.args.self.now.style.quiet _ _ refl c.in-File.is c.requires c.in_ok-close-in-File.ensures.ok c.tell_size.ensures

@@ -10,7 +10,7 @@ use Rattle.split_core.proofs.RoundLemmas.{at_start, does_all, opens_all, starts_
 use Rattle.split_core.proofs.round_splitter.RoundSplitter.open.Goals as goal
 
 pub returns-in_err-deal-clause-cut : goal.returns-in_err-deal-clause-cut
-returns-in_err-deal-clause-cut g c = fault_is _ _ _ c.from_residual.ensures.1 (λ before at. stopped_here g.O.Outs.told before nothing _ Memory _ _ at (nothing_begins_part _) refl tt)
+returns-in_err-deal-clause-cut g c = fault_is _ _ _ c.from_residual.ensures.1 (λ before at. stopped_here _ g.O.Outs.told before nothing _ Memory _ _ at (nothing_begins_part _) refl tt)
 
 pub returns-in_err-open_first-clause-cut : goal.returns-in_err-open_first-clause-cut
 returns-in_err-open_first-clause-cut g c = fault_is _ _ _ c.from_residual-in_err-open_first.ensures.1 (λ before at. (opens_all g.O.Outs.told c.args.names c.new-files.ensures c.in_err-open_first.ensures
