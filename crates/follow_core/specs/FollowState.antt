@@ -14,7 +14,7 @@ use Rattle.follow_core.specs.Followed.{any_failed}
 use Rattle.follow_core.specs.Look.{Fate, Look, Ways, is_dropped, snapshots, ways_of}
 use Rattle.follow_core.specs.Share.{BeginsShare, Share, share_of, shares_at_look_from, shares_of}
 use Rattle.follow_core.specs.Printing.{PrinterState, fresh_printer}
-use Rattle.follow_core.specs.Standing.{AllStand, AreBroken, CanVisit, NameState, state_at, texts}
+use Rattle.follow_core.specs.Standing.{AllStand, AreWatched, CanVisit, NameState, state_at, texts}
 use Rattle.follow_core.specs.Version.{open_after}
 
 pub record FollowState : Type 0 where
@@ -91,10 +91,10 @@ pub record Holds (told_in told : Bool) (ways : Ways) (headers : Bool) (names : L
 -- which no call failed, a beginning. A name broke only where one of these looks tells so.
 pub data Begun (told_in : Bool) (ways : Ways) (names : List (List ℕ)) (looks : List Look) (snapshot : Snapshot)
     (watched : List Watched) : List Share → Type 0 where
-  nothing : AreBroken ways looks names watched → Begun told_in ways names looks snapshot watched []
+  nothing : AreWatched ways looks names watched → Begun told_in ways names looks snapshot watched []
   up_to : (fates : List Fate) (place : ℕ) (shares : List Share) (share : Share)
       → length fates ≡ ways.first + place → place < length names
-      → AreBroken ways (looks ++ record { snapshot = snapshot; fates = fates } ∷ []) names watched
+      → AreWatched ways (looks ++ record { snapshot = snapshot; fates = fates } ∷ []) names watched
       → (told_in ≡ true → shares ≡ shares_at_look_from ways looks (record { snapshot = snapshot; fates = fates })
       ways.first (take place names))
       → (told_in ≡ true → BeginsShare share

@@ -2,6 +2,7 @@ pub mod Version
 pub mod Run
 pub mod Gain
 pub mod Notice
+pub mod Event
 pub mod Look
 pub mod Share
 pub mod Followed

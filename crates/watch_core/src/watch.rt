@@ -14,9 +14,23 @@ pub struct Seen {
     pub len: u64,
 }
 
+/// By which call a name broke.
+#[derive(Clone, Copy, Debug, PartialEq, Eq)]
+pub enum Broken {
+    /// `look`.
+    Look,
+    /// `reopen`.
+    Open,
+    /// `open_len`. Holds the identity of the open file.
+    Len(Option<u128>),
+    /// `read_at`. Holds the identity of the open file, and from which place on it was read.
+    Read(Option<u128>, u64),
+}
+
 /// Names that are watched in looks, each by its number, from 0 in the order in which they were added. What the names lead to and
 /// what the files hold changes only as a look begins, with `turn`. Of each name one file may be open, which stays what it is when
-/// the name comes to lead elsewhere. A name breaks at its first failure, by the fault that is returned, and stays broken.
+/// the name comes to lead elsewhere. A name breaks at its first call that fails, and stays
+/// broken: no file of it is open from then on.
 pub trait Watch {
     /// What each look so far could see, in order.
     ghost seen: { Self → List Snapshot };
@@ -62,7 +76,7 @@ pub trait Watch {
         ensures ok { IfOk result (λ found. told ≡ true → Finds (latest (seen self.old)) (watched_at (watched self.old) place).name found) }
         ensures bound { IfOk result (λ found. IfSome found (λ file. file.len < 2 ^ 63)) }
         ensures same { OnOk result (watched self.new ≡ watched self.old) }
-        ensures err { IfErr result (λ fault. (fault ≡ Fault.Open place) × (watched self.new ≡ changed_at place (breaks fault) (watched self.old))) }
+        ensures err { IfErr result (λ fault. (fault ≡ Fault.Open place) × (watched self.new ≡ changed_at place (breaks (λ file. Broken.Look)) (watched self.old))) }
         ensures seen { seen self.new ≡ seen self.old }
         ensures shows { shows self.new ≡ shows self.old };
 
@@ -75,7 +89,7 @@ pub trait Watch {
     fn reopen(&mut self, place: usize) -> Result<bool, Fault>
         requires { IsTrue (is_watchable (watched self.old) place) }
         ensures ok { IfOk result (Reopens told (latest (seen self.old)) (watched self.old) (watched self.new) place) }
-        ensures err { IfErr result (λ fault. (fault ≡ Fault.Open place) × (watched self.new ≡ changed_at place (breaks fault) (watched self.old))) }
+        ensures err { IfErr result (λ fault. (fault ≡ Fault.Open place) × (watched self.new ≡ changed_at place (breaks (λ file. Broken.Open)) (watched self.old))) }
         ensures seen { seen self.new ≡ seen self.old }
         ensures shows { shows self.new ≡ shows self.old };
 
@@ -93,7 +107,7 @@ pub trait Watch {
         ensures ok { IfOk result (λ len. told ≡ true → len ≡ length (open_contents (latest (seen self.old)) (watched_at (watched self.old) place))) }
         ensures bound { IfOk result (λ len. len < 2 ^ 63) }
         ensures same { OnOk result (watched self.new ≡ watched self.old) }
-        ensures err { IfErr result (λ fault. (fault ≡ Fault.Read place) × (watched self.new ≡ changed_at place (breaks fault) (watched self.old))) }
+        ensures err { IfErr result (λ fault. (fault ≡ Fault.Read place) × (watched self.new ≡ changed_at place (breaks (λ file. Broken.Len file)) (watched self.old))) }
         ensures seen { seen self.new ≡ seen self.old }
         ensures shows { shows self.new ≡ shows self.old };
 
@@ -109,7 +123,7 @@ pub trait Watch {
         ensures bytes { IfOk result (λ n. told ≡ true → GaveFrom (open_contents (latest (seen self.old)) (watched_at (watched self.old) place)) from buffer.old buffer.new n) }
         ensures length { length buffer.new ≡ length buffer.old }
         ensures same { OnOk result (watched self.new ≡ watched self.old) }
-        ensures err { IfErr result (λ fault. (fault ≡ Fault.Read place) × (watched self.new ≡ changed_at place (breaks fault) (watched self.old))) }
+        ensures err { IfErr result (λ fault. (fault ≡ Fault.Read place) × (watched self.new ≡ changed_at place (breaks (λ file. Broken.Read file from)) (watched self.old))) }
         ensures seen { seen self.new ≡ seen self.old }
         ensures shows { shows self.new ≡ shows self.old };
 }

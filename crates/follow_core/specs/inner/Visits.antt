@@ -1,5 +1,5 @@
 -- What a look leaves at one name, at one name after another and at all names, and what all looks of a run do.
-use Rattle.std.specs.Prelude.{Bool, true, false, ◌||◌, List, [], ◌∷◌, ◌≡◌, ℕ, ◌++◌, Option, Some, None, length, Result, Ok, Err, ◌<◌, take, ◌≤◌, IfErr, IfOk, OnOk, ◌+◌, map}
+use Rattle.std.specs.Prelude.{Bool, true, false, ◌||◌, List, [], ◌∷◌, ◌≡◌, ℕ, ◌++◌, Option, Some, None, length, Result, Ok, Err, ◌<◌, take, ◌≤◌, IfErr, IfOk, OnOk, ◌+◌, map, is_some}
 use Rattle.follow_core.specs.declared.name.Standing.{Standing}
 use Rattle.follow_core.specs.declared.name.Standing.TheVariants.{New, Followed, Left}
 use Rattle.follow_core.specs.Standing.{NameState, AllStand, CanVisit, Stands, StandsAmong, texts}
@@ -10,10 +10,10 @@ use Rattle.ports_core.specs.declared.tool.Tool.TheVariants.{Tail}
 use Rattle.ports_core.specs.declared.fault.Fault.{Fault}
 use Rattle.watch_core.specs.Snapshot.{Snapshot}
 use Rattle.watch_core.specs.Watched.{Watched, opens, watched_at, added}
-use Rattle.follow_core.specs.Share.{BeginsShare, IsFront, Share, share_by, share_of, shares_at_look_from}
+use Rattle.follow_core.specs.Share.{BeginsShare, Share, share_by, share_of, shares_at_look_from}
 use Rattle.follow_core.specs.Look.{Fate, Look, Ways, sound, fate_at, is_dropped, ways_of, snapshots}
 use Rattle.follow_core.specs.Printing.{PrinterState}
-use Rattle.follow_core.specs.inner.Giving.{Shared, HasStopped}
+use Rattle.follow_core.specs.inner.Giving.{IsFront, Shared, HasStopped}
 use Rattle.follow_core.specs.declared.visitor.Stop.{Stop}
 use Rattle.follow_core.specs.declared.visitor.Stop.TheVariants.{Broke, Over}
 use Rattle.follow_core.specs.Followed.{any_failed}
@@ -68,7 +68,7 @@ pub record Visited (told_in told : Bool) (ways : Ways) (looks : List Look) (snap
   pub is_share : told_in ≡ true → (fates : List Fate)
       → fate_at place (record { snapshot = snapshot; fates = fates }) ≡ fate
       → share ≡ share_of ways looks (record { snapshot = snapshot; fates = fates }) place name
-  pub is_failed : share.has_failed ≡ failed
+  pub is_failed : is_some share.failure ≡ failed
   pub shared : Shared told printer share old after new None
   pub stands : (fates : List Fate) → fate_at place (record { snapshot = snapshot; fates = fates }) ≡ fate
       → Stands told_in ways (looks ++ record { snapshot = snapshot; fates = fates } ∷ []) place name watched standing
