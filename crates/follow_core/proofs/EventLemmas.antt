@@ -43,6 +43,10 @@ bytes_later last (entry ∷ entries) = bytes-append (events_between last entry) 
 
 -- beginnings
 
+pub begins_all : (events : List Event) → Begins events events
+begins_all [] = begins_none
+begins_all (event ∷ events) = begins_on (begins_all events)
+
 pub begins_more : {part all : List Event} (more : List Event) → Begins part all → Begins part (all ++ more)
 begins_more more begins_none = begins_none
 begins_more more (begins_within bytes) = begins_within bytes

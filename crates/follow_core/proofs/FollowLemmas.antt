@@ -1,7 +1,7 @@
 -- A look at all names: at one after another, one look more, and one that was stopped; and one look after another.
 use Rattle.std.proofs.Common.{◌≡◌, ℕ, zero, suc, ◌<◌, ◌≤◌, ◌+◌, Bool, true, false, ◌||◌, List, [], ◌∷◌, ◌++◌, length, take, set, replicate, get_or, slice_index_or, refl, sym, ◌∙◌, ap, subst, arith, append_assoc, inl, inr, ◌⊎◌, Option, Some, subst₂, Err, not, ◌&&◌, map, Ok, Result, None, is_some, rules}
 use Rattle.std.proofs.Math.Bool.{or-false, or-false as or_none, and-false as and_none}
-use Rattle.std.proofs.lemmas.Bool.{cases_eq, cases_lt, and_parts, false≢true, not-true}
+use Rattle.std.proofs.lemmas.Bool.{or_parts, cases_eq, cases_lt, and_parts, false≢true, not-true}
 use Rattle.std.proofs.lemmas.List.{append-nil, get_or-map, get_or-set_other, get_or-set_same, length-append, length-map, length-replicate, length-set, length-take-le, take_all, get_or_past, get_or-append-add, get_or_append_left, map-append, take-append-le}
 use Rattle.std.proofs.Math.Seq.{get_or-append_seam, map-set_same, take-suc, take-append_seam}
 use Rattle.ports_core.specs.Slot.{Slot, changed_at, adds}
@@ -11,9 +11,10 @@ use Rattle.follow_core.specs.Look.{Fate, Look, Ways, failed_in, fate_at, is_drop
 use Rattle.follow_core.specs.Share.{BeginsShare, Share, lines_of, share_by, share_of, shares_at_look_from, shares_of}
 use Rattle.follow_core.specs.inner.Visits.{KeepsOthers, Opened, StandFrom, Stopped, Visited, VisitedTo, Visits, VisitsAll, any_goes_on, goes_on_as, AddsSome, Begins, MakesLook, LookedAll}
 use Rattle.follow_core.specs.Printing.{PrinterState, Short}
+use Rattle.follow_core.specs.Reading.{AreAtLook, IsGiven, looks_more, names_more, no_looks, no_names}
 use Rattle.follow_core.specs.Sharing.{AllShared, AllShort, Wrote, CanPrint}
 use Rattle.follow_core.specs.inner.Giving.{IsFront, Shared, HasStopped}
-use Rattle.follow_core.specs.Standing.{AllStand, CanVisit, NameState, Stands, StandsAmong, no_state, state_at, texts, AreWatched, IsFollowed, IsWatched}
+use Rattle.follow_core.specs.Standing.{AllStand, CanVisit, NoneGoesOn, NameState, Stands, StandsAmong, no_state, state_at, texts, AreWatched, IsFollowed, IsWatched}
 use Rattle.follow_core.proofs.CallLemmas.{none_of, wrote_after, wrote_none, no_memory}
 use Rattle.ports_core.specs.declared.fault.Fault.{Fault}
 use Rattle.watch_core.specs.Snapshot.{Snapshot, latest}
@@ -68,6 +69,7 @@ visited_none {ways} stand = record {
   shares = [];
   count = length-replicate ways.first sound ∙ omega arith;
   are = λ t all front. refl;
+  found = λ all front. no_names;
   is_failed = refl;
   shared = nothing_shared;
   same = refl;
@@ -113,6 +115,21 @@ shares_next ways looks look names now {place} same within =
     ∙ sym (shares_one ways looks look ways.first (take place (texts names)) (get_or (texts names) place []))
     ∙ ap (shares_at_look_from ways looks look ways.first) (sym (take-suc (texts names) place [] below))
 
+-- the names before a place, and the one at it
+count_taken : (names now : List NameState) {place : ℕ} → texts now ≡ texts names → place < length now → length (take place (texts names)) ≡ place
+count_taken names now {place} same within = length-take-le place (texts names) (subst (λ n. place ≤ n) (sym (length_texts names now same)) (omega arith))
+
+names_next : (names now : List NameState) {place : ℕ} → texts now ≡ texts names → place < length now → take place (texts names) ++ (state_at now place).text ∷ [] ≡ take (suc place) (texts names)
+names_next names now {place} same within = ap (λ name. take place (texts names) ++ name ∷ []) (sym (text_there names now same within))
+    ∙ sym (take-suc (texts names) place [] (subst (λ n. place < n) (sym (length_texts names now same)) within))
+
+-- what a look gives for one name more
+one_given : (looks : List Look) (look : Look) (from : ℕ) (names : List (List ℕ)) (name : List ℕ) {shares : List Share} {share : Share} → AreAtLook looks look from names shares
+    → IsGiven looks look (from + length names) name share → AreAtLook looks look from (names ++ name ∷ []) (shares ++ share ∷ [])
+one_given looks look from [] name {share} no_names given = names_more (subst (λ n. IsGiven looks look n name share) (let e : from + 0 ≡ from = omega arith in e) given) no_names
+one_given looks look from (first ∷ names) name {share} (names_more is rest) given =
+    names_more is (one_given looks look (from + 1) names name rest (subst (λ n. IsGiven looks look n name share) (let e : from + suc (length names) ≡ (from + 1) + length names = omega arith in e) given))
+
 pub visited_more : {told_in told : Bool} {ways : Ways} {looks : List Look} {snapshot : Snapshot} {names now : List NameState} {one : NameState} {place : ℕ}
     {printer mid after : PrinterState} {old slots new : List Slot} {watched watched_new : List Watched} {before failed : Bool} → place < length now
     → Visits told_in told ways snapshot (ways.first + place)
@@ -127,6 +144,10 @@ visited_more {told_in} {told} {ways} {looks} {snapshot} {names} {now} {one} {pla
       ap (λ those. those ++ visited.share ∷ []) (sofar.are t all (front_before sofar.fates visited.fate front))
       ∙ ap (λ share. shares_at_look_from ways looks look ways.first (take place (texts names)) ++ share ∷ []) (visited.is_share t all (fate_there sofar.fates visited.fate front sofar.count))
       ∙ shares_next ways looks look names now sofar.same within ∙ ap (λ n. shares_at_look_from ways looks look ways.first (take n (texts names))) (let next : suc place ≡ place + 1 = omega arith in next);
+  found = λ all front. let look : Look = record { snapshot = snapshot; fates = all } in
+      subst (λ those. AreAtLook looks look ways.first those (sofar.shares ++ visited.share ∷ [])) (names_next names now sofar.same within ∙ ap (λ n. take n (texts names)) (let next : suc place ≡ place + 1 = omega arith in next))
+      (one_given looks look ways.first (take place (texts names)) (state_at now place).text (sofar.found all (front_before sofar.fates visited.fate front))
+      (subst (λ n. IsGiven looks look n (state_at now place).text visited.share) (ap (λ n. ways.first + n) (sym (count_taken names now sofar.same within))) (visited.found all (fate_there sofar.fates visited.fate front sofar.count))));
   is_failed = failed-append sofar.shares (visited.share ∷ []) ∙ ap (λ first. first || (is_some visited.share.failure || false)) sofar.is_failed
       ∙ ap (λ last. before || (last || false)) visited.is_failed ∙ ap (λ last. before || last) (or-false failed);
   shared = all_both sofar.shared (record {
@@ -191,7 +212,8 @@ visited_short {told_in} {told} {ways} {looks} {snapshot} {names} {now} {place} {
   sofar.shares ++ stopped.1.share ∷ [],
   up_to sofar.fates place sofar.shares stopped.1.share sofar.count (omega (arith, within, size))
       (omega (arith, many, size), λ above. omega (arith, many, size), λ other inside. still other (omega (arith, inside, many, size)))
-      (λ t. sofar.are t sofar.fates front) (λ t. subst (BeginsShare stopped.1.share) (share_is t) (stopped.1.begins t sofar.fates)),
+      (λ t. sofar.are t sofar.fates front) (sofar.found sofar.fates front) (rw (text_there names now sofar.same within) stopped.1.found)
+      (λ t. subst (BeginsShare stopped.1.share) (share_is t) (stopped.1.begins t sofar.fates)),
   shared_short stopped.1.share sofar.shared stopped.1.short,
 ) where
   number : ℕ
@@ -276,6 +298,8 @@ look_made {told_in} {told} {snapshot} {old} {names} {watched} {watched_new} {pri
     shares = holds.shares ++ visited.shares;
     are = λ t. ap (λ those. those ++ visited.shares) (holds.are t) ∙ ap (λ those. shares_of ways asked looks ++ those)
         (visited.are t visited.fates front ∙ ap (shares_at_look_from ways looks look ways.first) (take_all (length old.names) (texts old.names) (omega (arith, size)) ∙ holds.same)) ∙ sym (shares_more ways asked looks look);
+    found = looks_more holds.found (subst (λ those. AreAtLook looks look ways.first those visited.shares)
+        (take_all (length old.names) (texts old.names) (omega (arith, size)) ∙ holds.same) (visited.found visited.fates front));
     shared = all_both holds.shared visited.shared;
     failed = failed-append holds.shares visited.shares ∙ ap (λ before. before || any_failed visited.shares) holds.failed
         ∙ ap (λ now. old.has_failed || now) visited.is_failed;
@@ -308,6 +332,7 @@ look_stopped {told_in} {told} {snapshot} {old} {watched_new} {slots} {slots_new}
     let (more, begun, short) = visits.stopped ways.first looks (stand_from looking holds) in record {
       shares = holds.shares;
       are = holds.are;
+      found = holds.found;
       printer = old.printer;
       reached = slots;
       shared = holds.shared;
@@ -366,6 +391,7 @@ held_added {told_in} {told} {ways} {headers} {names} {looks} {first} {old} {watc
       );
       shares = holds.shares;
       are = holds.are;
+      found = holds.found;
       shared = holds.shared;
       failed = holds.failed;
     }) where
@@ -415,6 +441,36 @@ fresh_alive ways {names} none new place within = search (rules, new_there, or_no
 
 pub alive_is : {told : Bool} {ways : Ways} {headers : Bool} {names : List (List ℕ)} {looks : List Look} {first slots : List Slot} {follow : FollowState} {watched : List Watched} → Holds true told ways headers names looks first follow watched slots → any_goes_on follow.by_name follow.names ≡ is_alive ways names looks
 alive_is {ways} {looks} {follow} {watched} holds = search (rules, alive_from, fresh_alive, goes_on_there)
+
+-- none of the names goes on
+
+none_before : (by_name : Bool) (names : List NameState) (place : ℕ) → place < length names → any_goes_on by_name names ≡ false → goes_on_as by_name (state_at names place).standing ≡ false
+none_before by_name [] place within none = absurd (omega (arith, within))
+none_before by_name (name ∷ names) zero within none = (or_parts (goes_on_as by_name name.standing) (any_goes_on by_name names) none).0
+none_before by_name (name ∷ names) (suc place) within none = none_before by_name names place (omega (arith, within)) (or_parts (goes_on_as by_name name.standing) (any_goes_on by_name names) none).1
+
+no_more_of : (told : Bool) (ways : Ways) (looks : List Look) (place : ℕ) (name : List ℕ) (watched : Watched) (standing : Standing) → Stands told ways looks place name watched standing → 0 < length looks
+    → goes_on_as ways.by_name standing ≡ false → (is_some watched.failed ≡ true) ⊎ ((ways.by_name ≡ false) × (watched.opened ≡ None))
+no_more_of told ways looks place name watched New stands some none = absurd (let empty = ap length stands.0 in omega (arith, some, empty))
+no_more_of told ways looks place name watched (Followed position) stands some none = absurd (false≢true (sym none))
+no_more_of told ways looks place name watched Left stands some none = elim stands.why [
+  | inl (dropped, broke, closed) ↦ inl (ap is_some broke.call ∙ dropped)
+  | inr missed ↦ inr (missed.way, missed.closed)
+]
+
+pub none_going : {told_in told : Bool} {ways : Ways} {headers : Bool} {names : List (List ℕ)} {looks : List Look} {first slots : List Slot} {follow : FollowState} {watched : List Watched}
+    → Holds told_in told ways headers names looks first follow watched slots → 0 < length looks → any_goes_on follow.by_name follow.names ≡ false → NoneGoesOn ways watched
+none_going {told_in} {ways} {looks} {follow} {watched} holds some none = stage follow.stage holds.stand where
+  way : ways.by_name ≡ follow.by_name
+  way = ap (λ (those : Ways). those.by_name) holds.asked
+
+  stage : (stage : Stage) → StandsIn told_in ways looks follow.names watched stage → NoneGoesOn ways watched
+  stage Fresh stand = absurd (let empty = ap length stand.0 in omega (arith, some, empty))
+  stage Looking stand = λ place within.
+      let inside : place < length follow.names = (let as_many = stand.1 in omega (arith, as_many, within)) in
+      no_more_of told_in ways looks (ways.first + place) (state_at follow.names place).text (watched_at watched (ways.first + place)) (state_at follow.names place).standing (stand.0 place inside) some
+      (rw way (none_before follow.by_name follow.names place inside none))
+  stage Over stand = absurd stand
 
 -- why a look was stopped
 
@@ -481,6 +537,7 @@ makes_none {told} {old} {watched} {slots} unbroken others live can is same = rec
   stopped = λ ways headers names looks first holds. record {
     shares = holds.shares;
     are = holds.are;
+    found = holds.found;
     printer = old.printer;
     reached = slots;
     shared = holds.shared;
@@ -586,6 +643,7 @@ pub record Progress (told_in told : Bool) (ways : Ways) (headers : Bool) (names 
   pub observed : seen ≡ snapshots looks
   pub is_made : Made told_in ways names shows looks
   pub alive : told_in ≡ true → 0 < length looks → is_alive ways names looks ≡ going
+  pub ends : going ≡ false → NoneGoesOn ways watched
   pub holds : Holds told_in told ways headers names looks first follow watched slots
 
 made_more : {told_in : Bool} {ways : Ways} {names : List (List ℕ)} {shows : ℕ → Snapshot} {looks : List Look} (look : Look) → look.snapshot ≡ shows (length looks)
@@ -615,8 +673,10 @@ module _ {told_in told : Bool} {ways : Ways} {headers : Bool} {names : List (Lis
       → LooksOn told_in told (now (length seen)) old watched slots new watched_new slots_new → seen_new ≡ seen ++ now (length seen) ∷ []
       → ((told : Bool) (ways : Ways) (headers : Bool) (names : List (List ℕ)) (looks : List Look) (first slots : List Slot) (watched : List Watched)
       → Holds true told ways headers names looks first new watched slots → going ≡ is_alive ways names looks)
+      → ((told_in told : Bool) (ways : Ways) (headers : Bool) (names : List (List ℕ)) (looks : List Look) (first slots : List Slot) (watched : List Watched)
+      → Holds told_in told ways headers names looks first new watched slots → 0 < length looks → going ≡ false → NoneGoesOn ways watched)
       → suc made ≡ next → Progress told_in told ways headers names shows first next going new seen_new watched_new slots_new
-  one_more {now} {new} {seen} {watched_new} {slots_new} same p looks_on more alive is =
+  one_more {now} {new} {seen} {watched_new} {slots_new} same p looks_on more alive none is =
       let (fates, holds) = looks_on ways headers names p.looks first p.holds in
       let look : Look = record { snapshot = now (length seen); fates = fates } in record {
         looks = p.looks ++ look ∷ [];
@@ -625,6 +685,7 @@ module _ {told_in told : Bool} {ways : Ways} {headers : Bool} {names : List (Lis
         is_made = made_more look (next_is same p) p.is_made p.alive;
         alive = λ t above. sym (alive told ways headers names (p.looks ++ look ∷ []) first slots_new watched_new
             (subst (λ known. Holds known told ways headers names (p.looks ++ look ∷ []) first new watched_new slots_new) t holds));
+        ends = none told_in told ways headers names (p.looks ++ look ∷ []) first slots_new watched_new holds (let long = length-append p.looks (look ∷ []) in omega (arith, long));
         holds = holds;
       }
 
@@ -651,7 +712,7 @@ module _ {told_in told : Bool} {ways : Ways} {headers : Bool} {names : List (Lis
     observed = p.observed;
     made = p.is_made;
     within = omega (arith, count, within);
-    over = λ fewer. let (some, stops) = over (omega (arith, count, fewer)) in let above : 0 < length p.looks = omega (arith, count, some) in (above, λ t. p.alive t above ∙ stops);
+    over = λ fewer. let (some, stops) = over (omega (arith, count, fewer)) in let above : 0 < length p.looks = omega (arith, count, some) in (above, (λ t. p.alive t above ∙ stops), p.ends stops);
     holds = p.holds;
   }
 
@@ -669,6 +730,7 @@ open_holds {told_in} {told} {by_name} {start} {headers} {names} {watched} {slots
   stand = (refl, ap (map new_state) (sym (texts_of_new names)), ap length unwatched);
   shares = [];
   are = λ t. refl;
+  found = no_looks;
   shared = nothing_shared;
   failed = refl;
 })

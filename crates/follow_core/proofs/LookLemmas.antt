@@ -1,17 +1,18 @@
 -- A look at a name: what it gives, from where the looks before left it, what is told of it, and how it stands then.
 use Rattle.follow_core.specs.Standing.{BrokeIn, StandsAt, CanVisit, IsFollowed, IsLeft, IsMissed, Stands}
-use Rattle.follow_core.proofs.CallLemmas.{at_look, broke_at, came_none, contents_open, failure_said, goes_after, keeps_others, none_of, nothing_due, opened_led, opened_there, some_of, wrote_after, wrote_line, LooksAgain}
+use Rattle.follow_core.proofs.CallLemmas.{FromFrontOr, LooksAgain, at_look, broke_at, came_none, contents_open, failure_said, found_as, found_both, found_from, goes_after, keeps_others, none_of, nothing_due, opened_led, opened_there, some_of, wrote_after, wrote_line}
 use Rattle.follow_core.proofs.EventLemmas.{bytes_later, events-append}
-use Rattle.std.proofs.Common.{◌≡◌, ℕ, ◌==◌, Bool, true, false, not, List, [], ◌∷◌, ◌++◌, length, Option, Some, None, refl, sym, ◌∙◌, ap, if◌then◌else◌, subst, inl, inr, append_assoc, ◌&&◌, eqb-true, Result, Ok, Err, IsTrue, IfOk, subst₂, is_none, is_some, rules}
+use Rattle.std.proofs.Common.{◌⊎◌, ◌≡◌, ℕ, ◌==◌, Bool, true, false, not, List, [], ◌∷◌, ◌++◌, length, Option, Some, None, refl, sym, ◌∙◌, ap, if◌then◌else◌, subst, inl, inr, append_assoc, ◌&&◌, eqb-true, Result, Ok, Err, IsTrue, IfOk, subst₂, is_none, is_some, rules}
 use Rattle.std.proofs.lemmas.List.{append-nil, map-append}
 use Rattle.std.proofs.Math.Bool.{and-false, and-true}
-use Rattle.watch_core.specs.Snapshot.{Snapshot}
+use Rattle.watch_core.specs.Snapshot.{Snapshot, Found, holds_many, latest, opens_as}
+use Rattle.follow_core.specs.Reading.{IsFound, IsMissing, StartsIn}
 use Rattle.watch_core.specs.declared.watch.Broken.{Broken}
 use Rattle.watch_core.specs.declared.watch.Broken.TheVariants as broken
 use Rattle.follow_core.specs.Event.{Event, bytes_in, events_later, gives, lines_in}
 use Rattle.follow_core.specs.Version.{Entry, gap, version_in, entries_at_look, entries_led, entries_later, entries_open, held_at, open_after, open_after_later, open_after_look, version}
 use Rattle.follow_core.specs.Gain.{file_of, last_from, last_of, gains_later, gains_after}
-use Rattle.follow_core.specs.inner.Giving.{BrokeAt, Came, Ends, Follows, IfBroke, Keeps, Shared, Starts, fault_by, is_read, stop_in, text_under}
+use Rattle.follow_core.specs.inner.Giving.{Anywhere, BrokeAt, Came, IsLong, WereFound, Ends, Follows, IfBroke, Keeps, Shared, Starts, fault_by, is_read, stop_in, text_under}
 use Rattle.follow_core.specs.Look.{Fate, Look, Ways, can_meet, are_met, entries_in, failed_by, failed_in, fate_at, is_dropped, snapshots, sound, unled, unopened, unmeasured, unsought, unread, is_first}
 use Rattle.follow_core.specs.Run.{AreKept, name_text}
 use Rattle.follow_core.specs.Notice.{is_missing}
@@ -29,7 +30,7 @@ use Rattle.follow_core.specs.Printing.{PrinterState}
 use Rattle.follow_core.specs.Telling.{IsFailure}
 use Rattle.follow_core.specs.declared.visitor.Stop.{Stop}
 use Rattle.std.proofs.lemmas.Bool.{and_parts, false≢true}
-use Rattle.watch_core.proofs.NameLemmas.{watchable_within}
+use Rattle.watch_core.proofs.NameLemmas.{latest-last, watchable_within}
 use Rattle.ports_core.proofs.SlotLemmas.{changed_there}
 use Rattle.watch_core.specs.Watched.{Reopens, Watched, breaks, is_watchable, no_name, open_contents, opens, watched_at}
 use Rattle.follow_core.specs.declared.name.Standing.{Standing}
@@ -214,6 +215,7 @@ pub record Looked (told_in told : Bool) (ways : Ways) (before : List Look) (snap
     (old : List Slot) (after : PrinterState) (new : List Slot) (has_failed : Bool) (fate : Fate) : Type 0 where
   pub share : Share
   pub is_share : told_in ≡ true → (fates : List Fate) → share ≡ share_by ways name before (seeing snapshot fates) fate
+  pub found : IsFound before snapshot name fate share ⊎ IsMissing before snapshot name fate share
   pub failed : is_some share.failure ≡ has_failed
   pub shared : Shared told printer share old after new None
 
@@ -251,6 +253,12 @@ fault_line place name (unread file from) broke = (refl, refl)
 abbrev shared_as : (opened : Bool) → List ℕ → List Event → Option Fault → Share
 shared_as opened name events failure = record { name = name; is_opened = opened; events = events; failure = failure }
 
+-- of a name that came through, whatever its fate was to be
+sound_found : {told_in told opened : Bool} (Begin : Option ℕ → ℕ → Type 0) (snapshot : Snapshot) (known : List ℕ) (fate : Fate) {printer after : PrinterState} {name : List ℕ} {due before : List Event} {old new : List Slot}
+    → Ends told_in (WereFound Begin snapshot known fate None) told opened printer name due before old after new None
+    → Ends told_in (WereFound Begin snapshot known sound None) told opened printer name due before old after new None
+sound_found Begin snapshot known fate ends = record { events = ends.events; are = ends.are; found = ends.found; came = ends.came }
+
 -- what a name that came through is due is its share
 due_share : {told_in : Bool} {ways : Ways} {before : List Look} {snapshot : Snapshot} {name : List ℕ} {due : Due} {opened : Option ℕ} → IsDue told_in ways before snapshot name due opened
     → told_in ≡ true → (fates : List Fate) → shared_as (is_first before) name (due.came ++ due.led) None ≡ share_by ways name before (seeing snapshot fates) sound
@@ -258,10 +266,12 @@ due_share {before} {name} dues t fates = let is = dues.is t fates in rw is.0 (ap
 
 module _ {told_in told : Bool} {ways : Ways} {before : List Look} {snapshot : Snapshot} {name : List ℕ} {due : Due} {opened : Option ℕ} {printer after : PrinterState} {old mid : List Slot} (dues : IsDue told_in ways before snapshot name due opened) where
   -- all that is due was given
-  pub looked_whole : {none : List Event} → Ends told_in told (is_first before) printer name (due.came ++ due.led) none old after mid None
+  pub looked_whole : {none : List Event} → Ends told_in (WereFound (StartsIn before name) snapshot name sound None) told (is_first before) printer name (due.came ++ due.led) none old after mid None
+      → (is_first before ≡ true → (file : ℕ) × Found snapshot name (opens_as (Some file)))
       → Looked told_in told ways before snapshot name printer old after mid false sound
-  looked_whole ends = record {
+  looked_whole ends there = record {
     share = shared_as (is_first before) name ends.events None;
+    found = inl (record { named = refl; opened = refl; failed = refl; events = ends.found; there = there });
     is_share = λ t fates. ap (λ events. shared_as (is_first before) name events None) (ends.are t) ∙ due_share dues t fates;
     failed = refl;
     shared = all_came (lines_in name ends.events) ends.came;
@@ -270,12 +280,14 @@ module _ {told_in told : Bool} {ways : Ways} {before : List Look} {snapshot : Sn
   -- a call failed: what comes before was given, and the message follows
   pub looked_broke : (place : ℕ) {new : List Slot} {why : Fault} (fate : Fate) → is_some (failed_by fate None) ≡ true → why ≡ fault_by place fate
       → (not (is_unopened fate) && is_first before) ≡ is_first before
-      → Ends told_in told (is_first before) printer name (due.came ++ due.led) (given_by due snapshot opened fate) old after mid (Some (Broke why)) → SaysOn told Tail (message_of Tail why name) mid new
+      → Ends told_in (WereFound (StartsIn before name) snapshot name fate (Some (Broke why))) told (is_first before) printer name (due.came ++ due.led) (given_by due snapshot opened fate) old after mid (Some (Broke why))
+      → (is_first before ≡ true → (file : ℕ) × Found snapshot name (opens_as (Some file))) → SaysOn told Tail (message_of Tail why name) mid new
       → Looked told_in told ways before snapshot name printer old after new true fate
-  looked_broke place {new} {why} fate broke fault openly ends says =
+  looked_broke place {new} {why} fate broke fault openly ends there says =
       let line = fault_line place name fate broke in record {
         share = shared_as (is_first before) name ends.events (failure_of fate);
         is_share = λ t fates. share_is t fates line.1 ends.events (ends.are t);
+        found = inl (record { named = refl; opened = sym openly; failed = refl; events = ends.found; there = there });
         failed = line.1;
         shared = subst (λ last. Came told printer (is_first before) name (bytes_in ends.events) (lines_in name ends.events ++ last) old after new None) line.0
             (said_after ends.came (is_failure place name fate) (subst (λ those. SaysOn told Tail (message_of Tail those name) mid new) fault says));
@@ -316,7 +328,8 @@ pub record Gave (told_in told : Bool) (ways : Ways) (looks : List Look) (snapsho
   pub due : Due
   pub opened : Option ℕ
   pub is_due : IsDue told_in ways looks snapshot name due opened
-  pub ends : Ends told_in told (is_first looks) printer name (due.came ++ due.led) (given_by due snapshot opened fate) slots after slots_new (stop_in result)
+  pub ends : Ends told_in (WereFound (StartsIn looks name) snapshot name fate (stop_in result)) told (is_first looks) printer name (due.came ++ due.led) (given_by due snapshot opened fate) slots after slots_new (stop_in result)
+  pub there : is_first looks ≡ true → (file : ℕ) × Found snapshot name (opens_as (Some file))
   pub last : IfOk result (λ len. told_in ≡ true → (ways.by_name ≡ false → is_some led ≡ true)
       × ((fates : List Fate) → StandsAt (last_of (entries_in ways name (looks ++ seeing snapshot fates ∷ []))) led len))
   pub met : IfBroke (stop_in result) (can_meet (is_first looks) ways.by_name fate ≡ true)
@@ -345,13 +358,16 @@ kept_more : (place : ℕ) (looks : List Look) (look : Look) {fate : Fate} → is
     → fate_at place look ≡ fate → is_dropped place (looks ++ look ∷ []) ≡ is_some (failed_by fate None)
 kept_more place looks look kept at = ap is_some (failed_more place looks look (none_of (failed_in place looks) kept) at)
 
+last_seen : (looks : List Look) (look : Look) → latest (snapshots (looks ++ look ∷ [])) ≡ look.snapshot
+last_seen looks look = ap latest (map-append (λ (l : Look). l.snapshot) looks (look ∷ [])) ∙ latest-last (snapshots looks) look.snapshot
+
 -- a name that came through it stands at its last entry
 through_stands : {told : Bool} {ways : Ways} (looks : List Look) (look : Look) {place : ℕ} {name : List ℕ} {file led : Option ℕ} {len : ℕ}
     (old : List Watched) {new : List Watched} → (watched_at old place).name ≡ name → IsTrue (is_watchable old place) → is_dropped place looks ≡ false
     → new ≡ changed_at place (opens file) old → fate_at place look ≡ sound → (told ≡ true → file ≡ led)
     → (told ≡ true → (ways.by_name ≡ false → is_some led ≡ true) × StandsAt (last_of (entries_in ways name (looks ++ look ∷ []))) led len)
-    → IsFollowed told ways (looks ++ look ∷ []) place name (watched_at new place) len
-through_stands looks look {place} old named can kept is at leads last =
+    → IsLong look.snapshot (watched_at new place) len → IsFollowed told ways (looks ++ look ∷ []) place name (watched_at new place) len
+through_stands looks look {place} {name} {len} old {new} named can kept is at leads last long =
     let now = opened_now place old is can in
     record {
       named = ap (λ (w : Watched). w.name) now ∙ named;
@@ -360,6 +376,7 @@ through_stands looks look {place} old named can kept is at leads last =
       begun = begun_more looks look;
       stands = λ t. record { file = ap (λ (w : Watched). w.opened) now ∙ leads t ∙ (last t).1.file; seen = (last t).1.seen };
       there = λ t way. ap (λ (w : Watched). is_some w.opened) now ∙ ap is_some (leads t) ∙ (last t).0 way;
+      long = λ some. subst₂ (λ (s : Snapshot) those. Found s those (holds_many (watched_at new place).opened len)) (sym (last_seen looks look)) (ap (λ (w : Watched). w.name) now ∙ named) (long some);
     }
 
 -- what a look gave, and how the name stands then
@@ -372,6 +389,7 @@ looked_visited fate kept looked stands = record {
   fate = fate;
   share = looked.share;
   is_share = λ is fates at. rw (kept, at) (looked.is_share is fates);
+  found = λ fates at. inr (kept, rw at looked.found);
   is_failed = looked.failed;
   shared = looked.shared;
   stands = stands;
@@ -408,11 +426,11 @@ module _ {told_in told : Bool} {ways : Ways} {snapshot : Snapshot} {place : ℕ}
       → IsTrue (is_watchable old place) → Follows told_in led place old new fate None
       → ((looks : List Look) → Stands told_in ways looks place name (watched_at old place) standing
       → Gave told_in told ways looks snapshot place name led printer slots after slots_new fate (Ok len))
-      → Visits told_in told ways snapshot place name standing old printer slots (Followed len) new after slots_new (Ok false)
-  gave_through {len} fate named can (file, is, leads) gave =
+      → IsLong snapshot (watched_at new place) len → Visits told_in told ways snapshot place name standing old printer slots (Followed len) new after slots_new (Ok false)
+  gave_through {len} fate named can (file, is, leads) gave long =
       visits_by (Followed len) (opens file) is (rw (opened_now place old is can) (named, none_there (watched_at old place).failed can)) (λ looks stands.
-      let made = gave looks stands in looked_visited sound made.kept (looked_whole made.is_due made.ends)
-      (λ fates at. through_stands looks (seeing snapshot fates) old named can made.kept is at leads (λ t. ((made.last t).0, (made.last t).1 fates))))
+      let made = gave looks stands in looked_visited sound made.kept (looked_whole made.is_due (sound_found (StartsIn looks name) snapshot name fate made.ends) made.there)
+      (λ fates at. through_stands looks (seeing snapshot fates) old named can made.kept is at leads (λ t. ((made.last t).0, (made.last t).1 fates)) long))
 
   pub gave_fails : {led : Option ℕ} {mid : List Slot} (fate : Fate) (stop : Stop) {now : Standing} {result : Result Bool Fault} → (watched_at old place).name ≡ name
       → IsTrue (is_watchable old place) → Follows told_in led place old new fate (Some stop)
@@ -420,7 +438,7 @@ module _ {told_in told : Bool} {ways : Ways} {snapshot : Snapshot} {place : ℕ}
       → Gave told_in told ways looks snapshot place name led printer slots after mid fate (Err stop)) → TellsStop told name mid now slots_new stop result
       → Visits told_in told ways snapshot place name standing old printer slots now new after slots_new result
   gave_fails fate (Broke why) named can broke gave (tells, left, says) = rw (tells, left) (drops fate why named can broke (λ looks stands.
-      let made = gave looks stands in (made.kept, looked_broke made.is_due place fate broke.broke broke.fault_is made.openly made.ends says, made.met)))
+      let made = gave looks stands in (made.kept, looked_broke made.is_due place fate broke.broke broke.fault_is made.openly made.ends made.there says, made.met)))
   gave_fails fate (Over why) named can follows gave (tells, same) = rw (tells, same) (record {
     visited = tt;
     stopped = λ looks stands. let made = gave looks stands in (
@@ -430,6 +448,7 @@ module _ {told_in told : Bool} {ways : Ways} {snapshot : Snapshot} {place : ℕ}
         after = after;
         begins = λ t fates. subst (BeginsShare (shared_as (is_first looks) name made.ends.events None)) (due_share made.is_due t fates)
             (record { name = refl; opened = refl; events = made.ends.are t; unfailed = refl });
+        found = record { named = refl; opened = refl; unfailed = refl; all = made.ends.found.0; begins = made.ends.found.1; events = made.ends.found.2 };
         short = all_came (lines_in name made.ends.events) made.ends.came;
       },
     );
@@ -454,6 +473,7 @@ first_missing {told_in} {told} {ways} {snapshot} {place} {name} {printer} {slots
       looked = record {
         share = missing_share name;
         is_share = λ is fates. sym (rw (ap is_missing (entries_first ways (seeing snapshot fates) (nowhere is))) refl);
+        found = inr (record { first = refl; kept = refl; nowhere = rw (none_of reopens.file (reopens.found ∙ gone), named) at reopens.opens; is = refl });
         failed = refl;
         shared = said_after came_none (name, inl refl) says;
       }
@@ -471,8 +491,8 @@ first_missing {told_in} {told} {ways} {snapshot} {place} {name} {printer} {slots
         λ other. absurd (false≢true (sym other ∙ way)),
         subst (λ len. StandsAt (last_of (entries_in ways name (seeing snapshot fates ∷ []))) (snapshot.leads name) len)
             (ap (λ led. length (held_at snapshot led)) (nowhere t)) (first_last ways (seeing snapshot fates)),
-      ))
-      stands fates at false way = record { begun = refl; named = ap (λ (w : Watched). w.name) (opened_now place old reopens.names can) ∙ named; why = inr (record { way = way; unbroken = unbroken; kept = kept_more place [] (seeing snapshot fates) refl at; unopened = nowhere }) }
+      )) (λ some. absurd (false≢true (sym (ap (λ (w : Watched). is_some w.opened) (opened_now place old reopens.names can) ∙ reopens.found ∙ gone) ∙ some)))
+      stands fates at false way = record { begun = refl; named = ap (λ (w : Watched). w.name) (opened_now place old reopens.names can) ∙ named; why = inr (record { way = way; unbroken = unbroken; kept = kept_more place [] (seeing snapshot fates) refl at; closed = ap (λ (w : Watched). w.opened) (opened_now place old reopens.names can) ∙ none_of reopens.file (reopens.found ∙ gone); unopened = nowhere }) }
 
 pub first_unopened : {told_in told : Bool} {ways : Ways} {snapshot : Snapshot} {place : ℕ} {name : List ℕ} {printer : PrinterState}
     {slots slots_new : List Slot} {old new : List Watched} {why : Fault} {now : Standing} {result : Result Bool Fault} → (watched_at old place).name ≡ name → IsTrue (is_watchable old place)
@@ -485,6 +505,7 @@ first_unopened {place} {name} {old} {why} named can is broke (tells, left, says)
       record {
         share = missing_share name;
         is_share = λ is fates. refl;
+        found = inl (record { named = refl; opened = refl; failed = refl; events = tt; there = λ opened. absurd (false≢true opened) });
         failed = refl;
         shared = said_after came_none (name, inl refl) (rw is at says);
       },
@@ -517,7 +538,7 @@ pub first_gave : {told_in told : Bool} {ways : Ways} {snapshot : Snapshot} {plac
     → Reopens told_in snapshot old mid place is_there → is_there ≡ true → (watched_at old place).name ≡ name
     → (told_in ≡ true → contents ≡ held_at snapshot (snapshot.leads name)) → Keeps place mid new fate (stop_in result)
     → IfOk result (λ len. told_in ≡ true → len ≡ length contents)
-    → Ends told_in told true inside name (gives (ways.start contents) ∷ []) (led_before snapshot fate (gives (ways.start contents) ∷ [])) slots after slots_new (stop_in result)
+    → Ends told_in (WereFound Anywhere snapshot name fate (stop_in result)) told true inside name (gives (ways.start contents) ∷ []) (led_before snapshot fate (gives (ways.start contents) ∷ [])) slots after slots_new (stop_in result)
     → (looks : List Look) → Stands told_in ways looks place name (watched_at old place) New
     → Gave told_in told ways looks snapshot place name (snapshot.leads name) printer slots after slots_new fate result
 first_gave {told_in} {told} {ways} {snapshot} {place} {name} {contents} {after} {slots} {slots_new} {mid} new {fate} {result} viewed reopens there named same keeps long ends looks fresh =
@@ -535,7 +556,8 @@ first_gave {told_in} {told} {ways} {snapshot} {place} {name} {contents} {after} 
               refl,
             );
       };
-      ends = rw (none_kept fate) ends;
+      ends = rw (none_kept fate) (found_as (found_from snapshot name fate (stop_in result) (λ file from begins. inl refl)) ends);
+      there = λ first. let (id, is) = some_of reopens.file (reopens.found ∙ there) in (id, rw (is, named) at reopens.opens);
       last = IfOk-weaker result (λ len. told_in ≡ true → len ≡ length contents) _ (λ len is t. (
         λ way. ap is_some (found t).1,
         λ fates. subst (λ n. StandsAt (last_of (entries_in ways name (seeing snapshot fates ∷ []))) (snapshot.leads name) n)
@@ -560,18 +582,21 @@ first_gave {told_in} {told} {ways} {snapshot} {place} {name} {contents} {after} 
 pub first_started : {told_in told : Bool} {ways : Ways} {snapshot now : Snapshot} {place : ℕ} {name : List ℕ} {printer inside middle after : PrinterState}
     {slots slots_mid slots_new : List Slot} {old mid : List Watched} (new : List Watched) {is_there : Bool} {none : List Event} {result : Result ℕ Stop} → inside ≡ printer
     → Reopens told_in snapshot old mid place is_there → is_there ≡ true → (watched_at old place).name ≡ name → IsTrue (is_watchable old place) → now ≡ snapshot
-    → Ends told_in told true inside name [] none slots middle slots_mid None
+    → ((Is : List Event → Type 0) → Is [] → Ends told_in Is told true inside name [] none slots middle slots_mid None)
     → (starts : Starts told_in told now ways.start place name mid middle slots_mid new after slots_new (stop_in result))
     → IfOk result (λ len. told_in ≡ true → len ≡ length (open_contents now (watched_at mid place)))
     → (looks : List Look) → Stands told_in ways looks place name (watched_at old place) New
     → Gave told_in told ways looks snapshot place name (snapshot.leads name) printer slots after slots_new starts.fate result
-first_started {told_in} {told} {ways} {snapshot} {now} {place} {name} {inside} {after} {slots} {slots_new} {mid} new {result} viewed reopens there named can same header starts long =
+first_started {told_in} {told} {ways} {snapshot} {now} {place} {name} {inside} {after} {slots} {slots_new} {old} {mid} new {result} viewed reopens there named can same header starts long =
     let contents = held_at now (watched_at mid place).opened in
     first_gave new viewed reopens there named
     (λ t. ap (held_at now) (opened_led can reopens named t) ∙ ap (λ (s : Snapshot). held_at s (snapshot.leads name)) same) starts.keeps
     (IfOk-weaker result (λ len. told_in ≡ true → len ≡ length (open_contents now (watched_at mid place))) (λ len. told_in ≡ true → len ≡ length contents) (λ len is t. is t ∙ ap length (contents_open now (watched_at mid place))) long)
-    (subst (λ s. Ends told_in told true inside name (gives (ways.start contents) ∷ []) (led_before s starts.fate (gives (ways.start contents) ∷ [])) slots after slots_new (stop_in result)) same
-    (goes_after header starts.ends))
+    (subst (λ s. Ends told_in (WereFound Anywhere s name starts.fate (stop_in result)) told true inside name (gives (ways.start contents) ∷ []) (led_before s starts.fate (gives (ways.start contents) ∷ [])) slots after slots_new (stop_in result)) same
+    (goes_after (WereFound Anywhere now name starts.fate (stop_in result)) (λ events more none found. found_both Anywhere now name sound starts.fate (stop_in result) events more none (rw known at found))
+    (header (WereFound Anywhere now name sound None) tt) starts.ends)) where
+      known : (watched_at mid place).name ≡ name
+      known = ap (λ (w : Watched). w.name) (opened_now place old reopens.names can) ∙ named
 
 -- a later look at a name whose file was seen so far
 pub later_gave : {told_in told : Bool} {ways : Ways} {snapshot : Snapshot} {place : ℕ} {name : List ℕ} {position : ℕ} {printer after : PrinterState}
@@ -585,7 +610,8 @@ later_gave {told_in} {ways} {snapshot} {place} {name} {position} {old} {result} 
   due = due_later ways.by_name name opened (last_in ways name before looks) snapshot;
   opened = opened;
   is_due = later_due followed.stands;
-  ends = again.ends (last_in ways name before looks) followed.stands;
+  ends = found_as (found_from snapshot name again.fate (stop_in result) begins) (rw followed.named at (again.ends (last_in ways name before looks) followed.stands));
+  there = λ first. absurd (false≢true first);
   last = IfOk-weaker result _ _ (λ n is t. (
     λ way. ap (λ by_name. is_some (open_after_look by_name name opened snapshot)) way ∙ followed.there t way,
     λ fates. rw (at_last t fates) (is t (last_in ways name before looks) (followed.stands t)),
@@ -600,6 +626,10 @@ later_gave {told_in} {ways} {snapshot} {place} {name} {position} {old} {result} 
       ≡ last_from (last_in ways name before looks) (entries_at_look ways.by_name name opened snapshot)
   at_last t fates = looked_last ways name before looks (seeing snapshot fates)
       ∙ ap (λ file. last_from (last_in ways name before looks) (entries_at_look ways.by_name name file snapshot)) (last_file ways name before looks ∙ sym (followed.stands t).file)
+
+  begins : (file : Option ℕ) (from : ℕ) → FromFrontOr opened position file from → StartsIn (before ∷ looks) name file from
+  begins file from (inl front) = inr (inl front)
+  begins file from (inr (same, some, at)) = inr (inr (rw (same, at) (followed.long some)))
 
   never_first : (stop : Option Stop) → IfBroke stop ((not (is_unopened again.fate) && false) ≡ false)
   never_first None = tt
@@ -636,6 +666,7 @@ still_left {ways} (before ∷ looks) look {place} {name} {watched} fine left = r
       way = missed.way;
       unbroken = missed.unbroken;
       kept = ap is_some (failed_sound place (before ∷ looks) look fine) ∙ missed.kept;
+      closed = missed.closed;
       unopened = λ t. rw missed.way (still_open name _ (snapshots (looks ++ look ∷ [])) ∙ sym (still_open name _ (snapshots looks)) ∙ rw missed.way at (missed.unopened t));
     })
   ];
@@ -649,9 +680,10 @@ left_visited {snapshot} {place} {name} looks left = elim left.why [
     fate = sound;
     share = no_share name;
     is_share = λ t fates at. rw dropped.0 refl;
+    found = λ fates at. inl (dropped.0, refl);
     is_failed = refl;
     shared = came_none;
     stands = λ fates at. still_left looks (seeing snapshot fates) at left;
   }
-  | inr missed ↦ looked_visited sound missed.kept (looked_whole (left_due looks left.begun missed) {none = []} (rw left.begun nothing_due)) (λ fates at. still_left looks (seeing snapshot fates) at left)
+  | inr missed ↦ looked_visited sound missed.kept (looked_whole (left_due looks left.begun missed) {none = []} (rw left.begun (nothing_due tt)) (λ first. absurd (false≢true (sym left.begun ∙ first)))) (λ fates at. still_left looks (seeing snapshot fates) at left)
 ]

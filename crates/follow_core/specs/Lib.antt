@@ -5,6 +5,7 @@ pub mod Notice
 pub mod Event
 pub mod Look
 pub mod Share
+pub mod Reading
 pub mod Followed
 pub mod Placing
 pub mod Telling

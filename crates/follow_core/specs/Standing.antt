@@ -1,6 +1,7 @@
 -- How a name stands between two looks.
 use Rattle.std.specs.Prelude.{◌≡◌, ◌<◌, ◌≤◌, ◌+◌, ℕ, Bool, true, false, List, [], Option, None, ◌⊎◌, length, map, slice_index_or, is_some}
 use Rattle.watch_core.specs.declared.watch.Broken.{Broken}
+use Rattle.watch_core.specs.Snapshot.{Found, holds_many, latest}
 use Rattle.watch_core.specs.Watched.{Watched, added, watched_at}
 use Rattle.follow_core.specs.declared.name.Standing.{Standing}
 use Rattle.follow_core.specs.declared.name.Standing.TheVariants.{New, Followed, Left}
@@ -65,6 +66,9 @@ pub record IsFollowed (told : Bool) (ways : Ways) (looks : List Look) (place : �
   pub begun : is_first looks ≡ false
   pub stands : told ≡ true → StandsAt (last_of (entries_in ways name looks)) watched.opened position
   pub there : told ≡ true → ways.by_name ≡ false → is_some watched.opened ≡ true
+  -- the last look found the open file to be so long
+  pub long : is_some watched.opened ≡ true
+      → Found (latest (snapshots looks)) name (holds_many watched.opened position)
 
 -- it was missing at the first look, and names aren't followed
 pub record IsMissed (told : Bool) (ways : Ways) (looks : List Look) (place : ℕ) (name : List ℕ)
@@ -72,6 +76,7 @@ pub record IsMissed (told : Bool) (ways : Ways) (looks : List Look) (place : ℕ
   pub way : ways.by_name ≡ false
   pub unbroken : watched.failed ≡ None
   pub kept : is_dropped place looks ≡ false
+  pub closed : watched.opened ≡ None
   pub unopened : told ≡ true → open_after ways.by_name name (snapshots looks) ≡ None
 
 -- It is looked at no more: a call on it failed, so that it is broken, or it was missing.
@@ -86,6 +91,12 @@ abbrev pub Stands : Bool → Ways → List Look → ℕ → List ℕ → Watched
 Stands told ways looks place name watched New = (looks ≡ []) × (watched ≡ added name)
 Stands told ways looks place name watched (Followed position) = IsFollowed told ways looks place name watched position
 Stands told ways looks place name watched Left = IsLeft told ways looks place name watched
+
+-- no name that is watched from the first on goes on: each broke, or no file of it is open and names aren't followed
+abbrev pub NoneGoesOn : Ways → List Watched → Type 0
+NoneGoesOn ways watched = (place : ℕ) → ways.first + place < length watched
+    → (is_some (watched_at watched (ways.first + place)).failed ≡ true)
+    ⊎ ((ways.by_name ≡ false) × ((watched_at watched (ways.first + place)).opened ≡ None))
 
 -- the name at this place stands so, by its number
 abbrev pub StandsAmong : Bool → Ways → List Look → List NameState → List Watched → ℕ → Type 0

@@ -1,5 +1,5 @@
 //! Where the bytes of followed names go, under headers.
-ghost use Rattle.std.specs.Prelude.{◌≡◌, Bool, [], Some, IsTrue, IfErr, OnOk, if◌then◌else◌, string_bytes, option_map, is_none};
+ghost use Rattle.std.specs.Prelude.{◌≡◌, [], Some, IsTrue, IfErr, OnOk, if◌then◌else◌, string_bytes, option_map, is_none};
 ghost use Rattle.ports_core.specs.Slot.{is_writable, with_written, told_of};
 ghost use Rattle.ports_core.specs.Text.{header_of};
 ghost use Rattle.follow_core.specs.Printing.{PrinterState, Short, fresh_printer};
@@ -50,7 +50,7 @@ impl Printer {
         outs: &mut O,
     ) -> Result<(), Fault>
         requires { IsTrue (is_writable (O.slots outs.old) 0) }
-        ensures puts { (told_in : Bool) → Puts told_in O.told opened self.old name.now bytes.now (O.slots outs.old) self.new (O.slots outs.new) (over_by (over_in result)) }
+        ensures puts { Puts O.told opened self.old name.now bytes.now (O.slots outs.old) self.new (O.slots outs.new) (over_by (over_in result)) }
         ensures writable { OnOk result (IsTrue (is_writable (O.slots outs.new) 0)) }
     {
         if let Err(fault) = self.show(self.is_due(opened, name, bytes), name, outs) {

@@ -2,7 +2,7 @@
 use Rattle.std.specs.Prelude.{is_none, is_some, ◌≡◌, ℕ, Bool, true, false, ◌&&◌, List, [], Option, Some, None, length, drop, option_map, slice_index_or}
 use Rattle.ports_core.specs.Slot.{changed_at}
 use Rattle.ports_core.specs.Source.{Gave}
-use Rattle.watch_core.specs.Snapshot.{Snapshot}
+use Rattle.watch_core.specs.Snapshot.{Snapshot, Found, opens_as}
 use Rattle.watch_core.specs.declared.watch.Broken.{Broken}
 use Rattle.watch_core.specs.declared.watch.Broken.TheVariants as broken
 use Rattle.watch_core.specs.declared.watch.Seen.{Seen}
@@ -63,6 +63,7 @@ pub record Reopens (told : Bool) (snapshot : Snapshot) (old new : List Watched) 
   pub found : is_some file ≡ is_there
   pub names : new ≡ changed_at place (opens file) old
   pub leads : told ≡ true → file ≡ snapshot.leads (watched_at old place).name
+  pub opens : Found snapshot (watched_at old place).name (opens_as file)
 
 -- a read from a place of the file on: it gave none only from its end on, or into no room
 abbrev pub GaveFrom : List ℕ → ℕ → List ℕ → List ℕ → ℕ → Type 0

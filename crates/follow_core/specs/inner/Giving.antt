@@ -4,9 +4,9 @@ use Rattle.std.specs.Prelude.{◌≡◌, ◌-◌, Bool, true, false, ℕ, List, 
 use Rattle.ports_core.specs.Slot.{Slot, changed_at, slot_at}
 use Rattle.ports_core.specs.declared.fault.Fault.{Fault}
 use Rattle.ports_core.specs.declared.fault.Fault.TheVariants as fault
-use Rattle.watch_core.specs.Snapshot.{Snapshot}
+use Rattle.watch_core.specs.Snapshot.{Snapshot, Found, holds_many}
 use Rattle.watch_core.specs.declared.watch.Broken.TheVariants as broken
-use Rattle.watch_core.specs.Watched.{Watched, breaks, opens, watched_at}
+use Rattle.watch_core.specs.Watched.{Watched, breaks, open_contents, opens, watched_at}
 use Rattle.follow_core.specs.declared.notice.Notice.{Notice}
 use Rattle.follow_core.specs.declared.notice.Notice.TheVariants.{Truncated, Replaced, Inaccessible, Appeared}
 use Rattle.follow_core.specs.declared.visitor.Stop.{Stop}
@@ -14,8 +14,9 @@ use Rattle.follow_core.specs.declared.visitor.Stop.TheVariants.{Broke, Over}
 use Rattle.follow_core.specs.Event.{Begins, Event, all_but, bytes_in, events_later, gives, lines_in, notes}
 use Rattle.follow_core.specs.Followed.{last_with, text_with}
 use Rattle.follow_core.specs.Gain.{last_from}
-use Rattle.follow_core.specs.Look.{Fate, unmeasured, unsought, unread, can_meet, failed_by}
+use Rattle.follow_core.specs.Look.{Fate, sound, unmeasured, unsought, unread, can_meet, failed_by}
 use Rattle.follow_core.specs.Printing.{PrinterState}
+use Rattle.follow_core.specs.Reading.{AllGive, IsRead, IsWhole}
 use Rattle.follow_core.specs.Share.{Share, bytes_of, came_before, is_kept, led_before, lines_of}
 use Rattle.follow_core.specs.Sharing.{WroteBy, CanPrint, HasError}
 use Rattle.follow_core.specs.Standing.{StandsAt}
@@ -64,11 +65,11 @@ abbrev pub ArePut : Option Fault → List ℕ → List ℕ → Type 0
 ArePut None bytes due = bytes ≡ due
 ArePut (Some why) bytes due = IsFront bytes due
 
--- Bytes that are due of a name came to standard output. Where the files don't tell their bytes, some did.
-pub record Puts (told_in told is_opened : Bool) (printer : PrinterState) (name due : List ℕ) (old : List Slot)
+-- bytes that are due of a name came to standard output
+pub record Puts (told is_opened : Bool) (printer : PrinterState) (name due : List ℕ) (old : List Slot)
     (after : PrinterState) (new : List Slot) (over : Option Fault) : Type 0 where
   pub bytes : List ℕ
-  pub are : told_in ≡ true → ArePut over bytes due
+  pub are : ArePut over bytes due
   pub came : Came told printer is_opened name bytes [] old after new over
 
 -- what is due; where a call on the name failed, what comes before that; and a beginning where following ended
@@ -78,12 +79,39 @@ AreGiven (Some (Broke why)) events due before = events ≡ before
 AreGiven (Some (Over why)) events due before = Begins events due
 
 -- What is due of a name was given; or what comes before the call on it that failed; or a beginning, where following
--- ends. Where the files don't tell their bytes, something was given.
-pub record Ends (told_in told is_opened : Bool) (printer : PrinterState) (name : List ℕ) (due before : List Event)
-    (old : List Slot) (after : PrinterState) (new : List Slot) (stop : Option Stop) : Type 0 where
+-- ends. Whatever is watched, this is so of what was given.
+pub record Ends (told_in : Bool) (Is : List Event → Type 0) (told is_opened : Bool) (printer : PrinterState)
+    (name : List ℕ) (due before : List Event) (old : List Slot) (after : PrinterState) (new : List Slot)
+    (stop : Option Stop) : Type 0 where
   pub events : List Event
   pub are : told_in ≡ true → AreGiven stop events due before
+  pub found : Is events
   pub came : Came told printer is_opened name (bytes_in events) (lines_in name events) old after new (over_by stop)
+
+-- lines alone were given
+abbrev pub Noted : List Event → Type 0
+Noted events = AllGive (λ bytes. ⊥) events
+
+-- what was given is what reads gave of files, from such places on, or a beginning of it where following ends
+abbrev pub WereFound : (Option ℕ → ℕ → Type 0) → Snapshot → List ℕ → Fate → Option Stop → List Event → Type 0
+WereFound Starts snapshot name fate None events = AllGive (IsWhole Starts snapshot name sound) events
+WereFound Starts snapshot name fate (Some (Broke why)) events = AllGive (IsWhole Starts snapshot name fate) events
+WereFound Starts snapshot name fate (Some (Over why)) events =
+    (all : List Event) × Begins events all × AllGive (IsRead Starts snapshot name) all
+
+-- the open file was read, from this place on
+abbrev pub FromThere : Option ℕ → ℕ → Option ℕ → ℕ → Type 0
+FromThere opened place file from = (file ≡ opened) × (from ≡ place)
+
+-- or from the front or the position on
+abbrev pub FromEither : Option ℕ → (position : ℕ) → Option ℕ → ℕ → Type 0
+FromEither opened position file from =
+    (file ≡ opened) × (is_some opened ≡ true) × ((from ≡ 0) ⊎ (from ≡ position))
+
+-- the open file was found to be so long
+abbrev pub IsLong : Snapshot → Watched → ℕ → Type 0
+IsLong snapshot watched len = is_some watched.opened ≡ true
+    → Found snapshot watched.name (holds_many watched.opened len)
 
 -- following is over: there was no memory, or standard output is broken; a message can still be said
 abbrev pub HasStopped : Fault → List Slot → Type 0
@@ -143,13 +171,19 @@ ReadsOf opened (unread file from) = (file ≡ opened) × (is_some opened ≡ tru
 ReadsOf opened fate = ⊥
 
 -- Bytes of the open file were written from one place on; a read that fails is that of another.
-pub record Copies (told_in told : Bool) (contents : List ℕ) (from : ℕ) (place : ℕ) (name : List ℕ)
+pub record Copies (told_in told : Bool) (snapshot : Snapshot) (from : ℕ) (place : ℕ) (name : List ℕ)
     (watched : List Watched) (printer : PrinterState) (slots : List Slot) (watched_new : List Watched)
     (after : PrinterState) (slots_new : List Slot) (stop : Option Stop) : Type 0 where
   pub at : ℕ
-  pub ends : Ends told_in told false printer name (gives (drop from contents) ∷ [])
+  pub ends : let opened = watched_at watched place in let contents = open_contents snapshot opened in
+      Ends told_in (WereFound (FromThere opened.opened from) snapshot opened.name (unread opened.opened at) stop)
+      told false printer name (gives (drop from contents) ∷ [])
       (all_but (length contents - at) (gives (drop from contents) ∷ [])) slots after slots_new stop
   pub keeps : Keeps place watched watched_new (unread (watched_at watched place).opened at) stop
+
+-- from anywhere
+abbrev pub Anywhere : Option ℕ → ℕ → Type 0
+Anywhere file from = Unit {0}
 
 -- The part of the open file that the first look writes was written. It was sought first.
 pub record Starts (told_in told : Bool) (snapshot : Snapshot) (start : List ℕ → List ℕ) (place : ℕ) (name : List ℕ)
@@ -157,7 +191,8 @@ pub record Starts (told_in told : Bool) (snapshot : Snapshot) (start : List ℕ 
     (after : PrinterState) (slots_new : List Slot) (stop : Option Stop) : Type 0 where
   pub fate : Fate
   pub ends : let due = gives (start (held_at snapshot (watched_at watched place).opened)) ∷ [] in
-      Ends told_in told false printer name due (led_before snapshot fate due) slots after slots_new stop
+      Ends told_in (WereFound Anywhere snapshot (watched_at watched place).name fate stop) told false printer name due
+      (led_before snapshot fate due) slots after slots_new stop
   pub keeps : Keeps place watched watched_new fate stop
 
 -- that an open file is shorter than what was seen of it is told
@@ -179,11 +214,17 @@ pub record Adds (told_in told : Bool) (snapshot : Snapshot) (place : ℕ) (name 
   pub fate : Fate
   pub ends : let opened = (watched_at watched place).opened in (last : Entry)
       → (told_in ≡ true → StandsAt last opened position) → let due = events_later last (entries_open snapshot opened) in
-      Ends told_in told false printer name due (came_before snapshot fate due) slots after slots_new (stop_in result)
+      Ends told_in (WereFound (FromEither opened position) snapshot (watched_at watched place).name fate (stop_in result))
+      told false printer name due (came_before snapshot fate due) slots after slots_new (stop_in result)
   pub stands : let opened = (watched_at watched place).opened in IfOk result (λ len. told_in ≡ true → (last : Entry)
       → StandsAt last opened position → StandsAt (last_from last (entries_open snapshot opened)) opened len)
+  pub long : IfOk result (IsLong snapshot (watched_at watched place))
   pub keeps : Keeps place watched watched_new fate (stop_in result)
   pub reads : IfBroke (stop_in result) (ReadsOf (watched_at watched place).opened fate)
+
+-- from the front
+abbrev pub FromFront : Option ℕ → ℕ → Type 0
+FromFront file from = from ≡ 0
 
 -- the name was followed to this file, or to none
 pub record Leads (told_in told : Bool) (snapshot : Snapshot) (led : Option ℕ) (place : ℕ) (name : List ℕ)
@@ -192,9 +233,11 @@ pub record Leads (told_in told : Bool) (snapshot : Snapshot) (led : Option ℕ) 
   pub fate : Fate
   pub ends : let opened = (watched_at watched place).opened in (last : Entry)
       → (told_in ≡ true → StandsAt last opened position) → let due = events_later last (entries_led snapshot opened led) in
-      Ends told_in told false printer name due (led_before snapshot fate due) slots after slots_new (stop_in result)
+      Ends told_in (WereFound FromFront snapshot (watched_at watched place).name fate (stop_in result))
+      told false printer name due (led_before snapshot fate due) slots after slots_new (stop_in result)
   pub stands : let opened = (watched_at watched place).opened in IfOk result (λ len. told_in ≡ true → (last : Entry)
       → StandsAt last opened position → StandsAt (last_from last (entries_led snapshot opened led)) led len)
+  pub long : IsLong snapshot (watched_at watched place) position → IfOk result (IsLong snapshot (watched_at watched_new place))
   pub follows : Follows told_in led place watched watched_new fate (stop_in result)
   pub other : IfBroke (stop_in result) (told_in ≡ true → is_kept (watched_at watched place).opened fate ≡ false)
   pub met : IfBroke (stop_in result) (can_meet false true fate ≡ true)

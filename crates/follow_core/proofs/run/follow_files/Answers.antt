@@ -11,7 +11,7 @@ returns-in-Ok-make_looks g c =
     let ways = ways_of 0 c.args.by_name c.args.start in
     let slots = g.O.Outs.slots c.args.outs.now in
     let all = c.in-Ok-make_looks.ensures.looked ways c.args.headers names slots (open_holds c.in-Ok.ensures.ok c.requires.unwatched) in
-    looked all.looks all.holds.shares all.observed (watched_are all.holds) all.made all.within all.over all.holds.are (record {
+    looked all.looks all.holds.shares all.observed (watched_are all.holds) all.made all.within all.over all.holds.are all.holds.found (record {
       wrote = all.holds.shared.slots;
       status_is = c.from.ensures ∙ as_status c.failed.result ∙ ap (λ those. if those then 1 else 0) (c.failed.ensures ∙ sym all.holds.failed);
     })

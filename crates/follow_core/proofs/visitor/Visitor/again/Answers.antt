@@ -12,12 +12,12 @@ returns-in-Err-clause-visits g c first start =
 pub returns-then-not-by_name-clause-visits : goal.returns-then-not-by_name-clause-visits
 returns-then-not-by_name-clause-visits g c first start =
     let again = caught_looks c.if-not-by_name.true c.in-Ok.ensures.adds in
-    gave_through again.fate c.requires.name c.requires.watchable again.follows (later_gave again)
+    gave_through again.fate c.requires.name c.requires.watchable again.follows (later_gave again) again.long
 
 pub returns-in-Ok-follow_name-clause-visits : goal.returns-in-Ok-follow_name-clause-visits
 returns-in-Ok-follow_name-clause-visits g c first start =
     let again = led_looks c.if-not-by_name.false (ap latest c.catch_up.ensures.seen) c.in-Ok.ensures.adds c.in-Ok-follow_name.ensures.leads in
-    gave_through again.fate c.requires.name c.requires.watchable again.follows (later_gave again)
+    gave_through again.fate c.requires.name c.requires.watchable again.follows (later_gave again) again.long
 
 pub returns-in-Err-follow_name-clause-visits : goal.returns-in-Err-follow_name-clause-visits
 returns-in-Err-follow_name-clause-visits g c first start =

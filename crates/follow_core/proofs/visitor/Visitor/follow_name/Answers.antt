@@ -25,6 +25,6 @@ catch_up-requires-clause-watchable g c = grind (arith, common_steps, reopens_as,
 pub returns-clause-leads : goal.returns-clause-leads
 returns-clause-leads g c =
     let reopens = reopens_as c.look.ensures.seen c.in-Ok.ensures.same c.in_default-reopen.ensures.ok in
-    leads_opened (λ t. change_seen (latest (g.W.Watch.seen c.args.watch.now)) c.args.place c.change_of.ensures c.open_id.ensures c.in-Ok.ensures.same c.requires.name c.in-Ok.ensures.ok t ∙ c.in-Some.is)
+    leads_opened c.requires.watchable (λ t. change_seen (latest (g.W.Watch.seen c.args.watch.now)) c.args.place c.change_of.ensures c.open_id.ensures c.in-Ok.ensures.same c.requires.name c.in-Ok.ensures.ok t ∙ c.in-Some.is)
     (c.in_default-tell.ensures.ends g.W.Watch.told c.args.self.now) (ap latest (c.reopen.ensures.seen ∙ c.look.ensures.seen)) reopens.names
     (λ t. reopens.leads t ∙ ap (latest (g.W.Watch.seen c.args.watch.now)).leads c.requires.name) (opened_led c.requires.watchable reopens c.requires.name) c.catch_up.ensures.adds
