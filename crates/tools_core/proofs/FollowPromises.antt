@@ -12,9 +12,9 @@ use Rattle.follow_core.proofs.RunLemmas.{text_is_gains}
 use Rattle.tools_core.specs.Promises.{AsksToFollow, OnlyGrows, Follows, IsBare, IsOfProgram, Ran, Run}
 use Rattle.std.proofs.lemmas.Bool.{cond_both, or_parts, cases_lt, false≢true}
 use Rattle.follow_core.specs.Followed.{any_failed, text_from}
-use Rattle.follow_core.specs.Look.{Fate, Look, Ways, entries_in, fate_at, is_dropped, is_first, sound, snapshots, ways_of}
+use Rattle.follow_core.specs.Look.{Fate, Look, Ways, entries_in, fate_at, is_dropped, is_first, sound, unled, unopened, unmeasured, unsought, unread, snapshots, ways_of}
 use Rattle.follow_core.specs.Notice.{is_missing}
-use Rattle.follow_core.specs.Share.{Share, gain, gains_from, missing_share, no_share, share_by, share_of, shares_from}
+use Rattle.follow_core.specs.Share.{Share, bytes_of, gain, gains_from, missing_share, no_share, share_by, share_of, shares_from}
 use Rattle.follow_core.proofs.LookLemmas.{failed_sound, looks_give_text}
 use Rattle.std.proofs.lemmas.List.{length-map}
 use Rattle.ends_core.specs.Ends.{tail_of}
@@ -111,12 +111,16 @@ stays_open by_name {name} shows {file} {count} n within grows = by by_name 1 n (
 
 -- A name for which no call failed got all that the look gives.
 
-fine_share : (ways : Ways) (name : List ℕ) (before : List Look) (look : Look) (dropped : Bool) (fate : Fate) → dropped ≡ false → (cond dropped (no_share name) (share_by ways name before look fate)).has_failed ≡ false
-    → (fate ≡ sound) × ((cond dropped (no_share name) (share_by ways name before look fate)).bytes ≡ gain ways name before look)
+fine_share : (ways : Ways) (name : List ℕ) (before : List Look) (look : Look) (dropped : Bool) (fate : Fate) → dropped ≡ false → is_some (cond dropped (no_share name) (share_by ways name before look fate)).failure ≡ false
+    → (fate ≡ sound) × (bytes_of (cond dropped (no_share name) (share_by ways name before look fate)) ≡ gain ways name before look)
 fine_share ways name before look true fate kept well = absurd (cc)
 fine_share ways name before look false sound kept well =
-    (refl, cond_both (is_first before && is_missing (entries_in ways name (before ++ look ∷ []))) (missing_share name) _ (λ (share : Share). share.has_failed ≡ false → share.bytes ≡ gain ways name before look) (λ is failed. absurd (cc)) (λ is fine. refl) well)
-fine_share ways name before look false fate kept well = absurd (cc)
+    (refl, cond_both (is_first before && is_missing (entries_in ways name (before ++ look ∷ []))) (missing_share name) _ (λ (share : Share). is_some share.failure ≡ false → bytes_of share ≡ gain ways name before look) (λ is failed. absurd (cc)) (λ is fine. refl) well)
+fine_share ways name before look false unled kept well = absurd (cc)
+fine_share ways name before look false unopened kept well = absurd (cc)
+fine_share ways name before look false (unmeasured file) kept well = absurd (cc)
+fine_share ways name before look false (unsought file from) kept well = absurd (cc)
+fine_share ways name before look false (unread file from) kept well = absurd (cc)
 
 -- so further looks wrote all that they give, and the name is still followed
 record WroteAll (ways : Ways) (name : List ℕ) (before looks : List Look) (text : List ℕ) : Type 0 where
@@ -128,7 +132,7 @@ wrote_all : (ways : Ways) (name : List ℕ) (before looks : List Look) (last : O
 wrote_all ways name before [] last kept well = search rules
 wrote_all ways name before (look ∷ looks) last kept well =
     let here = before ++ look ∷ [] in
-    let both = or_parts (share_of ways before look ways.first name).has_failed (any_failed (shares_from ways (name ∷ []) here looks)) well in
+    let both = or_parts (is_some (share_of ways before look ways.first name).failure) (any_failed (shares_from ways (name ∷ []) here looks)) well in
     let fine = fine_share ways name before look (is_dropped ways.first before) (fate_at ways.first look) kept both.0 in
     let rest = wrote_all ways name here looks last (ap is_some (failed_sound ways.first before look fine.0) ∙ kept) both.1 in record {
       is = rw (fine.1, rest.is);
@@ -166,7 +170,8 @@ pub record WroteText (ways : Ways) (name : List ℕ) (shows : ℕ → Snapshot) 
 
 wrote_text : (ways : Ways) (name : List ℕ) (shows : ℕ → Snapshot) (count : ℕ) (seen : List Snapshot) (watched : List Watched) (new : List Slot) → (seen ≡ seen_first shows (length seen) → AreKept (entries_of ways.by_name name seen))
     → FollowEndsAs true true ways false (name ∷ []) count shows streams seen watched new 0 → WroteText ways name shows count seen new
-wrote_text ways name shows count seen watched new keeps_bytes (looked looks shares seen_is broken made few full are leaves) = grind (arith, common_steps, unfailed, length-map, wrote_all, looks_give_text)
+wrote_text ways name shows count seen watched new keeps_bytes (looked looks shares seen_is broken made few full are found leaves) =
+    let ends : length looks < count → (0 < length looks) × (◌≡◌ {A = Bool} true true → is_alive ways (name ∷ []) looks ≡ false) = (λ fewer. ((full fewer).0, (full fewer).1)) in grind (arith, common_steps, unfailed, length-map, wrote_all, looks_give_text)
 wrote_text ways name shows count seen watched new keeps_bytes (stopped mid why stop says failed) = search rules
 wrote_text ways name shows count seen watched new keeps_bytes (no_room unseen unwatched says failed) = search rules
 
