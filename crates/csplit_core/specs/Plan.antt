@@ -41,7 +41,9 @@ pub data Ending : Type 0 where
 
 -- The line at which a search begins. It is line 1 where the current line is 1 and no pattern was performed. Else it is
 -- one past the current line, or one past the line that was matched last, whichever is greater. With `suppress` the line
--- at the last cut, which is the one before the current line, stands in the current line's place.
+-- at the last cut, which is the one before the current line, stands in the current line's place. So once `/x/` matched
+-- line 5 and cut there, the next pattern is looked for from line 6 on; where `/x/-2` matched line 5 and cut at line 3,
+-- also from line 6 on; where `/x/+2` cut at line 7, from line 8 on; and after the operand `10` from line 11 on.
 abbrev pub search_line : Bool → State → ℕ
 search_line true state = suc (max (state.current - 1) state.matched)
 search_line false state = if eqb state.current 1 && eqb state.matched 0 then 1

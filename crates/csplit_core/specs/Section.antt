@@ -30,7 +30,7 @@ is_last_kept (above operand repetition matched cut) = is_kept operand.target
 is_last_kept (below operand repetition) = is_kept operand.target
 
 -- The line before which the last section ends, where the input ends after `total` lines: it has all lines that are
--- left, and none where the cut is below the current line.
+-- left, and none where the cut is below the current line. Lines are numbered from 1, so before line 0 there are none.
 abbrev pub whole_end : (total : ℕ) → Ending → ℕ
 whole_end total used_up = suc total
 whole_end total (missed operand repetition) = suc total
@@ -39,7 +39,7 @@ whole_end total (below operand repetition) = 0
 
 -- The line before which its settled lines end, whatever follows the `total` lines that came in. Where no line matched
 -- yet, the last ones are not settled, as many as the offset goes back. Where the cut is known to be above the last
--- line, all of them are.
+-- line, all of them are. Where it is below the current line the section has none, which is said by 0 as in `whole_end`.
 abbrev pub settled_end : (total : ℕ) → Ending → ℕ
 settled_end total used_up = suc total
 settled_end total (missed operand repetition) = suc total - most_held operand.target

@@ -192,15 +192,17 @@ past_same : (s : Stretch) (delim : ℕ) (unit : Counted) (n : ℕ) {x : List ℕ
 past_same the_first delim unit n none = grind (arith, common_steps)
 past_same s delim unit n none = refl
 
-pub loads : (told : Bool) (slot count : ℕ) (ends next : Ends) (old new : List Source) → Holds ends [] → SameAsked ends next → left_of next ≡ left_of ends → past_of next ≡ past_of ends → (is_last (stretch_of ends) ≡ false → count ≡ 0)
-    → Passes told slot count (λ x. waiting_of next ≡ waiting ends x) old new → FullLacksNone next → Loads Holds (λ (those : Ends) slots. IsTrue (is_writable slots 0)) OwnsNone work told slot count ends next old new
-loads told slot count ends next old new fresh same left past others passes full =
+pub loads : (told : Bool) (most slot count : ℕ) (ends next : Ends) (old new : List Source) → Holds ends [] → SameAsked ends next → left_of next ≡ left_of ends → past_of next ≡ past_of ends → (is_last (stretch_of ends) ≡ false → count ≡ 0)
+    → Passes told most slot count (λ x. waiting_of next ≡ waiting ends x) old new → FullLacksNone next → Loads Holds (λ (those : Ends) slots. IsTrue (is_writable slots 0)) OwnsNone work told most slot count ends next old new
+loads told most slot count ends next old new fresh same left past others passes full =
     let none : is_last (stretch_of ends) ≡ false → passes.front ≡ [] = λ is. nil_from_length passes.front (sym passes.long ∙ others is) in
     let waits = passes.keeps ∙ sym (same_for (λ s d u n. (work_in s d u n).waiting passes.front) same) in
     record {
       front = passes.front;
       long = passes.long;
       there = passes.there;
+      mid = passes.mid;
+      looked = passes.looked;
       passed = passes.passed;
       holds = grind (arith, common_steps, fresh, same, left, past, waits, full, none, same_for, not_last, past_same, none_lacks, full_lacks);
       ready = λ slots is. is;

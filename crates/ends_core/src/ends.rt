@@ -184,7 +184,7 @@ impl Stage for Ends {
         ensures left { left_of self.new ≡ left_of self.old }
         ensures past { past_of self.new ≡ past_of self.old }
         ensures others { is_last (stretch_of self.old) ≡ false → result ≡ 0 }
-        ensures passes { Passes I.told slot result (λ x. waiting_of self.new ≡ waiting self.old x) (I.sources inputs.old) (I.sources inputs.new) }
+        ensures passes { Passes I.told (length buffer.old) slot result (λ x. waiting_of self.new ≡ waiting self.old x) (I.sources inputs.old) (I.sources inputs.new) }
         ensures full { FullLacksNone self.new }
         ensures laid { I.laid inputs.new ≡ I.laid inputs.old }
         ensures bound { result < 2 ^ 63 }

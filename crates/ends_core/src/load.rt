@@ -2,6 +2,7 @@
 ghost use Rattle.std.specs.Prelude.{◌≡◌, ◌<◌, ◌≤◌, ◌++◌, ℕ, List, [], true, length, IsTrue};
 ghost use Rattle.seg_core.specs.Line.{last_lines};
 ghost use Rattle.ports_core.specs.Source.{Shows, source_at, is_readable};
+ghost use Rattle.ports_core.specs.Inputs.{HasLooked};
 ghost use Rattle.ends_core.specs.inner.Kept.{HasSeen};
 ghost use Rattle.seg_core.specs.declared.unit.Unit.TheVariants.{Bytes};
 ghost use Rattle.ends_core.specs.Ends.{last_of};
@@ -18,15 +19,17 @@ pub(crate) fn load_lines<I: Inputs>(
     slot: usize,
     left: u64,
     most: usize,
-    inputs: &I,
+    inputs: &mut I,
 ) -> bool
     requires room { 0 < most }
-    requires input { IsTrue (is_readable (I.sources inputs.now) slot) }
-    requires left { I.told ≡ true → left ≡ length (source_at (I.sources inputs.now) slot).left.bytes }
+    requires input { IsTrue (is_readable (I.sources inputs.old) slot) }
+    requires left { I.told ≡ true → left ≡ length (source_at (I.sources inputs.old) slot).left.bytes }
     requires none { window.old.held ≡ [] }
     ensures most { window.new.most ≡ window.old.most }
     ensures delim { window.new.delim ≡ window.old.delim }
-    ensures held { IsTrue result → HasSeen I.told (source_at (I.sources inputs.now) slot).left.bytes left (λ x. window.new.held ≡ last_lines window.old.delim window.old.most x) }
+    ensures held { IsTrue result → HasSeen I.told (source_at (I.sources inputs.old) slot).left.bytes left (λ x. window.new.held ≡ last_lines window.old.delim window.old.most x) }
+    ensures looked { HasLooked most slot (I.sources inputs.old) (I.sources inputs.new) }
+    ensures laid { I.laid inputs.new ≡ I.laid inputs.old }
 {
     let mut end = left;
     while 0 < end {
@@ -48,13 +51,15 @@ fn put_block<I: Inputs>(
     slot: usize,
     place: u64,
     size: usize,
-    inputs: &I,
+    inputs: &mut I,
 ) -> bool
     requires some { 0 < size }
-    requires input { IsTrue (is_readable (I.sources inputs.now) slot) }
+    requires input { IsTrue (is_readable (I.sources inputs.old) slot) }
     ensures most { window.new.most ≡ window.old.most }
     ensures delim { window.new.delim ≡ window.old.delim }
-    ensures held { IsTrue result → ((block : List ℕ) × (length block ≡ size) × (I.told ≡ true → Shows (source_at (I.sources inputs.now) slot).left.bytes place block) × (window.new.held ≡ last_lines window.old.delim window.old.most (block ++ window.old.held))) }
+    ensures held { IsTrue result → ((block : List ℕ) × (length block ≡ size) × (I.told ≡ true → Shows (source_at (I.sources inputs.old) slot).left.bytes place block) × (window.new.held ≡ last_lines window.old.delim window.old.most (block ++ window.old.held))) }
+    ensures looked { HasLooked size slot (I.sources inputs.old) (I.sources inputs.new) }
+    ensures laid { I.laid inputs.new ≡ I.laid inputs.old }
 {
     let Ok(mut block) = window.front_block(size) else {
         return false;
@@ -68,17 +73,19 @@ pub(crate) fn load_bytes<I: Inputs>(
     slot: usize,
     left: u64,
     buffer: &mut [u8],
-    inputs: &I,
+    inputs: &mut I,
 ) -> bool
     requires room { 0 < length buffer.old }
-    requires input { IsTrue (is_readable (I.sources inputs.now) slot) }
-    requires left { I.told ≡ true → left ≡ length (source_at (I.sources inputs.now) slot).left.bytes }
+    requires input { IsTrue (is_readable (I.sources inputs.old) slot) }
+    requires left { I.told ≡ true → left ≡ length (source_at (I.sources inputs.old) slot).left.bytes }
     requires none { window.old.held ≡ [] }
     requires full { window.old.most ≤ length window.old.held → window.old.grown ≡ true }
     ensures most { window.new.most ≡ window.old.most }
     ensures grown { window.old.grown ≡ true → window.new.grown ≡ true }
-    ensures held { IsTrue result → HasSeen I.told (source_at (I.sources inputs.now) slot).left.bytes left (λ x. window.new.held ≡ last_of 0 Bytes window.old.most x) }
+    ensures held { IsTrue result → HasSeen I.told (source_at (I.sources inputs.old) slot).left.bytes left (λ x. window.new.held ≡ last_of 0 Bytes window.old.most x) }
     ensures full { window.new.most ≤ length window.new.held → window.new.grown ≡ true }
+    ensures looked { HasLooked (length buffer.old) slot (I.sources inputs.old) (I.sources inputs.new) }
+    ensures laid { I.laid inputs.new ≡ I.laid inputs.old }
 {
     let mut at = window.over(left);
     while at < left {

@@ -1,10 +1,10 @@
 //! Following: looks at files beside names that others watch; and examples of the definitions alone, where each contract says what
 //! they make of some edits with a look after each list.
-ghost use Rattle.std.specs.Prelude.{◌≡◌, [], ◌∷◌, drop, codes, true, false};
+ghost use Rattle.std.specs.Prelude.{◌≡◌, [], ◌∷◌, Some, drop, codes, true, false};
 ghost use Rattle.watch_core.specs.Edits.{append, truncate, replace, remove, edited_by, empty_world, seen_in};
 ghost use Rattle.follow_core.specs.Followed.{followed};
 ghost use Rattle.ends_core.specs.Ends.{tail_of};
-ghost use Rattle.follow_core.specs.Look.{unopened};
+ghost use Rattle.follow_core.specs.Look.{unopened, unread};
 ghost use Rattle.follow_core.specs.inner.Placing.{looks_after};
 
 use ends_core::Unit;
@@ -62,8 +62,24 @@ fn of_two_names()
 fn of_one_that_breaks()
     ensures { let first = replace (codes "f") (codes "a\n") ∷ replace (codes "g") (codes "b\n") ∷ [] in
         let later = (append (codes "f") (codes "c\n") ∷ []) ∷ (append (codes "f") (codes "d\n") ∷ []) ∷ (append (codes "g") (codes "e\n") ∷ []) ∷ [] in
-        followed (record { first = 0; by_name = false; start = tail_of 10 Unit.Lines false 1 }) true (codes "f" ∷ codes "g" ∷ []) (record { snapshot = seen_in (edited_by first empty_world); fates = unopened 0 0 ∷ [] } ∷ drop 1 (looks_after (first ∷ later)))
+        followed (record { first = 0; by_name = false; start = tail_of 10 Unit.Lines false 1 }) true (codes "f" ∷ codes "g" ∷ []) (record { snapshot = seen_in (edited_by first empty_world); fates = unopened ∷ [] } ∷ drop 1 (looks_after (first ∷ later)))
         ≡ record { out = codes "==> g <==\nb\ne\n"; messages = codes "tail: cannot open 'f'\n" ∷ []; has_failed = true } }
+{}
+
+/// `tail -F f`, where another file comes that can't be opened: what came to the open one is written, and that it was replaced is told.
+fn that_cannot_be_opened()
+    ensures { let first = replace (codes "f") (codes "a\n") ∷ [] in let later = append (codes "f") (codes "c\n") ∷ replace (codes "f") (codes "q\n") ∷ [] in
+        followed (record { first = 0; by_name = true; start = tail_of 10 Unit.Lines false 1 }) false (codes "f" ∷ [])
+        (record { snapshot = seen_in (edited_by first empty_world); fates = [] } ∷ record { snapshot = seen_in (edited_by later (edited_by first empty_world)); fates = unopened ∷ [] } ∷ [])
+        ≡ record { out = codes "a\nc\n"; messages = codes "tail: 'f': file replaced\n" ∷ codes "tail: cannot open 'f'\n" ∷ []; has_failed = true } }
+{}
+
+/// `tail -f -c 2 f`, where a read of its sixth byte fails: what stands before it is written.
+fn that_cannot_be_read()
+    ensures { let first = replace (codes "f") (codes "abc") ∷ [] in let later = append (codes "f") (codes "defg") ∷ [] in
+        followed (record { first = 0; by_name = false; start = tail_of 10 Unit.Bytes false 2 }) false (codes "f" ∷ [])
+        (record { snapshot = seen_in (edited_by first empty_world); fates = [] } ∷ record { snapshot = seen_in (edited_by later (edited_by first empty_world)); fates = unread (Some 0) 5 ∷ [] } ∷ [])
+        ≡ record { out = codes "bcde"; messages = codes "tail: cannot read 'f'\n" ∷ []; has_failed = true } }
 {}
 
 #[test]
@@ -76,6 +92,8 @@ fn definitions_give_the_examples() {
     that_is_truncated();
     of_two_names();
     of_one_that_breaks();
+    that_cannot_be_opened();
+    that_cannot_be_read();
 }
 
 const LAST_LINE: Start = Start {

@@ -1,20 +1,21 @@
 -- A look at all names: at one after another, one look more, and one that was stopped; and one look after another.
 use Rattle.std.proofs.Common.{◌≡◌, ℕ, zero, suc, ◌<◌, ◌≤◌, ◌+◌, Bool, true, false, ◌||◌, List, [], ◌∷◌, ◌++◌, length, take, set, replicate, get_or, slice_index_or, refl, sym, ◌∙◌, ap, subst, arith, append_assoc, inl, inr, ◌⊎◌, Option, Some, subst₂, Err, not, ◌&&◌, map, Ok, Result, None, is_some, rules}
 use Rattle.std.proofs.Math.Bool.{or-false, or-false as or_none, and-false as and_none}
-use Rattle.std.proofs.lemmas.Bool.{cases_eq, cases_lt, and_parts, false≢true, not-true}
+use Rattle.std.proofs.lemmas.Bool.{or_parts, cases_eq, cases_lt, and_parts, false≢true, not-true}
 use Rattle.std.proofs.lemmas.List.{append-nil, get_or-map, get_or-set_other, get_or-set_same, length-append, length-map, length-replicate, length-set, length-take-le, take_all, get_or_past, get_or-append-add, get_or_append_left, map-append, take-append-le}
 use Rattle.std.proofs.Math.Seq.{get_or-append_seam, map-set_same, take-suc, take-append_seam}
 use Rattle.ports_core.specs.Slot.{Slot, changed_at, adds}
 use Rattle.follow_core.specs.FollowState.{AllReady, Begun, CanLook, FollowState, Holds, IsCause, IsOther, LooksOn, StandsIn, StopsOn, goes_on_at, is_alive, is_alive_from, new_state, nothing, up_to, lacks_memory, output_broke, Halted, SawOrNot, opened_follow}
 use Rattle.follow_core.specs.Followed.{any_failed, last_header_from, messages_of, share_text, text_from}
-use Rattle.follow_core.specs.Look.{Fate, Look, Ways, is_dropped, sound, snapshots, ways_of}
-use Rattle.follow_core.specs.Share.{BeginsShare, Share, share_by, share_of, shares_at_look_from, IsFront, shares_of}
+use Rattle.follow_core.specs.Look.{Fate, Look, Ways, failed_in, fate_at, is_dropped, sound, snapshots, ways_of}
+use Rattle.follow_core.specs.Share.{BeginsShare, Share, lines_of, share_by, share_of, shares_at_look_from, shares_of}
 use Rattle.follow_core.specs.inner.Visits.{KeepsOthers, Opened, StandFrom, Stopped, Visited, VisitedTo, Visits, VisitsAll, any_goes_on, goes_on_as, AddsSome, Begins, MakesLook, LookedAll}
 use Rattle.follow_core.specs.Printing.{PrinterState, Short}
+use Rattle.follow_core.specs.Reading.{AreAtLook, IsGiven, looks_more, names_more, no_looks, no_names}
 use Rattle.follow_core.specs.Sharing.{AllShared, AllShort, Wrote, CanPrint}
-use Rattle.follow_core.specs.inner.Giving.{Shared, HasStopped}
-use Rattle.follow_core.specs.Standing.{AllStand, BrokeIn, CanVisit, NameState, Stands, StandsAmong, no_state, state_at, texts, AreBroken, IsFollowed}
-use Rattle.follow_core.proofs.CallLemmas.{wrote_after, wrote_none, no_memory}
+use Rattle.follow_core.specs.inner.Giving.{IsFront, Shared, HasStopped}
+use Rattle.follow_core.specs.Standing.{AllStand, CanVisit, NoneGoesOn, NameState, Stands, StandsAmong, no_state, state_at, texts, AreWatched, IsFollowed, IsWatched}
+use Rattle.follow_core.proofs.CallLemmas.{none_of, wrote_after, wrote_none, no_memory}
 use Rattle.ports_core.specs.declared.fault.Fault.{Fault}
 use Rattle.watch_core.specs.Snapshot.{Snapshot, latest}
 use Rattle.watch_core.specs.Watched.{Watched, opens, watched_at, added, no_name}
@@ -51,12 +52,12 @@ all_both {printer} {shares} {more} all rest = record {
 
 -- one share more, or a beginning of it
 
-pub shared_short : {told : Bool} {printer mid after : PrinterState} {shares : List Share} {share : Share} {old now new : List Slot} {why : Fault}
+pub shared_short : {told : Bool} {printer mid after : PrinterState} {shares : List Share} (share : Share) {old now new : List Slot} {why : Fault}
     → AllShared told printer shares old mid now → Shared told mid share now after new (Some why) → AllShort told printer (shares ++ share ∷ []) old new why
-shared_short {printer} {mid} {shares} {share} {new} {why} all one = record {
+shared_short {printer} {mid} {shares} share {new} {why} all one = record {
   slots = wrote_after _ _ _ _ _ new (Some why) (ap (λ rest. text_from printer.headers printer.last shares ++ rest) (sym (append-nil (share_text mid.headers mid.last share)))
       ∙ text_all printer shares (share ∷ []) all.printer_is)
-      (ap (λ rest. messages_of shares ++ rest) (sym (append-nil share.messages)) ∙ sym (messages-append shares (share ∷ []))) all.slots one.slots;
+      (ap (λ rest. messages_of shares ++ rest) (sym (append-nil (lines_of share))) ∙ sym (messages-append shares (share ∷ []))) all.slots one.slots;
 }
 
 -- names that were not looked at yet
@@ -68,6 +69,7 @@ visited_none {ways} stand = record {
   shares = [];
   count = length-replicate ways.first sound ∙ omega arith;
   are = λ t all front. refl;
+  found = λ all front. no_names;
   is_failed = refl;
   shared = nothing_shared;
   same = refl;
@@ -113,6 +115,21 @@ shares_next ways looks look names now {place} same within =
     ∙ sym (shares_one ways looks look ways.first (take place (texts names)) (get_or (texts names) place []))
     ∙ ap (shares_at_look_from ways looks look ways.first) (sym (take-suc (texts names) place [] below))
 
+-- the names before a place, and the one at it
+count_taken : (names now : List NameState) {place : ℕ} → texts now ≡ texts names → place < length now → length (take place (texts names)) ≡ place
+count_taken names now {place} same within = length-take-le place (texts names) (subst (λ n. place ≤ n) (sym (length_texts names now same)) (omega arith))
+
+names_next : (names now : List NameState) {place : ℕ} → texts now ≡ texts names → place < length now → take place (texts names) ++ (state_at now place).text ∷ [] ≡ take (suc place) (texts names)
+names_next names now {place} same within = ap (λ name. take place (texts names) ++ name ∷ []) (sym (text_there names now same within))
+    ∙ sym (take-suc (texts names) place [] (subst (λ n. place < n) (sym (length_texts names now same)) within))
+
+-- what a look gives for one name more
+one_given : (looks : List Look) (look : Look) (from : ℕ) (names : List (List ℕ)) (name : List ℕ) {shares : List Share} {share : Share} → AreAtLook looks look from names shares
+    → IsGiven looks look (from + length names) name share → AreAtLook looks look from (names ++ name ∷ []) (shares ++ share ∷ [])
+one_given looks look from [] name {share} no_names given = names_more (subst (λ n. IsGiven looks look n name share) (let e : from + 0 ≡ from = omega arith in e) given) no_names
+one_given looks look from (first ∷ names) name {share} (names_more is rest) given =
+    names_more is (one_given looks look (from + 1) names name rest (subst (λ n. IsGiven looks look n name share) (let e : from + suc (length names) ≡ (from + 1) + length names = omega arith in e) given))
+
 pub visited_more : {told_in told : Bool} {ways : Ways} {looks : List Look} {snapshot : Snapshot} {names now : List NameState} {one : NameState} {place : ℕ}
     {printer mid after : PrinterState} {old slots new : List Slot} {watched watched_new : List Watched} {before failed : Bool} → place < length now
     → Visits told_in told ways snapshot (ways.first + place)
@@ -127,7 +144,11 @@ visited_more {told_in} {told} {ways} {looks} {snapshot} {names} {now} {one} {pla
       ap (λ those. those ++ visited.share ∷ []) (sofar.are t all (front_before sofar.fates visited.fate front))
       ∙ ap (λ share. shares_at_look_from ways looks look ways.first (take place (texts names)) ++ share ∷ []) (visited.is_share t all (fate_there sofar.fates visited.fate front sofar.count))
       ∙ shares_next ways looks look names now sofar.same within ∙ ap (λ n. shares_at_look_from ways looks look ways.first (take n (texts names))) (let next : suc place ≡ place + 1 = omega arith in next);
-  is_failed = failed-append sofar.shares (visited.share ∷ []) ∙ ap (λ first. first || (visited.share.has_failed || false)) sofar.is_failed
+  found = λ all front. let look : Look = record { snapshot = snapshot; fates = all } in
+      subst (λ those. AreAtLook looks look ways.first those (sofar.shares ++ visited.share ∷ [])) (names_next names now sofar.same within ∙ ap (λ n. take n (texts names)) (let next : suc place ≡ place + 1 = omega arith in next))
+      (one_given looks look ways.first (take place (texts names)) (state_at now place).text (sofar.found all (front_before sofar.fates visited.fate front))
+      (subst (λ n. IsGiven looks look n (state_at now place).text visited.share) (ap (λ n. ways.first + n) (sym (count_taken names now sofar.same within))) (visited.found all (fate_there sofar.fates visited.fate front sofar.count))));
+  is_failed = failed-append sofar.shares (visited.share ∷ []) ∙ ap (λ first. first || (is_some visited.share.failure || false)) sofar.is_failed
       ∙ ap (λ last. before || (last || false)) visited.is_failed ∙ ap (λ last. before || last) (or-false failed);
   shared = all_both sofar.shared (record {
     printer_is = visited.shared.printer_is refl;
@@ -150,22 +171,35 @@ visited_more {told_in} {told} {ways} {looks} {snapshot} {names} {now} {one} {pla
       (sofar.done all (front_before sofar.fates visited.fate front) other (omega arith))
   there all front other below (inl at) = rw (at, get_or-set_same now place one no_state within, same) (visited.stands all (fate_there sofar.fates visited.fate front sofar.count))
 
--- by what a name broke, as it stands
-pub broken_there : (told : Bool) {ways : Ways} {looks : List Look} {place : ℕ} (name : List ℕ) (watched : Watched) (standing : Standing) → Stands told ways looks place name watched standing → BrokeIn ways looks place watched.failed
-broken_there told {place} name watched New stands = unbroken_in (ap (λ (w : Watched). w.failed) stands.1) (ap (is_dropped place) stands.0)
-broken_there told name watched (Followed position) stands = unbroken_in stands.unbroken stands.kept
-broken_there told name watched Left stands = elim stands.why [
-  | inl dropped ↦ dropped.1
-  | inr missed ↦ unbroken_in missed.unbroken missed.kept
+-- a name that isn't broken
+pub unbroken_watched : {ways : Ways} {looks : List Look} {place : ℕ} {name : List ℕ} {watched : Watched} → watched.name ≡ name → watched.failed ≡ None → is_dropped place looks ≡ false → IsWatched ways looks place name watched
+unbroken_watched named unbroken kept = record { named = named; broke = unbroken_in unbroken kept; closed = λ is. absurd (false≢true (sym (ap is_some unbroken) ∙ is)) }
+
+-- one look more, through which it comes
+watched_sound : {ways : Ways} (looks : List Look) (look : Look) {place : ℕ} {name : List ℕ} {watched : Watched} → fate_at place look ≡ sound → IsWatched ways looks place name watched → IsWatched ways (looks ++ look ∷ []) place name watched
+watched_sound looks look fine is = record { named = is.named; broke = broken_sound looks look fine is.broke; closed = is.closed }
+
+-- how a name is watched, as it stands
+pub watched_there : (told : Bool) {ways : Ways} {looks : List Look} {place : ℕ} (name : List ℕ) (watched : Watched) (standing : Standing) → Stands told ways looks place name watched standing → IsWatched ways looks place name watched
+watched_there told {place} name watched New stands = unbroken_watched (ap (λ (w : Watched). w.name) stands.1) (ap (λ (w : Watched). w.failed) stands.1) (ap (is_dropped place) stands.0)
+watched_there told name watched (Followed position) stands = unbroken_watched stands.named stands.unbroken stands.kept
+watched_there told name watched Left stands = elim stands.why [
+  | inl (dropped, broke, closed) ↦ record { named = stands.named; broke = broke; closed = λ is. closed }
+  | inr missed ↦ unbroken_watched stands.named missed.unbroken missed.kept
 ]
 
--- opening a file breaks no name
-opens_failed : (names : List Watched) (place other : ℕ) (file : Option ℕ) → (watched_at (changed_at place (opens file) names) other).failed ≡ (watched_at names other).failed
-opens_failed [] place other file = refl
-opens_failed (name ∷ names) zero zero file = refl
-opens_failed (name ∷ names) zero (suc other) file = refl
-opens_failed (name ∷ names) (suc place) zero file = refl
-opens_failed (name ∷ names) (suc place) (suc other) file = opens_failed names place other file
+-- what is so of each name stays so where a file of one was opened, if it does of that one
+opens_keeps : (Is : Watched → Type 0) (names : List Watched) (place other : ℕ) (file : Option ℕ) → Is (watched_at names other)
+    → (other ≡ place → Is (opens file (watched_at names other))) → Is (watched_at (changed_at place (opens file) names) other)
+opens_keeps Is [] place other file is here = is
+opens_keeps Is (name ∷ names) zero zero file is here = here refl
+opens_keeps Is (name ∷ names) zero (suc other) file is here = is
+opens_keeps Is (name ∷ names) (suc place) zero file is here = is
+opens_keeps Is (name ∷ names) (suc place) (suc other) file is here = opens_keeps Is names place other file is (λ same. here (ap suc same))
+
+opens_unbroken : {ways : Ways} {looks : List Look} {place : ℕ} {name : List ℕ} {watched : Watched} {file : Option ℕ} → watched.failed ≡ None → IsWatched ways looks place name watched
+    → IsWatched ways looks place name (opens file watched)
+opens_unbroken unbroken is = record { named = is.named; broke = is.broke; closed = λ broken. absurd (false≢true (sym (ap is_some unbroken) ∙ broken)) }
 
 -- a look that was stopped at a name
 pub visited_short : {told_in told : Bool} {ways : Ways} {looks : List Look} {snapshot : Snapshot} {names now : List NameState} {standing : Standing} {place : ℕ}
@@ -177,9 +211,10 @@ pub visited_short : {told_in told : Bool} {ways : Ways} {looks : List Look} {sna
 visited_short {told_in} {told} {ways} {looks} {snapshot} {names} {now} {place} {mid} {slots} {new} {watched} {watched_new} {why} within visits sofar many = (
   sofar.shares ++ stopped.1.share ∷ [],
   up_to sofar.fates place sofar.shares stopped.1.share sofar.count (omega (arith, within, size))
-      (omega (arith, many, size), λ above. omega (arith, many, size), λ other inside. rw (opened.1, opens_failed watched number (ways.first + other) opened.0) (there other (omega (arith, inside, many, size)) (cases_lt other place)))
-      (λ t. sofar.are t sofar.fates front) (λ t. subst (BeginsShare stopped.1.share) (share_is t) (stopped.1.begins t sofar.fates)),
-  shared_short sofar.shared stopped.1.short,
+      (omega (arith, many, size), λ above. omega (arith, many, size), λ other inside. still other (omega (arith, inside, many, size)))
+      (λ t. sofar.are t sofar.fates front) (sofar.found sofar.fates front) (rw (text_there names now sofar.same within) stopped.1.found)
+      (λ t. subst (BeginsShare stopped.1.share) (share_is t) (stopped.1.begins t sofar.fates)),
+  shared_short stopped.1.share sofar.shared stopped.1.short,
 ) where
   number : ℕ
   number = ways.first + place
@@ -204,12 +239,24 @@ visited_short {told_in} {told} {ways} {looks} {snapshot} {names} {now} {place} {
       let count = sofar.count in
       rw (text_there names now sofar.same within, stopped.0, get_or_past sofar.fates number sound (omega (arith, count))) refl
 
-  there : (other : ℕ) → other < length now → (other < place) ⊎ (place ≤ other) → BrokeIn ways (looks ++ look ∷ []) (ways.first + other) (watched_at watched (ways.first + other)).failed
-  there other inside (inl less) = broken_there told_in (state_at now other).text (watched_at watched (ways.first + other)) (state_at now other).standing (sofar.done sofar.fates front other less)
-  there other inside (inr more) =
+  watched_now : (other : ℕ) → other < length now → (other < place) ⊎ (place ≤ other)
+      → IsWatched ways (looks ++ look ∷ []) (ways.first + other) (state_at now other).text (watched_at watched (ways.first + other))
+  watched_now other inside (inl less) = watched_there told_in (state_at now other).text (watched_at watched (ways.first + other)) (state_at now other).standing (sofar.done sofar.fates front other less)
+  watched_now other inside (inr more) =
       let count = sofar.count in
-      broken_sound looks look (get_or_past sofar.fates (ways.first + other) sound (omega (arith, count, more)))
-      (broken_there told_in (state_at now other).text (watched_at watched (ways.first + other)) (state_at now other).standing (sofar.rest other more inside))
+      watched_sound looks look (get_or_past sofar.fates (ways.first + other) sound (omega (arith, count, more)))
+      (watched_there told_in (state_at now other).text (watched_at watched (ways.first + other)) (state_at now other).standing (sofar.rest other more inside))
+
+  -- the one at which it was stopped
+  unbroken : (other : ℕ) → other ≡ place → (watched_at watched (ways.first + other)).failed ≡ None
+  unbroken other at = rw at ((watched_there told_in (state_at now place).text (watched_at watched number) (state_at now place).standing (sofar.rest place (omega arith) within)).broke.call
+      ∙ none_of (failed_in number looks) stopped.0)
+
+  still : (other : ℕ) → other < length now → IsWatched ways (looks ++ look ∷ []) (ways.first + other) (slice_index_or (texts names) other []) (watched_at watched_new (ways.first + other))
+  still other inside =
+      let now_is = watched_now other inside (cases_lt other place) in
+      rw (text_there names now sofar.same inside, opened.1) (opens_keeps (IsWatched ways (looks ++ look ∷ []) (ways.first + other) (state_at now other).text) watched number (ways.first + other) opened.0 now_is
+      (λ same. opens_unbroken (unbroken other (omega (arith, same))) now_is))
 
 pub next_ready : (first : ℕ) (names : List NameState) (one : NameState) {place : ℕ} {watched watched_new : List Watched} → place < length names → AllReady names first watched → KeepsOthers (first + place) watched watched_new → CanVisit one (watched_at watched_new (first + place)) → AllReady (set names place one) first watched_new
 next_ready first names one {place} {watched_new} within ready keeps can other inside = by (cases_eq other place) where
@@ -251,6 +298,8 @@ look_made {told_in} {told} {snapshot} {old} {names} {watched} {watched_new} {pri
     shares = holds.shares ++ visited.shares;
     are = λ t. ap (λ those. those ++ visited.shares) (holds.are t) ∙ ap (λ those. shares_of ways asked looks ++ those)
         (visited.are t visited.fates front ∙ ap (shares_at_look_from ways looks look ways.first) (take_all (length old.names) (texts old.names) (omega (arith, size)) ∙ holds.same)) ∙ sym (shares_more ways asked looks look);
+    found = looks_more holds.found (subst (λ those. AreAtLook looks look ways.first those visited.shares)
+        (take_all (length old.names) (texts old.names) (omega (arith, size)) ∙ holds.same) (visited.found visited.fates front));
     shared = all_both holds.shared visited.shared;
     failed = failed-append holds.shares visited.shares ∙ ap (λ before. before || any_failed visited.shares) holds.failed
         ∙ ap (λ now. old.has_failed || now) visited.is_failed;
@@ -283,6 +332,7 @@ look_stopped {told_in} {told} {snapshot} {old} {watched_new} {slots} {slots_new}
     let (more, begun, short) = visits.stopped ways.first looks (stand_from looking holds) in record {
       shares = holds.shares;
       are = holds.are;
+      found = holds.found;
       printer = old.printer;
       reached = slots;
       shared = holds.shared;
@@ -294,7 +344,7 @@ look_stopped {told_in} {told} {snapshot} {old} {watched_new} {slots} {slots_new}
 -- whatever looks were made, the names broke just where they tell so
 abbrev pub Unbroken : (told_in told : Bool) → FollowState → List Watched → List Slot → List Watched → Type 0
 Unbroken told_in told old watched slots watched_new = (ways : Ways) (headers : Bool) (names : List (List ℕ)) (looks : List Look) (first : List Slot)
-    → Holds told_in told ways headers names looks first old watched slots → AreBroken ways looks names watched_new
+    → Holds told_in told ways headers names looks first old watched slots → AreWatched ways looks names watched_new
 
 -- names that were added
 
@@ -341,6 +391,7 @@ held_added {told_in} {told} {ways} {headers} {names} {looks} {first} {old} {watc
       );
       shares = holds.shares;
       are = holds.are;
+      found = holds.found;
       shared = holds.shared;
       failed = holds.failed;
     }) where
@@ -391,6 +442,36 @@ fresh_alive ways {names} none new place within = search (rules, new_there, or_no
 pub alive_is : {told : Bool} {ways : Ways} {headers : Bool} {names : List (List ℕ)} {looks : List Look} {first slots : List Slot} {follow : FollowState} {watched : List Watched} → Holds true told ways headers names looks first follow watched slots → any_goes_on follow.by_name follow.names ≡ is_alive ways names looks
 alive_is {ways} {looks} {follow} {watched} holds = search (rules, alive_from, fresh_alive, goes_on_there)
 
+-- none of the names goes on
+
+none_before : (by_name : Bool) (names : List NameState) (place : ℕ) → place < length names → any_goes_on by_name names ≡ false → goes_on_as by_name (state_at names place).standing ≡ false
+none_before by_name [] place within none = absurd (omega (arith, within))
+none_before by_name (name ∷ names) zero within none = (or_parts (goes_on_as by_name name.standing) (any_goes_on by_name names) none).0
+none_before by_name (name ∷ names) (suc place) within none = none_before by_name names place (omega (arith, within)) (or_parts (goes_on_as by_name name.standing) (any_goes_on by_name names) none).1
+
+no_more_of : (told : Bool) (ways : Ways) (looks : List Look) (place : ℕ) (name : List ℕ) (watched : Watched) (standing : Standing) → Stands told ways looks place name watched standing → 0 < length looks
+    → goes_on_as ways.by_name standing ≡ false → (is_some watched.failed ≡ true) ⊎ ((ways.by_name ≡ false) × (watched.opened ≡ None))
+no_more_of told ways looks place name watched New stands some none = absurd (let empty = ap length stands.0 in omega (arith, some, empty))
+no_more_of told ways looks place name watched (Followed position) stands some none = absurd (false≢true (sym none))
+no_more_of told ways looks place name watched Left stands some none = elim stands.why [
+  | inl (dropped, broke, closed) ↦ inl (ap is_some broke.call ∙ dropped)
+  | inr missed ↦ inr (missed.way, missed.closed)
+]
+
+pub none_going : {told_in told : Bool} {ways : Ways} {headers : Bool} {names : List (List ℕ)} {looks : List Look} {first slots : List Slot} {follow : FollowState} {watched : List Watched}
+    → Holds told_in told ways headers names looks first follow watched slots → 0 < length looks → any_goes_on follow.by_name follow.names ≡ false → NoneGoesOn ways watched
+none_going {told_in} {ways} {looks} {follow} {watched} holds some none = stage follow.stage holds.stand where
+  way : ways.by_name ≡ follow.by_name
+  way = ap (λ (those : Ways). those.by_name) holds.asked
+
+  stage : (stage : Stage) → StandsIn told_in ways looks follow.names watched stage → NoneGoesOn ways watched
+  stage Fresh stand = absurd (let empty = ap length stand.0 in omega (arith, some, empty))
+  stage Looking stand = λ place within.
+      let inside : place < length follow.names = (let as_many = stand.1 in omega (arith, as_many, within)) in
+      no_more_of told_in ways looks (ways.first + place) (state_at follow.names place).text (watched_at watched (ways.first + place)) (state_at follow.names place).standing (stand.0 place inside) some
+      (rw way (none_before follow.by_name follow.names place inside none))
+  stage Over stand = absurd stand
+
 -- why a look was stopped
 
 -- following isn't over
@@ -407,33 +488,39 @@ cause_is {old} {slots} {slots_new} watched live can (inr (is, broken), error) = 
 
 -- by what the names broke
 
--- a name that was only added broke by nothing
-none_failed : (before : List Watched) (names : List (List ℕ)) (watched rest : List Watched) {place : ℕ} → before ++ map added names ≡ watched ++ rest → length before + place < length watched → place < length names → (watched_at watched (length before + place)).failed ≡ None
-none_failed before names watched rest {place} are within inside = ap (λ (w : Watched). w.failed)
-    (sym (get_or_append_left watched rest no_name (length before + place) within) ∙ ap (λ those. watched_at those (length before + place)) (sym are) ∙ added_at before names inside)
+-- a name that was only added
+just_added : (before : List Watched) (names : List (List ℕ)) (watched rest : List Watched) {place : ℕ} → before ++ map added names ≡ watched ++ rest → length before + place < length watched → place < length names
+    → watched_at watched (length before + place) ≡ added (slice_index_or names place [])
+just_added before names watched rest {place} are within inside =
+    sym (get_or_append_left watched rest no_name (length before + place) within) ∙ ap (λ those. watched_at those (length before + place)) (sym are) ∙ added_at before names inside
 
--- before the first look none did, of those that were added
-none_broken : {ways : Ways} {looks : List Look} (names : List (List ℕ)) (before watched : List Watched) → looks ≡ [] → length before ≡ ways.first → IsFront watched (before ++ map added names) → AreBroken ways looks names watched
-none_broken {ways} names before watched none first_is (rest, are) = subst (λ (those : List Look). AreBroken ways those names watched) (sym none) (
+-- before the first look none broke, of those that were added
+none_broken : {ways : Ways} {looks : List Look} (names : List (List ℕ)) (before watched : List Watched) → looks ≡ [] → length before ≡ ways.first → IsFront watched (before ++ map added names) → AreWatched ways looks names watched
+none_broken {ways} names before watched none first_is (rest, are) = subst (λ (those : List Look). AreWatched ways those names watched) (sym none) (
   (let size = sizes in omega (arith, size, first_is)),
   (λ above. absurd (omega (arith, above))),
-  subst (λ n. (place : ℕ) → n + place < length watched → BrokeIn ways [] (n + place) (watched_at watched (n + place)).failed) first_is
-      (λ place within. unbroken_in (none_failed before names watched rest are within (let size = sizes in omega (arith, size, within))) refl),
+  subst (λ n. (place : ℕ) → n + place < length watched → IsWatched ways [] (n + place) (slice_index_or names place []) (watched_at watched (n + place))) first_is
+      (λ place within. let is = just_added before names watched rest are within (let size = sizes in omega (arith, size, within)) in
+      unbroken_watched (ap (λ (w : Watched). w.name) is) (ap (λ (w : Watched). w.failed) is) refl),
 ) where
   sizes : length before + length names ≡ length watched + length rest
   sizes = ap (λ n. length before + n) (sym (length-map names added)) ∙ sym (length-append before (map added names)) ∙ ap length are ∙ length-append watched rest
 
-pub broken_are : {told_in told : Bool} {ways : Ways} {headers : Bool} {names : List (List ℕ)} {looks : List Look} {first slots : List Slot} {follow : FollowState} {watched : List Watched} → Holds told_in told ways headers names looks first follow watched slots → AreBroken ways looks names watched
-broken_are {told_in} {ways} {names} {looks} {follow} {watched} holds = stage follow.stage holds.stand where
+pub watched_are : {told_in told : Bool} {ways : Ways} {headers : Bool} {names : List (List ℕ)} {looks : List Look} {first slots : List Slot} {follow : FollowState} {watched : List Watched} → Holds told_in told ways headers names looks first follow watched slots → AreWatched ways looks names watched
+watched_are {told_in} {ways} {names} {looks} {follow} {watched} holds = stage follow.stage holds.stand where
   count : length follow.names ≡ length names
   count = length_names follow holds.same
 
-  stage : (stage : Stage) → StandsIn told_in ways looks follow.names watched stage → AreBroken ways looks names watched
+  stage : (stage : Stage) → StandsIn told_in ways looks follow.names watched stage → AreWatched ways looks names watched
   stage Fresh stand = none_broken names watched watched stand.0 stand.2 (map added names, refl)
   stage Looking stand = (
     (let as_many = stand.1 ∙ ap (λ n. ways.first + n) count in omega (arith, as_many)),
     (λ above. stand.1 ∙ ap (λ n. ways.first + n) count),
-    λ place within. broken_there told_in (state_at follow.names place).text (watched_at watched (ways.first + place)) (state_at follow.names place).standing (stand.0 place (let as_many = stand.1 in omega (arith, as_many, within))),
+    λ place within.
+        let inside : place < length follow.names = (let as_many = stand.1 in omega (arith, as_many, within)) in
+        subst (λ those. IsWatched ways looks (ways.first + place) (slice_index_or those place []) (watched_at watched (ways.first + place))) holds.same
+        (rw (text_there follow.names follow.names refl inside)
+        (watched_there told_in (state_at follow.names place).text (watched_at watched (ways.first + place)) (state_at follow.names place).standing (stand.0 place inside))),
   )
   stage Over stand = absurd stand
 
@@ -450,6 +537,7 @@ makes_none {told} {old} {watched} {slots} unbroken others live can is same = rec
   stopped = λ ways headers names looks first holds. record {
     shares = holds.shares;
     are = holds.are;
+    found = holds.found;
     printer = old.printer;
     reached = slots;
     shared = holds.shared;
@@ -483,7 +571,7 @@ pub makes_all : {told_in told : Bool} {snapshot : Snapshot} {seen seen_new : Lis
     → (old.stage ≡ Over → ⊥) → CanLook old watched slots → why ≡ fault.Memory → seen_new ≡ seen
     → MakesLook told_in told snapshot seen old watched slots seen_new new watched_new slots (Err why)
 makes_all {told} {slots} begins same = makes_none
-    (λ ways headers names looks first holds. subst (AreBroken ways looks names) (sym same) (broken_are (begins.holds told ways headers names looks first slots holds)))
+    (λ ways headers names looks first holds. subst (AreWatched ways looks names) (sym same) (watched_are (begins.holds told ways headers names looks first slots holds)))
     (λ number other. ap (λ those. watched_at those number) same ∙ (begins.others number other).1)
 
 -- the names were looked at, once they were watched and the watch saw what the files hold
@@ -555,6 +643,7 @@ pub record Progress (told_in told : Bool) (ways : Ways) (headers : Bool) (names 
   pub observed : seen ≡ snapshots looks
   pub is_made : Made told_in ways names shows looks
   pub alive : told_in ≡ true → 0 < length looks → is_alive ways names looks ≡ going
+  pub ends : going ≡ false → NoneGoesOn ways watched
   pub holds : Holds told_in told ways headers names looks first follow watched slots
 
 made_more : {told_in : Bool} {ways : Ways} {names : List (List ℕ)} {shows : ℕ → Snapshot} {looks : List Look} (look : Look) → look.snapshot ≡ shows (length looks)
@@ -584,8 +673,10 @@ module _ {told_in told : Bool} {ways : Ways} {headers : Bool} {names : List (Lis
       → LooksOn told_in told (now (length seen)) old watched slots new watched_new slots_new → seen_new ≡ seen ++ now (length seen) ∷ []
       → ((told : Bool) (ways : Ways) (headers : Bool) (names : List (List ℕ)) (looks : List Look) (first slots : List Slot) (watched : List Watched)
       → Holds true told ways headers names looks first new watched slots → going ≡ is_alive ways names looks)
+      → ((told_in told : Bool) (ways : Ways) (headers : Bool) (names : List (List ℕ)) (looks : List Look) (first slots : List Slot) (watched : List Watched)
+      → Holds told_in told ways headers names looks first new watched slots → 0 < length looks → going ≡ false → NoneGoesOn ways watched)
       → suc made ≡ next → Progress told_in told ways headers names shows first next going new seen_new watched_new slots_new
-  one_more {now} {new} {seen} {watched_new} {slots_new} same p looks_on more alive is =
+  one_more {now} {new} {seen} {watched_new} {slots_new} same p looks_on more alive none is =
       let (fates, holds) = looks_on ways headers names p.looks first p.holds in
       let look : Look = record { snapshot = now (length seen); fates = fates } in record {
         looks = p.looks ++ look ∷ [];
@@ -594,6 +685,7 @@ module _ {told_in told : Bool} {ways : Ways} {headers : Bool} {names : List (Lis
         is_made = made_more look (next_is same p) p.is_made p.alive;
         alive = λ t above. sym (alive told ways headers names (p.looks ++ look ∷ []) first slots_new watched_new
             (subst (λ known. Holds known told ways headers names (p.looks ++ look ∷ []) first new watched_new slots_new) t holds));
+        ends = none told_in told ways headers names (p.looks ++ look ∷ []) first slots_new watched_new holds (let long = length-append p.looks (look ∷ []) in omega (arith, long));
         holds = holds;
       }
 
@@ -620,7 +712,7 @@ module _ {told_in told : Bool} {ways : Ways} {headers : Bool} {names : List (Lis
     observed = p.observed;
     made = p.is_made;
     within = omega (arith, count, within);
-    over = λ fewer. let (some, stops) = over (omega (arith, count, fewer)) in let above : 0 < length p.looks = omega (arith, count, some) in (above, λ t. p.alive t above ∙ stops);
+    over = λ fewer. let (some, stops) = over (omega (arith, count, fewer)) in let above : 0 < length p.looks = omega (arith, count, some) in (above, (λ t. p.alive t above ∙ stops), p.ends stops);
     holds = p.holds;
   }
 
@@ -638,6 +730,7 @@ open_holds {told_in} {told} {by_name} {start} {headers} {names} {watched} {slots
   stand = (refl, ap (map new_state) (sym (texts_of_new names)), ap length unwatched);
   shares = [];
   are = λ t. refl;
+  found = no_looks;
   shared = nothing_shared;
   failed = refl;
 })

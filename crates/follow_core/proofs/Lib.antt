@@ -1,6 +1,7 @@
 pub mod RunLemmas
 pub mod LookLemmas
 pub mod AgreeLemmas
+pub mod EventLemmas
 pub mod CallLemmas
 pub mod StartLemmas
 pub mod FollowLemmas

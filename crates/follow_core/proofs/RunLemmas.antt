@@ -1,8 +1,7 @@
 -- The text of a name goes on by what each entry adds, and all that is written by what one look more gives.
 use Rattle.std.proofs.lemmas.Grind.{common_steps}
-use Rattle.follow_core.specs.Notice.{notices_later, notices_between}
 use Rattle.std.proofs.Math.Seq.{drop-append_seam as drop_front}
-use Rattle.std.proofs.Common.{◌≡◌, ℕ, Bool, true, false, List, [], ◌∷◌, ◌++◌, length, drop, refl, sym, ◌∙◌, ap, append_assoc, if◌then◌else◌, append-nil, Option, ◌||◌, arith}
+use Rattle.std.proofs.Common.{◌≡◌, ℕ, Bool, true, false, List, [], ◌∷◌, ◌++◌, length, drop, refl, sym, ◌∙◌, ap, append_assoc, if◌then◌else◌, append-nil, Option, ◌||◌, arith, is_some}
 use Rattle.std.specs.List.{onto_first}
 use Rattle.ports_core.specs.Part.{IsBeginning}
 use Rattle.follow_core.specs.Version.{Version, Entry, version, gap, entries_of, entries_later, entries_at_look, open_after_look, open_after_later, open_after}
@@ -11,7 +10,7 @@ use Rattle.follow_core.specs.Gain.{gain_between, gains_later, last_from, gains_a
 use Rattle.std.proofs.Math.Bool.{or_assoc}
 use Rattle.watch_core.specs.Snapshot.{Snapshot}
 use Rattle.follow_core.specs.Look.{Ways, Look}
-use Rattle.follow_core.specs.Share.{Share, shares_of, shares_from, shares_at_look}
+use Rattle.follow_core.specs.Share.{Share, lines_of, shares_of, shares_from, shares_at_look}
 use Rattle.follow_core.specs.Followed.{text_from, share_text, header_after, last_header_from, messages_of, any_failed}
 
 -- the run that a version begins, and what comes after it
@@ -93,10 +92,6 @@ kept_before (version v ∷ version w ∷ entries) more all = (all.0, kept_before
 pub text_goes_on : (start : List ℕ → List ℕ) (entries more : List Entry) → AreKept (entries ++ more) → name_text start (entries ++ more) ≡ name_text start entries ++ gains_after start entries more
 text_goes_on start entries more all = grind (arith, common_steps, text_is_gains, gains-append, kept_before)
 
-pub notices-append : (last : Entry) (entries more : List Entry) → notices_later last (entries ++ more) ≡ notices_later last entries ++ notices_later (last_from last entries) more
-notices-append last [] more = refl
-notices-append last (entry ∷ entries) more = ap (λ x. notices_between last entry ++ x) (notices-append entry entries more) ∙ sym (append_assoc (notices_between last entry) (notices_later entry entries) _)
-
 pub last_from-append : (last : Entry) (entries more : List Entry) → last_from last (entries ++ more) ≡ last_from (last_from last entries) more
 last_from-append last [] more = refl
 last_from-append last (entry ∷ entries) more = last_from-append entry entries more
@@ -122,11 +117,11 @@ last-append headers last (share ∷ shares) more = last-append headers (header_a
 
 pub messages-append : (shares more : List Share) → messages_of (shares ++ more) ≡ messages_of shares ++ messages_of more
 messages-append [] more = refl
-messages-append (share ∷ shares) more = ap (λ x. share.messages ++ x) (messages-append shares more) ∙ sym (append_assoc share.messages (messages_of shares) (messages_of more))
+messages-append (share ∷ shares) more = ap (λ x. lines_of share ++ x) (messages-append shares more) ∙ sym (append_assoc (lines_of share) (messages_of shares) (messages_of more))
 
 pub failed-append : (shares more : List Share) → any_failed (shares ++ more) ≡ (any_failed shares || any_failed more)
 failed-append [] more = refl
-failed-append (share ∷ shares) more = ap (λ x. share.has_failed || x) (failed-append shares more) ∙ sym (or_assoc share.has_failed (any_failed shares) (any_failed more))
+failed-append (share ∷ shares) more = ap (λ x. is_some share.failure || x) (failed-append shares more) ∙ sym (or_assoc (is_some share.failure) (any_failed shares) (any_failed more))
 
 -- the entries of one look more
 looks-append : (by_name : Bool) (name : List ℕ) (opened : Option ℕ) (snaps : List Snapshot) (snapshot : Snapshot) → entries_later by_name name opened (snaps ++ snapshot ∷ []) ≡ entries_later by_name name opened snaps ++ entries_at_look by_name name (open_after_later by_name name opened snaps) snapshot

@@ -11,9 +11,10 @@ use Rattle.watch_core.specs.Watched.{Watched}
 use Rattle.follow_core.specs.Followed.{Followed, made_of}
 use Rattle.follow_core.specs.FollowState.{Halted, SawOrNot, is_alive}
 use Rattle.follow_core.specs.Look.{Look, Ways, snapshots}
+use Rattle.follow_core.specs.Reading.{AreFound}
 use Rattle.follow_core.specs.Share.{Share, shares_of}
 use Rattle.follow_core.specs.Sharing.{Wrote}
-use Rattle.follow_core.specs.Standing.{AreBroken}
+use Rattle.follow_core.specs.Standing.{AreWatched, NoneGoesOn}
 
 -- what the first n looks see
 abbrev pub seen_first : (ℕ → Snapshot) → ℕ → List Snapshot
@@ -48,10 +49,12 @@ pub record Leaves (told : Bool) (followed : Followed) (first new : List Slot) (s
 pub data FollowEndsAs (told_in told : Bool) (ways : Ways) (headers : Bool) (names : List (List ℕ)) (count : ℕ)
     (shows : ℕ → Snapshot) (first : List Slot) (seen : List Snapshot) (watched : List Watched) (new : List Slot)
     (status : ℕ) : Type 0 where
-  looked : (looks : List Look) (shares : List Share) → seen ≡ snapshots looks → AreBroken ways looks names watched
+  looked : (looks : List Look) (shares : List Share) → seen ≡ snapshots looks → AreWatched ways looks names watched
       → Made told_in ways names shows looks → length looks ≤ count
-      → (length looks < count → (0 < length looks) × (told_in ≡ true → is_alive ways names looks ≡ false))
-      → (told_in ≡ true → shares ≡ shares_of ways names looks) → Leaves told (made_of headers shares) first new status
+      → (length looks < count → (0 < length looks) × (told_in ≡ true → is_alive ways names looks ≡ false)
+      × NoneGoesOn ways watched)
+      → (told_in ≡ true → shares ≡ shares_of ways names looks) → AreFound ways names looks shares
+      → Leaves told (made_of headers shares) first new status
       → FollowEndsAs told_in told ways headers names count shows first seen watched new status
   stopped : (mid : List Slot) (why : Fault)
       → StoppedIn told_in told ways headers names count shows first seen watched mid why

@@ -14,7 +14,8 @@ use Rattle.follow_core.specs.Followed.{any_failed}
 use Rattle.follow_core.specs.Look.{Fate, Look, Ways, is_dropped, snapshots, ways_of}
 use Rattle.follow_core.specs.Share.{BeginsShare, Share, share_of, shares_at_look_from, shares_of}
 use Rattle.follow_core.specs.Printing.{PrinterState, fresh_printer}
-use Rattle.follow_core.specs.Standing.{AllStand, AreBroken, CanVisit, NameState, state_at, texts}
+use Rattle.follow_core.specs.Reading.{AreAtLook, AreFound, IsBegun}
+use Rattle.follow_core.specs.Standing.{AllStand, AreWatched, CanVisit, NameState, state_at, texts}
 use Rattle.follow_core.specs.Version.{open_after}
 
 pub record FollowState : Type 0 where
@@ -75,7 +76,7 @@ StandsIn told ways looks names watched Looking = AllStand told ways looks names 
 StandsIn told ways looks names watched Over = ⊥
 
 -- These looks at these names were made, from the outputs as they were at first: they have exactly what the looks give.
--- Where the files don't tell their bytes, they have something.
+-- Whatever is watched, it is what their calls found.
 pub record Holds (told_in told : Bool) (ways : Ways) (headers : Bool) (names : List (List ℕ)) (looks : List Look)
     (first : List Slot) (follow : FollowState) (watched : List Watched) (slots : List Slot) : Type 0 where
   pub asked : ways ≡ ways_of ways.first follow.by_name follow.start
@@ -84,19 +85,24 @@ pub record Holds (told_in told : Bool) (ways : Ways) (headers : Bool) (names : L
   pub stand : StandsIn told_in ways looks follow.names watched follow.stage
   pub shares : List Share
   pub are : told_in ≡ true → shares ≡ shares_of ways names looks
+  pub found : AreFound ways names looks shares
   pub shared : AllShared told (fresh_printer headers) shares first follow.printer slots
   pub failed : any_failed shares ≡ follow.has_failed
 
--- What a look that was stopped gave: nothing; or all of the names before one, with their fates, and of that one, for
--- which no call failed, a beginning. A name broke only where one of these looks tells so.
+-- What a look that was stopped gave: nothing; or it came to the name at a place. How each name before that came through
+-- is known, and no call on this one failed, nor on those after it: there are fates up to its number, and from there on
+-- none. With these the look gives each name before it a share, and they have it whole; of what it gives this name, the
+-- name has a beginning. A name broke only where one of these looks tells so.
 pub data Begun (told_in : Bool) (ways : Ways) (names : List (List ℕ)) (looks : List Look) (snapshot : Snapshot)
     (watched : List Watched) : List Share → Type 0 where
-  nothing : AreBroken ways looks names watched → Begun told_in ways names looks snapshot watched []
+  nothing : AreWatched ways looks names watched → Begun told_in ways names looks snapshot watched []
   up_to : (fates : List Fate) (place : ℕ) (shares : List Share) (share : Share)
       → length fates ≡ ways.first + place → place < length names
-      → AreBroken ways (looks ++ record { snapshot = snapshot; fates = fates } ∷ []) names watched
+      → AreWatched ways (looks ++ record { snapshot = snapshot; fates = fates } ∷ []) names watched
       → (told_in ≡ true → shares ≡ shares_at_look_from ways looks (record { snapshot = snapshot; fates = fates })
       ways.first (take place names))
+      → AreAtLook looks (record { snapshot = snapshot; fates = fates }) ways.first (take place names) shares
+      → IsBegun looks snapshot (slice_index_or names place []) share
       → (told_in ≡ true → BeginsShare share
       (share_of ways looks (record { snapshot = snapshot; fates = fates }) (ways.first + place)
       (slice_index_or names place [])))
@@ -109,6 +115,7 @@ pub record Halted (told_in told : Bool) (ways : Ways) (headers : Bool) (names : 
     (why : Fault) : Type 0 where
   pub shares : List Share
   pub are : told_in ≡ true → shares ≡ shares_of ways names looks
+  pub found : AreFound ways names looks shares
   pub printer : PrinterState
   pub reached : List Slot
   pub shared : AllShared told (fresh_printer headers) shares first printer reached

@@ -1,8 +1,8 @@
 -- What following writes and says, and whether anything failed.
-use Rattle.std.specs.Prelude.{is_none, ℕ, Bool, true, false, not, ◌&&◌, ◌||◌, List, [], ◌∷◌, ◌++◌, Option, Some, None, bytes_eq, if◌then◌else◌}
+use Rattle.std.specs.Prelude.{is_none, is_some, ℕ, Bool, true, false, not, ◌&&◌, ◌||◌, List, [], ◌∷◌, ◌++◌, Option, Some, None, bytes_eq, if◌then◌else◌}
 use Rattle.ports_core.specs.Text.{header_of}
 use Rattle.follow_core.specs.Look.{Ways, Look}
-use Rattle.follow_core.specs.Share.{Share, shares_of}
+use Rattle.follow_core.specs.Share.{Share, bytes_of, lines_of, shares_of}
 
 abbrev pub is_empty : List ℕ → Bool
 is_empty [] = true
@@ -13,19 +13,26 @@ abbrev pub is_last : List ℕ → Option (List ℕ) → Bool
 is_last name None = false
 is_last name (Some last) = bytes_eq name last
 
--- Where headers are written: at the first look each file that was opened has one; later one stands before text that
--- isn't empty, unless the last header was of that name.
-abbrev pub has_header : Bool → Option (List ℕ) → Share → Bool
-has_header headers last share = headers
-    && (share.is_opened || (not (is_empty share.bytes) && not (is_last share.name last)))
+-- Where headers are written, before these bytes of a name: at the first look each file that was opened has one; later
+-- one stands before text that isn't empty, unless the last header was of that name.
+abbrev pub has_header : Bool → Option (List ℕ) → (is_opened : Bool) → (name bytes : List ℕ) → Bool
+has_header headers last is_opened name bytes = headers
+    && (is_opened || (not (is_empty bytes) && not (is_last name last)))
 
-abbrev pub share_text : Bool → Option (List ℕ) → Share → List ℕ
-share_text headers last share = (if has_header headers last share then header_of share.name (is_none last) else [])
-    ++ share.bytes
+abbrev pub text_with : Bool → Option (List ℕ) → (is_opened : Bool) → (name bytes : List ℕ) → List ℕ
+text_with headers last is_opened name bytes =
+    (if has_header headers last is_opened name bytes then header_of name (is_none last) else []) ++ bytes
 
 -- whose the last header is after that
+abbrev pub last_with : Bool → Option (List ℕ) → (is_opened : Bool) → (name bytes : List ℕ) → Option (List ℕ)
+last_with headers last is_opened name bytes =
+    if has_header headers last is_opened name bytes then Some name else last
+
+abbrev pub share_text : Bool → Option (List ℕ) → Share → List ℕ
+share_text headers last share = text_with headers last share.is_opened share.name (bytes_of share)
+
 abbrev pub header_after : Bool → Option (List ℕ) → Share → Option (List ℕ)
-header_after headers last share = if has_header headers last share then Some share.name else last
+header_after headers last share = last_with headers last share.is_opened share.name (bytes_of share)
 
 -- the text of shares, where the last header before them was of this name
 abbrev pub text_from : Bool → Option (List ℕ) → List Share → List ℕ
@@ -39,12 +46,12 @@ last_header_from headers last (share ∷ shares) = last_header_from headers (hea
 
 abbrev pub messages_of : List Share → List (List ℕ)
 messages_of [] = []
-messages_of (share ∷ shares) = share.messages ++ messages_of shares
+messages_of (share ∷ shares) = lines_of share ++ messages_of shares
 
 -- some name could not be opened or read, or was missing at the first look
 abbrev pub any_failed : List Share → Bool
 any_failed [] = false
-any_failed (share ∷ shares) = share.has_failed || any_failed shares
+any_failed (share ∷ shares) = is_some share.failure || any_failed shares
 
 pub record Followed : Type 0 where
   -- the text on standard output

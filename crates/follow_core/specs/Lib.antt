@@ -2,8 +2,10 @@ pub mod Version
 pub mod Run
 pub mod Gain
 pub mod Notice
+pub mod Event
 pub mod Look
 pub mod Share
+pub mod Reading
 pub mod Followed
 pub mod Placing
 pub mod Telling

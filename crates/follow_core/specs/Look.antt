@@ -1,20 +1,25 @@
 -- The looks that were made, and how each name came through them.
-use Rattle.std.specs.Prelude.{is_some, ℕ, Bool, true, false, List, [], ◌∷◌, Option, Some, None, map, slice_index_or}
+use Rattle.std.specs.Prelude.{is_some, ℕ, Bool, true, false, not, ◌&&◌, ◌||◌, List, [], ◌∷◌, Option, Some, None, map, slice_index_or}
 use Rattle.ends_core.specs.Ends.{tail_of}
-use Rattle.ports_core.specs.declared.fault.Fault.{Fault}
-use Rattle.ports_core.specs.declared.fault.Fault.TheVariants.{Open, Read}
 use Rattle.watch_core.specs.Snapshot.{Snapshot}
+use Rattle.watch_core.specs.declared.watch.Broken.{Broken}
+use Rattle.watch_core.specs.declared.watch.Broken.TheVariants as broken
 use Rattle.follow_core.specs.declared.start.Start.{Start}
 use Rattle.follow_core.specs.Version.{Entry, entries_of}
 
--- how a name came through a look
+-- how a name came through a look: soundly, or by which call it broke
 pub data Fate : Type 0 where
   sound : Fate
-  -- A call that looks or opens failed. Of the messages and bytes that the look gives for the name, this number of each
-  -- was given before that.
-  unopened : ℕ → ℕ → Fate
-  -- a call that reads the open file, or asks how long it is, failed; the same
-  unread : ℕ → ℕ → Fate
+  -- that asks where the name leads
+  unled : Fate
+  -- that opens this
+  unopened : Fate
+  -- that asks how long the open file is: this one
+  unmeasured : Option ℕ → Fate
+  -- that reads it from a place on, by which the first look seeks where its part of the file begins
+  unsought : Option ℕ → ℕ → Fate
+  -- that reads it from a place on to write it
+  unread : Option ℕ → ℕ → Fate
 
 pub record Look : Type 0 where
   pub snapshot : Snapshot
@@ -24,20 +29,39 @@ pub record Look : Type 0 where
 abbrev pub fate_at : ℕ → Look → Fate
 fate_at place look = slice_index_or look.fates place sound
 
--- the fault by which the name of this number broke, where it had this fate, and else at a later look
-abbrev pub failed_by : ℕ → Fate → Option Fault → Option Fault
-failed_by place sound later = later
-failed_by place (unopened notices bytes) later = Some (Open place)
-failed_by place (unread notices bytes) later = Some (Read place)
+-- the call by which a name broke that had this fate, and else at a later look
+abbrev pub failed_by : Fate → Option Broken → Option Broken
+failed_by sound later = later
+failed_by unled later = Some broken.Look
+failed_by unopened later = Some broken.Open
+failed_by (unmeasured file) later = Some (broken.Len file)
+failed_by (unsought file from) later = Some (broken.Read file from)
+failed_by (unread file from) later = Some (broken.Read file from)
 
--- the fault by which it broke in these looks: that of the first call on it that failed
-abbrev pub failed_in : ℕ → List Look → Option Fault
+-- the call by which the name of this number broke in these looks: the first on it that failed
+abbrev pub failed_in : ℕ → List Look → Option Broken
 failed_in place [] = None
-failed_in place (look ∷ looks) = failed_by place (fate_at place look) (failed_in place looks)
+failed_in place (look ∷ looks) = failed_by (fate_at place look) (failed_in place looks)
 
 -- the name of this number broke at one of these looks: it is dropped from then on
 abbrev pub is_dropped : ℕ → List Look → Bool
 is_dropped place looks = is_some (failed_in place looks)
+
+-- A look can meet this fate. Only the first one seeks, and none but it opens a file or asks where the name leads where
+-- names aren't followed; it opens at once.
+abbrev pub can_meet : (is_first by_name : Bool) → Fate → Bool
+can_meet is_first by_name sound = true
+can_meet is_first by_name unled = not is_first && by_name
+can_meet is_first by_name unopened = is_first || by_name
+can_meet is_first by_name (unmeasured file) = true
+can_meet is_first by_name (unsought file from) = is_first
+can_meet is_first by_name (unread file from) = true
+
+-- each of these looks can meet the fate that it has for the name of this number
+abbrev pub are_met : (is_first by_name : Bool) → ℕ → List Look → Bool
+are_met is_first by_name place [] = true
+are_met is_first by_name place (look ∷ looks) =
+    can_meet is_first by_name (fate_at place look) && are_met false by_name place looks
 
 abbrev pub snapshots : List Look → List Snapshot
 snapshots looks = map (λ look. look.snapshot) looks

@@ -30,15 +30,6 @@ notices_between (version v) gap = Inaccessible ∷ []
 notices_between gap (version w) = Appeared ∷ []
 notices_between gap gap = []
 
-abbrev pub notices_later : Entry → List Entry → List Notice
-notices_later last [] = []
-notices_later last (entry ∷ entries) = notices_between last entry ++ notices_later entry entries
-
--- what is told of a name that has these entries
-abbrev pub notices_of : List Entry → List Notice
-notices_of [] = []
-notices_of (entry ∷ entries) = notices_later entry entries
-
 -- the name led nowhere at the first look
 abbrev pub is_missing : List Entry → Bool
 is_missing [] = false

@@ -1,30 +1,98 @@
 -- What one look gives for one name.
-use Rattle.std.specs.Prelude.{◌≡◌, ℕ, ◌+◌, Bool, true, false, ◌&&◌, List, [], ◌∷◌, ◌++◌, length, take, drop, map, if◌then◌else◌}
+use Rattle.std.specs.Prelude.{◌≡◌, ℕ, ◌+◌, ◌-◌, Bool, true, false, not, is_some, ◌&&◌, List, [], ◌∷◌, ◌++◌, Option, Some, None, length, if◌then◌else◌}
 use Rattle.ports_core.specs.Text.{message_of}
-use Rattle.ports_core.specs.declared.tool.Tool.TheVariants.{Tail}
+use Rattle.ports_core.specs.declared.fault.Fault.{Fault}
 use Rattle.ports_core.specs.declared.fault.Fault.TheVariants.{Open, Read}
-use Rattle.follow_core.specs.Gain.{gains_after}
-use Rattle.follow_core.specs.Notice.{notice_of, notices_of, is_missing}
-use Rattle.follow_core.specs.Version.{Entry}
-use Rattle.follow_core.specs.Look.{Look, Ways, Fate, sound, unopened, unread, fate_at, is_dropped, is_first, entries_in}
+use Rattle.ports_core.specs.declared.tool.Tool.TheVariants.{Tail}
+use Rattle.watch_core.specs.Snapshot.{Snapshot}
+use Rattle.follow_core.specs.Event.{Begins, Event, all_but, bytes_in, events_later, gives, lines_in, notes_in}
+use Rattle.follow_core.specs.Gain.{gains_after, last_from, last_of}
+use Rattle.follow_core.specs.Notice.{is_missing}
+use Rattle.follow_core.specs.Version.{Entry, entries_led, entries_open, held_at, is_same, open_after, open_after_look}
+use Rattle.follow_core.specs.Look.{Look, Ways, Fate, sound, unled, unopened, unmeasured, unsought, unread, fate_at, is_dropped, is_first, entries_in, snapshots}
 
 pub record Share : Type 0 where
   pub name : List ℕ
   -- the first look opened a file for it
   pub is_opened : Bool
-  pub bytes : List ℕ
-  pub messages : List (List ℕ)
-  pub has_failed : Bool
+  pub events : List Event
+  -- why nothing more came: a call failed, or the name was missing at the first look
+  pub failure : Option Fault
 
--- the entries of a name that one more look adds
-abbrev pub new_entries : Ways → List ℕ → List Look → Look → List Entry
-new_entries ways name before look =
-    drop (length (entries_in ways name before)) (entries_in ways name (before ++ look ∷ []))
+abbrev pub bytes_of : Share → List ℕ
+bytes_of share = bytes_in share.events
 
--- what the name's text gains by that: of each of these entries what it has that the one before it lacks
+abbrev pub failure_line : List ℕ → Option Fault → List (List ℕ)
+failure_line name None = []
+failure_line name (Some fault) = message_of Tail fault name ∷ []
+
+-- what is told, and after it the failure
+abbrev pub lines_of : Share → List (List ℕ)
+lines_of share = lines_in share.name share.events ++ failure_line share.name share.failure
+
+-- What is due of a name at a look, in two parts: of the file that was open; and where the name leads elsewhere, that
+-- this is so, and what the file holds to which it leads.
+pub record Due : Type 0 where
+  pub came : List Event
+  pub led : List Event
+
+-- the file of a name that is open after these looks
+abbrev pub opened_in : Ways → List ℕ → List Look → Option ℕ
+opened_in ways name looks = open_after ways.by_name name (snapshots looks)
+
+-- where this file is open, of which the last look saw so much
+abbrev pub due_later : (by_name : Bool) → List ℕ → Option ℕ → Entry → Snapshot → Due
+due_later by_name name opened last snapshot = record {
+  came = events_later last (entries_open snapshot opened);
+  led = events_later (last_from last (entries_open snapshot opened))
+      (entries_led snapshot opened (open_after_look by_name name opened snapshot));
+}
+
+-- at the first look the start part of the file that the name leads to
+abbrev pub due_at : Ways → List ℕ → List Look → Look → Due
+due_at ways name [] look = record {
+  came = [];
+  led = gives (gains_after ways.start [] (entries_in ways name (look ∷ []))) ∷ [];
+}
+due_at ways name (first ∷ looks) look = due_later ways.by_name name (opened_in ways name (first ∷ looks))
+    (last_of (entries_in ways name (first ∷ looks))) look.snapshot
+
+-- all that a look gives for a name whose calls go well
+abbrev pub events_at : Ways → List ℕ → List Look → Look → List Event
+events_at ways name before look = (due_at ways name before look).came ++ (due_at ways name before look).led
+
+-- how much a file has from a place on
+abbrev pub left_from : Snapshot → Option ℕ → ℕ → ℕ
+left_from snapshot file place = length (held_at snapshot file) - place
+
+-- a call failed on the file that was open before the look: this one
+abbrev pub is_kept : Option ℕ → Fate → Bool
+is_kept opened (unmeasured file) = is_same file opened
+is_kept opened (unread file from) = is_same file opened
+is_kept opened fate = false
+
+-- What came before that: nothing before its length is known; then it is told if it was truncated, and a read that
+-- fails is that of a place, before which all was given.
+abbrev pub came_before : Snapshot → Fate → List Event → List Event
+came_before snapshot (unmeasured file) came = []
+came_before snapshot (unread file from) came = all_but (left_from snapshot file from) came
+came_before snapshot fate came = came
+
+-- What came of where the name leads before a call failed: that it leads there is told before the file is opened.
+abbrev pub led_before : Snapshot → Fate → List Event → List Event
+led_before snapshot sound led = led
+led_before snapshot unled led = []
+led_before snapshot (unread file from) led = all_but (left_from snapshot file from) led
+led_before snapshot fate led = notes_in led
+
+-- what is given for a name that has this fate, where this file was open before the look
+abbrev pub given_by : Due → Snapshot → Option ℕ → Fate → List Event
+given_by due snapshot opened fate = if is_kept opened fate then came_before snapshot fate due.came
+    else due.came ++ led_before snapshot fate due.led
+
+-- what a name's text gains by a look
 abbrev pub gain : Ways → List ℕ → List Look → Look → List ℕ
-gain ways name before look =
-    gains_after ways.start (entries_in ways name before) (new_entries ways name before look)
+gain ways name before look = bytes_in (events_at ways name before look)
 
 -- what it gained in all looks
 abbrev pub gains_from : Ways → List ℕ → List Look → List Look → List ℕ
@@ -32,53 +100,38 @@ gains_from ways name before [] = []
 gains_from ways name before (look ∷ looks) =
     gain ways name before look ++ gains_from ways name (before ++ look ∷ []) looks
 
--- what is told of the name at that look
-abbrev pub said_at_look : Ways → List ℕ → List Look → Look → List (List ℕ)
-said_at_look ways name before look =
-    map (λ notice. notice_of notice name)
-    (drop (length (notices_of (entries_in ways name before)))
-    (notices_of (entries_in ways name (before ++ look ∷ []))))
-
 -- a name that was dropped gives nothing
 abbrev pub no_share : List ℕ → Share
-no_share name = record { name = name; is_opened = false; bytes = []; messages = []; has_failed = false }
+no_share name = record { name = name; is_opened = false; events = []; failure = None }
 
 -- one that leads nowhere at the first look is told as one that can't be opened
 abbrev pub missing_share : List ℕ → Share
-missing_share name = record {
-  name = name;
-  is_opened = false;
-  bytes = [];
-  messages = message_of Tail (Open 0) name ∷ [];
-  has_failed = true;
-}
+missing_share name = record { name = name; is_opened = false; events = []; failure = Some (Open 0) }
 
--- What the look gives for a name that has this fate. At the first look nothing is written of it before its file is
--- opened, and no call opens or asks where it leads after that.
+-- the fault that is told of it
+abbrev pub failure_of : Fate → Option Fault
+failure_of sound = None
+failure_of unled = Some (Open 0)
+failure_of unopened = Some (Open 0)
+failure_of (unmeasured file) = Some (Read 0)
+failure_of (unsought file from) = Some (Read 0)
+failure_of (unread file from) = Some (Read 0)
+
+abbrev pub is_unopened : Fate → Bool
+is_unopened unopened = true
+is_unopened fate = false
+
+-- what the look gives for a name that has this fate
 abbrev pub share_by : Ways → List ℕ → List Look → Look → Fate → Share
-share_by ways name before look sound =
-    if is_first before && is_missing (entries_in ways name (before ++ look ∷ [])) then missing_share name
+share_by ways name before look fate =
+    if not (is_some (failure_of fate)) && is_first before && is_missing (entries_in ways name (before ++ look ∷ []))
+    then missing_share name
     else record {
       name = name;
-      is_opened = is_first before;
-      bytes = gain ways name before look;
-      messages = said_at_look ways name before look;
-      has_failed = false;
+      is_opened = not (is_unopened fate) && is_first before;
+      events = given_by (due_at ways name before look) look.snapshot (opened_in ways name before) fate;
+      failure = failure_of fate;
     }
-share_by ways name before look (unopened notices bytes) = record {
-  name = name;
-  is_opened = false;
-  bytes = if is_first before then [] else take bytes (gain ways name before look);
-  messages = take notices (said_at_look ways name before look) ++ message_of Tail (Open 0) name ∷ [];
-  has_failed = true;
-}
-share_by ways name before look (unread notices bytes) = record {
-  name = name;
-  is_opened = is_first before;
-  bytes = take bytes (gain ways name before look);
-  messages = take notices (said_at_look ways name before look) ++ message_of Tail (Read 0) name ∷ [];
-  has_failed = true;
-}
 
 -- what a look after these gives for the name of this number
 abbrev pub share_of : Ways → List Look → Look → ℕ → List ℕ → Share
@@ -103,12 +156,9 @@ shares_from ways names before (look ∷ looks) =
 abbrev pub shares_of : Ways → List (List ℕ) → List Look → List Share
 shares_of ways names looks = shares_from ways names [] looks
 
-abbrev pub IsFront : {X : Type 0} → List X → List X → Type 0
-IsFront {X} front whole = (rest : List X) × (whole ≡ front ++ rest)
-
 -- this share begins as that one
 pub record BeginsShare (part whole : Share) : Type 0 where
   pub name : part.name ≡ whole.name
   pub opened : part.is_opened ≡ whole.is_opened
-  pub bytes : IsFront part.bytes whole.bytes
-  pub messages : IsFront part.messages whole.messages
+  pub events : Begins part.events whole.events
+  pub unfailed : part.failure ≡ None

@@ -1,12 +1,12 @@
 -- How a name stands between two looks.
-use Rattle.std.specs.Prelude.{◌≡◌, ◌<◌, ◌≤◌, ◌+◌, ℕ, Bool, true, false, List, [], Option, Some, None, ◌⊎◌, length, map, slice_index_or, take, is_some}
-use Rattle.ports_core.specs.declared.fault.Fault.{Fault}
-use Rattle.ports_core.specs.declared.fault.Fault.TheVariants.{Read}
+use Rattle.std.specs.Prelude.{◌≡◌, ◌<◌, ◌≤◌, ◌+◌, ℕ, Bool, true, false, List, [], Option, None, ◌⊎◌, length, map, slice_index_or, is_some}
+use Rattle.watch_core.specs.declared.watch.Broken.{Broken}
+use Rattle.watch_core.specs.Snapshot.{Found, holds_many, latest}
 use Rattle.watch_core.specs.Watched.{Watched, added, watched_at}
 use Rattle.follow_core.specs.declared.name.Standing.{Standing}
 use Rattle.follow_core.specs.declared.name.Standing.TheVariants.{New, Followed, Left}
 use Rattle.follow_core.specs.Gain.{file_of, last_of, seen_length}
-use Rattle.follow_core.specs.Look.{Look, Ways, entries_in, failed_in, is_dropped, is_first, snapshots}
+use Rattle.follow_core.specs.Look.{Look, Ways, are_met, entries_in, failed_in, is_dropped, is_first, snapshots}
 use Rattle.follow_core.specs.Version.{Entry, open_after}
 
 pub record NameState : Type 0 where
@@ -36,20 +36,26 @@ pub record StandsAt (last : Entry) (opened : Option ℕ) (position : ℕ) : Type
   pub file : opened ≡ file_of last
   pub seen : position ≡ seen_length last
 
--- The name of this number broke just as these looks tell, if it did: at the first call on it that failed, by its fault.
--- Where names aren't followed, that was at the first look, or a read: at no other is a file opened.
-pub record BrokeIn (ways : Ways) (looks : List Look) (place : ℕ) (failed : Option Fault) : Type 0 where
-  pub fault : failed ≡ failed_in place looks
-  pub opened : ways.by_name ≡ false
-      → (failed_in place (take 1 looks) ≡ failed_in place looks) ⊎ (failed_in place looks ≡ Some (Read place))
+-- The name of this number broke just as these looks tell, if it did: by the first call on it that failed, which is one
+-- that a look makes.
+pub record BrokeIn (ways : Ways) (looks : List Look) (place : ℕ) (failed : Option Broken) : Type 0 where
+  pub call : failed ≡ failed_in place looks
+  pub met : are_met true ways.by_name place looks ≡ true
+
+-- The name that is watched at this number is this one. It broke just as these looks tell, if it did, and no file of it
+-- is open then.
+pub record IsWatched (ways : Ways) (looks : List Look) (place : ℕ) (name : List ℕ) (watched : Watched) : Type 0 where
+  pub named : watched.name ≡ name
+  pub broke : BrokeIn ways looks place watched.failed
+  pub closed : is_some watched.failed ≡ true → watched.opened ≡ None
 
 -- From the number of the first on as many are watched as there are names, once a look was made; where the first look
--- found no memory to add them, perhaps fewer. Each that is broke just as these looks tell, if it did.
-abbrev pub AreBroken : Ways → List Look → List (List ℕ) → List Watched → Type 0
-AreBroken ways looks names watched = (length watched ≤ ways.first + length names)
+-- found no memory to add them, perhaps the first of these alone. Each is watched by its own name.
+abbrev pub AreWatched : Ways → List Look → List (List ℕ) → List Watched → Type 0
+AreWatched ways looks names watched = (length watched ≤ ways.first + length names)
     × (0 < length looks → length watched ≡ ways.first + length names)
-    × ((place : ℕ) → ways.first + place < length watched
-    → BrokeIn ways looks (ways.first + place) (watched_at watched (ways.first + place)).failed)
+    × ((place : ℕ) → ways.first + place < length watched → IsWatched ways looks (ways.first + place)
+    (slice_index_or names place []) (watched_at watched (ways.first + place)))
 
 -- It is looked at again: its open file is that of the last entry, and this much of it was seen.
 pub record IsFollowed (told : Bool) (ways : Ways) (looks : List Look) (place : ℕ) (name : List ℕ) (watched : Watched)
@@ -60,6 +66,9 @@ pub record IsFollowed (told : Bool) (ways : Ways) (looks : List Look) (place : �
   pub begun : is_first looks ≡ false
   pub stands : told ≡ true → StandsAt (last_of (entries_in ways name looks)) watched.opened position
   pub there : told ≡ true → ways.by_name ≡ false → is_some watched.opened ≡ true
+  -- the last look found the open file to be so long
+  pub long : is_some watched.opened ≡ true
+      → Found (latest (snapshots looks)) name (holds_many watched.opened position)
 
 -- it was missing at the first look, and names aren't followed
 pub record IsMissed (told : Bool) (ways : Ways) (looks : List Look) (place : ℕ) (name : List ℕ)
@@ -67,19 +76,27 @@ pub record IsMissed (told : Bool) (ways : Ways) (looks : List Look) (place : ℕ
   pub way : ways.by_name ≡ false
   pub unbroken : watched.failed ≡ None
   pub kept : is_dropped place looks ≡ false
+  pub closed : watched.opened ≡ None
   pub unopened : told ≡ true → open_after ways.by_name name (snapshots looks) ≡ None
 
 -- It is looked at no more: a call on it failed, so that it is broken, or it was missing.
 pub record IsLeft (told : Bool) (ways : Ways) (looks : List Look) (place : ℕ) (name : List ℕ)
     (watched : Watched) : Type 0 where
   pub begun : is_first looks ≡ false
-  pub why : ((is_dropped place looks ≡ true) × BrokeIn ways looks place watched.failed)
+  pub named : watched.name ≡ name
+  pub why : ((is_dropped place looks ≡ true) × BrokeIn ways looks place watched.failed × (watched.opened ≡ None))
       ⊎ IsMissed told ways looks place name watched
 
 abbrev pub Stands : Bool → Ways → List Look → ℕ → List ℕ → Watched → Standing → Type 0
 Stands told ways looks place name watched New = (looks ≡ []) × (watched ≡ added name)
 Stands told ways looks place name watched (Followed position) = IsFollowed told ways looks place name watched position
 Stands told ways looks place name watched Left = IsLeft told ways looks place name watched
+
+-- no name that is watched from the first on goes on: each broke, or no file of it is open and names aren't followed
+abbrev pub NoneGoesOn : Ways → List Watched → Type 0
+NoneGoesOn ways watched = (place : ℕ) → ways.first + place < length watched
+    → (is_some (watched_at watched (ways.first + place)).failed ≡ true)
+    ⊎ ((ways.by_name ≡ false) × ((watched_at watched (ways.first + place)).opened ≡ None))
 
 -- the name at this place stands so, by its number
 abbrev pub StandsAmong : Bool → Ways → List Look → List NameState → List Watched → ℕ → Type 0

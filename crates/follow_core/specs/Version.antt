@@ -19,6 +19,16 @@ abbrev pub is_file : ℕ → Option ℕ → Bool
 is_file file None = false
 is_file file (Some other) = file == other
 
+-- both are the same file
+abbrev pub is_same : Option ℕ → Option ℕ → Bool
+is_same None other = false
+is_same (Some file) other = is_file file other
+
+-- what a name's open file holds
+abbrev pub held_at : Snapshot → Option ℕ → List ℕ
+held_at snapshot None = []
+held_at snapshot (Some file) = snapshot.holds file
+
 -- the file that was open, as it is now
 abbrev pub entries_open : Snapshot → Option ℕ → List Entry
 entries_open snapshot None = []

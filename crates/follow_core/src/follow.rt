@@ -1,12 +1,12 @@
 //! Following: looks at names, one after another.
-ghost use Rattle.std.specs.Prelude.{◌≡◌, ◌<◌, ◌≤◌, ◌+◌, ◌^◌, ◌∷◌, ◌++◌, [], ℕ, Bool, List, true, length, map, Err, IfOk, IfErr, OnOk};
+ghost use Rattle.std.specs.Prelude.{◌≡◌, ◌<◌, ◌≤◌, ◌+◌, ◌^◌, ◌∷◌, ◌++◌, [], ℕ, Bool, List, true, false, length, map, Err, IfOk, IfErr, OnOk};
 ghost use Rattle.ports_core.specs.Slot.{Slot};
 ghost use Rattle.watch_core.specs.Watched.{Watched, watched_at};
 ghost use Rattle.follow_core.specs.Sharing.{HasError};
 ghost use Rattle.follow_core.specs.inner.Visits.{AddsSome, Begins, CanBegin, MakesLook};
 ghost use Rattle.follow_core.specs.FollowState.{CanLook, FollowState, Holds, IsCause, IsOther, LooksOn, SawOrNot, StopsOn, is_alive, opened_follow};
 ghost use Rattle.follow_core.specs.Look.{Look, Ways};
-ghost use Rattle.follow_core.specs.Standing.{texts};
+ghost use Rattle.follow_core.specs.Standing.{NoneGoesOn, texts};
 
 use crate::name::{Name, add_all, any_goes_on, new_names, visit_all};
 use crate::start::Start;
@@ -126,8 +126,10 @@ impl Follow {
 
     /// Whether a further look can give something: some name was not dropped and is followed by name or has its file open.
     pub fn alive(&self) -> bool
-        ensures { (told : Bool) (ways : Ways) (headers : Bool) (names : List (List ℕ)) (looks : List Look) (first slots : List Slot) (watched : List Watched)
+        ensures alive { (told : Bool) (ways : Ways) (headers : Bool) (names : List (List ℕ)) (looks : List Look) (first slots : List Slot) (watched : List Watched)
             → Holds true told ways headers names looks first self.now watched slots → result ≡ is_alive ways names looks }
+        ensures none { (told_in told : Bool) (ways : Ways) (headers : Bool) (names : List (List ℕ)) (looks : List Look) (first slots : List Slot) (watched : List Watched)
+            → Holds told_in told ways headers names looks first self.now watched slots → 0 < length looks → result ≡ false → NoneGoesOn ways watched }
     {
         any_goes_on(&self.names, self.by_name)
     }

@@ -1,9 +1,9 @@
 //! Where the bytes of followed names go, under headers.
-ghost use Rattle.std.specs.Prelude.{◌≡◌, Bool, [], Some, IsTrue, IfErr, OnOk, if◌then◌else◌, string_bytes, option_map, is_none};
+ghost use Rattle.std.specs.Prelude.{◌≡◌, [], Some, IsTrue, IfErr, OnOk, if◌then◌else◌, string_bytes, option_map, is_none};
 ghost use Rattle.ports_core.specs.Slot.{is_writable, with_written, told_of};
 ghost use Rattle.ports_core.specs.Text.{header_of};
 ghost use Rattle.follow_core.specs.Printing.{PrinterState, Short, fresh_printer};
-ghost use Rattle.follow_core.specs.inner.Giving.{Ends, given_share, over_in};
+ghost use Rattle.follow_core.specs.inner.Giving.{Puts, over_by, over_in};
 ghost use Rattle.follow_core.specs.Followed.{has_header, is_last};
 
 use ports_core::{Fault, Outs, header, write_whole};
@@ -50,7 +50,7 @@ impl Printer {
         outs: &mut O,
     ) -> Result<(), Fault>
         requires { IsTrue (is_writable (O.slots outs.old) 0) }
-        ensures ends { (told_in : Bool) → Ends told_in O.told opened self.old name.now bytes.now [] (O.slots outs.old) self.new (O.slots outs.new) (over_in result) }
+        ensures puts { Puts O.told opened self.old name.now bytes.now (O.slots outs.old) self.new (O.slots outs.new) (over_by (over_in result)) }
         ensures writable { OnOk result (IsTrue (is_writable (O.slots outs.new) 0)) }
     {
         if let Err(fault) = self.show(self.is_due(opened, name, bytes), name, outs) {
@@ -64,7 +64,7 @@ impl Printer {
 
     /// Whether a header is due before bytes of a name.
     fn is_due(&self, opened: bool, name: &str, bytes: &[u8]) -> bool
-        ensures { result ≡ has_header self.now.headers self.now.last (given_share opened name.now bytes.now []) }
+        ensures { result ≡ has_header self.now.headers self.now.last opened name.now bytes.now }
     {
         self.headers && (opened || (!bytes.is_empty() && !self.is_last(name)))
     }

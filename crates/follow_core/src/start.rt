@@ -2,9 +2,9 @@
 ghost use Rattle.std.specs.Prelude.{◌≡◌, ◌≤◌, ◌<◌, ◌+◌, ◌-◌, ◌^◌, ℕ, true, false, length, take, drop, IsTrue, IfOk, IfErr, OnOk};
 ghost use Rattle.seg_core.specs.Line.{after_lines, last_lines};
 ghost use Rattle.ends_core.specs.Ends.{tail_of};
-ghost use Rattle.ports_core.specs.Slot.{changed_at};
 ghost use Rattle.watch_core.specs.Snapshot.{latest};
-ghost use Rattle.watch_core.specs.Watched.{breaks, is_readable, open_contents, watched_at};
+ghost use Rattle.watch_core.specs.Watched.{is_readable, open_contents, watched_at};
+ghost use Rattle.follow_core.specs.inner.Giving.{FailsToRead};
 
 use ends_core::Unit;
 use ports_core::Fault;
@@ -47,7 +47,7 @@ impl Start {
         ensures within { IfOk result (λ from. from ≤ len) }
         ensures part { IfOk result (λ from. W.told ≡ true → let contents = open_contents (latest (W.seen watch.old)) (watched_at (W.watched watch.old) place) in drop from contents ≡ tail_of self.delim self.unit self.from_nth self.count contents) }
         ensures same { OnOk result (W.watched watch.new ≡ W.watched watch.old) }
-        ensures err { IfErr result (λ fault. (fault ≡ Fault.Read place) × (W.watched watch.new ≡ changed_at place (breaks fault) (W.watched watch.old))) }
+        ensures err { IfErr result (λ fault. (fault ≡ Fault.Read place) × FailsToRead place (W.watched watch.old) (W.watched watch.new)) }
         ensures seen { W.seen watch.new ≡ W.seen watch.old }
         ensures shows { W.shows watch.new ≡ W.shows watch.old }
     {
@@ -82,7 +82,7 @@ fn find_last_lines<W: Watch>(
     ensures within { IfOk result (λ from. from ≤ len) }
     ensures part { IfOk result (λ from. W.told ≡ true → let contents = open_contents (latest (W.seen watch.old)) (watched_at (W.watched watch.old) place) in drop from contents ≡ last_lines delim count contents) }
     ensures same { OnOk result (W.watched watch.new ≡ W.watched watch.old) }
-    ensures err { IfErr result (λ fault. (fault ≡ Fault.Read place) × (W.watched watch.new ≡ changed_at place (breaks fault) (W.watched watch.old))) }
+    ensures err { IfErr result (λ fault. (fault ≡ Fault.Read place) × FailsToRead place (W.watched watch.old) (W.watched watch.new)) }
     ensures seen { W.seen watch.new ≡ W.seen watch.old }
     ensures shows { W.shows watch.new ≡ W.shows watch.old }
 {
@@ -120,7 +120,7 @@ fn pass_lines<W: Watch>(
     ensures within { IfOk result (λ from. from ≤ len) }
     ensures part { IfOk result (λ from. W.told ≡ true → let contents = open_contents (latest (W.seen watch.old)) (watched_at (W.watched watch.old) place) in drop from contents ≡ after_lines delim count contents) }
     ensures same { OnOk result (W.watched watch.new ≡ W.watched watch.old) }
-    ensures err { IfErr result (λ fault. (fault ≡ Fault.Read place) × (W.watched watch.new ≡ changed_at place (breaks fault) (W.watched watch.old))) }
+    ensures err { IfErr result (λ fault. (fault ≡ Fault.Read place) × FailsToRead place (W.watched watch.old) (W.watched watch.new)) }
     ensures seen { W.seen watch.new ≡ W.seen watch.old }
     ensures shows { W.shows watch.new ≡ W.shows watch.old }
 {
@@ -155,7 +155,7 @@ fn read_block<W: Watch>(
     ensures bytes { IfOk result (λ n. W.told ≡ true → take n block.new ≡ take (length block.old) (drop from (open_contents (latest (W.seen watch.old)) (watched_at (W.watched watch.old) place)))) }
     ensures length { length block.new ≡ length block.old }
     ensures same { OnOk result (W.watched watch.new ≡ W.watched watch.old) }
-    ensures err { IfErr result (λ fault. (fault ≡ Fault.Read place) × (W.watched watch.new ≡ changed_at place (breaks fault) (W.watched watch.old))) }
+    ensures err { IfErr result (λ fault. (fault ≡ Fault.Read place) × FailsToRead place (W.watched watch.old) (W.watched watch.new)) }
     ensures seen { W.seen watch.new ≡ W.seen watch.old }
     ensures shows { W.shows watch.new ≡ W.shows watch.old }
 {

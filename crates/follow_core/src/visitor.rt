@@ -5,11 +5,10 @@ ghost use Rattle.ports_core.specs.Slot.{is_writable};
 ghost use Rattle.watch_core.specs.Snapshot.{latest};
 ghost use Rattle.watch_core.specs.Watched.{is_readable, is_watchable, open_contents, watched_at};
 ghost use Rattle.follow_core.specs.declared.name.Standing.TheVariants.{New, Followed};
-ghost use Rattle.follow_core.specs.Notice.{notice_of};
+ghost use Rattle.follow_core.specs.Event.{notes};
 ghost use Rattle.follow_core.specs.Printing.{PrinterState, fresh_printer};
-ghost use Rattle.follow_core.specs.inner.Giving.{Adds, CanGoOn, Keeps, Leads, change_between, lines_past, Ends, over_in, stop_in};
+ghost use Rattle.follow_core.specs.inner.Giving.{Adds, CanGoOn, Copies, Ends, IsLong, Leads, Noted, Starts, change_between, notes_past, over_in, stop_in};
 ghost use Rattle.follow_core.specs.Sharing.{CanPrint};
-ghost use Rattle.follow_core.specs.Version.{entries_open};
 ghost use Rattle.follow_core.specs.inner.Visits.{TellsStop, Visits};
 ghost use Rattle.follow_core.specs.Look.{ways_of};
 
@@ -121,7 +120,6 @@ impl Visitor {
     /// # Errors
     ///
     /// `Broke` where asking for its length or reading it failed, `Over` where standard output broke or memory was wanting.
-    #[tactic(auto, using(crate::proofs::CallLemmas::broke_first))]
     fn write_start<W: Watch, O: Outs>(
         &mut self,
         start: Start,
@@ -132,10 +130,9 @@ impl Visitor {
     ) -> Result<u64, Stop>
         requires readable { IsTrue (is_readable (W.watched watch.old) place) }
         requires can { CanPrint (O.slots outs.old) }
-        ensures ends { let contents = open_contents (latest (W.seen watch.old)) (watched_at (W.watched watch.old) place) in
-            Ends W.told O.told false self.old name.now (tail_of start.delim start.unit start.from_nth start.count contents) [] (O.slots outs.old) self.new (O.slots outs.new) (stop_in result) }
+        ensures starts { Starts W.told O.told (latest (W.seen watch.old)) (tail_of start.delim start.unit start.from_nth start.count) place name.now (W.watched watch.old) self.old (O.slots outs.old) (W.watched watch.new) self.new (O.slots outs.new) (stop_in result) }
+        ensures long { IfOk result (IsLong (latest (W.seen watch.old)) (watched_at (W.watched watch.old) place)) }
         ensures len { IfOk result (λ len. W.told ≡ true → len ≡ length (open_contents (latest (W.seen watch.old)) (watched_at (W.watched watch.old) place))) }
-        ensures keeps { Keeps place (W.watched watch.old) (W.watched watch.new) (stop_in result) }
         ensures can { CanGoOn (stop_in result) (O.slots outs.new) }
         ensures seen { W.seen watch.new ≡ W.seen watch.old }
         ensures shows { W.shows watch.new ≡ W.shows watch.old }
@@ -219,7 +216,7 @@ impl Visitor {
         requires watchable { IsTrue (is_watchable (W.watched watch.old) place) }
         requires name { (watched_at (W.watched watch.old) place).name ≡ name.now }
         requires can { CanPrint (O.slots outs.old) }
-        ensures leads { Leads W.told O.told (latest (W.seen watch.old)) place name.now position (W.watched watch.old) self.old (O.slots outs.old) (W.watched watch.new) self.new (O.slots outs.new) result }
+        ensures leads { Leads W.told O.told (latest (W.seen watch.old)) ((latest (W.seen watch.old)).leads name.now) place name.now position (W.watched watch.old) self.old (O.slots outs.old) (W.watched watch.new) self.new (O.slots outs.new) result }
         ensures can { CanGoOn (stop_in result) (O.slots outs.new) }
         ensures seen { W.seen watch.new ≡ W.seen watch.old }
         ensures shows { W.shows watch.new ≡ W.shows watch.old }
@@ -246,7 +243,6 @@ impl Visitor {
     /// # Errors
     ///
     /// `Broke` where asking for its length or reading it failed, `Over` where standard output broke or memory was wanting.
-    #[tactic(auto, using(crate::proofs::CallLemmas::broke_first))]
     fn catch_up<W: Watch, O: Outs>(
         &mut self,
         watch: &mut W,
@@ -257,9 +253,7 @@ impl Visitor {
     ) -> Result<u64, Stop>
         requires watchable { IsTrue (is_watchable (W.watched watch.old) place) }
         requires can { CanPrint (O.slots outs.old) }
-        ensures adds { let opened = (watched_at (W.watched watch.old) place).opened in
-            Adds W.told O.told name.now opened position (entries_open (latest (W.seen watch.old)) opened) opened self.old (O.slots outs.old) self.new (O.slots outs.new) result }
-        ensures keeps { Keeps place (W.watched watch.old) (W.watched watch.new) (stop_in result) }
+        ensures adds { Adds W.told O.told (latest (W.seen watch.old)) place name.now position (W.watched watch.old) self.old (O.slots outs.old) (W.watched watch.new) self.new (O.slots outs.new) result }
         ensures can { CanGoOn (stop_in result) (O.slots outs.new) }
         ensures seen { W.seen watch.new ≡ W.seen watch.old }
         ensures shows { W.shows watch.new ≡ W.shows watch.old }
@@ -333,10 +327,10 @@ fn copy<W: Watch, O: Outs>(
     requires writable { IsTrue (is_writable (O.slots outs.old) 0) }
     requires within { from ≤ len }
     requires room { 0 < length buffer.old }
+    requires found { IsLong (latest (W.seen watch.old)) (watched_at (W.watched watch.old) place) len }
     requires whole { W.told ≡ true → len ≡ length (open_contents (latest (W.seen watch.old)) (watched_at (W.watched watch.old) place)) }
-    ensures ends { Ends W.told O.told false printer.old name.now (drop from (open_contents (latest (W.seen watch.old)) (watched_at (W.watched watch.old) place))) [] (O.slots outs.old) printer.new (O.slots outs.new) (stop_in result) }
+    ensures copies { Copies W.told O.told (latest (W.seen watch.old)) from place name.now (W.watched watch.old) printer.old (O.slots outs.old) (W.watched watch.new) printer.new (O.slots outs.new) (stop_in result) }
     ensures len { IfOk result (λ n. n ≡ len) }
-    ensures keeps { Keeps place (W.watched watch.old) (W.watched watch.new) (stop_in result) }
     ensures seen { W.seen watch.new ≡ W.seen watch.old }
     ensures shows { W.shows watch.new ≡ W.shows watch.old }
 {
@@ -371,7 +365,7 @@ fn begin_at<O: Outs>(
     outs: &mut O,
 ) -> Result<u64, Fault>
     requires can { CanPrint (O.slots outs.old) }
-    ensures ends { (told_in : Bool) (printer : PrinterState) → Ends told_in O.told false printer name.now [] (lines_past name.now position len) (O.slots outs.old) printer (O.slots outs.new) (over_in result) }
+    ensures ends { (told_in : Bool) (printer : PrinterState) → Ends told_in Noted O.told false printer name.now (notes_past position len) [] (O.slots outs.old) printer (O.slots outs.new) (over_in result) }
     ensures from { IfOk result (λ from. from ≡ (if nat_lt len position then 0 else position)) }
     ensures can { CanGoOn (over_in result) (O.slots outs.new) }
 {
@@ -391,7 +385,7 @@ fn begin_at<O: Outs>(
 /// `Memory` where there was none for the line.
 fn tell<O: Outs>(alloc: Global, found: Notice, name: &str, outs: &mut O) -> Result<(), Fault>
     requires can { CanPrint (O.slots outs.old) }
-    ensures ends { (told_in : Bool) (printer : PrinterState) → Ends told_in O.told false printer name.now [] (notice_of found name.now ∷ []) (O.slots outs.old) printer (O.slots outs.new) (over_in result) }
+    ensures ends { (told_in : Bool) (printer : PrinterState) → Ends told_in Noted O.told false printer name.now (notes found ∷ []) [] (O.slots outs.old) printer (O.slots outs.new) (over_in result) }
     ensures can { CanGoOn (over_in result) (O.slots outs.new) }
 {
     match notice_line(alloc, found, name) {

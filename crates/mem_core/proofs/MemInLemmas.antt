@@ -1,5 +1,5 @@
 -- Lemmas on inputs in memory: how far one was read, where it breaks off, and what opening one finds.
-use Rattle.std.proofs.Common.{◌≡◌, ℕ, ◌+◌, ◌-◌, ◌<◌, ◌≤◌, max, Bool, true, false, IsTrue, List, [], ◌∷◌, ◌++◌, Some, None, length, take, drop, get_or, set, eqb, refl, sym, ◌∙◌, ap, subst, arith, length-take, length-drop, take-take, drop-drop, take-add, if◌then◌else◌, leb}
+use Rattle.std.proofs.Common.{◌≡◌, ℕ, ◌+◌, ◌-◌, ◌<◌, ◌≤◌, max, Bool, true, false, IsTrue, List, [], ◌∷◌, ◌++◌, Some, None, length, take, drop, get_or, set, eqb, refl, sym, ◌∙◌, ap, subst, arith, length-take, length-drop, take-take, drop-drop, take-add, if◌then◌else◌, leb, not, ◌&&◌, ◌==◌}
 use Rattle.std.proofs.lemmas.List.{drop-take, take-append-drop}
 use Rattle.std.proofs.lemmas.Bool.{cond_both, le-leb, lt-ltb}
 use Rattle.ports_core.specs.Slot.{changed_at}
@@ -9,8 +9,8 @@ use Rattle.ports_core.proofs.SourceLemmas.{one_changes, readable_within}
 use Rattle.mem_core.specs.MemInState.{MemInState, Laid, laid_at, laid_in, breaks_in, content_of, with_break}
 
 -- the input that an input in memory is seen as
-abbrev pub seen_as : List ℕ → ℕ → Bool → Bool → Bool → ℕ → ℕ → ℕ → Source
-seen_as bytes given breaks_off is_open is_broken asked reached last = record {
+abbrev pub seen_as : List ℕ → ℕ → Bool → Bool → Bool → ℕ → ℕ → ℕ → Bool → Source
+seen_as bytes given breaks_off is_open is_broken asked reached last ended = record {
   left = record { bytes = drop given bytes; breaks_off = breaks_off };
   is_open = is_open;
   is_broken = is_broken;
@@ -18,6 +18,7 @@ seen_as bytes given breaks_off is_open is_broken asked reached last = record {
   taken = take given bytes;
   reached = reached;
   last = last;
+  ended = ended;
 }
 
 both_taken : (bytes : List ℕ) (given n : ℕ) → take (given + n) bytes ≡ take given bytes ++ take n (drop given bytes)
@@ -26,31 +27,40 @@ both_taken bytes given n = take-add given n bytes
 rest_left : (bytes : List ℕ) (given n : ℕ) → drop (given + n) bytes ≡ drop n (drop given bytes)
 rest_left bytes given n = sym (drop-drop n given bytes)
 
-pub skipped : (bytes : List ℕ) (given n reached asked last : ℕ) (breaks_off is_open is_broken : Bool)
-    → seen_as bytes (given + n) breaks_off is_open is_broken asked reached last ≡ skips n (seen_as bytes given breaks_off is_open is_broken asked reached last)
-skipped bytes given n reached asked last breaks_off is_open is_broken =
-    ap (λ those. record (seen_as bytes (given + n) breaks_off is_open is_broken asked reached last) { left = record { bytes = those; breaks_off = breaks_off } }) (rest_left bytes given n)
-    ∙ ap (λ those. record (skips n (seen_as bytes given breaks_off is_open is_broken asked reached last)) { taken = those }) (both_taken bytes given n)
+-- n bytes more were taken
+goes_on : (bytes : List ℕ) (given n reached asked last : ℕ) (breaks_off is_open is_broken ended : Bool)
+    → seen_as bytes (given + n) breaks_off is_open is_broken asked reached last ended
+    ≡ record (skips n (seen_as bytes given breaks_off is_open is_broken asked reached last ended)) { last = last }
+goes_on bytes given n reached asked last breaks_off is_open is_broken ended =
+    ap (λ those. record (seen_as bytes (given + n) breaks_off is_open is_broken asked reached last ended) { left = record { bytes = those; breaks_off = breaks_off } }) (rest_left bytes given n)
+    ∙ ap (λ those. record (skips n (seen_as bytes given breaks_off is_open is_broken asked reached last ended)) { taken = those; last = last }) (both_taken bytes given n)
 
-pub read_on : (bytes : List ℕ) (given n size : ℕ) {most now : ℕ} (reached asked last : ℕ) (breaks_off is_open is_broken : Bool)
-    → given + n ≤ length bytes → most ≡ max asked size → now ≡ max reached (given + n)
-    → seen_as bytes (given + n) breaks_off is_open is_broken most now n ≡ gives size n (seen_as bytes given breaks_off is_open is_broken asked reached last)
-read_on bytes given n size {most} {now} reached asked last breaks_off is_open is_broken within greatest is =
-    skipped bytes given n now most n breaks_off is_open is_broken ∙ ap (λ asks. skips n (seen_as bytes given breaks_off is_open is_broken asks now n)) greatest
-    ∙ ap (λ those. record (skips n (seen_as bytes given breaks_off is_open is_broken (max asked size) now n)) { last = those }) (sym (omega (arith, within, length-take n (drop given bytes), length-drop given bytes)))
-    ∙ ap (λ far. record (gives size n (seen_as bytes given breaks_off is_open is_broken asked reached last)) { reached = far })
+pub skipped : (bytes : List ℕ) (given n reached asked last : ℕ) {now : ℕ} (breaks_off is_open is_broken ended : Bool) → now ≡ (if n == 0 then last else 0)
+    → seen_as bytes (given + n) breaks_off is_open is_broken asked reached now ended ≡ skips n (seen_as bytes given breaks_off is_open is_broken asked reached last ended)
+skipped bytes given n reached asked last {now} breaks_off is_open is_broken ended is =
+    goes_on bytes given n reached asked now breaks_off is_open is_broken ended
+    ∙ ap (λ those. record (skips n (seen_as bytes given breaks_off is_open is_broken asked reached last ended)) { last = those }) is
+
+pub read_on : (bytes : List ℕ) (given n size : ℕ) {most now : ℕ} (reached asked last : ℕ) (breaks_off is_open is_broken ended : Bool) {ends : Bool}
+    → given + n ≤ length bytes → most ≡ max asked size → now ≡ max reached (given + n) → ends ≡ (n == 0 && not (size == 0))
+    → seen_as bytes (given + n) breaks_off is_open is_broken most now n ends ≡ gives size n (seen_as bytes given breaks_off is_open is_broken asked reached last ended)
+read_on bytes given n size {most} {now} reached asked last breaks_off is_open is_broken ended {ends} within greatest is ending =
+    goes_on bytes given n now most n breaks_off is_open is_broken ends ∙ ap (λ asks. record (skips n (seen_as bytes given breaks_off is_open is_broken asks now n ends)) { last = n }) greatest
+    ∙ ap (λ those. record (skips n (seen_as bytes given breaks_off is_open is_broken (max asked size) now n ends)) { last = those }) (sym (omega (arith, within, length-take n (drop given bytes), length-drop given bytes)))
+    ∙ ap (λ far. record (gives size n (seen_as bytes given breaks_off is_open is_broken asked reached last ended)) { reached = far; ended = ends })
     (is ∙ ap (max reached) (sym (ap length (sym (both_taken bytes given n)) ∙ omega (arith, within, length-take (given + n) bytes))))
+    ∙ ap (λ ends. record (gives size n (seen_as bytes given breaks_off is_open is_broken asked reached last ended)) { ended = ends }) ending
 
-pub set_back : (bytes : List ℕ) (given n reached asked last : ℕ) (breaks_off is_open is_broken : Bool) → given ≤ length bytes → n ≤ given
-    → seen_as bytes (given - n) breaks_off is_open is_broken asked reached (last - n) ≡ gets_back n (seen_as bytes given breaks_off is_open is_broken asked reached last)
-set_back bytes given n reached asked last breaks_off is_open is_broken within few =
+pub set_back : (bytes : List ℕ) (given n reached asked last : ℕ) (breaks_off is_open is_broken ended : Bool) → given ≤ length bytes → n ≤ given
+    → seen_as bytes (given - n) breaks_off is_open is_broken asked reached (last - n) ended ≡ gets_back n (seen_as bytes given breaks_off is_open is_broken asked reached last ended)
+set_back bytes given n reached asked last breaks_off is_open is_broken ended within few =
     let at : length (take given bytes) - n ≡ given - n = omega (arith, within, length-take given bytes) in
     let joined : drop (given - n) (take given bytes) ++ drop given bytes ≡ drop (given - n) bytes = between bytes (given - n) given (omega arith) in
     ap (set_to (take (given - n) bytes)) (sym joined)
     ∙ ap (λ those. set_to those (drop (given - n) (take given bytes) ++ drop given bytes)) (sym (take-take (given - n) given bytes (omega arith)))
     ∙ ap (λ k. set_to (take k (take given bytes)) (drop k (take given bytes) ++ drop given bytes)) (sym at) where
       set_to : List ℕ → List ℕ → Source
-      set_to taken left = record { left = record { bytes = left; breaks_off = breaks_off }; is_open = is_open; is_broken = is_broken; asked = asked; taken = taken; reached = reached; last = last - n }
+      set_to taken left = record { left = record { bytes = left; breaks_off = breaks_off }; is_open = is_open; is_broken = is_broken; asked = asked; taken = taken; reached = reached; last = last - n; ended = ended }
 
       between : (bytes : List ℕ) (from given : ℕ) → from ≤ given → drop from (take given bytes) ++ drop given bytes ≡ drop from bytes
       between bytes from given less =

@@ -1,6 +1,6 @@
 -- A watch in memory sees at each look what was planned for it.
 use Rattle.std.proofs.Common.{◌≡◌, ℕ, ◌+◌, ◌<◌, ◌≤◌, zero, suc, Bool, true, List, [], ◌∷◌, ◌++◌, Option, Some, length, refl, sym, ◌∙◌, ap, subst, arith, get_or, set, length-append, is_some}
-use Rattle.watch_core.specs.Snapshot.{Snapshot, latest}
+use Rattle.watch_core.specs.Snapshot.{Snapshot, latest, Finding, Found}
 use Rattle.watch_core.specs.Edits.{World, empty_world, held_in, led_to, seen_in}
 use Rattle.watch_core.specs.Watched.{Watched, Finds, Reopens, open_contents, opens, watched_at}
 use Rattle.watch_core.specs.declared.watch.Seen.{Seen}
@@ -63,6 +63,11 @@ turns_on watch worlds same =
     rw (next) (seen_same worlds watch.worlds (suc watch.turns) same
     ∙ ap (λ n. seen watch ++ seen_in (world_at watch.worlds n) ∷ []) (let count : length (seen watch) ≡ watch.turns = length-seen watch.worlds watch.turns in let more : suc watch.turns ≡ length (seen watch) + 1 = omega arith in more))
 
+-- any call may have found anything
+pub finds_any : (worlds : List World) (n : ℕ) (name : List ℕ) (finding : Finding) → Found (latest (seen_by worlds n)) name finding
+finds_any worlds zero name finding = refl
+finds_any worlds (suc n) name finding = ap (λ (those : Snapshot). those.finds name finding) (latest-last (seen_by worlds n) _)
+
 -- what the last look sees are the files of its turn
 pub latest_seen : (worlds : List World) (n : ℕ) → world_at worlds 0 ≡ empty_world → latest (seen_by worlds n) ≡ seen_in (world_at worlds n)
 latest_seen worlds zero is = ap seen_in (sym is)
@@ -90,6 +95,7 @@ module _ {watch : MemWatchState} {worlds : List World} (turns : ℕ) {names : Li
     file = file;
     found = sym found;
     names = name_changes names watch.watched place (opens file) item new (ap (λ (those : MemWatchState). those.watched) is) within at changed;
+    opens = finds_any watch.worlds watch.turns _ _;
     leads = λ told. leads ∙ ap (λ (snapshot : Snapshot). snapshot.leads item.name) now_seen
         ∙ ap (λ (those : Watched). (latest (seen watch)).leads those.name) (item_is place within at);
   }

@@ -1,6 +1,6 @@
 ghost use Rattle.std.specs.Prelude.{◌≡◌, ◌++◌, ◌∷◌, [], ℕ, ◌+◌, ◌≤◌, ◌<◌, List, Bool, Option, Some, None, true, false, length, nat_le, take, drop, map, string_bytes, IsTrue, IfOk, IfErr, IfSome, IfNone, OnOk, OnErr};
 ghost use Rattle.ports_core.specs.Slot.{changed_at};
-ghost use Rattle.ports_core.specs.Source.{Source, Content, source_of, missing, gives, gets_back, fails, skips, Gave, BrokeOff, Shows, count_left, holds, cut};
+ghost use Rattle.ports_core.specs.Source.{Source, Content, source_of, missing, gives, gets_back, fails, looks, skips, Gave, BrokeOff, Shows, count_left, holds, cut, is_readable, source_at};
 ghost use Rattle.mem_core.specs.MemInState.{MemInState, Laid, laid_at, laid_in, breaks_in, content_of, with_break};
 
 use ports_core::{Fault, Inputs};
@@ -16,18 +16,20 @@ struct MemSource {
     breaks_off: bool,
     is_open: bool,
     is_broken: bool,
-    /// The length of the largest buffer that it was to fill.
+    /// The length of the largest buffer that it was to fill, by a read or a look.
     asked: usize,
     /// How many of the bytes reads gave, also where some of these were given back.
     reached: usize,
-    /// How many of the bytes that the last read gave were not given back.
+    /// How many of the bytes that the last read gave were not given back; none where bytes were passed over since.
     last: usize,
+    /// The last read told the end: it gave nothing, though there was room.
+    ended: bool,
 }
 
 impl Model for MemSource {
     ghost Value = { Source };
 
-    ghost view = { λ s. record { left = record { bytes = drop s.given s.bytes.items; breaks_off = s.breaks_off }; is_open = s.is_open; is_broken = s.is_broken; asked = s.asked; taken = take s.given s.bytes.items; reached = s.reached; last = s.last } };
+    ghost view = { λ s. record { left = record { bytes = drop s.given s.bytes.items; breaks_off = s.breaks_off }; is_open = s.is_open; is_broken = s.is_broken; asked = s.asked; taken = take s.given s.bytes.items; reached = s.reached; last = s.last; ended = s.ended } };
 
     ghost invariant = { λ s. (s.given ≤ length s.bytes.items) × (s.last ≤ s.given) };
 }
@@ -46,6 +48,7 @@ impl MemSource {
             asked: 0,
             reached: 0,
             last: 0,
+            ended: false,
         }
     }
 
@@ -61,6 +64,7 @@ impl MemSource {
             asked: 0,
             reached: 0,
             last: 0,
+            ended: false,
         }
     }
 
@@ -78,6 +82,7 @@ impl MemSource {
         let left = self.bytes.len() - self.given;
         if left == 0 && self.breaks_off && !buffer.is_empty() {
             self.is_broken = true;
+            self.ended = false;
             return None;
         }
         let n = left.min(most).min(buffer.len());
@@ -85,6 +90,7 @@ impl MemSource {
         self.given += n;
         self.reached = self.reached.max(self.given);
         self.last = n;
+        self.ended = n == 0 && !buffer.is_empty();
         Some(n)
     }
 
@@ -95,11 +101,20 @@ impl MemSource {
         if !self.breaks_off { Some(count) } else { None }
     }
 
-    /// Fills the buffer with the bytes from a place on, where there are as many.
-    fn read_at(&self, place: u64, buffer: &mut [u8]) -> bool
-        ensures could { result ≡ nat_le (place + length buffer.old) (length self.now.left.bytes) }
-        ensures shows { IsTrue result → Shows self.now.left.bytes place buffer.new }
+    /// Notes that a look asked for so many bytes.
+    fn note_look(&mut self, size: usize)
+        ensures { self.new ≡ looks size self.old }
     {
+        self.asked = self.asked.max(size);
+    }
+
+    /// Fills the buffer with the bytes from a place on, where there are as many.
+    fn read_at(&mut self, place: u64, buffer: &mut [u8]) -> bool
+        ensures could { result ≡ nat_le (place + length buffer.old) (length self.old.left.bytes) }
+        ensures shows { IsTrue result → Shows self.old.left.bytes place buffer.new }
+        ensures rest { self.new ≡ looks (length buffer.old) self.old }
+    {
+        self.note_look(buffer.len());
         let left = &self.bytes[self.given..];
         if (left.len() as u64) < place {
             return false;
@@ -117,6 +132,7 @@ impl MemSource {
         ensures { self.new ≡ skips count self.old }
     {
         self.given += count as usize;
+        self.last = if count == 0 { self.last } else { 0 };
     }
 
     fn give_back(&mut self, count: u64)
@@ -331,15 +347,32 @@ impl Inputs for MemIn {
         Ok(n)
     }
 
-    fn left(&self, slot: usize) -> Option<u64> {
+    /// How many bytes the input has left, unless it breaks off.
+    fn left(&self, slot: usize) -> Option<u64>
+        requires { IsTrue (is_readable self.now.sources slot) }
+        ensures { result ≡ count_left (source_at self.now.sources slot).left }
+    {
         self.sources[slot].left()
     }
 
-    fn read_at(&self, slot: usize, place: u64, buffer: &mut [u8]) -> bool {
+    /// Fills the buffer with the input's bytes from a place on, wherever it has as many there.
+    fn read_at(&mut self, slot: usize, place: u64, buffer: &mut [u8]) -> bool
+        requires { IsTrue (is_readable self.old.sources slot) }
+        ensures could { result ≡ nat_le (place + length buffer.old) (length (source_at self.old.sources slot).left.bytes) }
+        ensures shows { IsTrue result → Shows (source_at self.old.sources slot).left.bytes place buffer.new }
+        ensures rest { self.new ≡ record self.old { sources = changed_at slot (looks (length buffer.old)) self.old.sources } }
+    {
         self.sources[slot].read_at(place, buffer)
     }
 
-    fn skip(&mut self, slot: usize, count: u64, left: u64) -> bool {
+    /// Passes over the next bytes, which it always can.
+    fn skip(&mut self, slot: usize, count: u64, left: u64) -> bool
+        requires input { IsTrue (is_readable self.old.sources slot) }
+        requires left { count_left (source_at self.old.sources slot).left ≡ Some left }
+        requires within { count ≤ left }
+        ensures could { IsTrue result }
+        ensures rest { self.new ≡ record self.old { sources = changed_at slot (skips count) self.old.sources } }
+    {
         let _ = left;
         self.sources[slot].skip(count);
         true

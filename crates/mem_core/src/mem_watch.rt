@@ -11,15 +11,15 @@ use crate::mem_world::MemWorld;
 use ports_core::{Fault, MOST_BYTES};
 use std::alloc::{AllocError, Global};
 use std::marker::Model;
-use watch_core::{Seen, Watch};
+use watch_core::{Broken, Seen, Watch};
 
 /// A name that is watched in memory.
 #[derive(Drop)]
 struct MemName {
     name: String,
     opened: Option<usize>,
-    /// The fault by which it broke.
-    failed: Option<Fault>,
+    /// The call by which it broke.
+    failed: Option<Broken>,
 }
 
 impl Model for MemName {
@@ -58,10 +58,11 @@ impl MemName {
         file.is_some()
     }
 
-    fn break_off(&mut self, fault: Fault)
-        ensures { self.new ≡ breaks fault self.old }
+    fn break_off(&mut self, how: Broken)
+        ensures { self.new ≡ breaks (λ file. how) self.old }
     {
-        self.failed = Some(fault);
+        self.opened = None;
+        self.failed = Some(how);
     }
 }
 
@@ -139,12 +140,12 @@ impl MemWatch {
         }
     }
 
-    /// Breaks a name off by this fault.
-    fn break_off(&mut self, place: usize, fault: Fault)
+    /// Breaks a name off by this call.
+    fn break_off(&mut self, place: usize, how: Broken)
         requires { IsTrue (is_watchable self.old.watched place) }
-        ensures { self.new ≡ record self.old { watched = changed_at place (breaks fault) self.old.watched } }
+        ensures { self.new ≡ record self.old { watched = changed_at place (breaks (λ file. how)) self.old.watched } }
     {
-        self.names[place].break_off(fault);
+        self.names[place].break_off(how);
     }
 
     /// Makes one of the calls of `look`, `reopen`, `open_len` and `read_at` fail, counted from here on; the next call has the
@@ -264,7 +265,7 @@ impl Watch for MemWatch {
         let world = world_in(&self.worlds, self.turns);
         let found = find(world, self.names[place].name.as_str());
         if fails(&mut self.failing_in) || !fits(found) {
-            self.break_off(place, Fault::Open(place));
+            self.break_off(place, Broken::Look);
             return Err(Fault::Open(place));
         }
         Ok(found)
@@ -272,7 +273,7 @@ impl Watch for MemWatch {
 
     fn reopen(&mut self, place: usize) -> Result<bool, Fault> {
         if fails(&mut self.failing_in) {
-            self.break_off(place, Fault::Open(place));
+            self.break_off(place, Broken::Open);
             return Err(Fault::Open(place));
         }
         let world = world_in(&self.worlds, self.turns);
@@ -290,7 +291,7 @@ impl Watch for MemWatch {
     fn open_len(&mut self, place: usize) -> Result<u64, Fault> {
         let len = self.open_bytes(place).len() as u64;
         if fails(&mut self.failing_in) || len > MOST_BYTES {
-            self.break_off(place, Fault::Read(place));
+            self.break_off(place, Broken::Len(self.open_id(place)));
             return Err(Fault::Read(place));
         }
         Ok(len)
@@ -298,7 +299,7 @@ impl Watch for MemWatch {
 
     fn read_at(&mut self, place: usize, from: u64, buffer: &mut [u8]) -> Result<usize, Fault> {
         if fails(&mut self.failing_in) {
-            self.break_off(place, Fault::Read(place));
+            self.break_off(place, Broken::Read(self.open_id(place), from));
             return Err(Fault::Read(place));
         }
         Ok(read_from(self.open_bytes(place), from, buffer))

@@ -3,7 +3,7 @@ use Rattle.std.proofs.Common.{◌≡◌, ℕ, zero, suc, Bool, true, false, Opti
 use Rattle.std.proofs.lemmas.Bool.{false≢true}
 use Rattle.std.proofs.lemmas.Bool.Decides.{nat_tests}
 use Rattle.ports_core.specs.Slot.{changed_at}
-use Rattle.ports_core.specs.Source.{Source, Content, OpensNothing, broke, no_room, missing, gives, skips, is_readable}
+use Rattle.ports_core.specs.Source.{Source, Content, OpensNothing, broke, no_room, missing, gives, looks, skips, is_readable}
 use Rattle.ports_core.specs.declared.fault.Fault.{Fault}
 
 nat_eq-suc : (a b : ℕ) → nat_eq (suc a) (suc b) ≡ nat_eq a b
@@ -21,6 +21,11 @@ readable_given place size n [] = refl
 readable_given zero size n (source ∷ sources) = refl
 readable_given (suc place) size n (source ∷ sources) = readable_given place size n sources
 
+readable_looked : (place size : ℕ) (sources : List Source) → is_readable (changed_at place (looks size) sources) place ≡ is_readable sources place
+readable_looked place size [] = refl
+readable_looked zero size (source ∷ sources) = refl
+readable_looked (suc place) size (source ∷ sources) = readable_looked place size sources
+
 readable_skipped : (place n : ℕ) (sources : List Source) → is_readable (changed_at place (skips n) sources) place ≡ is_readable sources place
 readable_skipped place n [] = refl
 readable_skipped zero n (source ∷ sources) = refl
@@ -31,6 +36,9 @@ others_stay place other change old new is differs = ap (λ (those : List Source)
 
 pub still_given : (place size n : ℕ) (old new : List Source) → new ≡ changed_at place (gives size n) old → IsTrue (is_readable old place) → IsTrue (is_readable new place)
 still_given place size n old new is can = ap (λ (those : List Source). is_readable those place) is ∙ readable_given place size n old ∙ can
+
+pub still_looked : (place size : ℕ) (old new : List Source) → new ≡ changed_at place (looks size) old → IsTrue (is_readable old place) → IsTrue (is_readable new place)
+still_looked place size old new is can = ap (λ (those : List Source). is_readable those place) is ∙ readable_looked place size old ∙ can
 
 pub still_skipped : (place n : ℕ) (old new : List Source) → new ≡ changed_at place (skips n) old → IsTrue (is_readable old place) → IsTrue (is_readable new place)
 still_skipped place n old new is can = ap (λ (those : List Source). is_readable those place) is ∙ readable_skipped place n old ∙ can

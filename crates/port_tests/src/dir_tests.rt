@@ -70,7 +70,7 @@ fn open_and_write(
 #[test]
 fn files_are_written(rt: HostRuntime) -> Result<(), Fail> {
     let name = "ports_core_written/f";
-    make_file(&rt, "ports_core_written", name, b"old")?;
+    make_file(&rt, "ports_core_written", name, b"longer than that")?;
     let noted = InputFiles::new(rt.alloc());
     let mut outs = outs_of(rt, &noted);
     for opening in OPENINGS {
@@ -100,15 +100,18 @@ fn fail_to_write_over(rt: &impl Abort, outs: &mut DirOut<'_, HostRuntime>, names
 fn an_input_is_not_written_over(rt: HostRuntime) -> Result<(), Fail> {
     let name = "ports_core_spared/f";
     let links = ["ports_core_spared/g", "ports_core_spared/h"];
+    let other = "ports_core_spared/i";
     make_file(&rt, "ports_core_spared", name, b"abc")?;
     fs::hard_link(&rt, name, links[0])?;
     symlink(&rt, "f", links[1])?;
+    fs::write(&rt, other, b"def".as_slice())?;
     let noted = InputFiles::new(rt.alloc());
     let mut outs = outs_of(rt, &noted);
     let mut inputs = inputs_of(rt, &noted);
     open_and_ask(&rt, &mut inputs, name, 1, TO_THE_END)?;
-    fail_to_write_over(&rt, &mut outs, &[name, links[0], links[1]]);
-    assert!(rt; holds(&rt, name, b"abc")?);
+    open_input(&rt, &mut inputs, other, 2)?;
+    fail_to_write_over(&rt, &mut outs, &[name, links[0], other, links[1]]);
+    assert!(rt; holds(&rt, name, b"abc")? && holds(&rt, other, b"def")?);
     fs::remove_dir_all(&rt, "ports_core_spared")?;
     Ok(())
 }

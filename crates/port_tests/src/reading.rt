@@ -172,27 +172,41 @@ fn passes<I: Inputs>(inputs: &mut I, slot: usize, count: u64, left: u64) -> bool
     inputs.skip(slot, count, known)
 }
 
+/// Looks at a place, into this much of a buffer.
+fn look<I: Inputs>(
+    rt: &impl Abort,
+    inputs: &mut I,
+    slot: usize,
+    buffer: &mut [u8],
+    place: u64,
+    size: usize,
+) -> bool
+    requires { IsTrue (is_readable (I.sources inputs.old) slot) }
+    ensures sound { IsTrue (is_readable (I.sources inputs.new) slot) }
+    ensures others { (other : ℕ) → nat_eq other slot ≡ false → is_readable (I.sources inputs.new) other ≡ is_readable (I.sources inputs.old) other }
+{
+    assert!(rt; size <= buffer.len());
+    inputs.read_at(slot, place, &mut buffer[..size])
+}
+
 /// Whether a call that takes nothing from an input returns what it must.
 fn is_so<I: Inputs>(
     rt: &impl Abort,
-    inputs: &I,
+    inputs: &mut I,
     slot: usize,
     buffer: &mut [u8],
     call: &Call<'_>,
 ) -> bool
-    requires { IsTrue (is_readable (I.sources inputs.now) slot) }
+    requires { IsTrue (is_readable (I.sources inputs.old) slot) }
+    ensures sound { IsTrue (is_readable (I.sources inputs.new) slot) }
+    ensures others { (other : ℕ) → nat_eq other slot ≡ false → is_readable (I.sources inputs.new) other ≡ is_readable (I.sources inputs.old) other }
 {
     match call {
         Call::Left(left) => inputs.left(slot) == *left,
         Call::Shows(place, bytes) => {
-            let size = bytes.len();
-            assert!(rt; size <= buffer.len());
-            inputs.read_at(slot, *place, &mut buffer[..size]) && begins(buffer, bytes)
+            look(rt, inputs, slot, buffer, *place, bytes.len()) && begins(buffer, bytes)
         }
-        Call::Hides(place, size) => {
-            assert!(rt; *size <= buffer.len());
-            !inputs.read_at(slot, *place, &mut buffer[..*size])
-        }
+        Call::Hides(place, size) => !look(rt, inputs, slot, buffer, *place, *size),
         _ => false,
     }
 }

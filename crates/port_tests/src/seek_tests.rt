@@ -118,6 +118,26 @@ fn a_file_that_shrank_breaks(rt: HostRuntime) -> Result<(), Fail> {
     Ok(())
 }
 
+/// Of a file with six bytes nothing is passed over.
+const COUNTED: &[Call<'static>] = &[Call::Skip(0, 6)];
+
+/// What is asked of it once it has none.
+const EMPTIED: &[Call<'static>] = &[Call::Fails(6, Fault::Read(1))];
+
+#[test]
+fn a_file_that_was_emptied_breaks(rt: HostRuntime) -> Result<(), Fail> {
+    let name = "ports_core_emptied/f";
+    make_file(&rt, "ports_core_emptied", name, b"abcdef")?;
+    let noted = InputFiles::new(rt.alloc());
+    let mut inputs = inputs_of(rt, &noted);
+    open_input(&rt, &mut inputs, name, 1)?;
+    assert!(rt; ask(&rt, &mut inputs, 1, COUNTED));
+    fs::write(&rt, name, b"".as_slice())?;
+    ask(&rt, &mut inputs, 1, EMPTIED);
+    fs::remove_dir_all(&rt, "ports_core_emptied")?;
+    Ok(())
+}
+
 /// What is asked of a file with six bytes.
 const SMALL: &[Call<'static>] = &[Call::Skip(4, 6)];
 

@@ -1,8 +1,8 @@
 -- Lemmas on what reads leave of the inputs of a run.
 use Rattle.std.proofs.lemmas.Grind.{common_steps}
-use Rattle.std.proofs.Common.{◌≡◌, ℕ, ◌≤◌, Bool, true, false, IsTrue, List, [], ◌++◌, take, slice_index_or, arith, sym, ◌∙◌, ap, append-nil, take-append-drop}
-use Rattle.std.proofs.lemmas.Bool.{and_parts, not-true}
-use Rattle.ports_core.specs.Inputs.{AsksAtMost, BreaksOnly, KeepsOthers, OfContent}
+use Rattle.std.proofs.Common.{◌≡◌, ℕ, ◌≤◌, Bool, true, false, IsTrue, List, [], ◌++◌, take, slice_index_or, arith, sym, refl, ◌<◌, ◌∙◌, ap, append-nil, take-append-drop}
+use Rattle.std.proofs.lemmas.Bool.{and_parts, false≢true, not-true}
+use Rattle.ports_core.specs.Inputs.{AsksAtMost, CameFrom, KeepsOthers, OfContent}
 use Rattle.ports_core.specs.Slot.{changed_at}
 use Rattle.ports_core.specs.Source.{Content, Source, source_at, is_readable, gives, fails, Gave, BrokeOff, IsFresh}
 use Rattle.ports_core.proofs.SlotLemmas.{changed_there, elsewhere, length-changed_at}
@@ -51,9 +51,25 @@ read_to_end content x slot sources read none sound = (sym read.breaks_off ∙ so
 pub read_broken : (content : Content) (x : List ℕ) (slot : ℕ) (sources : List Source) → HasRead content x slot sources → BrokeOff (source_at sources slot).left → (content.bytes ≡ x) × (content.breaks_off ≡ true)
 read_broken content x slot sources read broke = (read.bytes ∙ ap (λ rest. x ++ rest) broke.no_more ∙ append-nil x, sym read.breaks_off ∙ broke.breaks_off)
 
-pub of_content : (told : Bool) (there seen : Content) (source : Source) (P : Content → Type 0) → (told ≡ true → P there) → (told ≡ false → P seen) → (seen.breaks_off ≡ true → source.is_broken ≡ true) → OfContent told there (λ content. P content × BreaksOnly told content source)
-of_content true there seen source P told untold broke = grind (arith, common_steps)
-of_content false there seen source P told untold broke = grind (arith, common_steps)
+-- an input that can be read is open
+pub open_at : (sources : List Source) (slot : ℕ) → IsTrue (is_readable sources slot) → (source_at sources slot).is_open ≡ true
+open_at sources slot can = (and_parts (source_at sources slot).is_open _ can).0
+
+-- an input that can be read came from its source, where it doesn't break off
+pub came_sound : (told : Bool) {content : Content} (sources : List Source) (slot : ℕ) → IsTrue (is_readable sources slot) → (told ≡ false → content.breaks_off ≡ false) → CameFrom told content (source_at sources slot)
+came_sound told sources slot can sound = record { was_open = open_at sources slot can; breaks = λ untold. sound untold ∙ sym (sound_at sources slot can) }
+
+-- one whose read failed came from its source, where it breaks off
+pub came_broken : (told : Bool) {content : Content} (slot size : ℕ) (sources new : List Source) → IsTrue (is_readable sources slot) → new ≡ changed_at slot (fails size) sources → (told ≡ false → content.breaks_off ≡ true) → CameFrom told content (source_at new slot)
+came_broken told slot size sources new can is broken =
+    let after = changed_source slot (fails size) sources new can is in record {
+      was_open = ap (λ (source : Source). source.is_open) after ∙ open_at sources slot can;
+      breaks = λ untold. broken untold ∙ sym (ap (λ (source : Source). source.is_broken) after);
+    }
+
+pub of_content : (told : Bool) (there seen : Content) (source : Source) (P : Content → Type 0) → (told ≡ true → P there) → (told ≡ false → P seen) → source.is_open ≡ true → seen.breaks_off ≡ source.is_broken → OfContent told there (λ content. P content × CameFrom told content source)
+of_content true there seen source P told untold was alike = (there, λ t. refl, (told refl, record { was_open = was; breaks = λ off. absurd (false≢true (sym off)) }))
+of_content false there seen source P told untold was alike = (seen, λ t. absurd (false≢true t), (untold refl, record { was_open = was; breaks = λ off. alike }))
 
 pub read_failed : (content : Content) (x : List ℕ) (slot : ℕ) (sources new : List Source) (size : ℕ) → HasRead content x slot sources → IsTrue (is_readable sources slot) → new ≡ changed_at slot (fails size) sources → content.bytes ≡ x ++ (source_at new slot).left.bytes
 read_failed content x slot sources new size read can is = grind (arith, common_steps, changed_source)
@@ -71,6 +87,10 @@ asked_at_end slot size most sources new can is within so_far = rw (ap (λ (sourc
 
 pub broken_now : (slot size : ℕ) (sources new : List Source) → IsTrue (is_readable sources slot) → new ≡ changed_at slot (fails size) sources → (source_at new slot).is_broken ≡ true
 broken_now slot size sources new can is = ap (λ (source : Source). source.is_broken) (changed_source slot (fails size) sources new can is)
+
+-- the read that gave none, though there was room, told the end
+pub ended_now : (slot size n : ℕ) (sources new : List Source) → IsTrue (is_readable sources slot) → new ≡ changed_at slot (gives size n) sources → n ≡ 0 → 0 < size → (source_at new slot).ended ≡ true
+ended_now slot size n sources new can is none room = grind (arith, common_steps, changed_source)
 
 pub fresh_asks : (most : ℕ) (sources : List Source) → IsFresh sources → AsksAtMost most sources
 fresh_asks most sources fresh = grind (arith, common_steps)

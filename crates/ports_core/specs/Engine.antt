@@ -3,6 +3,7 @@
 use Rattle.std.specs.Prelude.{◌≡◌, ℕ, ◌+◌, ◌≤◌, ◌^◌, Bool, true, false, List, [], ◌++◌, ◌⊎◌, None, length}
 use Rattle.ports_core.specs.Slot.{Slot, Rose, changed_at}
 use Rattle.ports_core.specs.Source.{Source, source_at, skips}
+use Rattle.ports_core.specs.Inputs.{HasLooked}
 use Rattle.ports_core.specs.Part.{Part, Output, OutputsAt, StoppedBetween, writes}
 use Rattle.ports_core.specs.Swept.{Swept, AreThere}
 use Rattle.ports_core.specs.Work.{Work, Means, Needs, IsSettled, IsSpare, Judges}
@@ -116,22 +117,25 @@ abbrev pub Clears : {E : Type 0} → (E → ℕ → List Slot → Type 0) → (E
 Clears Owns work engine old new = (first : ℕ) → Owns engine first old → Swept (work engine).clears first old new
 
 -- An engine that was fed nothing took in the first `count` bytes of what an input has left, which were passed over
--- there and not read. It is as if it had been fed them: nothing is settled with them, and its output isn't complete.
+-- there and not read: looks asked for at most `most` at once. It is as if it had been fed them: nothing is settled with
+-- them, and its output isn't complete.
 pub record Loads {E : Type 0} (Holds : E → List ℕ → Type 0) (Ready : E → List Slot → Type 0)
-    (Owns : E → ℕ → List Slot → Type 0) (work : E → Work) (told : Bool) (slot count : ℕ) (before after : E)
+    (Owns : E → ℕ → List Slot → Type 0) (work : E → Work) (told : Bool) (most slot count : ℕ) (before after : E)
     (old new : List Source) : Type 0 where
   pub front : List ℕ
   pub long : count ≡ length front
   pub there : told ≡ true → (source_at old slot).left.bytes ≡ front ++ (source_at new slot).left.bytes
-  pub passed : new ≡ changed_at slot (skips count) old
+  pub mid : List Source
+  pub looked : HasLooked most slot old mid
+  pub passed : new ≡ changed_at slot (skips count) mid
   pub holds : Holds after front
   pub ready : (slots : List Slot) → Ready before slots → Ready after slots
   pub owns : (first : ℕ) (slots : List Slot) → Owns before first slots → Owns after first slots
   pub idle : (work before).settled front ≡ (work before).settled []
   pub going : (front ≡ []) ⊎ ((work before).is_complete front ≡ false)
 
--- The next piece may have this many bytes: fed them after any x with which its output isn't complete, the engine leaves no
--- more than its work's `ahead` of them unused.
+-- The next piece may have this many bytes. Whatever x the engine was fed, if more can change the output: where a piece of
+-- no more bytes than that completes it, those of its bytes that are not used, n at its end, are at most `ahead`.
 abbrev pub MayGet : {E : Type 0} → (E → List ℕ → Type 0) → (E → Work) → E → ℕ → Type 0
 MayGet {E = E} Holds work engine most = (x piece : List ℕ) (after : E) (n : ℕ) → Holds engine x
     → (work engine).is_complete x ≡ false → length piece ≤ most → work after ≡ work engine → Holds after (x ++ piece)

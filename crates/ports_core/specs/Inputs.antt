@@ -1,6 +1,6 @@
 -- What a run knows of its inputs, and what it leaves of them.
 use Rattle.std.specs.Prelude.{◌≡◌, ℕ, ◌≤◌, Bool, true, false, List, [], length}
-use Rattle.ports_core.specs.Source.{Content, Source, source_at}
+use Rattle.ports_core.specs.Source.{Content, Source, looks, source_at}
 
 abbrev pub empty : Content
 empty = record { bytes = []; breaks_off = false }
@@ -9,19 +9,28 @@ empty = record { bytes = []; breaks_off = false }
 abbrev pub OfContent : Bool → Content → (Content → Type 0) → Type 0
 OfContent told there P = (content : Content) × (told ≡ true → content ≡ there) × P content
 
--- an input that doesn't tell its bytes is one that breaks off only where its source is broken
-abbrev pub BreaksOnly : Bool → Content → Source → Type 0
-BreaksOnly told content source = told ≡ false → content.breaks_off ≡ true → source.is_broken ≡ true
+-- An input came from this source: it was open. Where inputs don't tell their bytes, the input breaks off just where the
+-- source is broken.
+pub record CameFrom (told : Bool) (content : Content) (source : Source) : Type 0 where
+  pub was_open : source.is_open ≡ true
+  pub breaks : told ≡ false → content.breaks_off ≡ source.is_broken
 
 -- no input but this one was touched
 pub record KeepsOthers (slot : ℕ) (old new : List Source) : Type 0 where
   pub count : length new ≡ length old
   pub others : (place : ℕ) → (place ≡ slot → ⊥) → source_at new place ≡ source_at old place
 
--- no read asked for more than `most` bytes
+-- looks at this input asked for at most `most` bytes each, and nothing else was done
+pub record HasLooked (most slot : ℕ) (old new : List Source) : Type 0 where
+  pub size : ℕ
+  pub within : size ≤ most
+  pub looked : source_at new slot ≡ looks size (source_at old slot)
+  pub others : KeepsOthers slot old new
+
+-- no read asked for more than `most` bytes, and no look
 abbrev pub AsksAtMost : ℕ → List Source → Type 0
 AsksAtMost most sources = (place : ℕ) → (source_at sources place).asked ≤ most
 
--- no read of a run asks for more than this many bytes
+-- no read or look of a run asks for more than this many bytes
 abbrev pub largest_piece : ℕ
 largest_piece = 65536

@@ -95,7 +95,7 @@ impl<S: Stage> Guarded<S> {
         requires fresh { HoldsIn S.Holds self.old [] }
         requires input { IsTrue (is_readable (I.sources inputs.old) slot) }
         ensures same { S.work self.new.stage ≡ S.work self.old.stage }
-        ensures loads { Loads S.Holds S.Ready S.Owns S.work I.told slot result self.old.stage self.new.stage (I.sources inputs.old) (I.sources inputs.new) }
+        ensures loads { Loads S.Holds S.Ready S.Owns S.work I.told (length buffer.old) slot result self.old.stage self.new.stage (I.sources inputs.old) (I.sources inputs.new) }
         ensures fed { self.new.fed ≡ result }
         ensures live { self.new.is_over ≡ false }
         ensures laid { I.laid inputs.new ≡ I.laid inputs.old }

@@ -61,7 +61,7 @@ pub trait Stage {
         requires input { IsTrue (is_readable (I.sources inputs.old) slot) }
         ensures same { work self.new ≡ work self.old }
         ensures size { size self.new ≤ result }
-        ensures loads { Loads Holds Ready Owns work I.told slot result self.old self.new (I.sources inputs.old) (I.sources inputs.new) }
+        ensures loads { Loads Holds Ready Owns work I.told (length buffer.old) slot result self.old self.new (I.sources inputs.old) (I.sources inputs.new) }
         ensures laid { I.laid inputs.new ≡ I.laid inputs.old }
         ensures bound { result < 2 ^ 63 }
     {

@@ -1,6 +1,6 @@
 -- Lemmas on the loop that feeds an engine, and on what an engine uses of its input.
 use Rattle.std.proofs.lemmas.Grind.{common_steps}
-use Rattle.std.proofs.Common.{◌⊎◌, ◌≡◌, ℕ, ◌+◌, ◌<◌, ◌≤◌, ◌^◌, Bool, true, false, List, [], ◌++◌, length, take, Result, Ok, Err, IfOk, None, arith, length-append, length-take, inl, inr, refl, sym, ◌∙◌, ap, IsTrue, ◌-◌, drop, Some, append_assoc, rules}
+use Rattle.std.proofs.Common.{◌⊎◌, ◌≡◌, ℕ, ◌+◌, ◌<◌, ◌≤◌, ◌^◌, Bool, true, false, List, [], ◌++◌, length, take, Result, Ok, Err, IfOk, None, arith, length-append, length-take, inl, inr, refl, sym, ◌∙◌, ap, IsTrue, ◌-◌, drop, not, if◌then◌else◌, Some, append_assoc, rules}
 use Rattle.std.proofs.lemmas.List.{append-nil, drop_at, length-take}
 use Rattle.std.proofs.lemmas.Bool.{false≢true, or_right}
 use Rattle.ports_core.specs.Slot.{Slot, changed_at}
@@ -13,8 +13,8 @@ use Rattle.ports_core.specs.Guard.{GuardState, HoldsIn}
 use Rattle.ports_core.specs.declared.fault.Fault.{Fault}
 use Rattle.run_core.specs.declared.feeding.Fed.{Fed}
 use Rattle.run_core.specs.declared.feeding.Fed.TheVariants.{Whole, Enough, Broken}
-use Rattle.ports_core.specs.Inputs.{empty, OfContent}
-use Rattle.run_core.specs.Feeding.{is_enough, Stops, HasAll, to_end, enough, call_of, feeds, closes, FedAs, whole, had_enough, judged, stopped, IsUnread, Uses}
+use Rattle.ports_core.specs.Inputs.{CameFrom, empty, OfContent}
+use Rattle.run_core.specs.Feeding.{is_enough, Step, Stops, ToldEnd, HasAll, to_end, enough, call_of, close_of, feeds, closes, FedAs, whole, had_enough, broke_off, judged, stopped, IsUnread, Uses}
 use Rattle.run_core.specs.inner.RunSteps.{EndsSo, finished, fell_short}
 use Rattle.ports_core.proofs.InputsLemmas.{HasRead, changed_source}
 use Rattle.ports_core.specs.Engine as engine
@@ -24,11 +24,11 @@ use Rattle.ports_core.specs.Engine as engine
 -- a change of one input
 
 -- why an engine that is live is stopped
-stops : (work : Work) (read : List ℕ) (low high : Part) {needs : Needs} (Lacks : Type 0) (Ends : Fault → Type 0) {fault : Fault} {taken size : ℕ} {old new : List Slot} → is_verdict fault ≡ false → (2 ^ 63 ≤ taken + size → 2 ^ 63 ≤ length read)
-    → IsCaused (IsMet work.means needs Lacks Ends old new) false taken size old new fault → Stops (call_of work needs read low high) new fault
-stops work read low high Lacks Ends is long (engine.over is_over kept) = search rules
-stops work read low high Lacks Ends is long (engine.long live many kept) = long many
-stops work read low high {needs} Lacks Ends {fault} {old} {new} is long (engine.met _ live why) = grind (arith, common_steps)
+stops : (work : Work) (read : List ℕ) (low high : Part) {needs : Needs} (ended : Bool) (ahead : ℕ) (Lacks : Type 0) (Ends : Fault → Type 0) {fault : Fault} {taken size : ℕ} {old new : List Slot} → is_verdict fault ≡ false → (2 ^ 63 ≤ taken + size → 2 ^ 63 ≤ length read)
+    → IsCaused (IsMet work.means needs Lacks Ends old new) false taken size old new fault → Stops (record (call_of work needs read low high) { ended = ended; ahead = ahead }) new fault
+stops work read low high ended ahead Lacks Ends is long (engine.over is_over kept) = search rules
+stops work read low high ended ahead Lacks Ends is long (engine.long live many kept) = long many
+stops work read low high {needs} ended ahead Lacks Ends {fault} {old} {new} is long (engine.met _ live why) = grind (arith, common_steps)
 
 -- a verdict comes only where the work ends so
 pub judges : (means : Means) {needs : Needs} (Lacks : Type 0) (Ends : Fault → Type 0) {fault : Fault} {over : Bool} {taken size : ℕ} {old new : List Slot} → is_verdict fault ≡ true → IsCaused (IsMet means needs Lacks Ends old new) over taken size old new fault → Ends fault
@@ -37,7 +37,7 @@ judges means Lacks Ends is (engine.long live many kept) = absurd (false≢true i
 judges means {needs} Lacks Ends {fault} {old} {new} is (engine.met _ live why) = grind (arith, common_steps)
 
 -- what a fault left within an input, and what was made of its files then
-short_of_piece : {told : Bool} {opening : Needs} {most : ℕ} {work : Work} {content : Content} (WasRead : List ℕ → Type 0) {x : List ℕ} (piece rest : List ℕ) {reached new before : List Slot} {fault : Fault} → IsLawful work → content.bytes ≡ (x ++ piece) ++ rest → length piece ≤ most → work.is_complete x ≡ false → WasRead (x ++ piece)
+short_of_piece : {told : Bool} {opening : Needs} {most : ℕ} {work : Work} {content : Content} (WasRead : Step → Type 0) {x : List ℕ} (piece rest : List ℕ) {reached new before : List Slot} {fault : Fault} → IsLawful work → content.bytes ≡ (x ++ piece) ++ rest → length piece ≤ most → work.is_complete x ≡ false → WasRead (call_of work work.means.feeding (x ++ piece) (work.settled x) (work.settled (x ++ piece)))
     → Ended work.means.output told before (work.settled x) (work.settled (x ++ piece)) work.clears fault reached
     → (is_verdict fault ≡ false → Stops (call_of work work.means.feeding (x ++ piece) (work.settled x) (work.settled (x ++ piece))) reached fault) → (is_verdict fault ≡ true → IsSettled work (x ++ piece) fault)
     → (is_verdict fault ≡ true → new ≡ reached) → (is_verdict fault ≡ false → Swept work.clears (length before) reached new) → FedAs told before work opening most content WasRead new (Err fault)
@@ -86,16 +86,16 @@ got_enough content x Whole lawful got = cc
 got_enough {work} content x Enough lawful got = grind (arith, common_steps)
 got_enough content x Broken lawful got = absurd got
 
-fed_all : {told : Bool} {opening : Needs} {most : ℕ} {work : Work} {content : Content} (WasRead : List ℕ → Type 0) {x : List ℕ} {new before : List Slot} (fed : Fed) → IsLawful work → HasGot work content x fed → work.verdict x ≡ None → OutputsAt told before (work.whole x) new → FedAs told before work opening most content WasRead new (Ok fed)
+fed_all : {told : Bool} {opening : Needs} {most : ℕ} {work : Work} {content : Content} (WasRead : Step → Type 0) {x : List ℕ} {new before : List Slot} (fed : Fed) → IsLawful work → HasGot work content x fed → work.verdict x ≡ None → OutputsAt told before (work.whole x) new → FedAs told before work opening most content WasRead new (Ok fed)
 fed_all WasRead Whole lawful got well at = whole got.0 (rw got.2 got.1) (rw got.2 well) (rw got.2 at)
 fed_all {work} WasRead {x} Enough lawful got well at =
     let alike = alike_after got.1.0 lawful got.0 got.1.1 in had_enough (ap work.is_complete got.1.1 ∙ (lawful.stays x got.1.0 got.0).still) (alike.verdict ∙ well) (rw alike.whole at)
 fed_all WasRead Broken lawful got well at = absurd got
 
 -- What a fault left at the end, and what was made of its files then. The engine was fed x, of which z was used.
-short_of_end : {told : Bool} {opening : Needs} {most : ℕ} {work : Work} {content : Content} (WasRead : List ℕ → Type 0) {x z : List ℕ} {reached new before : List Slot} (fed : Fed) {fault : Fault} → IsLawful work → HasGot work content x fed → HasAll work content z → MadeAlike work x z → IsNeeded work.is_complete most z → WasRead z
+short_of_end : {told : Bool} {opening : Needs} {most : ℕ} {work : Work} {content : Content} (WasRead : Step → Type 0) {x z : List ℕ} {reached new before : List Slot} (fed : Fed) {fault : Fault} → IsLawful work → HasGot work content x fed → HasAll work content z → MadeAlike work x z → IsNeeded work.is_complete most z → WasRead (close_of work z)
     → Ended work.means.output told before (work.settled x) (work.whole x) work.clears fault reached
-    → (is_verdict fault ≡ false → Stops (call_of work work.means.closing z (work.settled z) (work.whole z)) reached fault) → (is_verdict fault ≡ true → Judges work x fault)
+    → (is_verdict fault ≡ false → Stops (close_of work z) reached fault) → (is_verdict fault ≡ true → Judges work x fault)
     → (is_verdict fault ≡ true → new ≡ reached) → (is_verdict fault ≡ false → Swept work.clears (length before) reached new) → FedAs told before work opening most content WasRead new (Err fault)
 short_of_end WasRead {z} {reached} fed {fault} lawful got all alike needed read (engine.cut unjudged stop) why verdict kept swept =
     stopped fault unjudged _ (closes z all needed) read reached (why unjudged)
@@ -127,21 +127,21 @@ module _ {S : Type 0} (Holds : S → List ℕ → Type 0) (Owns : S → ℕ → 
   }
 
   -- the loop ended at a fault of the engine, within the input
-  pub stopped_feeding : (laws : (s : S) → IsLawful (work s)) (told : Bool) {opening : Needs} {most : ℕ} {lack : Type 0} {start now : GuardState S} (next : GuardState S) {content : Content} (WasRead : List ℕ → Type 0) {x : List ℕ} (piece rest : List ℕ) {old mid reached new before : List Slot} {fault : Fault} → Feeds told start now x old mid → Owns start.stage (length before) old → OutputsAt told before ((work start.stage).settled []) old
-      → content.bytes ≡ (x ++ piece) ++ rest → length piece ≤ most → (work now.stage).is_complete x ≡ false → WasRead (x ++ piece) → CutsOff Holds Owns work now.stage piece told mid reached fault
+  pub stopped_feeding : (laws : (s : S) → IsLawful (work s)) (told : Bool) {opening : Needs} {most : ℕ} {lack : Type 0} {start now : GuardState S} (next : GuardState S) {content : Content} (WasRead : Step → Type 0) {x : List ℕ} (piece rest : List ℕ) {old mid reached new before : List Slot} {fault : Fault} → Feeds told start now x old mid → Owns start.stage (length before) old → OutputsAt told before ((work start.stage).settled []) old
+      → content.bytes ≡ (x ++ piece) ++ rest → length piece ≤ most → (work now.stage).is_complete x ≡ false → WasRead (call_of (work now.stage) (work now.stage).means.feeding (x ++ piece) ((work now.stage).settled x) ((work now.stage).settled (x ++ piece))) → CutsOff Holds Owns work now.stage piece told mid reached fault
       → IsCaused (IsMet (work now.stage).means (work now.stage).means.feeding lack (EndsWith Holds work now.stage piece) mid reached) now.is_over now.fed (length piece) mid reached fault
       → work next.stage ≡ work now.stage → (is_verdict fault ≡ false → KeepsOwn Owns now.stage next.stage mid reached) → (is_verdict fault ≡ true → new ≡ reached) → (is_verdict fault ≡ false → Clears Owns work next.stage reached new)
       → FedAs told before (work start.stage) opening most content WasRead new (Err fault)
   stopped_feeding laws told {lack} {now} next WasRead {x} piece rest {before} so_far own at is within going read cuts caused same owned kept cleared =
       let why = rw so_far.holds.count at (rw so_far.holds.live at caused) in
       rw (← so_far.same) (short_of_piece WasRead piece rest (laws now.stage) is within going read (cuts before x (stands told so_far own at))
-      (λ unjudged. stops (work now.stage) (x ++ piece) ((work now.stage).settled x) ((work now.stage).settled (x ++ piece)) lack (EndsWith Holds work now.stage piece) unjudged (λ long. let size : length (x ++ piece) ≡ length x + length piece = length-append x piece in omega (arith, long)) why)
+      (λ unjudged. stops (work now.stage) (x ++ piece) ((work now.stage).settled x) ((work now.stage).settled (x ++ piece)) false 0 lack (EndsWith Holds work now.stage piece) unjudged (λ long. let size : length (x ++ piece) ≡ length x + length piece = length-append x piece in omega (arith, long)) why)
       (λ judging. judges (work now.stage).means lack (EndsWith Holds work now.stage piece) judging caused x so_far.holds.within)
       kept
       (λ unjudged. rw same at (cleared unjudged (length before) (owned unjudged (length before) (so_far.owns (length before) own)))))
 
   -- the loop ended with the input, or where nothing more can follow
-  pub ended : (laws : (s : S) → IsLawful (work s)) (told : Bool) {opening : Needs} {most : ℕ} {start now : GuardState S} {content : Content} (WasRead : List ℕ → Type 0) {x z : List ℕ} {old mid new before : List Slot} {fed : Fed} {result : Result Fed Fault} → Feeds told start now x old mid → Owns start.stage (length before) old → OutputsAt told before ((work start.stage).settled []) old → HasGot (work now.stage) content x fed → HasAll (work now.stage) content z → MadeAlike (work now.stage) x z → IsNeeded (work now.stage).is_complete most z → WasRead z
+  pub ended : (laws : (s : S) → IsLawful (work s)) (told : Bool) {opening : Needs} {most : ℕ} {start now : GuardState S} {content : Content} (WasRead : Step → Type 0) {x z : List ℕ} {old mid new before : List Slot} {fed : Fed} {result : Result Fed Fault} → Feeds told start now x old mid → Owns start.stage (length before) old → OutputsAt told before ((work start.stage).settled []) old → HasGot (work now.stage) content x fed → HasAll (work now.stage) content z → MadeAlike (work now.stage) x z → IsNeeded (work now.stage).is_complete most z → WasRead (close_of (work now.stage) z)
       → EndsSo Holds Owns work told now fed mid new result → FedAs told before (work start.stage) opening most content WasRead new result
   ended laws told {now} WasRead {x} {before} {fed} so_far own at got all alike needed read (finished finishes) =
       let done = finishes before x (stands told so_far own at) in
@@ -149,15 +149,15 @@ module _ {S : Type 0} (Holds : S → List ℕ → Type 0) (Owns : S → ℕ → 
   ended laws told {now} WasRead {x} {z} {before} {fed} so_far own at got all alike needed read (fell_short fault reached short caused kept cleared) =
       let why = rw so_far.holds.live at caused in
       rw (← so_far.same) (short_of_end WasRead fed (laws now.stage) got all alike needed read (short before x (stands told so_far own at))
-      (λ unjudged. stops (work now.stage) z ((work now.stage).settled z) ((work now.stage).whole z) (Unit {0}) (EndsThere Holds work now.stage) unjudged (λ long. absurd (let bound : now.fed < 2 ^ 63 = so_far.bound in omega (arith, bound, long))) why)
+      (λ unjudged. stops (work now.stage) z ((work now.stage).settled z) ((work now.stage).whole z) (not ((work now.stage).is_complete z)) (if (work now.stage).is_complete z then (work now.stage).ahead else 0) (Unit {0}) (EndsThere Holds work now.stage) unjudged (λ long. absurd (let bound : now.fed < 2 ^ 63 = so_far.bound in omega (arith, bound, long))) why)
       (λ judging. judges (work now.stage).means (Unit {0}) (EndsThere Holds work now.stage) judging caused x so_far.holds.within)
       kept (λ unjudged. cleared unjudged (length before) (so_far.owns (length before) own)))
 
   -- an input without bytes: the engine is closed at once
   pub closed_at_start : (laws : (s : S) → IsLawful (work s)) (told : Bool) {opening : Needs} {most : ℕ} {start : GuardState S} {old new before : List Slot} {fed : Fed} {result : Result Fed Fault} → HoldsIn Holds start [] → start.fed < 2 ^ 63 → Owns start.stage (length before) old → OutputsAt told before ((work start.stage).settled []) old → HasGot (work start.stage) empty [] fed
-      → EndsSo Holds Owns work told start fed old new result → FedAs told before (work start.stage) opening most empty (λ read. Unit {0}) new result
+      → EndsSo Holds Owns work told start fed old new result → FedAs told before (work start.stage) opening most empty (λ call. Unit {0}) new result
   closed_at_start laws told {start} {fed} holds bound own at got ends =
-      ended laws told {start = start} (λ read. Unit {0}) (record { same = refl; holds = holds; owns = λ first own. own; outputs = λ before own at. at; bound = bound }) own at got (got_all fed got) (alike_itself) (inl refl) tt ends
+      ended laws told {start = start} (λ call. Unit {0}) (record { same = refl; holds = holds; owns = λ first own. own; outputs = λ before own at. at; bound = bound }) own at got (got_all fed got) (alike_itself) (inl refl) tt ends
 
   -- an input that ended, or was enough, didn't break off
   pub ends_sound : (told : Bool) {engine : GuardState S} {fed : Fed} {old new : List Slot} {result : Result Fed Fault} (P : Type 0) → (fed ≡ Whole) ⊎ (fed ≡ Enough) → EndsSo Holds Owns work told engine fed old new result → IfOk result (λ found. found ≡ Broken → P)
@@ -174,15 +174,31 @@ needed_more {n} x buffer going within = grind (arith, common_steps)
 
 -- the input that is there, where it tells its bytes, and else one that has what was read of it
 
-pub of_read : (told : Bool) (there : Content) (bytes : List ℕ) (breaks_off is_broken : Bool) (P : Content → Type 0) → (told ≡ true → (there.bytes ≡ bytes) × (there.breaks_off ≡ breaks_off)) → (breaks_off ≡ true → is_broken ≡ true)
-    → ((content : Content) → (told ≡ true → content.bytes ≡ there.bytes) → content.bytes ≡ bytes → content.breaks_off ≡ breaks_off → P content) → OfContent told there (λ content. P content × (told ≡ false → content.breaks_off ≡ true → is_broken ≡ true))
-of_read true there bytes breaks_off is_broken P all broke holds = (there, λ t. refl, (holds there (λ t. refl) (all refl).0 (all refl).1, λ untold. absurd (false≢true (sym untold))))
-of_read false there bytes breaks_off is_broken P all broke holds = (record { bytes = bytes; breaks_off = breaks_off }, λ t. absurd (false≢true t), (holds _ (λ t. absurd (false≢true t)) refl refl, λ untold. broke))
+pub of_read : (told : Bool) (there : Content) (bytes : List ℕ) (breaks_off : Bool) (source : Source) (P : Content → Type 0) → (told ≡ true → (there.bytes ≡ bytes) × (there.breaks_off ≡ breaks_off)) → ((content : Content) → (told ≡ false → content.breaks_off ≡ breaks_off) → CameFrom told content source)
+    → ((content : Content) → (told ≡ true → content.bytes ≡ there.bytes) → content.bytes ≡ bytes → content.breaks_off ≡ breaks_off → CameFrom told content source → P content) → OfContent told there (λ content. P content × CameFrom told content source)
+of_read true there bytes breaks_off source P all came holds =
+    let from = came there (λ off. absurd (false≢true (sym off))) in (there, λ t. refl, (holds there (λ t. refl) (all refl).0 (all refl).1 from, from))
+of_read false there bytes breaks_off source P all came holds =
+    let from = came (record { bytes = bytes; breaks_off = breaks_off }) (λ off. refl) in (record { bytes = bytes; breaks_off = breaks_off }, λ t. absurd (false≢true t), (holds _ (λ t. absurd (false≢true t)) refl refl from, from))
 
-pub of_more : (told : Bool) (there : Content) (x rest : List ℕ) (is_broken : Bool) (P : Content → Type 0) → (told ≡ true → there.bytes ≡ x ++ rest)
-    → ((content : Content) → (told ≡ true → content.bytes ≡ there.bytes) → (rest : List ℕ) → content.bytes ≡ x ++ rest → P content) → OfContent told there (λ content. P content × (told ≡ false → content.breaks_off ≡ true → is_broken ≡ true))
-of_more true there x rest is_broken P all holds = (there, λ t. refl, (holds there (λ t. refl) rest (all refl), λ untold. absurd (false≢true (sym untold))))
-of_more false there x rest is_broken P all holds = (record { bytes = x; breaks_off = false }, λ t. absurd (false≢true t), (holds _ (λ t. absurd (false≢true t)) [] (sym (append-nil x)), λ untold breaks. absurd (false≢true breaks)))
+pub of_more : (told : Bool) (there : Content) (x rest : List ℕ) (source : Source) (P : Content → Type 0) → (told ≡ true → there.bytes ≡ x ++ rest) → ((content : Content) → (told ≡ false → content.breaks_off ≡ false) → CameFrom told content source)
+    → ((content : Content) → (told ≡ true → content.bytes ≡ there.bytes) → (rest : List ℕ) → content.bytes ≡ x ++ rest → CameFrom told content source → P content) → OfContent told there (λ content. P content × CameFrom told content source)
+of_more true there x rest source P all came holds =
+    let from = came there (λ off. absurd (false≢true (sym off))) in (there, λ t. refl, (holds there (λ t. refl) rest (all refl) from, from))
+of_more false there x rest source P all came holds =
+    let from = came (record { bytes = x; breaks_off = false }) (λ off. refl) in (record { bytes = x; breaks_off = false }, λ t. absurd (false≢true t), (holds _ (λ t. absurd (false≢true t)) [] (sym (append-nil x)) from, from))
+
+-- where the output was complete, no end had to be told
+pub told_by_complete : {work : Work} {content : Content} (source : Source) {x : List ℕ} (rest : List ℕ) → IsLawful work → work.is_complete x ≡ true → content.bytes ≡ x ++ rest → ToldEnd work content source
+told_by_complete {work} source {x} rest lawful complete is ends going = absurd (false≢true (sym going ∙ ap work.is_complete is ∙ (lawful.stays x rest complete).still))
+
+-- what is known of the call that a fault stopped
+pub fed_so : {told : Bool} {before : List Slot} {work : Work} {opening : Needs} {most : ℕ} {content : Content} {A B : Step → Type 0} {new : List Slot} {result : Result Fed Fault} → ((call : Step) → A call → B call) → FedAs told before work opening most content A new result → FedAs told before work opening most content B new result
+fed_so more (whole sound going well at) = whole sound going well at
+fed_so more (had_enough complete well at) = had_enough complete well at
+fed_so more (broke_off breaks going reached at swept) = broke_off breaks going reached at swept
+fed_so more (judged fault is all verdict reached at swept) = judged fault is all verdict reached at swept
+fed_so more (stopped fault is call is_call read reached why stop swept) = stopped fault is call is_call (more call read) reached why stop swept
 
 -- an engine that took in a front of its input without a read: the loop that feeds it goes on from there
 
@@ -235,14 +251,19 @@ uses_all {x} joined none needed going few = grind (arith, common_steps)
 pub uses_judged : {work : Work} {most slot : ℕ} {there : Content} {x : List ℕ} {source : Source} {fault : Fault} → there.bytes ≡ x ++ source.left.bytes → IsNeeded work.is_complete most x → work.is_complete x ≡ true → work.verdict x ≡ Some fault → source.reached ≤ length x → Uses work most slot there source
 uses_judged {x} joined needed complete verdict few = grind (arith, common_steps)
 
+-- what was given back is no more than may be
+pub read_to_used : {work : Work} {x : List ℕ} {slot n : ℕ} {start sources new : List Source} (spare : IsSpare work x n) → (slot ≡ 0 → n ≤ work.ahead) → HasTaken x slot start sources → IsUnread (source_at start slot) → IsTrue (is_readable sources slot) → new ≡ changed_at slot (gets_back n) sources → slot ≡ 0 → (source_at new slot).reached ≤ length spare.used + work.ahead
+read_to_used {slot} {n} {sources} {new} spare few took unread can is standard =
+    omega (arith, few standard, took.far unread, ap length spare.joined ∙ length-append spare.used spare.rest, spare.long, ap (λ (source : Source). source.reached) (changed_source slot (gets_back n) sources new can is))
+
 -- the output was complete, and what it doesn't use was given back
 pub uses_part : {work : Work} {most slot n : ℕ} {there : Content} {x : List ℕ} {start sources new : List Source} (spare : IsSpare work x n) → there.bytes ≡ spare.used ++ (source_at new slot).left.bytes → 0 < most → work.is_complete spare.used ≡ true → (slot ≡ 0 → n ≤ work.ahead) → HasTaken x slot start sources → IsUnread (source_at start slot) → IsTrue (is_readable sources slot) → new ≡ changed_at slot (gets_back n) sources
     → Uses work most slot there (source_at new slot)
-uses_part {slot} {n} {sources} {new} spare joined room complete few took unread can is = record {
+uses_part spare joined room complete few took unread can is = record {
   read = spare.used;
   joined = joined;
   enough = inr complete;
   needed = needed_within room spare.needed;
   exact = λ well. spare.needed;
-  few = λ standard. omega (arith, few standard, took.far unread, ap length spare.joined ∙ length-append spare.used spare.rest, spare.long, ap (λ (source : Source). source.reached) (changed_source slot (gets_back n) sources new can is));
+  few = read_to_used spare few took unread can is;
 }

@@ -6,12 +6,12 @@ use Rattle.ports_core.specs.Source.{Content, Source, no_source, source_at, sourc
 use Rattle.ports_core.specs.Source as from
 use Rattle.ports_core.specs.declared.fault.Fault.{Fault}
 use Rattle.ports_core.specs.Work.{Work, Needs}
-use Rattle.run_core.specs.Feeding.{Uses, is_enough, FedAs, whole, had_enough, broke_off, judged, stopped}
-use Rattle.ports_core.specs.Inputs.{BreaksOnly, KeepsOthers, OfContent, AsksAtMost, empty, largest_piece}
+use Rattle.run_core.specs.Feeding.{IsUnread, Step, ToldEnd, Uses, is_enough, FedAs, whole, had_enough, broke_off, judged, stopped}
+use Rattle.ports_core.specs.Inputs.{CameFrom, KeepsOthers, OfContent, AsksAtMost, empty, largest_piece}
 use Rattle.run_core.specs.Input.{Input, World, IsFor, is_dash, input_of, inputs_from, next_slot, has_dash, AreFrom, inputs_at, file_input, standard_input, read_before}
 use Rattle.run_core.specs.Reading.{AreDone, AreUntouched, IsDone, IsUntouched, Leaves, count_after}
 use Rattle.run_core.specs.inner.RunSteps.{TakesOne, OfSource, HeaderFails, no_room, broke, TookInput, took, cut_off, input_from, TookAll, all, stopped_at, not_begun, HasStreams, OfName, is_unopened, standard_source}
-use Rattle.ports_core.proofs.InputsLemmas.{sound_at, fresh_asks}
+use Rattle.ports_core.proofs.InputsLemmas.{came_sound, sound_at, fresh_asks}
 use Rattle.std.proofs.Math.Bool.{and-false, and-true, or-false, or-true, or_assoc}
 use Rattle.ports_core.specs.Slot.{Slot, adds, is_open, slot_at, is_writable, told_of, with_written, streams}
 use Rattle.ports_core.specs.Part.{Part, only_out, OutputsAt}
@@ -42,21 +42,37 @@ last_source sources {source} = grind (arith, common_steps)
 
 -- what is left of the input of a source
 
--- an input of which nothing was read
-pub unread_source : (told : Bool) (source : Option ℕ) (sources : List Source) (Q : Content → Type 0) → IfSome source (λ slot. IsTrue (is_readable sources slot))
-    → ((content : Content) → Leaves told content source sources [] → Q content) → OfSource told source sources Q
-unread_source told None sources Q can holds = holds empty tt
-unread_source true (Some slot) sources Q can holds = ((source_at sources slot).left, λ t. refl, holds (source_at sources slot).left (sound_at sources slot can, λ t. refl))
-unread_source false (Some slot) sources Q can holds = (empty, λ t. absurd (false≢true t), holds empty (sound_at sources slot can, λ t. absurd (false≢true t)))
+-- an input of which nothing was read, before a step that needs none of it
+
+left_unread : (told : Bool) {content : Content} (slot : ℕ) (sources : List Source) → IsTrue (is_readable sources slot) → IsUnread (source_at sources slot) → (told ≡ true → content.bytes ≡ (source_at sources slot).left.bytes) → (told ≡ false → content.breaks_off ≡ false)
+    → (step : Step) → step.read ≡ [] → step.ended ≡ false → Leaves told content (Some slot) sources step
+left_unread told slot sources can unread there sound step none going = (
+  record {
+    came = came_sound told sources slot can sound;
+    sound = sound_at sources slot can;
+    ended = λ ends. absurd (false≢true (sym going ∙ ends));
+    joined = λ t. there t ∙ sym (ap (λ read. read ++ (source_at sources slot).left.bytes) none);
+  },
+  λ t standard. omega (arith, unread.1),
+)
+
+pub unread_source : (told : Bool) (source : Option ℕ) (sources : List Source) (Q : Content → Type 0) → IfSome source (λ slot. IsTrue (is_readable sources slot)) → IfSome source (λ slot. IsUnread (source_at sources slot))
+    → ((content : Content) → ((step : Step) → step.read ≡ [] → step.ended ≡ false → Leaves told content source sources step) → Q content) → OfSource told source sources Q
+unread_source told None sources Q can unread holds = holds empty (λ step none going. tt)
+unread_source true (Some slot) sources Q can unread holds =
+    ((source_at sources slot).left, λ t. refl, holds (source_at sources slot).left (left_unread true slot sources can unread (λ t. refl) (λ off. absurd (false≢true (sym off)))))
+unread_source false (Some slot) sources Q can unread holds =
+    (empty, λ t. absurd (false≢true t), holds empty (left_unread false slot sources can unread (λ t. absurd (false≢true t)) (λ off. refl)))
 
 -- an input that could be read is still there
 pub still_within : {source : Option ℕ} {slot : ℕ} {old new : List Source} → source ≡ Some slot → IfSome source (λ slot. IsTrue (is_readable old slot)) → KeepsOthers slot old new → slot < length new
 still_within {slot} {old} is can keeps = grind (arith, common_steps)
 
 -- an input that was fed to an engine, unless a fault stopped it
-pub left_of : {told : Bool} {work : Work} {most slot : ℕ} {there : Content} (sources : List Source) (P : Content → Type 0) {stops : Bool} → slot < length sources → (told ≡ true → stops ≡ false → Uses work most slot there (source_at sources slot))
-    → OfContent told there (λ content. P content × BreaksOnly told content (source_at sources slot)) → OfContent told there (λ content. P content × (stops ≡ false → IsDone told work most (Some slot) (Some content) sources))
-left_of sources P within uses (content, is, holds) = grind (arith, common_steps)
+pub left_of : {told : Bool} {work : Work} {most slot : ℕ} {there : Content} (sources : List Source) (P Q : Content → Type 0) {stops : Bool} → slot < length sources → ((content : Content) → P content → Q content) → (told ≡ true → stops ≡ false → Uses work most slot there (source_at sources slot))
+    → OfContent told there (λ content. (P content × (stops ≡ false → ToldEnd work content (source_at sources slot))) × CameFrom told content (source_at sources slot)) → OfContent told there (λ content. Q content × (stops ≡ false → IsDone told work most (Some slot) (Some content) sources))
+left_of sources P Q within more uses (content, is, ((holds, ends), came)) =
+    (content, is, (more content holds, λ goes. (within, (λ told. rw (is told) (uses told goes), came, ends goes))))
 
 -- how many names there can be
 
@@ -170,17 +186,17 @@ made_well task is_first name content enough well = search rules
 
 -- the header could not be written
 
-pub stopped_in_header : {told_in told : Bool} {task : Task} {most : ℕ} (is_first : Bool) (name : List ℕ) {source : Option ℕ} {content : Content} {outcome : Outcome} {failed was_read : Bool} {so_far : Part} {error : Slot} {sources : List Source} {old new : List Slot} {fault : Fault} → task.with_header ≡ true → Leaves told_in content source sources []
+pub stopped_in_header : {told_in told : Bool} {task : Task} {most : ℕ} (is_first : Bool) (name : List ℕ) {source : Option ℕ} {content : Content} {outcome : Outcome} {failed was_read : Bool} {so_far : Part} {error : Slot} {sources : List Source} {old new : List Slot} {fault : Fault} → task.with_header ≡ true → ((step : Step) → step.read ≡ [] → step.ended ≡ false → Leaves told_in content source sources step)
     → OutputsAt told (streams_with error) so_far old → HeaderFails told (header_text task.with_header is_first name) old new fault
     → TookInput told_in told task most (input_from name source content) outcome is_first failed was_read so_far error (length old) sources new (Err fault)
 stopped_in_header {told} {task} is_first name {content} {so_far} {error} {old} {new} due unread at (no_room is) =
-    cut_off Memory _ new (unheaded content due unread) refl
+    cut_off Memory _ new (unheaded content due (unread _ refl refl)) refl
     (stopped_here _ told (streams_with error) so_far so_far Memory old new at (part_begins_itself so_far) is tt)
     (none_to_sweep task.work.clears new (omega (arith, ap length is)))
 stopped_in_header {told} {task} is_first name {content} {so_far} {error} {old} {new} due unread at (broke n after) =
     let text = header_text task.with_header is_first name in
     let count : length new ≡ length old = ap length after.slots ∙ length-changed_at 0 _ _ ∙ length-changed_at 0 _ old in
-    cut_off (Write 0) _ new (heading content due unread)
+    cut_off (Write 0) _ new (heading content due (unread _ refl refl))
     (λ _. refl, λ alone. refl, ap (λ those. (slot_at those 0).is_broken) after.slots ∙ broken_at 0 _ (writable-written old 0 0 (told_of told (take n text)) ∙ part_writable at))
     (rw (out_on so_far text) at (out_cut told (streams_with error) so_far old new text n at after))
     (none_to_sweep task.work.clears new (omega (arith, count)))
@@ -238,7 +254,7 @@ module _ (told_in told : Bool) (task : Task) (most : ℕ) (is_first failed was_r
 pub swept_open : (clears : Bool) (reached new : List Slot) {first : ℕ} → 2 ≤ first → is_open (slot_at reached 1).state ≡ true → Swept clears first reached new → is_open (slot_at new 1).state ≡ true
 swept_open clears reached new past opened swept = grind (arith, common_steps)
 
-pub fed_open : {told : Bool} {work : Work} {opening : Needs} {most : ℕ} {error : Slot} {part : Part} {mid new : List Slot} {content : Content} (WasRead : List ℕ → Type 0) {result : Result Fed Fault} → is_open error.state ≡ true → OutputsAt told (streams_with error) part mid
+pub fed_open : {told : Bool} {work : Work} {opening : Needs} {most : ℕ} {error : Slot} {part : Part} {mid new : List Slot} {content : Content} (WasRead : Step → Type 0) {result : Result Fed Fault} → is_open error.state ≡ true → OutputsAt told (streams_with error) part mid
     → FedAs told mid work opening most content WasRead new result → is_open (slot_at new 1).state ≡ true
 fed_open WasRead opened at (whole sound going well there) = cc
 fed_open WasRead opened at (had_enough complete well there) = cc

@@ -6,6 +6,7 @@ use Rattle.ports_core.specs.Part.{Part, Output, OutputsAt, StoppedBetween, nothi
 use Rattle.ports_core.specs.Swept.{Swept}
 use Rattle.ports_core.specs.Work.{Work, Needs, Judges, IsNeeded}
 use Rattle.ports_core.specs.Engine.{is_verdict}
+use Rattle.ports_core.specs.Inputs.{CameFrom}
 use Rattle.ports_core.specs.declared.fault.Fault.{Fault}
 use Rattle.run_core.specs.declared.feeding.Fed.{Fed}
 use Rattle.run_core.specs.declared.feeding.Fed.TheVariants.{Whole, Enough, Broken}
@@ -30,6 +31,10 @@ pub record Step : Type 0 where
   -- it may want memory, or open files
   pub needs : Needs
   pub read : List ℕ
+  -- it comes once a read told the end
+  pub ended : Bool
+  -- how many bytes may have been given back before it
+  pub ahead : ℕ
 
 -- What stops a step, where the outputs are left so: no memory, an output broke, a file could not be opened, more input
 -- than any tool takes; each only where the step can meet it.
@@ -60,6 +65,15 @@ call_of work needs read low high = record {
   files = work.means.files;
   needs = needs;
   read = read;
+  ended = false;
+  ahead = 0;
+}
+
+-- the call that closes it, at the end of the input or where the output is complete with what came in
+abbrev pub close_of : Work → List ℕ → Step
+close_of work x = record (call_of work work.means.closing x (work.settled x) (work.whole x)) {
+  ended = not (work.is_complete x);
+  ahead = if work.is_complete x then work.ahead else 0;
 }
 
 -- One call of an engine over this input, fed by pieces of at most `most` bytes: it is opened, takes a piece, or is
@@ -71,14 +85,14 @@ pub data IsCall (work : Work) (opening : Needs) (most : ℕ) (content : Content)
       → IsCall work opening most content (call_of work work.means.feeding (x ++ piece) (work.settled x)
       (work.settled (x ++ piece)))
   closes : (x : List ℕ) → HasAll work content x → IsNeeded work.is_complete most x
-      → IsCall work opening most content (call_of work work.means.closing x (work.settled x) (work.whole x))
+      → IsCall work opening most content (close_of work x)
 
 -- How feeding an input by pieces of at most `most` bytes ends, from the outputs as they were before: it ended, or
 -- nothing more could follow; or it broke off before that, and the files go if the work clears them; or the work itself
 -- ends with a fault, and the files go likewise; or a fault stopped one call, no byte was taken after it (`WasRead` says
--- which were), and then the files go.
+-- what that leaves), and then the files go.
 pub data FedAs (told : Bool) (before : List Slot) (work : Work) (opening : Needs) (most : ℕ) (content : Content)
-    (WasRead : List ℕ → Type 0) (new : List Slot) : Result Fed Fault → Type 0 where
+    (WasRead : Step → Type 0) (new : List Slot) : Result Fed Fault → Type 0 where
   whole : content.breaks_off ≡ false → work.is_complete content.bytes ≡ false → work.verdict content.bytes ≡ None
       → OutputsAt told before (work.whole content.bytes) new
       → FedAs told before work opening most content WasRead new (Ok Whole)
@@ -93,15 +107,27 @@ pub data FedAs (told : Bool) (before : List Slot) (work : Work) (opening : Needs
       → Swept work.clears (length before) reached new
       → FedAs told before work opening most content WasRead new (Err fault)
   stopped : (fault : Fault) → is_verdict fault ≡ false → (call : Step) → IsCall work opening most content call
-      → WasRead call.read → (reached : List Slot) → Stops call reached fault
+      → WasRead call → (reached : List Slot) → Stops call reached fault
       → StoppedBetween call.output told before call.low call.high fault reached
       → Swept work.clears (length before) reached new
       → FedAs told before work opening most content WasRead new (Err fault)
 
--- an input that didn't break, and of which, where inputs tell their bytes, this was read
-abbrev pub LeavesOf : Bool → Content → Source → List ℕ → Type 0
-LeavesOf told content source read = (source.is_broken ≡ false)
-    × (told ≡ true → content.bytes ≡ read ++ source.left.bytes)
+-- What is left of an input where a fault stopped this step: it didn't break, and where inputs tell their bytes, all is left
+-- but what came in. Where the step comes at the end, a read told that.
+pub record LeavesOf (told : Bool) (content : Content) (source : Source) (step : Step) : Type 0 where
+  pub came : CameFrom told content source
+  pub sound : source.is_broken ≡ false
+  pub ended : step.ended ≡ true → source.ended ≡ true
+  pub joined : told ≡ true → content.bytes ≡ step.read ++ source.left.bytes
+
+-- of standard input reads gave no more than came in by this step, but for what was given back
+abbrev pub IsReadTo : ℕ → Source → Step → Type 0
+IsReadTo slot source step = slot ≡ 0 → source.reached ≤ length step.read + step.ahead
+
+-- an input that ended before the output was complete: a read told the end
+abbrev pub ToldEnd : Work → Content → Source → Type 0
+ToldEnd work content source = content.breaks_off ≡ false → work.is_complete content.bytes ≡ false
+    → source.ended ≡ true
 
 -- a fault that stops the run: one that is no verdict
 abbrev pub is_stop : Result Fed Fault → Bool
@@ -112,15 +138,18 @@ is_stop (Err fault) = not (is_verdict fault)
 abbrev pub IsUnread : Source → Type 0
 IsUnread source = (source.taken ≡ []) × (source.reached ≡ 0)
 
--- What is left of an input that was done: all but what was read of it. That was enough, for nothing is left or the
--- output was complete with it; and it was needed, where the work ends well to the last byte. Of standard input, which
--- others may read after it, reads gave at most `ahead` bytes more.
+-- What a tool that is done with an input took of it, and what it left: it took enough, and no more than it needed.
 pub record Uses (work : Work) (most slot : ℕ) (there : Content) (source : Source) : Type 0 where
+  -- it took the front of what was there, and left the rest
   pub read : List ℕ
   pub joined : there.bytes ≡ read ++ source.left.bytes
+  -- that was enough: there is no more, or no more could change its output
   pub enough : (source.left.bytes ≡ []) ⊎ (work.is_complete read ≡ true)
+  -- and it was needed: without its last piece, of at most `most` bytes, the output could still change
   pub needed : IsNeeded work.is_complete most read
+  -- where the work ends without a fault of its own, each byte was: without the last one the output could still change
   pub exact : work.verdict read ≡ None → IsNeeded work.is_complete 1 read
+  -- of standard input, which others may read after it, reads gave at most this much more, and that was given back
   pub few : slot ≡ 0 → source.reached ≤ length read + work.ahead
 
 -- of the input that was there, this is left, and what was read was needed

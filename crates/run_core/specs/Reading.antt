@@ -2,16 +2,16 @@
 use Rattle.std.specs.Prelude.{◌≡◌, ℕ, ◌≤◌, ◌<◌, Bool, true, false, List, [], ◌∷◌, ◌⊎◌, length, Option, Some, None}
 use Rattle.ports_core.specs.Source.{Content, Source, source_at, source_of}
 use Rattle.ports_core.specs.Work.{Work}
-use Rattle.run_core.specs.Feeding.{LeavesOf, Uses}
-use Rattle.ports_core.specs.Inputs.{BreaksOnly}
+use Rattle.run_core.specs.Feeding.{IsReadTo, LeavesOf, Step, ToldEnd, Uses}
+use Rattle.ports_core.specs.Inputs.{CameFrom}
 use Rattle.run_core.specs.Input.{Input, next_slot}
 
 -- What is left of an input that was done, which was read from this source: where inputs tell their bytes, all but what
--- was used; where they don't, it breaks off only where the source is broken. What could not be opened is not open.
+-- was used. Where it ended, a read told that, or the output was complete. What could not be opened is not open.
 abbrev pub IsLeft : Bool → Work → ℕ → ℕ → Option Content → Source → Type 0
 IsLeft told work most slot None source = source.is_open ≡ false
 IsLeft told work most slot (Some content) source = (told ≡ true → Uses work most slot content source)
-    × BreaksOnly told content source
+    × CameFrom told content source × ToldEnd work content source
 
 -- the same of an input by its number, under which it was opened; a second `-` has none
 abbrev pub IsDone : Bool → Work → ℕ → Option ℕ → Option Content → List Source → Type 0
@@ -24,10 +24,11 @@ AreDone told work most [] sources = Unit {0}
 AreDone told work most (input ∷ inputs) sources = IsDone told work most input.slot input.content sources
     × AreDone told work most inputs sources
 
--- the same as `LeavesOf`, of an input by its number
-abbrev pub Leaves : Bool → Content → Option ℕ → List Source → List ℕ → Type 0
-Leaves told content None sources = λ read. Unit {0}
-Leaves told content (Some slot) sources = LeavesOf told content (source_at sources slot)
+-- what is left of an input by its number, where a fault stopped this step
+abbrev pub Leaves : Bool → Content → Option ℕ → List Source → Step → Type 0
+Leaves told content None sources = λ step. Unit {0}
+Leaves told content (Some slot) sources = λ step. LeavesOf told content (source_at sources slot) step
+    × (told ≡ true → IsReadTo slot (source_at sources slot) step)
 
 -- an input to which a run did not come: it was not opened, or nothing was asked of it
 abbrev pub IsUntouched : Option ℕ → Option Content → List Source → Type 0

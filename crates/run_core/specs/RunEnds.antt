@@ -29,29 +29,37 @@ memory_step so_far = record {
   files = false;
   needs = record { memory = true; files = false };
   read = [];
+  ended = false;
+  ahead = 0;
+}
+
+-- a step that writes a header
+abbrev pub header_step : Part → List ℕ → Step
+header_step so_far header = record {
+  low = so_far;
+  high = after_part so_far (only_out header);
+  output = gets_bytes;
+  files = false;
+  needs = no_needs;
+  read = [];
+  ended = false;
+  ahead = 0;
 }
 
 -- One step at an input, after what was written before it: there is no room to open it; or none for its header, where
 -- headers are; or that is written; or its engine is called. The input didn't break, and no byte of it was taken but
--- what came in by then.
+-- what came in by then; of standard input, none was read but that, and what was given back.
 pub data RunStep (told : Bool) (task : Task) (most : ℕ) (so_far : Part) (header : List ℕ) (slot : Option ℕ)
     (sources : List Source) : Option Content → Step → Type 0 where
   unopened : (content : Option Content) (place : ℕ) → slot ≡ Some place → length sources ≤ place
       → RunStep told task most so_far header slot sources content (memory_step so_far)
-  unheaded : (content : Content) → task.with_header ≡ true → Leaves told content slot sources []
+  unheaded : (content : Content) → task.with_header ≡ true → Leaves told content slot sources (memory_step so_far)
       → RunStep told task most so_far header slot sources (Some content) (memory_step so_far)
-  heading : (content : Content) → task.with_header ≡ true → Leaves told content slot sources []
-      → RunStep told task most so_far header slot sources (Some content)
-      (record {
-        low = so_far;
-        high = after_part so_far (only_out header);
-        output = gets_bytes;
-        files = false;
-        needs = no_needs;
-        read = [];
-      })
+  heading : (content : Content) → task.with_header ≡ true
+      → Leaves told content slot sources (header_step so_far header)
+      → RunStep told task most so_far header slot sources (Some content) (header_step so_far header)
   calling : (content : Content) (call : Step) → IsCall task.work task.opening most content call
-      → Leaves told content slot sources call.read
+      → Leaves told content slot sources call
       → RunStep told task most so_far header slot sources (Some content)
       (step_after (after_part so_far (only_out header)) call)
 

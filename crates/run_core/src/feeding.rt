@@ -6,8 +6,8 @@ ghost use Rattle.ports_core.specs.Part.{OutputsAt};
 ghost use Rattle.ports_core.specs.Work.{Needs};
 ghost use Rattle.ports_core.specs.Guard.{HoldsIn};
 ghost use Rattle.ports_core.specs.Engine.{Clears, KeepsOwn, is_verdict};
-ghost use Rattle.ports_core.specs.Inputs.{empty, BreaksOnly, KeepsOthers, OfContent};
-ghost use Rattle.run_core.specs.Feeding.{FedAs, IsUnread, LeavesOf, ReadsFor, Uses, is_stop};
+ghost use Rattle.ports_core.specs.Inputs.{empty, CameFrom, KeepsOthers, OfContent};
+ghost use Rattle.run_core.specs.Feeding.{FedAs, IsReadTo, IsUnread, LeavesOf, ReadsFor, ToldEnd, Uses, is_stop};
 ghost use Rattle.run_core.specs.inner.RunSteps.{EndsSo};
 
 use ports_core::{Fault, Guarded, Inputs, Outs, Stage};
@@ -47,8 +47,9 @@ pub fn feed_input<S: Stage, I: Inputs, O: Outs>(
     requires owns { (first : ℕ) × S.Owns engine.old.stage first (O.slots outs.old) }
     ensures ends { (before : List Slot) (opening : Needs) → S.Owns engine.old.stage (length before) (O.slots outs.old) → OutputsAt O.told before ((S.work engine.old.stage).settled []) (O.slots outs.old)
         → OfContent I.told (source_at (I.sources inputs.old) slot).left
-        (λ content. FedAs O.told before (S.work engine.old.stage) opening (length buffer.old) content (LeavesOf I.told content (source_at (I.sources inputs.new) slot)) (O.slots outs.new) result
-        × BreaksOnly I.told content (source_at (I.sources inputs.new) slot)) }
+        (λ content. (FedAs O.told before (S.work engine.old.stage) opening (length buffer.old) content
+        (λ call. LeavesOf I.told content (source_at (I.sources inputs.new) slot) call × (I.told ≡ true → IsUnread (source_at (I.sources inputs.old) slot) → IsReadTo slot (source_at (I.sources inputs.new) slot) call)) (O.slots outs.new) result
+        × (is_stop result ≡ false → ToldEnd (S.work engine.old.stage) content (source_at (I.sources inputs.new) slot))) × CameFrom I.told content (source_at (I.sources inputs.new) slot)) }
     ensures reads { I.told ≡ true → ReadsFor (S.work engine.old.stage).is_complete (length buffer.old) (source_at (I.sources inputs.old) slot).left (source_at (I.sources inputs.new) slot).left }
     ensures used { I.told ≡ true → is_stop result ≡ false → IsUnread (source_at (I.sources inputs.old) slot) → Uses (S.work engine.old.stage) (length buffer.old) slot (source_at (I.sources inputs.old) slot).left (source_at (I.sources inputs.new) slot) }
     ensures asked { (source_at (I.sources inputs.old) slot).asked ≤ length buffer.old → (source_at (I.sources inputs.new) slot).asked ≤ length buffer.old }
@@ -136,7 +137,7 @@ pub fn feed_nothing<S: Stage, O: Outs>(engine: &mut Guarded<S>, outs: &mut O) ->
     requires output { S.Ready engine.old.stage (O.slots outs.old) }
     requires owns { (first : ℕ) × S.Owns engine.old.stage first (O.slots outs.old) }
     ensures ends { (before : List Slot) (opening : Needs) (most : ℕ) → S.Owns engine.old.stage (length before) (O.slots outs.old) → OutputsAt O.told before ((S.work engine.old.stage).settled []) (O.slots outs.old)
-        → FedAs O.told before (S.work engine.old.stage) opening most empty (λ read. Unit {0}) (O.slots outs.new) result }
+        → FedAs O.told before (S.work engine.old.stage) opening most empty (λ call. Unit {0}) (O.slots outs.new) result }
 {
     if engine.done() {
         return end(engine, Fed::Enough, outs);

@@ -1,27 +1,32 @@
-//! Callers of `run` that rest on the laws of `tools_core`: what each of them ensures follows by one law from what `run` ensures,
-//! and nothing is known here of what the tools do.
-ghost use Rattle.std.specs.Prelude.{◌≡◌, ◌+◌, ◌∷◌, [], ℕ, List, Option, None, map, drop, codes, true, false, IfOk, IfSome};
+//! Callers of `run_words`, as the program is one, that rest on the laws of `tools_core`: what each of them ensures follows by one law
+//! from what `run_words` ensures, and nothing is known here of what the tools do.
+ghost use Rattle.std.specs.Prelude.{◌≡◌, ◌+◌, ◌++◌, ◌∷◌, [], ℕ, List, Option, None, Some, map, drop, codes, true, false, IfOk, IfSome};
+ghost use Rattle.ends_core.specs.Ends.{tail_of};
+ghost use Rattle.mem_core.specs.MemWatchState.{seen, shows};
 ghost use Rattle.seg_core.specs.Line.{joined};
 ghost use Rattle.seg_core.specs.declared.count.Sign.TheVariants.{Plain, Plus};
 ghost use Rattle.seg_core.specs.declared.cut.Cut.TheVariants.{Bytes};
 ghost use Rattle.ports_core.specs.Slot.{Slot, slot_at, streams};
 ghost use Rattle.ports_core.specs.Source.{source_of};
-ghost use Rattle.tools_core.specs.Promises.{Does, CountAlike, HasInput, Ran, Run, counted};
-ghost use Rattle.tools_core.specs.Tasks.{names_of};
+ghost use Rattle.tools_core.specs.Promises.{AreCopies, Does, CountAlike, HasInput, IsBare, OnlyGrows, Ran, Run, SkipNothing, counted};
+ghost use Rattle.tools_core.specs.Tasks.{is_plus, names_of};
+ghost use Rattle.words_core.specs.CsplitAsked.{CsplitAsked};
 ghost use Rattle.words_core.specs.EndsAsked.{EndsAsked};
 ghost use Rattle.words_core.specs.SplitAsked.{SplitAsked};
-ghost use Rattle.words_core.specs.Words.{settings_of};
+ghost use Rattle.words_core.specs.TeeAsked.{TeeAsked};
+ghost use Rattle.words_core.specs.Words.{follows, settings_of};
+ghost use Rattle.words_core.specs.declared.value.Followed.{Followed};
 ghost use Rattle.words_core.specs.declared.settings.Settings.{Settings};
-ghost use Rattle.words_core.specs.declared.settings.Settings.TheVariants.{Head, Split, Tail};
+ghost use Rattle.words_core.specs.declared.settings.Settings.TheVariants.{Csplit, Head, Split, Tail, Tee};
 
-use mem_core::{MemIn, MemOut};
+use mem_core::{Edit, MemIn, MemOut, MemWatch};
 use ports_core::{Fault, Outs};
 use std::alloc::Global;
 use std::process::Abort;
 use std::test::Fail;
-use tools_core::run::run;
 use tools_core::{
-    cutting_changes_nothing, faults_leave_a_beginning, head_and_tail_meet, split_loses_nothing,
+    csplit_loses_nothing, cutting_changes_nothing, faults_leave_a_beginning, head_and_tail_meet,
+    program_makes_these_runs, run_words, split_loses_nothing, tail_follows, tee_copies,
 };
 
 /// Standard input with these bytes, of which a read gives this many, and no files.
@@ -34,7 +39,7 @@ fn standard_input(alloc: Global, bytes: &[u8], pieces: usize) -> Result<MemIn, F
     Ok(inputs)
 }
 
-/// Runs the words over these bytes, which come by this many at once, and returns the status.
+/// Runs the words over these bytes, which come by this many at once, and returns the status. They follow nothing.
 fn ran(
     alloc: Global,
     words: &[&str],
@@ -43,11 +48,13 @@ fn ran(
     outs: &mut MemOut,
 ) -> Result<u8, Fault>
     requires { outs.old ≡ streams }
-    ensures { (asked : Settings) → settings_of (map (λ word. word.now) words.now) ≡ Ok asked → names_of asked ≡ codes "-" ∷ []
+    ensures { (asked : Settings) → settings_of (map (λ word. word.now) words.now) ≡ Ok asked → names_of asked ≡ codes "-" ∷ [] → follows asked ≡ false
         → IfOk result (λ status. (one : Run) × Ran one asked × HasInput one bytes.now × (one.words ≡ map (λ word. word.now) words.now) × (one.outputs ≡ outs.new) × (one.status ≡ status)) }
 {
+    program_makes_these_runs();
     let mut inputs = standard_input(alloc, bytes, pieces)?;
-    Ok(run(alloc, words, &mut inputs, outs))
+    let mut watch = MemWatch::new(alloc)?;
+    Ok(run_words(alloc, words, &mut inputs, &mut watch, outs))
 }
 
 /// What a run of the words leaves of these bytes, if its status is 0.
@@ -57,7 +64,7 @@ fn left_of(
     bytes: &[u8],
     pieces: usize,
 ) -> Result<Option<MemOut>, Fault>
-    ensures { (asked : Settings) → settings_of (map (λ word. word.now) words.now) ≡ Ok asked → names_of asked ≡ codes "-" ∷ []
+    ensures { (asked : Settings) → settings_of (map (λ word. word.now) words.now) ≡ Ok asked → names_of asked ≡ codes "-" ∷ [] → follows asked ≡ false
         → IfOk result (λ left. IfSome left (λ outs. (one : Run) × Does one asked × HasInput one bytes.now × (one.words ≡ map (λ word. word.now) words.now) × (one.outputs ≡ outs))) }
 {
     let mut outs = MemOut::new(alloc)?;
@@ -103,9 +110,47 @@ fn pieces(alloc: Global, words: &[&str], bytes: &[u8]) -> Result<Option<MemOut>,
     left_of(alloc, words, bytes, 3)
 }
 
+/// What `tee` leaves of these bytes, if that goes well: standard output and each file that is named has them.
+fn copied(alloc: Global, words: &[&str], bytes: &[u8]) -> Result<Option<MemOut>, Fault>
+    ensures { (asked : TeeAsked) → settings_of (map (λ word. word.now) words.now) ≡ Ok (Tee asked)
+        → IfOk result (λ left. IfSome left (λ outs. ((slot_at outs 0).written ≡ bytes.now) × AreCopies asked.mode asked.names bytes.now (drop 2 outs))) }
+{
+    tee_copies();
+    left_of(alloc, words, bytes, 3)
+}
+
+/// The files into which `csplit` cuts these bytes, if that goes well: joined they are the bytes, where no section is skipped and no
+/// line is left out at a cut.
+fn sections(alloc: Global, words: &[&str], bytes: &[u8]) -> Result<Option<MemOut>, Fault>
+    ensures { (asked : CsplitAsked) → settings_of (map (λ word. word.now) words.now) ≡ Ok (Csplit asked) → asked.input ≡ codes "-" → asked.style.suppress ≡ false → SkipNothing asked.operands
+        → IfOk result (λ left. IfSome left (λ outs. joined (map (λ (file : Slot). file.written) (drop 2 outs)) ≡ bytes.now)) }
+{
+    csplit_loses_nothing();
+    left_of(alloc, words, bytes, 3)
+}
+
+/// What a `tail` leaves that follows one file, if it goes well. Where the file only grows, that is what it ends with at the first
+/// look and all that came by the last.
+fn grown(alloc: Global, words: &[&str], watch: &mut MemWatch) -> Result<Option<MemOut>, Fault>
+    requires seen { seen watch.old ≡ [] }
+    requires watched { watch.old.watched ≡ [] }
+    ensures { (options : EndsAsked) (followed : Followed) (name came : List ℕ) (file n : ℕ) → settings_of (map (λ word. word.now) words.now) ≡ Ok (Tail (record { ends = options; followed = Some followed; looks = n + 1 }))
+        → IsBare options → options.names ≡ name ∷ [] → ((count : ℕ) → OnlyGrows count (shows watch.old) name file) → (shows watch.old n).holds file ≡ (shows watch.old 0).holds file ++ came
+        → IfOk result (λ left. IfSome left (λ outs. (slot_at outs 0).written ≡ tail_of options.delim options.unit (is_plus options.count.sign) options.count.amount ((shows watch.old 0).holds file) ++ came)) }
+{
+    program_makes_these_runs();
+    tail_follows();
+    let mut inputs = standard_input(alloc, b"", 1)?;
+    let mut outs = MemOut::new(alloc)?;
+    if run_words(alloc, words, &mut inputs, watch, &mut outs) != 0 {
+        return Ok(None);
+    }
+    Ok(Some(outs))
+}
+
 /// What the words leave of these bytes where they come byte by byte, and where they come whole, if both go well: the same.
 fn both(alloc: Global, words: &[&str], bytes: &[u8]) -> Result<Option<(MemOut, MemOut)>, Fault>
-    ensures { (asked : Settings) → settings_of (map (λ word. word.now) words.now) ≡ Ok asked → names_of asked ≡ codes "-" ∷ []
+    ensures { (asked : Settings) → settings_of (map (λ word. word.now) words.now) ≡ Ok asked → names_of asked ≡ codes "-" ∷ [] → follows asked ≡ false
         → IfOk result (λ left. IfSome left (λ outs. outs.0 ≡ outs.1)) }
 {
     cutting_changes_nothing();
@@ -121,7 +166,7 @@ fn both(alloc: Global, words: &[&str], bytes: &[u8]) -> Result<Option<(MemOut, M
 /// The status of a run of the words over these bytes, into outputs that may fail: it is 1 where standard output broke.
 fn status_of(alloc: Global, words: &[&str], bytes: &[u8], outs: &mut MemOut) -> Result<u8, Fault>
     requires { outs.old ≡ streams }
-    ensures { (asked : Settings) → settings_of (map (λ word. word.now) words.now) ≡ Ok asked → names_of asked ≡ codes "-" ∷ []
+    ensures { (asked : Settings) → settings_of (map (λ word. word.now) words.now) ≡ Ok asked → names_of asked ≡ codes "-" ∷ [] → follows asked ≡ false
         → IfOk result (λ status. (slot_at outs.new 0).is_broken ≡ true → status ≡ 1) }
 {
     faults_leave_a_beginning();
@@ -142,6 +187,31 @@ fn ends_meet(rt: HostRuntime) -> Result<(), Fail> {
 fn pieces_are_there(rt: HostRuntime) -> Result<(), Fail> {
     let found = pieces(rt.alloc(), &["split", "-b", "5"], TEXT)?;
     assert!(rt; found.is_some_and(|outs| outs.bytes(3) == b"ccc".as_slice()));
+    Ok(())
+}
+
+#[test]
+fn copies_are_there(rt: HostRuntime) -> Result<(), Fail> {
+    let found = copied(rt.alloc(), &["tee", "-a", "f"], TEXT)?;
+    assert!(rt; found.is_some_and(|outs| outs.bytes(0) == TEXT && outs.bytes(2) == TEXT));
+    Ok(())
+}
+
+#[test]
+fn sections_are_there(rt: HostRuntime) -> Result<(), Fail> {
+    let found = sections(rt.alloc(), &["csplit", "-", "/bb/"], TEXT)?;
+    assert!(rt; found.is_some_and(|outs| outs.bytes(3) == b"bb\nccc".as_slice()));
+    Ok(())
+}
+
+#[test]
+fn grown_file_is_there(rt: HostRuntime) -> Result<(), Fail> {
+    let mut watch = MemWatch::new(rt.alloc())?;
+    watch.then(&[Edit::Replace("f", TEXT)])?;
+    watch.then(&[Edit::Append("f", b"d\n")])?;
+    let words = ["tail", "-f", "-n", "1", "--looks", "2", "f"];
+    let found = grown(rt.alloc(), &words, &mut watch)?;
+    assert!(rt; found.is_some_and(|outs| outs.bytes(0) == b"cccd\n".as_slice()));
     Ok(())
 }
 

@@ -30,9 +30,9 @@ pub fn read_digits(text: &[u8]) -> Result<u64, CountFault>
     }
 }
 
-// The value of the digits that a text begins with, or the greatest `u64` where it is above that,
-// and the number of these digits.
-pub(crate) fn leading_number(text: &[u8]) -> (u64, usize)
+/// The value of the digits that a text begins with, or the greatest `u64` where it is above that, and the number of these
+/// digits. It takes no memory, and time linear in these.
+pub fn leading_number(text: &[u8]) -> (u64, usize)
     ensures value { result.0 ≡ min (value_of (take result.1 text.now)) (2 ^ 64 - 1) }
     ensures digits { result.1 ≡ prefix_len is_ascii_digit text.now }
 {

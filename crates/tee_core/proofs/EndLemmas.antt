@@ -8,8 +8,8 @@ use Rattle.ports_core.specs.Source.{Content, Source, source_at, is_readable, fai
 use Rattle.ports_core.specs.declared.fault.Fault.{Fault}
 use Rattle.ports_core.specs.declared.fault.Fault.TheVariants.{Read, Memory}
 use Rattle.ports_core.specs.declared.slot.Mode.{Mode}
-use Rattle.ports_core.proofs.InputsLemmas.{HasRead, broken_now, read_broken, read_failed, read_more, read_none_more, read_to_end, of_content}
-use Rattle.ports_core.specs.Inputs.{BreaksOnly, largest_piece, OfContent, empty}
+use Rattle.ports_core.proofs.InputsLemmas.{HasRead, came_broken, came_sound, still_readable, read_broken, read_failed, read_more, read_none_more, read_to_end, of_content}
+use Rattle.ports_core.specs.Inputs.{CameFrom, largest_piece, OfContent, empty}
 use Rattle.tee_core.specs.Run.{IsRead, LeavesOf, to_end, to_break, to_limit, to_last_output, EndsAs, copied, no_room, file_whole, file_unopened, file_cut, file_unclosed, FilesLeft, no_file, one_file, ComesIn, IsUnread, OutputLeft, output_whole, output_cut, all_copied, are_sound, broke_before, messages_of, none_left, output_names, said_before, said_in, status_of}
 use Rattle.tee_core.specs.inner.Steps.{Copies, CopiesRead, all_of, any_of, HasCopied}
 use Rattle.std.proofs.lemmas.Bool.Decides.{nat_tests}
@@ -25,22 +25,25 @@ nothing_more {x} (byte ∷ rest) is = absurd (omega (arith, length-append x (byt
 -- An input that was read up to here, and what is left of it; one that doesn't tell its bytes is one that goes no further.
 abbrev SeenTo : Bool → Content → List ℕ → Source → Type 0
 SeenTo told there x source = (content : Content) × (rest : List ℕ) × (told ≡ true → content ≡ there) × (content.bytes ≡ x ++ rest) × LeavesOf told source rest
-    × BreaksOnly told content source
+    × CameFrom told content source
 
 -- one that was read to its end
 abbrev SeenWhole : Bool → Content → List ℕ → Bool → Source → Type 0
 SeenWhole told there x breaks source = (content : Content) × (told ≡ true → content ≡ there) × (content.bytes ≡ x) × (content.breaks_off ≡ breaks) × LeavesOf told source []
-    × BreaksOnly told content source
+    × CameFrom told content source
 
 whole : (told : Bool) (there : Content) (x : List ℕ) (breaks : Bool) (source : Source) → (told ≡ true → (there.bytes ≡ x) × (there.breaks_off ≡ breaks) × (source.left.bytes ≡ []))
-    → (breaks ≡ true → source.is_broken ≡ true) → SeenWhole told there x breaks source
-whole true there x breaks source has broken = grind (arith, common_steps)
-whole false there x breaks source has broken = (record { bytes = x; breaks_off = breaks }, (λ t. absurd (false≢true t)), refl, refl, (λ t. absurd (false≢true t)), λ differs. broken)
+    → ((content : Content) → (told ≡ false → content.breaks_off ≡ breaks) → CameFrom told content source) → SeenWhole told there x breaks source
+whole true there x breaks source has came = let had = has refl in (there, (λ t. refl), had.0, had.1, (λ t. had.2), came there (λ off. absurd (false≢true (sym off))))
+whole false there x breaks source has came = (record { bytes = x; breaks_off = breaks }, (λ t. absurd (false≢true t)), refl, refl, (λ t. absurd (false≢true t)), came _ (λ off. refl))
 
 -- the read failed
 pub seen_broken : (told : Bool) (there : Content) (x : List ℕ) (size : ℕ) (sources new : List Source) → (told ≡ true → HasRead there x 0 sources) → IsTrue (is_readable sources 0)
     → (told ≡ true → BrokeOff (source_at sources 0).left) → new ≡ changed_at 0 (fails size) sources → SeenWhole told there x true (source_at new 0)
-seen_broken told there x size sources new read can broke fails = grind (arith, common_steps, whole, read_broken, nothing_more, read_failed, broken_now)
+seen_broken told there x size sources new read can broke failed = whole told there x true (source_at new 0)
+    (λ t. let all = read_broken there x 0 sources (read t) (broke t) in
+    (all.0, all.1, nothing_more _ (sym all.0 ∙ read_failed there x 0 sources new size (read t) can failed)))
+    (λ content. came_broken told 0 size sources new can failed)
 
 -- the read told the end
 pub seen_ended : (told : Bool) (there : Content) (x : List ℕ) (size : ℕ) (sources new : List Source) {buffer old_buffer : List ℕ} {n : ℕ} → (told ≡ true → HasRead there x 0 sources)
@@ -48,23 +51,23 @@ pub seen_ended : (told : Bool) (there : Content) (x : List ℕ) (size : ℕ) (so
     → new ≡ changed_at 0 (gives size n) sources → SeenWhole told there x false (source_at new 0)
 seen_ended told there x size sources new {n = n} read can gave few room is = whole told there x false (source_at new 0)
     (λ t. let at_end = (gave t).ended few room in let all = read_to_end there x 0 sources (read t) at_end.0 at_end.1 in
-    (all.1, all.0, nothing_more _ (sym all.1 ∙ read_none_more there x 0 sources new size n (read t) can few is))) (λ breaks. absurd (false≢true breaks))
+    (all.1, all.0, nothing_more _ (sym all.1 ∙ read_none_more there x 0 sources new size n (read t) can few is))) (λ content. came_sound told new 0 (still_readable 0 sources new size n is can))
 
 -- it gave a piece more
 pub seen_more : (told : Bool) (there : Content) (x : List ℕ) (size : ℕ) (sources new : List Source) {old_buffer buffer : List ℕ} {n : ℕ} → (told ≡ true → HasRead there x 0 sources)
     → IsTrue (is_readable sources 0) → (told ≡ true → Gave (source_at sources 0).left old_buffer buffer n) → new ≡ changed_at 0 (gives size n) sources
     → SeenTo told there (x ++ take n buffer) (source_at new 0)
 seen_more told there x size sources new {old_buffer} {buffer} {n} read can gave is =
-    by told (λ t. (read_more there x 0 sources new old_buffer buffer size n (read t) can (gave t) is).bytes) where
-      by : (told : Bool) → (told ≡ true → there.bytes ≡ (x ++ take n buffer) ++ (source_at new 0).left.bytes) → SeenTo told there (x ++ take n buffer) (source_at new 0)
-      by true has = (there, (source_at new 0).left.bytes, (λ t. refl), has refl, (λ t. refl), λ differs. absurd (false≢true (sym differs)))
-      by false has = (
+    by told (λ t. (read_more there x 0 sources new old_buffer buffer size n (read t) can (gave t) is).bytes) (λ content. came_sound told new 0 (still_readable 0 sources new size n is can)) where
+      by : (told : Bool) → (told ≡ true → there.bytes ≡ (x ++ take n buffer) ++ (source_at new 0).left.bytes) → ((content : Content) → (told ≡ false → content.breaks_off ≡ false) → CameFrom told content (source_at new 0)) → SeenTo told there (x ++ take n buffer) (source_at new 0)
+      by true has came = (there, (source_at new 0).left.bytes, (λ t. refl), has refl, (λ t. refl), came there (λ off. absurd (false≢true (sym off))))
+      by false has came = (
         record { bytes = x ++ take n buffer; breaks_off = false },
         [],
         (λ t. absurd (false≢true t)),
         sym (append-nil (x ++ take n buffer)),
         (λ t. absurd (false≢true t)),
-        λ differs breaks. absurd (false≢true breaks),
+        came _ (λ off. refl),
       )
 
 pub counted_more : (x buffer : List ℕ) {fed : ℕ} (n : ℕ) {sum : ℕ} → fed ≡ length x → n ≤ length buffer → sum ≡ fed + n → sum ≡ length (x ++ take n buffer)
@@ -82,8 +85,8 @@ pub more_sized : (pieces : List (List ℕ)) (buffer : List ℕ) {n : ℕ} → Ar
 more_sized pieces buffer {n} sized some within most = grind (arith, common_steps)
 
 pub reads_copied : {told_in : Bool} (told : Bool) {mode : Mode} {names : List (List ℕ)} {content : Content} {source : Source} {slots : List Slot} {known : List Bool} {fault : Option Fault} {came : List ℕ} {pieces : List (List ℕ)} {is_vain : Bool} → came ≡ concat pieces → all_of known ≡ is_vain → AreSized pieces → length came < 2 ^ 63
-    → (fault ≡ Some (Read 0)) ⊎ (source.is_broken ≡ false) → IsRead content (LeavesOf told_in source) is_vain came fault → Copies told mode names pieces [] slots known → CopiesRead told_in told mode names content source slots known fault
-reads_copied {told_in} told {content} {source} {known} {fault} {came} {pieces} joined vain sized few met read copies = grind (arith, common_steps)
+    → (fault ≡ Some (Read 0)) ⊎ (source.is_broken ≡ false) → (fault ≡ None → is_vain ≡ false → source.ended ≡ true) → IsRead content (LeavesOf told_in source) is_vain came fault → Copies told mode names pieces [] slots known → CopiesRead told_in told mode names content source slots known fault
+reads_copied {told_in} told {content} {source} {known} {fault} {came} {pieces} joined vain sized few met ended read copies = grind (arith, common_steps)
 
 -- the status
 
@@ -113,13 +116,13 @@ ends_nowhere told {mid} {new} is at unread says =
     no_room said.0 (said.0, said.1, refl) unread said.2 refl
 
 pub ends_at_once : {told_in : Bool} (told : Bool) {mode : Mode} {names : List (List ℕ)} {old new_sources : List Source} {first mid new : List Slot} {fault : Fault} → fault ≡ Memory → IsFresh old → first ≡ streams → mid ≡ first → new_sources ≡ old → SaysOn told Tee (message_of Tee fault (output_named mid fault)) mid new
-    → OfContent told_in (source_at old 0).left (λ content. EndsAs told_in told mode names content (source_at new_sources 0) new 1 × BreaksOnly told_in content (source_at new_sources 0))
+    → OfContent told_in (source_at old 0).left (λ content. EndsAs told_in told mode names content (source_at new_sources 0) new 1 × CameFrom told_in content (source_at new_sources 0))
 ends_at_once {told_in} told {mode} {names} {old} {new_sources} {new} is fresh at same sources says =
     let unread = ap (λ those. source_at those 0) (sources ∙ fresh.only) in
     of_content told_in (source_at old 0).left empty (source_at new_sources 0) (λ content. EndsAs told_in told mode names content (source_at new_sources 0) new 1)
     (λ _. ends_nowhere told is (same ∙ at) (fresh.standard, unread, λ _. sym (ap (λ those. (source_at those 0).left) fresh.only)) says)
     (λ untold. ends_nowhere told is (same ∙ at) (fresh.standard, unread, λ tells. absurd (false≢true (sym untold ∙ tells))) says)
-    (λ breaks. absurd (false≢true breaks))
+    (ap (λ (source : Source). source.is_open) unread) (sym (ap (λ (source : Source). source.is_broken) unread))
 
 -- nothing broke
 
@@ -172,5 +175,5 @@ whole_if told {mode} {names} zero_is (copied pieces fault first broke output err
       quiet (Some fault) pieces broke ended sound = absurd (false≢true ended)
 
 pub whole_of : {told_in : Bool} (told : Bool) {mode : Mode} {names : List (List ℕ)} (there : Content) {source : Source} {new : List Slot} {status : ℕ} → told_in ≡ true → status ≡ 0
-    → OfContent told_in there (λ content. EndsAs told_in told mode names content source new status × BreaksOnly told_in content source) → new ≡ all_copied told mode names there.bytes
+    → OfContent told_in there (λ content. EndsAs told_in told mode names content source new status × CameFrom told_in content source) → new ≡ all_copied told mode names there.bytes
 whole_of told {mode} {names} there tells zero_is (content, is, holds) = cc (whole_if told zero_is holds.0, is tells)

@@ -90,13 +90,14 @@ abbrev pub IsUnread : Bool → Content → Source → Type 0
 IsUnread told content source = (there : Content) × (source ≡ source_of there) × (told ≡ true → there ≡ content)
 
 -- An input came in these pieces, each of a size that one read gives, and together no more bytes than any tool takes. A
--- read failed only where that is the fault that is told.
+-- read failed only where that is the fault that is told. Where the reading ended with the input, a read told the end.
 pub record ComesIn (told : Bool) (content : Content) (source : Source) (is_vain : Bool) (pieces : List (List ℕ))
     (fault : Option Fault) : Type 0 where
   pub read : IsRead content (LeavesOf told source) is_vain (concat pieces) fault
   pub sizes : All (λ piece. (0 < length piece) × (length piece ≤ largest_piece)) pieces
   pub few : length (concat pieces) < 2 ^ 63
   pub met : (fault ≡ Some (Read 0)) ⊎ (source.is_broken ≡ false)
+  pub ended : fault ≡ None → is_vain ≡ false → source.ended ≡ true
 
 -- Standard output: it has all that was copied; or it broke in a piece, and has a beginning.
 pub data OutputLeft (told : Bool) (pieces : List (List ℕ)) : Option ℕ → Slot → Type 0 where

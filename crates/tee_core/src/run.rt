@@ -6,7 +6,7 @@ ghost use Rattle.ports_core.specs.Slot.{Slot, is_open, slot_at, streams};
 ghost use Rattle.ports_core.specs.Text.{message_of};
 ghost use Rattle.ports_core.specs.Message.{SaysOn};
 ghost use Rattle.ports_core.specs.Source.{source_at, is_readable, IsFresh};
-ghost use Rattle.ports_core.specs.Inputs.{BreaksOnly, KeepsOthers, OfContent, AsksAtMost, largest_piece};
+ghost use Rattle.ports_core.specs.Inputs.{CameFrom, KeepsOthers, OfContent, AsksAtMost, largest_piece};
 ghost use Rattle.tee_core.specs.Opening.{Opens};
 ghost use Rattle.tee_core.specs.Run.{EndsAs, all_copied, output_names, said_of_input};
 ghost use Rattle.tee_core.specs.inner.Steps.{HasCopied, Copies, CopiesRead, HasStreams, IsTeeOf, SaysTo, all_of, any_of, broken_of, output_slot, said_since};
@@ -36,7 +36,7 @@ pub fn run_tee<I: Inputs, O: Outs>(
     requires fresh { IsFresh (I.sources inputs.old) }
     requires outputs { O.slots outs.old ≡ streams }
     ensures ends { OfContent I.told (source_at (I.sources inputs.old) 0).left (λ content. EndsAs I.told O.told mode (map (λ name. name.now) names.now) content (source_at (I.sources inputs.new) 0) (O.slots outs.new) result
-        × BreaksOnly I.told content (source_at (I.sources inputs.new) 0)) }
+        × CameFrom I.told content (source_at (I.sources inputs.new) 0)) }
     ensures whole { I.told ≡ true → result ≡ 0 → O.slots outs.new ≡ all_copied O.told mode (map (λ name. name.now) names.now) (source_at (I.sources inputs.old) 0).left.bytes }
     ensures others { KeepsOthers 0 (I.sources inputs.old) (I.sources inputs.new) }
     ensures asked { AsksAtMost largest_piece (I.sources inputs.new) }
@@ -65,7 +65,7 @@ fn copy_input<I: Inputs, O: Outs>(
     requires fresh { IsFresh (I.sources inputs.old) }
     requires outputs { O.slots outs.old ≡ streams }
     ensures copied { IfOk result (λ failed. OfContent I.told (source_at (I.sources inputs.old) 0).left (λ content. EndsAs I.told O.told mode (map (λ name. name.now) names.now) content (source_at (I.sources inputs.new) 0) (O.slots outs.new) (if failed then 1 else 0)
-        × BreaksOnly I.told content (source_at (I.sources inputs.new) 0))) }
+        × CameFrom I.told content (source_at (I.sources inputs.new) 0))) }
     ensures looked { OnOk result (0 < (source_at (I.sources inputs.new) 0).asked) }
     ensures err { IfErr result (λ fault. (fault ≡ Fault.Memory) × (O.slots outs.new ≡ O.slots outs.old) × (I.sources inputs.new ≡ I.sources inputs.old)) }
     ensures others { KeepsOthers 0 (I.sources inputs.old) (I.sources inputs.new) }
@@ -97,7 +97,7 @@ fn copy_all<I: Inputs, O: Outs>(
     requires unknown { known.old ≡ replicate (length names.now + 1) false }
     ensures copied { (mode : Mode) → Opens mode (map (λ name. name.now) names.now) streams (O.slots outs.old)
         → OfContent I.told (source_at (I.sources inputs.old) 0).left (λ content. EndsAs I.told O.told mode (map (λ name. name.now) names.now) content (source_at (I.sources inputs.new) 0) (O.slots outs.new) (if result then 1 else 0)
-        × BreaksOnly I.told content (source_at (I.sources inputs.new) 0)) }
+        × CameFrom I.told content (source_at (I.sources inputs.new) 0)) }
     ensures looked { 0 < (source_at (I.sources inputs.new) 0).asked }
     ensures others { KeepsOthers 0 (I.sources inputs.old) (I.sources inputs.new) }
     ensures asked { AsksAtMost largest_piece (I.sources inputs.new) }
@@ -138,7 +138,7 @@ fn copy_pieces<I: Inputs, O: Outs>(
     ensures same { tee.new ≡ tee.old }
     ensures copies { (mode : Mode) → Copies O.told mode (map (λ name. name.now) names.now) [] [] (O.slots outs.old) known.old
         → OfContent I.told (source_at (I.sources inputs.old) 0).left (λ content. CopiesRead I.told O.told mode (map (λ name. name.now) names.now) content (source_at (I.sources inputs.new) 0) (O.slots outs.new) known.new result
-        × BreaksOnly I.told content (source_at (I.sources inputs.new) 0)) }
+        × CameFrom I.told content (source_at (I.sources inputs.new) 0)) }
     ensures others { KeepsOthers 0 (I.sources inputs.old) (I.sources inputs.new) }
     ensures asked { (source_at (I.sources inputs.old) 0).asked ≤ length buffer.old → (source_at (I.sources inputs.new) 0).asked ≤ length buffer.old }
     ensures looked { 0 < (source_at (I.sources inputs.new) 0).asked }

@@ -1,14 +1,15 @@
 -- What a run leaves that a fault stopped is a beginning of what one leaves that none stopped; and what a run of `tee` tells of its
 -- outputs, and what these have.
 use Rattle.std.proofs.lemmas.Grind.{common_steps}
-use Rattle.std.proofs.Common.{◌≡◌, ℕ, ◌≤◌, ◌<◌, zero, suc, Bool, true, false, List, [], ◌∷◌, ◌++◌, length, map, Option, Some, inl, inr, ◌⊎◌, refl, sym, ◌∙◌, ap, arith, append-nil, length-append, rules, cond, take, None, subst, append_assoc, codes}
-use Rattle.std.proofs.lemmas.Bool.{cases_eq, false≢true, cases_lt, eq-eqb}
+use Rattle.std.proofs.Common.{◌≡◌, ℕ, ◌≤◌, ◌<◌, zero, suc, Bool, true, false, List, [], ◌∷◌, ◌++◌, length, map, Option, Some, inl, inr, ◌⊎◌, refl, sym, ◌∙◌, ap, arith, append-nil, rules, cond, take, None, subst, append_assoc, codes, All, not, ◌&&◌}
+use Rattle.std.proofs.lemmas.Bool.{cases_eq, false≢true, cases_lt, cond_both, eq-eqb, eqb-true}
+use Rattle.std.proofs.Math.Bool.{and_assoc, or-true}
 use Rattle.std.proofs.lemmas.List.{length-map}
 use Rattle.std.proofs.lemmas.List.FromFn.{length-map-range_with_len}
 use Rattle.ports_core.specs.Slot.{Slot, breaks, changed_at, slot_at, unopened, adds}
 use Rattle.ports_core.specs.Source.{Content, Source}
 use Rattle.ports_core.specs.Streams.{streams_with, standard_error, standard_output}
-use Rattle.ports_core.specs.Part.{Begins, File, FilesBegin, Marks, Output, OutputsAt, Part, StoppedBetween, nothing, only_out, IsBeginning, file_of}
+use Rattle.ports_core.specs.Part.{Begins, File, FilesBegin, Marks, Output, OutputsAt, Part, StoppedBetween, only_out, IsBeginning, file_of}
 use Rattle.ports_core.specs.Swept.{Swept}
 use Rattle.ports_core.specs.Work.{IsLawful, Needs, Work}
 use Rattle.ports_core.specs.Inputs.{largest_piece}
@@ -23,19 +24,19 @@ use Rattle.split_core.specs.declared.limit.Limit.TheVariants as limit
 use Rattle.split_core.specs.Split.{are_named, split_work, whole_by}
 use Rattle.split_core.specs.Round.{round_plan}
 use Rattle.split_core.specs.laws.DealLaws.{dealt_files_are}
+use Rattle.split_core.proofs.CutLaws.{opened_by-most}
+use Rattle.words_core.specs.SplitWords.{AreNamed}
 use Rattle.split_core.specs.laws.WorkLaws.{parts_lawful, round_lawful}
 use Rattle.split_core.proofs.AgreedLemmas.{plan_by}
-use Rattle.split_core.proofs.CutLaws.{opened_by-most}
-use Rattle.run_core.specs.Feeding.{HasAll, IsCall, Step, enough, to_end, opens, feeds, closes}
+use Rattle.run_core.specs.Feeding.{HasAll, IsCall, Step, enough, is_enough, made_of, to_end, opens, feeds, closes}
 use Rattle.run_core.specs.Input.{Input}
-use Rattle.run_core.specs.RunEnds.{EndsAs, RunStep, as_defined, calling, heading, no_room, stopped}
-use Rattle.run_core.specs.Task.{Task, after_part, header_text, made_by}
-use Rattle.run_core.proofs.StopLemmas.{begins_after, nothing_after}
-use Rattle.words_core.specs.SplitWords.{AreNamed}
-use Rattle.tools_core.specs.Promises.{BeginsAs, IsCalled, SaysLines, failing}
-use Rattle.tools_core.proofs.LeftLemmas.{Kept, slots_at, swept_kept, outputs_of, slot_of, slots_of, copy, tee_made, AreMessages, HasLine, IsMessage, SaysLine, a_message, has_after, has_before, says_line}
+use Rattle.run_core.specs.RunEnds.{EndsAs, RunStep, as_defined, calling, heading, no_room, stopped, unheaded, unopened as unopened_step}
+use Rattle.run_core.specs.Task.{Task, after_part, are_missing, header_text, is_missing, made_by, of_content, of_input, of_inputs}
+use Rattle.run_core.proofs.StopLemmas.{after_assoc, begins_after, nothing_after}
+use Rattle.tools_core.specs.Promises.{BeginsAs, BrokeAt, IsCalled, Run, SaysLines, StopsRun, TellsMet, failing}
+use Rattle.tools_core.proofs.LeftLemmas.{Kept, slots_at, swept_kept, outputs_of, slot_of, slots_of, copy, tee_made, HasLine, has_after, has_before, one_line}
 use Rattle.std.specs.List.{concat}
-use Rattle.std.proofs.lemmas.List.Elements.{All-append, All-cons}
+use Rattle.std.proofs.lemmas.List.Elements.{All-append, All-cons, All-nil}
 use Rattle.std.proofs.lemmas.List.Folds.{concat-append}
 use Rattle.ports_core.specs.Message.{SaysAll}
 use Rattle.ports_core.specs.Text.{message_of}
@@ -44,6 +45,10 @@ use Rattle.ports_core.specs.declared.tool.Tool.TheVariants as tool
 use Rattle.tee_core.specs.Run as tee
 use Rattle.tee_core.specs.Run.{FileLeft, FilesLeft, IsRead, OutputLeft, are_sound, fault_in, messages_of, output_names, said_before, said_in, said_of_input}
 use Rattle.words_core.specs.TeeAsked.{TeeAsked}
+use Rattle.words_core.specs.declared.settings.Settings.{Settings}
+use Rattle.words_core.specs.declared.settings.Settings.TheVariants.{Tee}
+use Rattle.ports_core.specs.declared.slot.State.{State}
+use Rattle.ports_core.specs.declared.slot.State.TheVariants as state
 
 -- nothing is a beginning of anything
 pub empty_begins : {output other : Slot} → output.written ≡ [] → BeginsAs output other
@@ -130,59 +135,81 @@ ending bytes = record { bytes = bytes; breaks_off = false }
 abbrev pub part_of : Task → List ℕ → List ℕ → Part
 part_of task name bytes = after_part (only_out (header_text task.with_header true name)) (task.work.whole bytes)
 
-pub made_one : (task : Task) (input : Input) {bytes : List ℕ} → input.content ≡ Some (ending bytes) → (made_by task (input ∷ [])).part ≡ part_of task input.name bytes
-made_one task input is = cc (is, nothing_after)
+-- What a step has written is a beginning of what is made of its input.
 
--- What a step has written is a beginning of the whole.
+pub record IsGrowing (work : Work) (content : Content) : Type 0 where
+  pub settled : (x rest : List ℕ) → content.bytes ≡ x ++ rest → Begins (work.settled x) (made_of work content)
+  pub closed : (x : List ℕ) → HasAll work content x → Begins (work.whole x) (made_of work content)
 
-pub record IsGrowing (work : Work) (bytes : List ℕ) : Type 0 where
-  pub settled : (x rest : List ℕ) → bytes ≡ x ++ rest → Begins (work.settled x) (work.whole bytes)
-  pub closed : (x : List ℕ) → HasAll work (ending bytes) x → Begins (work.whole x) (work.whole bytes)
-
-call_begins : {work : Work} {opening : Needs} {bytes : List ℕ} {call : Step} → IsGrowing work bytes → IsCall work opening largest_piece (ending bytes) call → Begins call.high (work.whole bytes)
-call_begins {bytes} grows opens = grows.settled [] bytes refl
+call_begins : {work : Work} {opening : Needs} {content : Content} {call : Step} → IsGrowing work content → IsCall work opening largest_piece content call → Begins call.high (made_of work content)
+call_begins {content = content} grows opens = grows.settled [] content.bytes refl
 call_begins grows (feeds x piece rest is few going) = search rules
 call_begins grows (closes x has needed) = grows.closed x has
 
-step_begins : {task : Task} (name : List ℕ) {bytes : List ℕ} {slot : Option ℕ} {sources : List Source} {step : Step} → IsGrowing task.work bytes
-    → RunStep true task largest_piece nothing (header_text task.with_header true name) slot sources (Some (ending bytes)) step → Begins step.high (part_of task name bytes)
-step_begins name grows (heading content headed leaves) = grind (arith, common_steps)
-step_begins {task} name grows (calling content call is leaves) =
-    begins_after (only_out (header_text task.with_header true name)) (call_begins grows is)
-step_begins name grows at = nothing_begins_part _
+-- what comes before a part begins both
+begins_more : (first next : Part) → Begins first (after_part first next)
+begins_more first next = rw nothing_after at (begins_after first (nothing_begins_part next))
 
--- A run over one input
+begins_longer : (part longer next : Part) → Begins part longer → Begins part (after_part longer next)
+begins_longer part longer next begins = part_trans part longer (after_part longer next) begins (begins_more longer next)
 
-abbrev first_or : Input → List Input → Input
-first_or default [] = default
-first_or default (one ∷ more) = one
+step_begins : {task : Task} (is_first : Bool) (name : List ℕ) {so_far : Part} {there : Option Content} {slot : Option ℕ} {sources : List Source} {step : Step} → ((content : Content) → IsGrowing task.work content)
+    → RunStep true task largest_piece so_far (header_text task.with_header is_first name) slot sources there step → Begins step.high (after_part so_far (of_content task is_first name there).part)
+step_begins {task} is_first name {so_far} grows (unopened_step content place at past) = begins_more so_far (of_content task is_first name content).part
+step_begins {task} is_first name {so_far} grows (unheaded content headed leaves) = begins_more so_far (of_content task is_first name (Some content)).part
+step_begins {task} is_first name {so_far} grows (heading content headed leaves) = begins_after so_far (begins_more (only_out (header_text task.with_header is_first name)) (made_of task.work content))
+step_begins {task} is_first name {so_far} grows (calling content call is leaves) =
+    let header = only_out (header_text task.with_header is_first name) in
+    rw (after_assoc so_far header call.high) (begins_after so_far (begins_after header (call_begins (grows content) is)))
 
-pub begins_whole : {task : Task} {input : Input} {bytes : List ℕ} {sources : List Source} {new : List Slot} {status : ℕ} {place : ℕ} → input.content ≡ Some (ending bytes) → IsGrowing task.work bytes → (place ≡ 1 → ⊥)
-    → EndsAs true true task (input ∷ []) sources new status → BeginsAs (slot_at new place) (slot_at (slots_of (made_by task (input ∷ [])).part) place)
-begins_whole {new} is grows differs (as_defined error reached says outputs swept done status_is) = left_begins _ new (part_begins_itself _) differs outputs swept
-begins_whole {task} {input} {new} is grows differs (stopped fault [] other after error step reached are done untouched at stops between swept says status_is) =
-    let same : other ≡ input = sym (ap (first_or other) are) in
-    let at_input = rw same at at in
-    let at_bytes = rw is at at_input in
-    stopped_begins task.work.clears new (rw (made_one task input is) (step_begins input.name grows at_bytes)) differs between swept
-begins_whole is grows differs (stopped fault (first ∷ before) other after error step reached are done untouched at stops between swept says status_is) = absurd
-    (let size : 1 ≡ suc (length (before ++ other ∷ after)) = ap length are in let more = length-append before (other ∷ after) in omega (arith, size, more))
-begins_whole {place} is grows differs (no_room error says slots untouched count status_is) = still_begins place slots (bare_begins error place differs)
+-- What is made of inputs is what is made of the first of them, of one, and of those after it.
+
+made_after : (task : Task) (is_first : Bool) (before : List Input) (input : Input) (after : List Input) → (of_inputs task is_first (before ++ input ∷ after)).part
+    ≡ after_part (of_inputs task is_first before).part (after_part (of_content task (is_first && are_missing before) input.name input.content).part (of_inputs task (is_first && are_missing before && is_missing input.content) after).part)
+made_after task is_first [] input after = grind (arith, common_steps)
+made_after task is_first (first ∷ before) input after =
+    let now = is_first && is_missing first.content in
+    let here = (of_input task is_first first).part in
+    let front = (of_inputs task now before).part in
+    let back = λ (b : Bool). after_part (of_content task b input.name input.content).part (of_inputs task (b && is_missing input.content) after).part in
+    ap (after_part here) (made_after task now before input after) ∙ sym (after_assoc here front (back (now && are_missing before)))
+    ∙ ap (λ (b : Bool). after_part (after_part here front) (back b)) (and_assoc is_first (is_missing first.content) (are_missing before))
+
+step_in_all : {task : Task} {inputs : List Input} (before : List Input) (input : Input) (after : List Input) {sources : List Source} {step : Step} → ((content : Content) → IsGrowing task.work content) → inputs ≡ before ++ input ∷ after
+    → RunStep true task largest_piece (made_by task before).part (header_text task.with_header (are_missing before) input.name) input.slot sources input.content step → Begins step.high (made_by task inputs).part
+step_in_all {task} before input after {step = step} grows are at =
+    let so_far = (made_by task before).part in
+    let here = (of_content task (are_missing before) input.name input.content).part in
+    let rest = (of_inputs task (are_missing before && is_missing input.content) after).part in
+    rw (are, made_after task true before input after, sym (after_assoc so_far here rest))
+    (begins_longer step.high (after_part so_far here) rest (step_begins (are_missing before) input.name grows at))
+
+-- A run over any inputs
+
+pub begins_whole : {task : Task} {inputs : List Input} {sources : List Source} {new : List Slot} {status : ℕ} {place : ℕ} → ((content : Content) → IsGrowing task.work content) → (place ≡ 1 → ⊥)
+    → EndsAs true true task inputs sources new status → BeginsAs (slot_at new place) (slot_at (slots_of (made_by task inputs).part) place)
+begins_whole {new} grows differs (as_defined error reached says outputs swept done status_is) = left_begins _ new (part_begins_itself _) differs outputs swept
+begins_whole {task} {new} grows differs (stopped fault before input after error step reached are done untouched at stops between swept says status_is) =
+    stopped_begins task.work.clears new (step_in_all before input after grows are at) differs between swept
+begins_whole {place} grows differs (no_room error says slots untouched count status_is) = still_begins place slots (bare_begins error place differs)
 
 -- Works grow.
 
-closed_whole : {work : Work} {bytes : List ℕ} → IsLawful work → (x : List ℕ) → HasAll work (ending bytes) x → Begins (work.whole x) (work.whole bytes)
-closed_whole {work} {bytes} law x (to_end ends is) = rw (← is) (part_begins_itself (work.whole bytes))
-closed_whole {work} {bytes} law x (enough rest is complete) =
-    let same : work.whole x ≡ work.whole bytes = ap work.whole (sym (append-nil x)) ∙ (law.stays x [] complete).whole_stays ∙ sym (law.stays x rest complete).whole_stays ∙ ap work.whole (sym is) in
-    rw same (part_begins_itself (work.whole bytes))
+closed_made : {work : Work} (content : Content) → IsLawful work → (x : List ℕ) → HasAll work content x → Begins (work.whole x) (made_of work content)
+closed_made {work} content law x (to_end ends is) = rw (ends, is) (part_begins_itself (work.whole x))
+closed_made {work} content law x (enough rest is complete) =
+    let here = law.stays x [] complete in
+    let there = law.stays x rest complete in
+    let same : work.whole x ≡ work.whole (x ++ rest) = ap work.whole (sym (append-nil x)) ∙ here.whole_stays ∙ sym there.whole_stays in
+    rw (is, there.still, or-true (not content.breaks_off), same) (part_begins_itself (work.whole (x ++ rest)))
 
-settled_whole : {work : Work} {bytes : List ℕ} → IsLawful work → (x rest : List ℕ) → bytes ≡ x ++ rest → Begins (work.settled x) (work.whole bytes)
-settled_whole {work} law x rest is =
-    rw is (part_trans (work.settled x) (work.settled (x ++ rest)) (work.whole (x ++ rest)) (law.grows x rest) (law.ends (x ++ rest)))
+settled_made : (work : Work) (content : Content) → ((x y : List ℕ) → Begins (work.settled x) (work.settled (x ++ y))) → ((x : List ℕ) → Begins (work.settled x) (work.whole x)) → (x rest : List ℕ) → content.bytes ≡ x ++ rest → Begins (work.settled x) (made_of work content)
+settled_made work content grows ends x rest is = cond_both (is_enough work content) (work.whole content.bytes) (work.settled content.bytes) (Begins (work.settled x))
+    (λ enough. rw is (part_trans (work.settled x) (work.settled (x ++ rest)) (work.whole (x ++ rest)) (grows x rest) (ends (x ++ rest))))
+    (λ short. rw is (grows x rest))
 
-pub lawful_grows : {work : Work} {bytes : List ℕ} → IsLawful work → IsGrowing work bytes
-lawful_grows law = record { settled = settled_whole law; closed = closed_whole law }
+pub lawful_grows : {work : Work} → IsLawful work → (content : Content) → IsGrowing work content
+lawful_grows {work} law content = record { settled = settled_made work content law.grows law.ends; closed = closed_made content law }
 
 -- where lines are dealt, and all files have names
 
@@ -190,44 +217,63 @@ named_up_to : (names : Naming) (count : ℕ) {n : ℕ} → count ≤ n → n ≤
 named_up_to names zero few all = refl
 named_up_to names (suc last) few all = grind (arith, common_steps)
 
-dealt_closed : (delim : ℕ) {n : ℕ} (elide : Bool) (names : Naming) {bytes : List ℕ} → n ≤ name_count names.alphabet names.width
-    → (x : List ℕ) → HasAll (split_work (round_plan delim n elide names)) (ending bytes) x → Begins (whole_by (round_plan delim n elide names) x) (whole_by (round_plan delim n elide names) bytes)
-dealt_closed delim elide names all x (to_end ends is) = rw (← is) (part_begins_itself _)
-dealt_closed delim {n} elide names all x (enough rest is complete) = grind (arith, common_steps, length-map, dealt_files_are, length-map-range_with_len, named_up_to, opened_by-most, false≢true)
+never_complete : (delim : ℕ) {n : ℕ} (elide : Bool) (names : Naming) (x : List ℕ) → n ≤ name_count names.alphabet names.width → (split_work (round_plan delim n elide names)).is_complete x ≡ true → ⊥
+never_complete delim {n} elide names x all complete = grind (arith, common_steps, length-map, dealt_files_are, length-map-range_with_len, named_up_to, opened_by-most, false≢true)
 
-pub split_grows : (delim : ℕ) (cut : Cut) (elide : Bool) (names : Naming) {bytes : List ℕ} → AreNamed cut names.alphabet names.width → IsGrowing (split_work (plan_by delim cut elide names)) bytes
+dealt_closed : (delim : ℕ) {n : ℕ} (elide : Bool) (names : Naming) (content : Content) → n ≤ name_count names.alphabet names.width
+    → (x : List ℕ) → HasAll (split_work (round_plan delim n elide names)) content x → Begins (whole_by (round_plan delim n elide names) x) (made_of (split_work (round_plan delim n elide names)) content)
+dealt_closed delim elide names content all x (to_end ends is) = rw (ends, is) (part_begins_itself _)
+dealt_closed delim {n} elide names content all x (enough rest is complete) = absurd (never_complete delim elide names x all complete)
+
+pub split_grows : (delim : ℕ) (cut : Cut) (elide : Bool) (names : Naming) → AreNamed cut names.alphabet names.width → (content : Content) → IsGrowing (split_work (plan_by delim cut elide names)) content
 split_grows delim (Lines n) elide names all = lawful_grows (parts_lawful (limit.Lines n delim) names)
 split_grows delim (Bytes n) elide names all = lawful_grows (parts_lawful (limit.Bytes n) names)
 split_grows delim (LineBytes n) elide names all = lawful_grows (parts_lawful (limit.LineBytes n delim) names)
-split_grows delim (Round n) elide names all = record { settled = settled_whole (round_lawful delim n elide names); closed = dealt_closed delim elide names all }
+split_grows delim (Round n) elide names all = λ content.
+    let law = round_lawful delim n elide names in record { settled = settled_made (split_work (round_plan delim n elide names)) content law.grows law.ends; closed = dealt_closed delim elide names content all }
 
--- Each line tells a fault.
+-- Each line is such a line, where those are that tell of outputs that broke, each in its call, and of the input.
 
-call_are : (is : Bool) (call : ℕ) (name : List ℕ) (lines : List (List ℕ)) → AreMessages tool.Tee lines → AreMessages tool.Tee (cond is (message_of tool.Tee (fault_in call) name ∷ lines) lines)
-call_are true call name lines are = All-cons (IsMessage tool.Tee) _ lines (fault_in call, name, refl) are
-call_are false call name lines are = are
+abbrev TellsOutput : (List ℕ → Type 0) → List ℕ → Option ℕ → Type 0
+TellsOutput Line name when = (call : ℕ) → when ≡ Some call → Line (message_of tool.Tee (fault_in call) name)
 
-in_call_are : (call : ℕ) (names : List (List ℕ)) (broke : List (Option ℕ)) → AreMessages tool.Tee (said_in call names broke)
-in_call_are call (name ∷ names) (first ∷ broke) = call_are (tee.broke_in call first) call name (said_in call names broke) (in_call_are call names broke)
-in_call_are call names broke = search rules
+abbrev TellsOutputs : (List ℕ → Type 0) → List (List ℕ) → List (Option ℕ) → Type 0
+TellsOutputs Line (name ∷ names) (when ∷ broke) = TellsOutput Line name when × TellsOutputs Line names broke
+TellsOutputs Line names broke = Unit {0}
 
-before_are : (call : ℕ) (names : List (List ℕ)) (broke : List (Option ℕ)) → AreMessages tool.Tee (said_before call names broke)
-before_are zero names broke = search rules
-before_are (suc call) names broke = All-append (IsMessage tool.Tee) _ _ (before_are call names broke) (in_call_are call names broke)
+abbrev pub TellsOfInput : (List ℕ → Type 0) → Option Fault → Type 0
+TellsOfInput Line None = Unit {0}
+TellsOfInput Line (Some fault) = Line (message_of tool.Tee fault (codes "standard input"))
 
-input_are : (fault : Option Fault) → AreMessages tool.Tee (said_of_input fault)
-input_are None = search rules
-input_are (Some fault) = a_message fault (codes "standard input")
+call_are : (Line : List ℕ → Type 0) (call : ℕ) (name : List ℕ) (when : Option ℕ) (lines : List (List ℕ)) → TellsOutput Line name when → All Line lines → All Line (cond (tee.broke_in call when) (message_of tool.Tee (fault_in call) name ∷ lines) lines)
+call_are Line call name None lines tells are = are
+call_are Line call name (Some other) lines tells are =
+    cond_both (tee.broke_in call (Some other)) (message_of tool.Tee (fault_in call) name ∷ lines) lines (All Line) (λ is. All-cons Line _ lines (tells call (ap Some (eqb-true other call is))) are) (λ differs. are)
 
-pub tee_lines : (names : List (List ℕ)) (broke : List (Option ℕ)) (pieces : ℕ) (fault : Option Fault) {error : Slot} → SaysAll true tool.Tee (messages_of names broke pieces fault) standard_error error → SaysLines tool.Tee (messages_of names broke pieces fault) error
-tee_lines names broke pieces fault says = search (rules, All-append, IsMessage, before_are, input_are, in_call_are)
+in_call_are : (Line : List ℕ → Type 0) (call : ℕ) (names : List (List ℕ)) (broke : List (Option ℕ)) → TellsOutputs Line names broke → All Line (said_in call names broke)
+in_call_are Line call (name ∷ names) (when ∷ broke) tells = call_are Line call name when (said_in call names broke) tells.0 (in_call_are Line call names broke tells.1)
+in_call_are Line call [] broke tells = All-nil Line
+in_call_are Line call (name ∷ names) [] tells = All-nil Line
+
+before_are : (Line : List ℕ → Type 0) (call : ℕ) (names : List (List ℕ)) (broke : List (Option ℕ)) → TellsOutputs Line names broke → All Line (said_before call names broke)
+before_are Line zero names broke tells = All-nil Line
+before_are Line (suc call) names broke tells = All-append Line _ _ (before_are Line call names broke tells) (in_call_are Line call names broke tells)
+
+input_are : (Line : List ℕ → Type 0) (fault : Option Fault) → TellsOfInput Line fault → All Line (said_of_input fault)
+input_are Line None tells = All-nil Line
+input_are Line (Some fault) tells = one_line Line _ tells
+
+lines_are : (Line : List ℕ → Type 0) (names : List (List ℕ)) (broke : List (Option ℕ)) (pieces : ℕ) (fault : Option Fault) → TellsOutputs Line (output_names names) broke → TellsOfInput Line fault → All Line (messages_of names broke pieces fault)
+lines_are Line names broke pieces fault tells of_input =
+    All-append Line _ _ (All-append Line _ _ (before_are Line (suc pieces) (output_names names) broke tells) (input_are Line fault of_input))
+    (in_call_are Line (suc pieces) (output_names names) broke tells)
 
 -- An output that broke has its line, after the call in which it did.
 
 -- in which call it broke, if it did
 abbrev Broke : ℕ → List ℕ → Slot → Option ℕ → Type 0
 Broke last name output None = output.is_broken ≡ false
-Broke last name output (Some call) = (call ≤ last) × IsCalled output name × ((place : ℕ) → message_of tool.Tee (fault_in call) name ≡ message_of tool.Tee (failing place output.state) name)
+Broke last name output (Some call) = (call ≤ last) × IsCalled output name × ((place : ℕ) → message_of tool.Tee (fault_in call) name ≡ message_of tool.Tee (failing place output.state) name) × (output.is_broken ≡ true)
 
 output_broke : {pieces : List (List ℕ)} {name : List ℕ} {when : Option ℕ} {output : Slot} → name ≡ standard_output.name → OutputLeft true pieces when output → Broke (suc (length pieces)) name output when
 output_broke named tee.output_whole = refl
@@ -249,7 +295,7 @@ record HasSaid (names : List (List ℕ)) (broke : List (Option ℕ)) (last : ℕ
 
 said_here : {name : List ℕ} {names : List (List ℕ)} {broke : List (Option ℕ)} {last place : ℕ} {output : Slot} (when : Option ℕ) → Broke last name output when → output.is_broken ≡ true → HasSaid (name ∷ names) (when ∷ broke) last output place
 said_here None sound broken = grind (arith, common_steps)
-said_here {name} {names} {broke} {place} (Some call) (within, called, same) broken = record {
+said_here {name} {names} {broke} {place} (Some call) (within, called, same, is) broken = record {
   name = name;
   called = called;
   call = call;
@@ -290,13 +336,48 @@ call_line {line} names broke {pieces} {call} fault within has = elim (cases_lt c
   | inr past ↦ let same : call ≡ suc pieces = omega (arith, within, past) in has_after _ (subst (λ those. HasLine line (said_in those (output_names names) broke)) same has)
 ]
 
--- the line of an output that is broken
-pub tee_says : {mode : Mode} {pieces names : List (List ℕ)} {first : Option ℕ} {broke : List (Option ℕ)} {output error : Slot} {files : List Slot} (fault : Option Fault) (place : ℕ) → OutputLeft true pieces first output → FilesLeft true mode pieces names broke files
-    → SaysAll true tool.Tee (messages_of names (first ∷ broke) (length pieces) fault) standard_error error → (place ≡ 1 → ⊥) → (slot_at (output ∷ error ∷ files) place).is_broken ≡ true
-    → (name : List ℕ) × IsCalled (slot_at (output ∷ error ∷ files) place) name × SaysLine tool.Tee (message_of tool.Tee (failing place (slot_at (output ∷ error ∷ files) place).state) name) error
-tee_says {pieces} {names} {first} {broke} {error} fault place left rest says differs broken =
+-- the line of an output that is broken is one of those that are due
+pub tee_tells : {mode : Mode} {pieces names : List (List ℕ)} {first : Option ℕ} {broke : List (Option ℕ)} {output : Slot} (error : Slot) {files : List Slot} (fault : Option Fault) (place : ℕ) → OutputLeft true pieces first output → FilesLeft true mode pieces names broke files
+    → (place ≡ 1 → ⊥) → (slot_at (output ∷ error ∷ files) place).is_broken ≡ true
+    → (name : List ℕ) × IsCalled (slot_at (output ∷ error ∷ files) place) name × HasLine (message_of tool.Tee (failing place (slot_at (output ∷ error ∷ files) place).state) name) (messages_of names (first ∷ broke) (length pieces) fault)
+tee_tells {names} {first} {broke} error fault place left rest differs broken =
     let said = outputs_said error place left rest differs broken in
-    (said.name, said.called, says_line (call_line names (first ∷ broke) fault said.within said.line) (tee_lines names (first ∷ broke) (length pieces) fault says))
+    (said.name, said.called, call_line names (first ∷ broke) fault said.within said.line)
+
+-- Each line that tells of an output that broke tells a fault that the run met.
+
+pub failing_stops : (run : Run) (asked : Settings) {name : List ℕ} {place : ℕ} (which : State) → BrokeAt run place name (failing place which) → StopsRun run asked name (failing place which)
+failing_stops run asked state.Open broke = broke
+failing_stops run asked state.Closed broke = broke
+failing_stops run asked state.Removed broke = broke
+failing_stops run asked state.Unopened broke = broke
+
+-- an output that stands at this place of the run's
+output_tells : {run : Run} (asked : TeeAsked) (last : ℕ) (name : List ℕ) {output : Slot} (when : Option ℕ) (place : ℕ) → slot_at run.outputs place ≡ output → (place ≡ 1 → ⊥) → Broke last name output when → TellsOutput (TellsMet run (Tee asked)) name when
+output_tells {run} asked last name {output} (Some other) place is differs (within, called, same, broken) call there =
+    let met : BrokeAt run place name (failing place output.state) = rw is (differs, called, broken, refl) in
+    let here : other ≡ call = cc in
+    rw (← here) (failing place output.state, name, inl (failing_stops run (Tee asked) output.state met), same place)
+output_tells asked last name None place is differs broke call there = absurd (cc)
+
+-- files, of which each stands at its place
+files_tell : (run : Run) (asked : TeeAsked) {mode : Mode} {pieces names : List (List ℕ)} {broke : List (Option ℕ)} {files : List Slot} (place : ℕ → ℕ) → ((at : ℕ) → slot_at run.outputs (place at) ≡ slot_at files at) → ((at : ℕ) → place at ≡ 1 → ⊥)
+    → FilesLeft true mode pieces names broke files → TellsOutputs (TellsMet run (Tee asked)) names broke
+files_tell run asked place are differ tee.no_file = tt
+files_tell run asked {pieces = pieces} place are differ (tee.one_file name names when broke file files left rest) =
+    (output_tells asked (suc (length pieces)) name when (place 0) (are 0) (differ 0) (file_broke left), files_tell run asked (λ at. place (suc at)) (λ at. are (suc at)) (λ at. differ (suc at)) rest)
+
+-- all lines of such a run, where that on the input is one
+pub tee_lines : {run : Run} (asked : TeeAsked) {mode : Mode} {pieces names : List (List ℕ)} {first : Option ℕ} {broke : List (Option ℕ)} {output error : Slot} {files : List Slot} (fault : Option Fault) → run.outputs ≡ output ∷ error ∷ files → OutputLeft true pieces first output → FilesLeft true mode pieces names broke files
+    → TellsOfInput (TellsMet run (Tee asked)) fault → SaysAll true tool.Tee (messages_of names (first ∷ broke) (length pieces) fault) standard_error error → SaysLines run (Tee asked) (messages_of names (first ∷ broke) (length pieces) fault)
+tee_lines {run} asked {pieces} {names} {first} {broke} {output} {error} {files} fault slots left rest of_input says = record {
+  are = lines_are (TellsMet run (Tee asked)) names (first ∷ broke) (length pieces) fault (
+    output_tells asked (suc (length pieces)) (codes "standard output") first 0 (ap (λ those. slot_at those 0) slots) (λ is. omega (arith, is)) (output_broke refl left),
+    files_tell run asked (λ at. suc (suc at)) (λ at. ap (λ those. slot_at those (suc (suc at))) slots) (λ at is. omega (arith, is)) rest,
+  )
+      of_input;
+  said = rw slots says;
+}
 
 -- some output is broken, unless all are sound
 

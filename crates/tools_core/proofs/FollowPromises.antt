@@ -1,6 +1,6 @@
 -- What `tail` writes of one file that only grows, where it follows it and meets no fault.
 use Rattle.std.proofs.lemmas.Grind.{common_steps}
-use Rattle.std.proofs.Common.{◌≡◌, ℕ, ◌+◌, ◌<◌, ◌≤◌, zero, suc, Bool, true, false, List, [], ◌∷◌, ◌++◌, length, drop, Option, Some, refl, sym, ◌∙◌, ap, subst, arith, append_assoc, append-nil, ◌&&◌, cond, is_some, not, ◌||◌, inl, inr, rules}
+use Rattle.std.proofs.Common.{◌≡◌, ℕ, ◌+◌, ◌<◌, ◌≤◌, zero, suc, Bool, true, false, List, [], ◌∷◌, ◌++◌, length, drop, Option, Some, None, Ok, refl, sym, ◌∙◌, ap, subst, arith, append_assoc, append-nil, ◌&&◌, cond, is_some, not, ◌||◌, inl, inr, rules}
 use Rattle.std.proofs.Math.Seq.{drop-append_seam as drop_front}
 use Rattle.watch_core.specs.Snapshot.{Snapshot}
 use Rattle.follow_core.specs.Ending.{seen_first, FollowEndsAs, looked, no_room, stopped}
@@ -9,12 +9,12 @@ use Rattle.follow_core.specs.Run.{AreKept, name_text}
 use Rattle.follow_core.specs.Version.{Entry, entries_led, entries_later, entries_of, open_after, open_after_later, version_in}
 use Rattle.follow_core.proofs.AgreeLemmas.{grown}
 use Rattle.follow_core.proofs.RunLemmas.{text_is_gains}
-use Rattle.tools_core.specs.Promises.{OnlyGrows, FollowRun, Follows, IsBare}
+use Rattle.tools_core.specs.Promises.{AsksToFollow, OnlyGrows, Follows, IsBare, IsOfProgram, Ran, Run}
 use Rattle.std.proofs.lemmas.Bool.{cond_both, or_parts, cases_lt, false≢true}
 use Rattle.follow_core.specs.Followed.{any_failed, text_from}
-use Rattle.follow_core.specs.Look.{Fate, Look, Ways, entries_in, fate_at, is_dropped, is_first, sound, snapshots, ways_of}
+use Rattle.follow_core.specs.Look.{Fate, Look, Ways, entries_in, fate_at, is_dropped, is_first, sound, unled, unopened, unmeasured, unsought, unread, snapshots, ways_of}
 use Rattle.follow_core.specs.Notice.{is_missing}
-use Rattle.follow_core.specs.Share.{Share, gain, gains_from, missing_share, no_share, share_by, share_of, shares_from}
+use Rattle.follow_core.specs.Share.{Share, bytes_of, gain, gains_from, missing_share, no_share, share_by, share_of, shares_from}
 use Rattle.follow_core.proofs.LookLemmas.{failed_sound, looks_give_text}
 use Rattle.std.proofs.lemmas.List.{length-map}
 use Rattle.ends_core.specs.Ends.{tail_of}
@@ -24,7 +24,11 @@ use Rattle.follow_core.specs.FollowState.{is_alive}
 use Rattle.words_core.specs.EndsAsked.{EndsAsked}
 use Rattle.words_core.specs.declared.value.Followed.{Followed}
 use Rattle.tools_core.specs.Following.{FollowingEndsAt, is_name, start_of}
+use Rattle.tools_core.specs.Program.{ProgramEndsAt, looks_at}
 use Rattle.tools_core.specs.Tasks.{has_headers, is_plus}
+use Rattle.words_core.specs.Words.{follows, looks, settings_of}
+use Rattle.words_core.specs.declared.settings.Settings.{Settings}
+use Rattle.ports_core.specs.Source.{source_of}
 use Rattle.tools_core.proofs.LeftLemmas.{unfailed}
 
 -- The text of a name whose file only grows: its start part at the first look, and then all that came.
@@ -107,12 +111,16 @@ stays_open by_name {name} shows {file} {count} n within grows = by by_name 1 n (
 
 -- A name for which no call failed got all that the look gives.
 
-fine_share : (ways : Ways) (name : List ℕ) (before : List Look) (look : Look) (dropped : Bool) (fate : Fate) → dropped ≡ false → (cond dropped (no_share name) (share_by ways name before look fate)).has_failed ≡ false
-    → (fate ≡ sound) × ((cond dropped (no_share name) (share_by ways name before look fate)).bytes ≡ gain ways name before look)
+fine_share : (ways : Ways) (name : List ℕ) (before : List Look) (look : Look) (dropped : Bool) (fate : Fate) → dropped ≡ false → is_some (cond dropped (no_share name) (share_by ways name before look fate)).failure ≡ false
+    → (fate ≡ sound) × (bytes_of (cond dropped (no_share name) (share_by ways name before look fate)) ≡ gain ways name before look)
 fine_share ways name before look true fate kept well = absurd (cc)
 fine_share ways name before look false sound kept well =
-    (refl, cond_both (is_first before && is_missing (entries_in ways name (before ++ look ∷ []))) (missing_share name) _ (λ (share : Share). share.has_failed ≡ false → share.bytes ≡ gain ways name before look) (λ is failed. absurd (cc)) (λ is fine. refl) well)
-fine_share ways name before look false fate kept well = absurd (cc)
+    (refl, cond_both (is_first before && is_missing (entries_in ways name (before ++ look ∷ []))) (missing_share name) _ (λ (share : Share). is_some share.failure ≡ false → bytes_of share ≡ gain ways name before look) (λ is failed. absurd (cc)) (λ is fine. refl) well)
+fine_share ways name before look false unled kept well = absurd (cc)
+fine_share ways name before look false unopened kept well = absurd (cc)
+fine_share ways name before look false (unmeasured file) kept well = absurd (cc)
+fine_share ways name before look false (unsought file from) kept well = absurd (cc)
+fine_share ways name before look false (unread file from) kept well = absurd (cc)
 
 -- so further looks wrote all that they give, and the name is still followed
 record WroteAll (ways : Ways) (name : List ℕ) (before looks : List Look) (text : List ℕ) : Type 0 where
@@ -124,7 +132,7 @@ wrote_all : (ways : Ways) (name : List ℕ) (before looks : List Look) (last : O
 wrote_all ways name before [] last kept well = search rules
 wrote_all ways name before (look ∷ looks) last kept well =
     let here = before ++ look ∷ [] in
-    let both = or_parts (share_of ways before look ways.first name).has_failed (any_failed (shares_from ways (name ∷ []) here looks)) well in
+    let both = or_parts (is_some (share_of ways before look ways.first name).failure) (any_failed (shares_from ways (name ∷ []) here looks)) well in
     let fine = fine_share ways name before look (is_dropped ways.first before) (fate_at ways.first look) kept both.0 in
     let rest = wrote_all ways name here looks last (ap is_some (failed_sound ways.first before look fine.0) ∙ kept) both.1 in record {
       is = rw (fine.1, rest.is);
@@ -162,29 +170,43 @@ pub record WroteText (ways : Ways) (name : List ℕ) (shows : ℕ → Snapshot) 
 
 wrote_text : (ways : Ways) (name : List ℕ) (shows : ℕ → Snapshot) (count : ℕ) (seen : List Snapshot) (watched : List Watched) (new : List Slot) → (seen ≡ seen_first shows (length seen) → AreKept (entries_of ways.by_name name seen))
     → FollowEndsAs true true ways false (name ∷ []) count shows streams seen watched new 0 → WroteText ways name shows count seen new
-wrote_text ways name shows count seen watched new keeps_bytes (looked looks shares seen_is broken made few full are leaves) = grind (arith, common_steps, unfailed, length-map, wrote_all, looks_give_text)
+wrote_text ways name shows count seen watched new keeps_bytes (looked looks shares seen_is broken made few full are found leaves) =
+    let ends : length looks < count → (0 < length looks) × (◌≡◌ {A = Bool} true true → is_alive ways (name ∷ []) looks ≡ false) = (λ fewer. ((full fewer).0, (full fewer).1)) in grind (arith, common_steps, unfailed, length-map, wrote_all, looks_give_text)
 wrote_text ways name shows count seen watched new keeps_bytes (stopped mid why stop says failed) = search rules
 wrote_text ways name shows count seen watched new keeps_bytes (no_room unseen unwatched says failed) = search rules
 
-pub follows_text : {run : FollowRun} {options : EndsAsked} {followed : Followed} {name : List ℕ} → Follows run options followed → IsBare options
+pub follows_text : {run : Run} {count : ℕ} {options : EndsAsked} {followed : Followed} {name : List ℕ} → Follows run count options followed → IsBare options
     → options.names ≡ name ∷ [] → (run.seen ≡ seen_first run.shows (length run.seen) → AreKept (entries_of (is_name followed) name run.seen))
-    → WroteText (ways_of 0 (is_name followed) (start_of options)) name run.shows run.count run.seen run.outputs
-follows_text {run} {options} {followed} {name} follows bare named keeps_bytes =
+    → WroteText (ways_of 0 (is_name followed) (start_of options)) name run.shows count run.seen run.outputs
+follows_text {run} {count} {options} {followed} {name} follows bare named keeps_bytes =
     let ways = ways_of 0 (is_name followed) (start_of options) in
-    let ends = subst (FollowingEndsAt true true run.words run.count run.shows run.seen run.watched run.outputs run.status) follows.read follows.ends in
-    let one = subst (λ names. FollowEndsAs true true ways (has_headers options.headers options.names) names run.count run.shows streams run.seen run.watched run.outputs run.status) named ends in
-    let headless = subst (λ headers. FollowEndsAs true true ways headers (name ∷ []) run.count run.shows streams run.seen run.watched run.outputs run.status) bare one in
-    wrote_text ways name run.shows run.count run.seen run.watched run.outputs keeps_bytes (subst (FollowEndsAs true true ways false (name ∷ []) run.count run.shows streams run.seen run.watched run.outputs) follows.well headless)
+    let ends = subst (FollowingEndsAt true true run.words count run.shows run.seen run.watched run.outputs run.status) follows.read follows.ends in
+    let one = subst (λ names. FollowEndsAs true true ways (has_headers options.headers options.names) names count run.shows streams run.seen run.watched run.outputs run.status) named ends in
+    let headless = subst (λ headers. FollowEndsAs true true ways headers (name ∷ []) count run.shows streams run.seen run.watched run.outputs run.status) bare one in
+    wrote_text ways name run.shows count run.seen run.watched run.outputs keeps_bytes (subst (FollowEndsAs true true ways false (name ∷ []) count run.shows streams run.seen run.watched run.outputs) follows.well headless)
 
-pub tells_all : (run : FollowRun) (options : EndsAsked) (followed : Followed) (name came : List ℕ) (file n : ℕ) → Follows run options followed → IsBare options → options.names ≡ name ∷ [] → run.count ≡ n + 1 → OnlyGrows (length run.seen) run.shows name file
+pub tells_all : (run : Run) (options : EndsAsked) (followed : Followed) (name came : List ℕ) (file n : ℕ) → Follows run (n + 1) options followed → IsBare options → options.names ≡ name ∷ [] → OnlyGrows (length run.seen) run.shows name file
     → (run.shows n).holds file ≡ (run.shows 0).holds file ++ came
     → (slot_at run.outputs 0).written ≡ tail_of options.delim options.unit (is_plus options.count.sign) options.count.amount ((run.shows 0).holds file) ++ came
-tells_all run options followed name came file n follows bare named count grows is =
+tells_all run options followed name came file n follows bare named grows is =
     let ways = ways_of 0 (is_name followed) (start_of options) in
     let wrote = follows_text follows bare named (λ saw. rw saw (kept_in (is_name followed) run.shows grows)) in
     let grew = subst (λ k. OnlyGrows k run.shows name file) (sym wrote.count_is) grows in
-    let made : length wrote.looks ≡ run.count = all_made ways run.shows wrote.looks grew wrote.saw wrote.kept wrote.few wrote.full in
-    let all : length wrote.looks ≡ suc n = made ∙ count ∙ (let e : n + 1 ≡ suc n = omega arith in e) in
+    let made : length wrote.looks ≡ n + 1 = all_made ways run.shows wrote.looks grew wrote.saw wrote.kept wrote.few wrote.full in
+    let all : length wrote.looks ≡ suc n = made ∙ (let e : n + 1 ≡ suc n = omega arith in e) in
     wrote.is
     ∙ ap (λ those. name_text ways.start (entries_of (is_name followed) name those)) (wrote.seen_is ∙ wrote.saw ∙ ap (seen_first run.shows) all)
     ∙ growing_text (is_name followed) run.shows ways.start came (omega (arith, all)) grew is
+
+-- A run of the program is a run of one of both kinds, by what its words ask for.
+
+ends_at : (run : Run) {looks : Option ℕ} → IsOfProgram run → looks_at (settings_of run.words) ≡ looks → ProgramEndsAt true true true run.words run.world.laid (source_of run.world.standard ∷ []) run.inputs run.shows run.seen run.watched run.outputs run.status looks
+ends_at run ends is = subst (ProgramEndsAt true true true run.words run.world.laid (source_of run.world.standard ∷ []) run.inputs run.shows run.seen run.watched run.outputs run.status) is ends
+
+pub runs_tool : (run : Run) (asked : Settings) → IsOfProgram run → settings_of run.words ≡ Ok asked → follows asked ≡ false → Ran run asked × (run.seen ≡ []) × (run.watched ≡ [])
+runs_tool run asked ends read none =
+    let (unseen, unwatched, ran) = ends_at run ends (ap looks_at read ∙ ap (λ is. cond is (Some (looks asked)) None) none) in (record { read = read; ends = ran }, unseen, unwatched)
+
+pub runs_following : (run : Run) (options : EndsAsked) (followed : Followed) (looks : ℕ) → IsOfProgram run → AsksToFollow run options followed looks → run.status ≡ 0 → Follows run looks options followed × (run.inputs ≡ source_of run.world.standard ∷ [])
+runs_following run options followed looks ends read well =
+    let (unopened, followed_so) = ends_at run ends (ap looks_at read) in (record { looks = looks; read = read; ends = followed_so; well = well }, unopened)

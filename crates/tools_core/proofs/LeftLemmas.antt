@@ -1,8 +1,8 @@
 -- What is true of the outcome of any inputs: which messages it has, and that its files are live; and what a run leaves that no fault
 -- stopped: just what its inputs make, but for files that were to be removed.
 use Rattle.std.proofs.lemmas.Grind.{common_steps}
-use Rattle.std.proofs.Common.{◌≡◌, ℕ, ◌+◌, ◌<◌, zero, suc, Bool, true, false, ◌&&◌, cond, is_some, List, [], ◌∷◌, ◌++◌, length, map, Option, Some, None, inl, inr, ◌⊎◌, refl, sym, ◌∙◌, ap, arith, append_assoc, All, rules, ◌≤◌, ◌^◌, is_none, Ok, codes, length-append}
-use Rattle.std.proofs.lemmas.Bool.{and_parts, false≢true, or_cases, or_left, or_parts, or_right, cases_Bool}
+use Rattle.std.proofs.Common.{◌≡◌, ℕ, ◌+◌, ◌<◌, zero, suc, Bool, true, false, ◌&&◌, cond, is_some, List, [], ◌∷◌, ◌++◌, length, map, Option, Some, None, inl, inr, ◌⊎◌, refl, sym, ◌∙◌, ap, arith, append_assoc, append-nil, not, subst, All, rules, ◌≤◌, ◌^◌, is_none, Ok, codes, length-append}
+use Rattle.std.proofs.lemmas.Bool.{and_parts, false≢true, not-false, or_cases, or_left, or_parts, or_right, cases_Bool}
 use Rattle.std.proofs.lemmas.List.Elements.{All-append, All-cons, All-head, All-map, All-nil, All-tail}
 use Rattle.ports_core.specs.Slot.{Slot, adds, has_file, slot_at, closes, opened, removes}
 use Rattle.ports_core.specs.Source.{Content, Source}
@@ -11,7 +11,7 @@ use Rattle.ports_core.specs.Inputs.{largest_piece}
 use Rattle.ports_core.specs.Name.{Naming}
 use Rattle.ports_core.specs.Part.{File, FilesBegin, Part, nothing, only_out, OutputsAt, file_of, told_file}
 use Rattle.ports_core.specs.Text.{message_of}
-use Rattle.ports_core.specs.Work.{Needs, Work}
+use Rattle.ports_core.specs.Work.{Judges, Needs, Work}
 use Rattle.ports_core.specs.declared.fault.Fault.{Fault}
 use Rattle.ports_core.specs.declared.fault.Fault.TheVariants.{Open as CannotOpen, Read, Write}
 use Rattle.ports_core.specs.declared.slot.State.{State}
@@ -32,11 +32,11 @@ use Rattle.csplit_core.specs.Csplit.{csplit_work}
 use Rattle.csplit_core.specs.Output as section
 use Rattle.csplit_core.specs.Output.{Contents, makes_file}
 use Rattle.csplit_core.specs.Planned.{plan}
-use Rattle.run_core.specs.Feeding.{IsCall, Step, closes as ends_call, feeds, opens}
+use Rattle.run_core.specs.Feeding.{IsCall, Step, closes as ends_call, feeds, is_enough, opens}
 use Rattle.run_core.specs.Input.{Input, inputs_at, standard_input}
 use Rattle.run_core.specs.RunEnds.{RunStep, calling, heading, unheaded, unopened, EndsAs, as_defined}
-use Rattle.run_core.specs.Task.{Outcome, Task, after_part, is_missing, joined, of_content, of_inputs, verdict_messages, made_by, status_of}
-use Rattle.tools_core.specs.Promises.{SaysLines, Completes, FindAlike, IsCopied, IsGone, IsUnstopped, LeaveAlike, Ran, Run, Unstopped, failing, removes_files}
+use Rattle.run_core.specs.Task.{Outcome, Task, after_part, header_text, is_missing, joined, of_content, of_inputs, verdict_messages, made_by, status_of}
+use Rattle.tools_core.specs.Promises.{SaysLines, Completes, FindAlike, IsCopied, IsFound, IsGone, IsMet, IsTask, IsUnstopped, LeaveAlike, Ran, Run, TellsMet, Unstopped, broken_off, failing, judged, missing, removes_files}
 use Rattle.ports_core.specs.Message.{SaysAll}
 use Rattle.ports_core.specs.Swept.{Cleared, Swept}
 use Rattle.ports_core.specs.Swept as swept_so
@@ -68,20 +68,14 @@ pub has_before : {line : List ℕ} {front : List (List ℕ)} (back : List (List 
 has_before {line} back (before, after, is) = (before, after ++ back, ap (λ those. those ++ back) is ∙ append_assoc before (line ∷ after) back)
 
 -- it is said, where all are
-abbrev pub SaysLine : Tool → List ℕ → Slot → Type 0
-SaysLine tool line error = (before : List (List ℕ)) × (after : List (List ℕ)) × SaysLines tool (before ++ line ∷ after) error
+abbrev pub SaysLine : Run → Settings → List ℕ → Type 0
+SaysLine run asked line = (before : List (List ℕ)) × (after : List (List ℕ)) × SaysLines run asked (before ++ line ∷ after)
 
-pub says_line : {tool : Tool} {line : List ℕ} {lines : List (List ℕ)} {error : Slot} → HasLine line lines → SaysLines tool lines error → SaysLine tool line error
+pub says_line : {run : Run} {asked : Settings} {line : List ℕ} {lines : List (List ℕ)} → HasLine line lines → SaysLines run asked lines → SaysLine run asked line
 says_line (before, after, is) says = search rules
 
-abbrev pub IsMessage : Tool → List ℕ → Type 0
-IsMessage tool line = (fault : Fault) × (name : List ℕ) × (line ≡ message_of tool fault name)
-
-abbrev pub AreMessages : Tool → List (List ℕ) → Type 0
-AreMessages tool lines = All (IsMessage tool) lines
-
-pub a_message : {tool : Tool} (fault : Fault) (name : List ℕ) → AreMessages tool (message_of tool fault name ∷ [])
-a_message {tool} fault name = All-cons (IsMessage tool) _ [] (fault, name, refl) (All-nil (IsMessage tool))
+pub one_line : (Line : List ℕ → Type 0) (line : List ℕ) → Line line → All Line (line ∷ [])
+one_line Line line is = All-cons Line line [] is (All-nil Line)
 
 -- Files that are open or closed, and not broken
 
@@ -187,33 +181,33 @@ csplit_living style operands = search (rules, numbered_each, section_has)
 
 -- What a run over inputs makes of them
 
--- one of the lines tells a fault
-abbrev pub HasFault : Tool → List (List ℕ) → Type 0
-HasFault tool lines = (fault : Fault) × (name : List ℕ) × HasLine (message_of tool fault name) lines
+-- one of the lines is such a line
+abbrev pub HasSome : (List ℕ → Type 0) → List (List ℕ) → Type 0
+HasSome Line lines = (line : List ℕ) × Line line × HasLine line lines
 
--- The messages of an outcome tell faults, and there are some just where a fault was met. Only after one are files
+-- The messages of an outcome are such lines, and there are some just where a fault was met. Only after one are files
 -- removed, of a tool that removes them. The files are live.
-pub record Fits (tool : Tool) (clears : Bool) (made : Outcome) : Type 0 where
-  pub are : AreMessages tool made.messages
-  pub tells : made.failed ≡ true → HasFault tool made.messages
+pub record Fits (Line : List ℕ → Type 0) (clears : Bool) (made : Outcome) : Type 0 where
+  pub are : All Line made.messages
+  pub tells : made.failed ≡ true → HasSome Line made.messages
   pub quiet : made.failed ≡ false → made.messages ≡ []
   pub sweeps : made.sweeps ≡ true → (clears ≡ true) × (made.failed ≡ true)
   pub live : AreLive made.part.files
 
-pub fits_well : {tool : Tool} {clears : Bool} (part : Part) (sweeps : Bool) → sweeps ≡ false → AreLive part.files → Fits tool clears (record { part = part; messages = []; failed = false; sweeps = sweeps })
-fits_well {tool} part sweeps none live = grind (arith, common_steps)
+pub fits_well : {Line : List ℕ → Type 0} {clears : Bool} (part : Part) (sweeps : Bool) → sweeps ≡ false → AreLive part.files → Fits Line clears (record { part = part; messages = []; failed = false; sweeps = sweeps })
+fits_well {Line} part sweeps none live = grind (arith, common_steps)
 
-pub fits_fault : {tool : Tool} {clears : Bool} (fault : Fault) (name : List ℕ) (part : Part) (sweeps : Bool) → (sweeps ≡ true → clears ≡ true) → AreLive part.files
-    → Fits tool clears (record { part = part; messages = message_of tool fault name ∷ []; failed = true; sweeps = sweeps })
-fits_fault fault name part sweeps clears live =
-    record { are = a_message fault name; tells = λ is. (fault, name, ([], [], refl)); quiet = λ is. absurd (false≢true (sym is)); sweeps = λ is. (clears is, refl); live = live }
+pub fits_fault : {Line : List ℕ → Type 0} {clears : Bool} {line : List ℕ} (part : Part) (sweeps : Bool) → Line line → (sweeps ≡ true → clears ≡ true) → AreLive part.files
+    → Fits Line clears (record { part = part; messages = line ∷ []; failed = true; sweeps = sweeps })
+fits_fault {Line} {line} part sweeps tells clears live =
+    record { are = one_line Line line tells; tells = λ is. (line, tells, ([], [], refl)); quiet = λ is. absurd (false≢true (sym is)); sweeps = λ is. (clears is, refl); live = live }
 
-fits_joined : {tool : Tool} {clears : Bool} (first next : Outcome) → Fits tool clears first → Fits tool clears next → Fits tool clears (joined first next)
-fits_joined {tool} first next one other = record {
-  are = All-append (IsMessage tool) _ _ one.are other.are;
+fits_joined : {Line : List ℕ → Type 0} {clears : Bool} (first next : Outcome) → Fits Line clears first → Fits Line clears next → Fits Line clears (joined first next)
+fits_joined {Line} first next one other = record {
+  are = All-append Line _ _ one.are other.are;
   tells = λ is. elim (or_cases first.failed next.failed is) [
-    | inl failed ↦ let (fault, name, has) = one.tells failed in (fault, name, has_before next.messages has)
-    | inr failed ↦ let (fault, name, has) = other.tells failed in (fault, name, has_after first.messages has)
+    | inl failed ↦ let (line, tells, has) = one.tells failed in (line, tells, has_before next.messages has)
+    | inr failed ↦ let (line, tells, has) = other.tells failed in (line, tells, has_after first.messages has)
   ];
   quiet = λ is. let both = or_parts first.failed next.failed is in ap (λ texts. texts ++ next.messages) (one.quiet both.0) ∙ other.quiet both.1;
   sweeps = λ is. elim (or_cases first.sweeps next.sweeps is) [
@@ -223,24 +217,74 @@ fits_joined {tool} first next one other = record {
   live = live_both first.part.files next.part.files one.live other.live;
 }
 
-given_fits : (task : Task) (header name bytes : List ℕ) (enough : Bool) (verdict : Option Fault) → IsLiving task.work → Fits task.tool task.work.clears (record {
-  part = after_part (only_out header) (cond enough (task.work.whole bytes) (task.work.settled bytes));
-  messages = cond enough (verdict_messages task verdict) (message_of task.tool (Read 0) name ∷ []);
-  failed = cond enough (is_some verdict) true;
-  sweeps = task.work.clears && cond enough (is_some verdict) true;
-})
-given_fits task header name bytes true None living = grind (arith, common_steps)
-given_fits task header name bytes true (Some fault) living = fits_fault fault (task.subject fault) _ _ (λ is. (and_parts task.work.clears true is).0) (living.whole bytes)
-given_fits task header name bytes false verdict living = fits_fault (Read 0) name _ _ (λ is. (and_parts task.work.clears true is).0) (living.settled bytes)
+-- the lines that tell what is wrong with an input are such ones
+pub record TellsInput (Line : List ℕ → Type 0) (task : Task) (name : List ℕ) (there : Option Content) : Type 0 where
+  pub missing : there ≡ None → Line (message_of task.tool (CannotOpen 0) name)
+  pub broken_off : (content : Content) → there ≡ Some content → is_enough task.work content ≡ false → Line (message_of task.tool (Read 0) name)
+  pub judged : (content : Content) (fault : Fault) → there ≡ Some content → is_enough task.work content ≡ true → Judges task.work content.bytes fault → Line (message_of task.tool fault (task.subject fault))
 
-content_fits : (task : Task) (is_first : Bool) (name : List ℕ) (content : Option Content) → IsLiving task.work → Fits task.tool task.work.clears (of_content task is_first name content)
-content_fits task is_first name None living = fits_fault (CannotOpen 0) name nothing false (λ is. absurd (false≢true is)) no_live
-content_fits task is_first name (Some content) living = search (rules, given_fits)
+given_fits : {Line : List ℕ → Type 0} (task : Task) (header name bytes : List ℕ) (enough : Bool) (verdict : Option Fault)
+    → (enough ≡ false → Line (message_of task.tool (Read 0) name)) → ((fault : Fault) → enough ≡ true → verdict ≡ Some fault → Line (message_of task.tool fault (task.subject fault))) → IsLiving task.work → Fits Line task.work.clears (record {
+      part = after_part (only_out header) (cond enough (task.work.whole bytes) (task.work.settled bytes));
+      messages = cond enough (verdict_messages task verdict) (message_of task.tool (Read 0) name ∷ []);
+      failed = cond enough (is_some verdict) true;
+      sweeps = task.work.clears && cond enough (is_some verdict) true;
+    })
+given_fits task header name bytes true None breaks judges living = fits_well _ _ (grind (arith, common_steps)) (grind (arith, common_steps))
+given_fits task header name bytes true (Some fault) breaks judges living = fits_fault _ _ (judges fault refl refl) (λ is. (and_parts task.work.clears true is).0) (living.whole bytes)
+given_fits task header name bytes false verdict breaks judges living = fits_fault _ _ (breaks refl) (λ is. (and_parts task.work.clears true is).0) (living.settled bytes)
 
-pub inputs_fit : (task : Task) (is_first : Bool) (inputs : List Input) → IsLiving task.work → Fits task.tool task.work.clears (of_inputs task is_first inputs)
-inputs_fit task is_first [] living = search rules
-inputs_fit task is_first (input ∷ inputs) living =
-    fits_joined _ (of_inputs task (is_first && is_missing input.content) inputs) (content_fits task is_first input.name input.content living) (inputs_fit task (is_first && is_missing input.content) inputs living)
+breaks_short : (work : Work) (content : Content) → is_enough work content ≡ false → content.breaks_off ≡ true
+breaks_short work content short = not-false content.breaks_off (or_parts (not content.breaks_off) (work.is_complete content.bytes) short).0
+
+content_fits : {Line : List ℕ → Type 0} (task : Task) (is_first : Bool) (name : List ℕ) (there : Option Content) → TellsInput Line task name there → IsLiving task.work → Fits Line task.work.clears (of_content task is_first name there)
+content_fits task is_first name None tells living = fits_fault nothing false (tells.missing refl) (λ is. absurd (false≢true is)) no_live
+content_fits task is_first name (Some content) tells living =
+    given_fits task (header_text task.with_header is_first name) name content.bytes (is_enough task.work content) (task.work.verdict content.bytes)
+    (λ short. tells.broken_off content refl short) (λ fault enough is. tells.judged content fault refl enough is) living
+
+abbrev pub TellsAll : (List ℕ → Type 0) → Task → List Input → Type 0
+TellsAll Line task inputs = All (λ (input : Input). TellsInput Line task input.name input.content) inputs
+
+pub inputs_fit : {Line : List ℕ → Type 0} (task : Task) (is_first : Bool) (inputs : List Input) → TellsAll Line task inputs → IsLiving task.work → Fits Line task.work.clears (of_inputs task is_first inputs)
+inputs_fit task is_first [] tells living = search rules
+inputs_fit {Line} task is_first (input ∷ inputs) tells living =
+    let P = λ (input : Input). TellsInput Line task input.name input.content in
+    fits_joined _ (of_inputs task (is_first && is_missing input.content) inputs) (content_fits task is_first input.name input.content (All-head P input inputs tells) living)
+    (inputs_fit task (is_first && is_missing input.content) inputs (All-tail P input inputs tells) living)
+
+-- what a run found is told so
+
+pub tool_is : (asked : Settings) (task : Task) → IsTask asked task → task.tool ≡ tool_of asked
+tool_is (Head asked) task is = ap (λ (task : Task). task.tool) is
+tool_is (Tail asked) task is = ap (λ (task : Task). task.tool) is
+tool_is (Split asked) task is = ap (λ (task : Task). task.tool) is
+tool_is (Csplit asked) task (operands, asks, is) = ap (λ (task : Task). task.tool) is
+tool_is (Tee asked) task is = absurd is
+
+pub met_line : {run : Run} (asked : Settings) (task : Task) (fault : Fault) (name : List ℕ) → IsTask asked task → IsMet run asked fault name → TellsMet run asked (message_of task.tool fault name)
+met_line asked task fault name of met = (fault, name, met, ap (λ which. message_of which fault name) (tool_is asked task of))
+
+one_task : (asked : Settings) (one other : Task) → IsTask asked one → IsTask asked other → one ≡ other
+one_task (Csplit asked) one other (operands, asks, is) (operands_too, asks_too, is_too) = rw (is, asks_once asked.operands operands operands_too asks asks_too, is_too)
+one_task (Head asked) one other is is_too = is ∙ sym is_too
+one_task (Tail asked) one other is is_too = is ∙ sym is_too
+one_task (Split asked) one other is is_too = is ∙ sym is_too
+one_task (Tee asked) one other is is_too = absurd is
+
+found_tells : {run : Run} (asked : Settings) {task : Task} (input : Input) → IsTask asked task → IsFound run asked input → TellsInput (TellsMet run asked) task input.name input.content
+found_tells asked {task} input of found = record {
+  missing = λ none. met_line asked task (CannotOpen 0) input.name of (inr (missing input found none));
+  broken_off = λ content is short. met_line asked task (Read 0) input.name of (inr (broken_off input content found is (breaks_short task.work content short) (λ other of_too. rw (one_task asked other task of_too of) short)));
+  judged = λ content fault is enough judges. met_line asked task fault (task.subject fault) of (inr (judged input content task fault found is of enough judges));
+}
+
+-- these inputs, which the run found after others and before others
+pub all_tell : (run : Run) (asked : Settings) (task : Task) (done inputs after : List Input) → IsTask asked task → inputs_at run.world (names_of asked) ≡ done ++ (inputs ++ after) → TellsAll (TellsMet run asked) task inputs
+all_tell run asked task done [] after of are = All-nil (λ (input : Input). TellsInput (TellsMet run asked) task input.name input.content)
+all_tell run asked task done (input ∷ inputs) after of are =
+    All-cons (λ (input : Input). TellsInput (TellsMet run asked) task input.name input.content) input inputs (found_tells asked input of (done, inputs ++ after, are))
+    (all_tell run asked task (done ++ input ∷ []) inputs after of (are ∙ sym (append_assoc done (input ∷ []) (inputs ++ after))))
 
 -- what each step of it does
 
@@ -296,7 +340,7 @@ failing_file state.Removed has = absurd (cc)
 failing_file state.Unopened has = absurd (cc)
 failing_file which has = refl
 
-abbrev gone : Slot → Slot
+abbrev pub gone : Slot → Slot
 gone slot = cond (has_file slot.state) (removes slot) slot
 
 abbrev remains : Bool → ℕ → Slot → Slot
@@ -375,9 +419,9 @@ pub left_at : {which : Tool} {made : Outcome} {new : List Slot} {status : ℕ} �
 left_at {made} {new} left place differs =
     rw (beside_error (adds made.part.out standard_output) left.error standard_error _ place differs) at (swept_kept made.sweeps _ new left.swept place)
 
-pub left_says : {which : Tool} {clears : Bool} {made : Outcome} {new : List Slot} {status : ℕ} → Fits which clears made → IsLeft which made new status → SaysLines which made.messages (slot_at new 1)
-left_says {made} {new} fits left =
-    record { are = fits.are; said = rw (swept_error made.sweeps (outputs_of made.part left.error) new (omega arith) left.swept) left.says }
+pub left_says : {run : Run} {asked : Settings} {clears : Bool} {made : Outcome} → Fits (TellsMet run asked) clears made → IsLeft (tool_of asked) made run.outputs run.status → SaysLines run asked made.messages
+left_says {run} {made} fits left =
+    record { are = fits.are; said = rw (swept_error made.sweeps (outputs_of made.part left.error) run.outputs (omega arith) left.swept) left.says }
 
 pub unfailed : (failed : Bool) → ◌≡◌ {A = ℕ} 0 (cond failed 1 0) → failed ≡ false
 unfailed true is = absurd (omega (arith, is))
@@ -387,7 +431,7 @@ pub record IsWhole (made : Outcome) (new : List Slot) : Type 0 where
   pub sound : made.failed ≡ false
   pub slots : new ≡ slots_of made.part
 
-pub left_whole : {which : Tool} {clears : Bool} {made : Outcome} {new : List Slot} {status : ℕ} → Fits which clears made → IsLeft which made new status → status ≡ 0 → IsWhole made new
+pub left_whole : {Line : List ℕ → Type 0} {which : Tool} {clears : Bool} {made : Outcome} {new : List Slot} {status : ℕ} → Fits Line clears made → IsLeft which made new status → status ≡ 0 → IsWhole made new
 left_whole {made} fits left well =
     let sound = unfailed made.failed (sym well ∙ left.is) in
     let stay : made.sweeps ≡ false = elim (cases_Bool made.sweeps) [ inl is ↦ absurd (false≢true (sym sound ∙ (fits.sweeps is).1)) | inr is ↦ is ] in record {
@@ -402,7 +446,7 @@ left_whole {made} fits left well =
 abbrev pub copy : Mode → List ℕ → List ℕ → Slot
 copy mode bytes name = closes (adds bytes (opened name mode))
 
-abbrev met_by : Bool → Option Fault
+abbrev pub met_by : Bool → Option Fault
 met_by true = Some (Read 0)
 met_by false = None
 
@@ -418,14 +462,14 @@ pub copies_are : (mode : Mode) (bytes : List ℕ) (names : List (List ℕ)) → 
 copies_are mode bytes [] = refl
 copies_are mode bytes (name ∷ names) = rw (copies_are mode bytes names)
 
-tee_fits : (asked : TeeAsked) (bytes : List ℕ) (breaks_off : Bool) → Fits tool.Tee false (tee_made asked (record { bytes = bytes; breaks_off = breaks_off }))
-tee_fits asked bytes breaks_off = by breaks_off where
+tee_fits : {Line : List ℕ → Type 0} (asked : TeeAsked) (bytes : List ℕ) (breaks_off : Bool) → (breaks_off ≡ true → Line (message_of tool.Tee (Read 0) (codes "standard input"))) → Fits Line false (tee_made asked (record { bytes = bytes; breaks_off = breaks_off }))
+tee_fits {Line} asked bytes breaks_off tells = by breaks_off tells where
   live : AreLive (map (λ name. file_of (copy asked.mode bytes name)) asked.names)
   live = All-map (λ (file : File). IsLive (slot_of file)) (λ name. file_of (copy asked.mode bytes name)) asked.names (λ k name within. (refl, refl))
 
-  by : (breaks_off : Bool) → Fits tool.Tee false (tee_made asked (record { bytes = bytes; breaks_off = breaks_off }))
-  by true = fits_fault (Read 0) (codes "standard input") _ false (λ is. is) live
-  by false = fits_well _ false refl live
+  by : (breaks_off : Bool) → (breaks_off ≡ true → Line (message_of tool.Tee (Read 0) (codes "standard input"))) → Fits Line false (tee_made asked (record { bytes = bytes; breaks_off = breaks_off }))
+  by true tells = fits_fault _ false (tells refl) (λ is. is) live
+  by false tells = fits_well _ false refl live
 
 met_is : {content : Content} (Leaves : List ℕ → Type 0) {is_vain : Bool} {x : List ℕ} {fault : Option Fault} → is_vain ≡ false → x ≡ content.bytes → length x < 2 ^ 63 → IsRead content Leaves is_vain x fault → fault ≡ met_by content.breaks_off
 met_is Leaves left same few (tee.to_end x is ended leaves) = sym (ap met_by ended)
@@ -438,7 +482,7 @@ met_status : (breaks_off : Bool) → ◌≡◌ {A = ℕ} (cond (is_none (met_by 
 met_status true = refl
 met_status false = refl
 
-quiet_outputs : (names : List (List ℕ)) (broke : List (Option ℕ)) (pieces : ℕ) (fault : Option Fault) → are_sound broke ≡ true → messages_of names broke pieces fault ≡ said_of_input fault
+pub quiet_outputs : (names : List (List ℕ)) (broke : List (Option ℕ)) (pieces : ℕ) (fault : Option Fault) → are_sound broke ≡ true → messages_of names broke pieces fault ≡ said_of_input fault
 quiet_outputs names broke pieces fault sound = search (rules, nothing_before, nothing_in)
 
 -- no output is left only where the first broke
@@ -477,33 +521,36 @@ one_made (Csplit asked) inputs (operands, asks, is) (operands_too, asks_too, is_
 one_made (Tee asked) inputs (content, only, is) (content_too, only_too, is_too) = rw (is, same_content only only_too, is_too)
 one_made asked inputs is is_too = is ∙ sym is_too
 
-pub record Left (which : Tool) (clears : Bool) (Of : Outcome → Type 0) (new : List Slot) (status : ℕ) : Type 0 where
-  pub made : Outcome
-  pub of : Of made
-  pub fits : Fits which clears made
-  pub left : IsLeft which made new status
-
-ends_left : {task : Task} {inputs : List Input} {sources : List Source} {new : List Slot} {status : ℕ} (Of : List Input → Outcome → Type 0) → IsLiving task.work → Of inputs (made_by task inputs) → (ends : EndsAs true true task inputs sources new status) → IsUnstopped ends
-    → Left task.tool task.work.clears (Of inputs) new status
-ends_left {task} {inputs} Of living of (as_defined error reached says outputs swept done is) unstopped = record {
-  made = made_by task inputs;
-  of = of;
-  fits = inputs_fit task true inputs living;
-  left = record { error = error; says = says; swept = rw (slots_at outputs) at swept; is = is };
-}
-ends_left Of living of ends unstopped = absurd unstopped
-
 -- what a run left that did what is asked for
-abbrev pub LeftBy : Run → Settings → Type 0
-LeftBy run asked = Left (tool_of asked) (removes_files asked) (Makes asked (inputs_at run.world (names_of asked))) run.outputs run.status
+pub record LeftBy (run : Run) (asked : Settings) : Type 0 where
+  pub made : Outcome
+  pub of : Makes asked (inputs_at run.world (names_of asked)) made
+  pub fits : Fits (TellsMet run asked) (removes_files asked) made
+  pub left : IsLeft (tool_of asked) made run.outputs run.status
+
+ends_left : {run : Run} {asked : Settings} {task : Task} → IsTask asked task → task.work.clears ≡ removes_files asked → IsLiving task.work → Makes asked (inputs_at run.world (names_of asked)) (made_by task (inputs_at run.world (names_of asked)))
+    → (ends : EndsAs true true task (inputs_at run.world (names_of asked)) run.inputs run.outputs run.status) → IsUnstopped ends → LeftBy run asked
+ends_left {run} {asked} {task} of clears living makes (as_defined error reached says outputs swept done is) unstopped =
+    let found = inputs_at run.world (names_of asked) in record {
+      made = made_by task found;
+      of = makes;
+      fits = subst (λ clears. Fits (TellsMet run asked) clears (made_by task found)) clears (inputs_fit task true found (all_tell run asked task [] found [] of (sym (append-nil found))) living);
+      left = record { error = error; says = subst (λ which. SaysAll true which (made_by task found).messages standard_error error) (tool_is asked task of) says; swept = rw (slots_at outputs) at swept; is = is };
+    }
+ends_left of clears living makes ends unstopped = absurd unstopped
 
 does_left : (run : Run) (asked : Settings) (does : DoesAsked true true asked (inputs_at run.world (names_of asked)) run.inputs run.outputs run.status) → Unstopped asked (inputs_at run.world (names_of asked)) run.inputs run.outputs run.status does → LeftBy run asked
-does_left run (Head asked) does unstopped = ends_left (Makes (Head asked)) (head_living asked.delim asked.unit (is_minus asked.count.sign) asked.count.amount) refl does unstopped
-does_left run (Tail asked) does unstopped = ends_left (Makes (Tail asked)) (tail_living asked.ends.delim asked.ends.unit (is_plus asked.ends.count.sign) asked.ends.count.amount) refl does unstopped
-does_left run (Split asked) does unstopped = ends_left (Makes (Split asked)) (split_living (plan_of asked)) refl does unstopped
-does_left run (Csplit asked) does unstopped = ends_left (Makes (Csplit asked)) (csplit_living asked.style does.operands) (does.operands, does.asks, refl) does.ends unstopped
-does_left run (Tee asked) does unstopped =
-    record { made = tee_made asked does.content; of = (does.content, does.input, refl); fits = tee_fits asked does.content.bytes does.content.breaks_off; left = tee_left does.ends unstopped }
+does_left run (Head asked) does unstopped = ends_left {asked = Head asked} refl refl (head_living asked.delim asked.unit (is_minus asked.count.sign) asked.count.amount) refl does unstopped
+does_left run (Tail asked) does unstopped = ends_left {asked = Tail asked} refl refl (tail_living asked.ends.delim asked.ends.unit (is_plus asked.ends.count.sign) asked.ends.count.amount) refl does unstopped
+does_left run (Split asked) does unstopped = ends_left {asked = Split asked} refl refl (split_living (plan_of asked)) refl does unstopped
+does_left run (Csplit asked) does unstopped = ends_left {asked = Csplit asked} (does.operands, does.asks, refl) refl (csplit_living asked.style does.operands) (does.operands, does.asks, refl) does.ends unstopped
+does_left run (Tee asked) does unstopped = record {
+  made = tee_made asked does.content;
+  of = (does.content, does.input, refl);
+  fits = tee_fits asked does.content.bytes does.content.breaks_off
+      (λ breaks. (Read 0, codes "standard input", inr (broken_off (standard_input does.content) does.content ([], [], does.input) refl breaks (λ task of. absurd of)), refl));
+  left = tee_left does.ends unstopped;
+}
 
 pub completes_left : {run : Run} {asked : Settings} → Completes run asked → LeftBy run asked
 completes_left {run} {asked} whole = does_left run asked whole.does whole.unstopped
@@ -533,12 +580,13 @@ pub leave_alike : (one other : Run) (asked : Settings) → Completes one asked �
 leave_alike one other asked whole whole_too same =
     let here = completes_left whole in
     let there = completes_left whole_too in
-    let two = rw (same_made one other whole.read whole_too.read same here.of there.of) at there.left in record {
+    let is = same_made one other whole.read whole_too.read same here.of there.of in
+    let two = rw is at there.left in record {
       status = here.left.is ∙ sym two.is;
       count = swept_count here.made.sweeps _ _ here.left.swept ∙ sym (swept_count here.made.sweeps _ _ two.swept);
       outputs = λ place differs.
           let a = left_at here.left place differs in
           let b = left_at two place differs in
           record { name = a.name ∙ sym b.name; mode = a.mode ∙ sym b.mode; written = a.written ∙ sym b.written; left = λ sound sound_too. a.left sound ∙ sym (b.left sound_too) };
-      said = (here.made.messages, left_says here.fits here.left, left_says here.fits two);
+      said = (here.made.messages, left_says here.fits here.left, left_says (rw is at there.fits) two);
     }

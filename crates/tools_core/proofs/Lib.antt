@@ -7,3 +7,4 @@ pub mod PromiseLemmas
 pub mod SplitPromises
 pub mod CsplitPromises
 pub mod FollowPromises
+pub mod BesidePromises

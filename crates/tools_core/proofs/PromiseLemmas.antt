@@ -114,25 +114,24 @@ is_copied {asked} {input} does has =
       files = rw (ap (drop 2) whole ∙ copies_are asked.mode input asked.names) (record { named = copies_named asked.mode input asked.names; each = All-map (λ (file : Slot). IsSound asked.mode file × (file.written ≡ input)) (copy asked.mode input) asked.names (λ k name within. ((refl, refl, refl), refl)) });
     }
 
--- the outputs have beginnings of what is made of the input
-abbrev BeginsMade : Settings → Input → List Slot → Type 0
-BeginsMade asked input new = (made : Outcome) × Makes asked (input ∷ []) made × ((place : ℕ) → (place ≡ 1 → ⊥) → BeginsAs (slot_at new place) (slot_at (slots_of made.part) place))
+-- the outputs have beginnings of what is made of the inputs
+abbrev BeginsMade : Settings → List Input → List Slot → Type 0
+BeginsMade asked inputs new = (made : Outcome) × Makes asked inputs made × ((place : ℕ) → (place ≡ 1 → ⊥) → BeginsAs (slot_at new place) (slot_at (slots_of made.part) place))
 
-begins_made : (asked : Settings) (input : Input) {bytes : List ℕ} (sources : List Source) (new : List Slot) (status : ℕ) → CanRun asked → input.content ≡ Some (ending bytes) → DoesAsked true true asked (input ∷ []) sources new status → BeginsMade asked input new
-begins_made (Head asked) input sources new status can is does = (_, refl, λ place differs. begins_whole is (lawful_grows (head_lawful _ _ _ _)) differs does)
-begins_made (Tail asked) input sources new status can is does = (_, refl, λ place differs. begins_whole is (lawful_grows (tail_lawful _ _ _ _)) differs does)
-begins_made (Split asked) input sources new status can is does = (_, refl, λ place differs. begins_whole is (split_grows asked.delim asked.cut asked.elide (naming_of asked) can.named) differs does)
-begins_made (Csplit asked) input sources new status can is does = (_, (does.operands, does.asks, refl), λ place differs. begins_whole is (lawful_grows (csplit_law.lawful asked.style does.operands)) differs does.ends)
-begins_made (Tee asked) input sources new status can is does = (_, (does.content, does.input, refl), λ place differs. tee_begins place differs does.ends)
+begins_made : (asked : Settings) (inputs : List Input) (sources : List Source) (new : List Slot) (status : ℕ) → CanRun asked → DoesAsked true true asked inputs sources new status → BeginsMade asked inputs new
+begins_made (Head asked) inputs sources new status can does = (_, refl, λ place differs. begins_whole (lawful_grows (head_lawful _ _ _ _)) differs does)
+begins_made (Tail asked) inputs sources new status can does = (_, refl, λ place differs. begins_whole (lawful_grows (tail_lawful _ _ _ _)) differs does)
+begins_made (Split asked) inputs sources new status can does = (_, refl, λ place differs. begins_whole (split_grows asked.delim asked.cut asked.elide (naming_of asked) can.named) differs does)
+begins_made (Csplit asked) inputs sources new status can does = (_, (does.operands, does.asks, refl), λ place differs. begins_whole (lawful_grows (csplit_law.lawful asked.style does.operands)) differs does.ends)
+begins_made (Tee asked) inputs sources new status can does = (_, (does.content, does.input, refl), λ place differs. tee_begins place differs does.ends)
 
-pub begins_each : (run well : Run) (asked : Settings) (input : List ℕ) → Ran run asked → Completes well asked → FindAlike run well → HasInput run input → BeginsEach run well
-begins_each run well asked input ran whole same has =
-    let one = has_one ran has in
+pub begins_each : (run well : Run) (asked : Settings) → Ran run asked → Completes well asked → FindAlike run well → BeginsEach run well
+begins_each run well asked ran whole same =
     let all = completes_left whole in
-    elim (rw one.only at (ran_over ran)) [
+    elim (ran_over ran) [
       | inl does ↦ λ place differs.
-          let (made, makes, begins) = begins_made asked one.input run.inputs run.outputs run.status (can_run run.words ran.read) one.content does in
-          let same_too = same_made run well ran.read whole.read same (subst (λ inputs. Makes asked inputs made) (sym one.only) makes) all.of in
+          let (made, makes, begins) = begins_made asked _ run.inputs run.outputs run.status (can_run run.words ran.read) does in
+          let same_too = same_made run well ran.read whole.read same makes all.of in
           begins_kept (left_at all.left place differs) (subst (λ (those : Outcome). BeginsAs (slot_at run.outputs place) (slot_at (slots_of those.part) place)) (sym same_too) (begins place differs))
       | inr (fault, bad, refuses) ↦ λ place differs. still_begins place refuses.slots (bare_begins refuses.error place differs)
     ]

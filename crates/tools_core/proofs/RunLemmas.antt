@@ -1,5 +1,4 @@
 -- How a run ends, by its words.
-use Rattle.std.proofs.lemmas.Grind.{common_steps}
 use Rattle.std.proofs.Common.{◌≡◌, ℕ, List, [], ◌∷◌, Option, Some, None, option_map, Result, Ok, Err, refl, sym, ◌∙◌, ap, Bool, true, false, length, map, Bor, inl, inr, codes, arith, rules}
 use Rattle.ports_core.specs.declared.fault.Fault.{Fault}
 use Rattle.ports_core.specs.declared.tool.Tool.{Tool}
@@ -21,7 +20,7 @@ use Rattle.ports_core.specs.Text.{message_of}
 use Rattle.ports_core.specs.Message.{SaysAll}
 use Rattle.ports_core.specs.declared.fault.Fault.TheVariants.{Memory, Usage}
 use Rattle.ports_core.specs.declared.slot.Mode.{Mode}
-use Rattle.ports_core.specs.Inputs.{BreaksOnly, OfContent, empty}
+use Rattle.ports_core.specs.Inputs.{CameFrom, OfContent, empty}
 use Rattle.run_core.specs.Input.{Finds, standard_input}
 use Rattle.run_core.specs.RunEnds.{no_room, RunsOver}
 use Rattle.ports_core.specs.Streams.{standard_error}
@@ -91,16 +90,16 @@ finds_standard {laid} sources {content} there = record {
 }
 
 pub tee_runs : {told_in told : Bool} {laid : ℕ → List ℕ → Option Content} {asked : TeeAsked} {mode : Mode} {names : List (List ℕ)} (old : List Source) {sources : List Source} {new : List Slot} {status : ℕ} → mode ≡ asked.mode → names ≡ asked.names
-    → OfContent told_in (source_at old 0).left (λ content. TeeCopies told_in told mode names content (source_at sources 0) new status × BreaksOnly told_in content (source_at sources 0))
+    → OfContent told_in (source_at old 0).left (λ content. TeeCopies told_in told mode names content (source_at sources 0) new status × CameFrom told_in content (source_at sources 0))
     → (told_in ≡ true → status ≡ 0 → new ≡ all_copied told mode names (source_at old 0).left.bytes) → RunsOver told_in (world_of laid old) (codes "-" ∷ []) (λ found. TeeEndsAs told_in told asked found sources new status)
-tee_runs {told} {mode} {names} old mode_is names_is (content, there, (ends, breaks)) whole = (
+tee_runs {told} {mode} {names} old mode_is names_is (content, there, (ends, came)) whole = (
   standard_input content ∷ [],
   finds_standard old there,
   record {
     content = content;
     input = refl;
     ends = rw (mode_is, names_is) at ends;
-    breaks = breaks;
+    came = came;
     whole = λ t well. rw (mode_is, names_is) at (whole t well ∙ ap (λ (those : Content). all_copied told mode names those.bytes) (sym (there t)));
   },
 )
@@ -108,9 +107,13 @@ tee_runs {told} {mode} {names} old mode_is names_is (content, there, (ends, brea
 -- words that weren't read for want of memory, where they ask for this
 
 -- an input that wasn't read, whether it tells its bytes or not
-unread_source : (told : Bool) {sources : List Source} → IsFresh sources → OfContent told (source_at sources 0).left (λ content. IsUnread told content (source_at sources 0) × BreaksOnly told content (source_at sources 0))
-unread_source true {sources} fresh = grind (arith, common_steps)
-unread_source false fresh = (empty, λ t. absurd (false≢true t), ((fresh.standard, ap (λ those. source_at those 0) fresh.only, λ t. absurd (false≢true t)), λ untold breaks. absurd (false≢true breaks)))
+unread_source : (told : Bool) {sources : List Source} → IsFresh sources → OfContent told (source_at sources 0).left (λ content. IsUnread told content (source_at sources 0) × CameFrom told content (source_at sources 0))
+unread_source true {sources} fresh =
+    let unread = ap (λ those. source_at those 0) fresh.only in
+    ((source_at sources 0).left, λ t. refl, ((fresh.standard, unread, λ t. sym (ap (λ (source : Source). source.left) unread)), record { was_open = ap (λ (source : Source). source.is_open) unread; breaks = λ off. absurd (false≢true (sym off)) }))
+unread_source false fresh =
+    let unread = ap (λ those. source_at those 0) fresh.only in
+    (empty, λ t. absurd (false≢true t), ((fresh.standard, unread, λ t. absurd (false≢true t)), record { was_open = ap (λ (source : Source). source.is_open) unread; breaks = λ off. sym (ap (λ (source : Source). source.is_broken) unread) }))
 
 -- want of memory is one of the faults of operands
 pub lacks_memory : (asked : CsplitAsked) → HasBadOperand asked Memory
@@ -144,10 +147,10 @@ module _ (told_in told : Bool) (words : List (List ℕ)) (laid : ℕ → List �
   unread_for (Err fault) is refuses = ([], record { are = refl; there = λ t. refl }, (refl, refused_memory words fault refuses))
   unread_for (Ok (Csplit asked)) is refuses = operands_refused (Csplit asked) Memory (lacks_memory asked) refuses
   unread_for (Ok (Tee asked)) is refuses =
-      let (content, there, (unread, breaks)) = unread_source told_in fresh in (
+      let (content, there, (unread, came)) = unread_source told_in fresh in (
         standard_input content ∷ [],
         finds_standard sources there,
-        inl (record { content = content; input = refl; ends = copies.no_room refuses.error (says_as words is refuses) unread refuses.slots refuses.failed; breaks = breaks; whole = λ t well. absurd (omega (arith, well, refuses.failed)) }),
+        inl (record { content = content; input = refl; ends = copies.no_room refuses.error (says_as words is refuses) unread refuses.slots refuses.failed; came = came; whole = λ t well. absurd (omega (arith, well, refuses.failed)) }),
       )
   unread_for (Ok settings) is refuses =
       let (found, finds, untouched) = none_touched fresh in (found, finds, inl (no_room refuses.error (says_as words is refuses) refuses.slots untouched (ap length fresh.only) refuses.failed))

@@ -14,12 +14,9 @@ use Rattle.ports_core.specs.Swept.{Swept}
 use Rattle.ports_core.specs.Text.{message_of}
 use Rattle.ports_core.specs.Work.{Needs, Work}
 use Rattle.ports_core.specs.declared.fault.Fault.{Fault}
-use Rattle.ports_core.specs.declared.fault.Fault.TheVariants.{Memory, Write, Open, TooLong}
+use Rattle.ports_core.specs.declared.fault.Fault.TheVariants.{Memory, Write, Open, Read, TooLong}
 use Rattle.ports_core.specs.declared.slot.Mode.{Mode}
-use Rattle.ports_core.specs.declared.slot.State.{State}
 use Rattle.ports_core.specs.declared.slot.State.TheVariants as state
-use Rattle.ports_core.specs.declared.tool.Tool.{Tool}
-use Rattle.ports_core.specs.declared.tool.Tool.TheVariants as tool
 use Rattle.run_core.specs.Feeding.{IsCall, Step, Stops, closes as ends_call, enough, feeds, opens, to_end}
 use Rattle.run_core.specs.Input.{inputs_at, standard_input}
 use Rattle.run_core.specs.RunEnds.{EndsAs, RunStep, as_defined, calling, no_room, stopped}
@@ -28,13 +25,14 @@ use Rattle.tee_core.specs.Run.{FilesLeft, IsRead, OutputLeft, are_sound, message
 use Rattle.tee_core.specs.Run as tee
 use Rattle.tee_core.proofs.EndLemmas.{sound_first}
 use Rattle.words_core.specs.Words.{HasBadOperands}
+use Rattle.words_core.specs.TeeAsked.{TeeAsked}
 use Rattle.words_core.specs.declared.settings.Settings.{Settings}
 use Rattle.words_core.specs.declared.settings.Settings.TheVariants.{Head, Tail, Split, Csplit, Tee}
 use Rattle.tools_core.specs.Outcome.{DoesAsked, word_of}
-use Rattle.tools_core.specs.Tasks.{is_minus, names_of, plan_of, tool_of}
-use Rattle.tools_core.specs.Promises.{BrokeAt, Completes, HasLong, IsCalled, IsCopied, IsGone, IsStopped, IsUnstopped, Ran, Run, SaysLines, SaysWhy, StopsRun, Unstopped, WhyBroken, failing, named, removes_files}
-use Rattle.tools_core.proofs.BeginLemmas.{IsMarked, marked_at, tee_lines, tee_says, unsound_broke}
-use Rattle.tools_core.proofs.LeftLemmas.{LeftBy, completes_left, left_at, left_says, ran_over, slots_at, some_left, swept_gone, swept_kept, AreLive, IsLiving, IsMessage, IsSoundAt, SaysLine, a_message, csplit_living, has_after, has_before, head_living, inputs_fit, live_begin, outputs_live, says_line, split_living, step_live, tail_living}
+use Rattle.tools_core.specs.Tasks.{is_minus, is_plus, names_of, plan_of, tool_of}
+use Rattle.tools_core.specs.Promises.{BrokeAt, Completes, HasLong, IsCalled, IsCopied, IsGone, IsStopped, IsTask, IsUnstopped, Ran, Run, SaysLines, SaysWhy, StopsRun, Tells, TellsMet, Unstopped, WhyBroken, broken_off, failing, named, removes_files}
+use Rattle.tools_core.proofs.BeginLemmas.{IsMarked, TellsOfInput, failing_stops, marked_at, tee_lines, tee_tells, unsound_broke}
+use Rattle.tools_core.proofs.LeftLemmas.{LeftBy, all_tell, completes_left, left_at, left_says, one_line, ran_over, slots_at, some_left, swept_gone, swept_kept, tool_is, AreLive, IsLiving, IsSoundAt, csplit_living, has_after, has_before, head_living, inputs_fit, live_begin, outputs_live, says_line, split_living, step_live, tail_living}
 use Rattle.tools_core.proofs.RunLemmas.{runs_as_named}
 
 -- What was read of an input is a beginning of it.
@@ -52,54 +50,6 @@ step_long : {task : Task} {most : ℕ} {so_far : Part} {header : List ℕ} {slot
 step_long (calling content call is leaves) long = (content, refl, call_long is long)
 step_long at long = search rules
 
-stops_run : (run : Run) (asked : Settings) (IsDue : List ℕ → Type 0) (step : Step) (clears : Bool) (place count : ℕ) (before reached : List Slot) (fault : Fault) → (2 ^ 63 ≤ length step.read → HasLong run asked) → 2 ≤ length before → IsAt fault 2 place count
-    → Stops step reached fault → Marks IsDue fault before reached → Swept clears 2 reached run.outputs → StopsRun run asked (output_named run.outputs fault) fault
-stops_run run asked IsDue step clears place count before reached (Write slot) long two from stops marks swept = (λ one. elim from [ inl is ↦ omega (arith, is, one) | inr is ↦ omega (arith, is, one) ], inl refl, (swept_kept clears reached run.outputs swept slot).still stops.2)
-stops_run run asked IsDue step clears place count before reached (Open slot) long two from stops (number, (name, kept, due, is, slots)) swept = (
-  λ one. omega (arith, number, two, one),
-  inl refl,
-  (swept_kept clears reached run.outputs swept slot).still
-      (ap (λ (output : Slot). output.is_broken) (ap (λ those. slot_at those slot) slots ∙ get_or_push before (unopened kept) no_slot slot (sym number))),
-)
-stops_run run asked IsDue step clears place count before reached Memory long two from stops marks swept = tt
-stops_run run asked IsDue step clears place count before reached TooLong long two from stops marks swept = long stops
-stops_run run asked IsDue step clears place count before reached fault long two from stops marks swept = absurd stops
-
--- Why an output is broken: it was told by its name, or the output was to be removed.
-
-abbrev IsToldOf : Tool → List Slot → ℕ → Type 0
-IsToldOf tool new place = (name : List ℕ) × IsCalled (slot_at new place) name × SaysLine tool (message_of tool (failing place (slot_at new place).state) name) (slot_at new 1)
-
-abbrev IsStuck : Bool → List Slot → ℕ → Type 0
-IsStuck clears new place = (clears ≡ true) × ((slot_at new place).state ≡ state.Closed) × ((other : ℕ) → 2 ≤ other → IsGone (slot_at new other))
-
--- the fault that stopped a run, and which outputs are broken
-record IsStop (which : Tool) (clears : Bool) (run : Run) (asked : Settings) : Type 0 where
-  pub failed : run.status ≡ 1
-  pub why : Fault
-  pub name : List ℕ
-  pub stops : StopsRun run asked name why
-  pub line : SaysLine which (message_of which why name) (slot_at run.outputs 1)
-  pub broke : (place : ℕ) → (place ≡ 1 → ⊥) → (slot_at run.outputs place).is_broken ≡ true → IsToldOf which run.outputs place ⊎ IsStuck clears run.outputs place
-
--- it stopped before anything was written
-
-streams_sound : (place : ℕ) (error : Slot) → (place ≡ 1 → ⊥) → (slot_at (streams_with error) place).is_broken ≡ false
-streams_sound (suc zero) error differs = absurd (differs refl)
-streams_sound place error differs = refl
-
-stop_early : {which : Tool} {clears : Bool} {run : Run} {asked : Settings} (fault : Fault) (name : List ℕ) {error : Slot} → StopsRun run asked name fault → SaysAll true which (message_of which fault name ∷ []) standard_error error → run.outputs ≡ streams_with error → run.status ≡ 1
-    → IsStop which clears run asked
-stop_early fault name {error} stops says slots is = record {
-  failed = is;
-  why = fault;
-  name = name;
-  stops = stops;
-  line = rw slots ([], [], record { are = a_message fault name; said = says });
-  broke = λ place differs broken.
-      absurd (false≢true (sym (streams_sound place error differs) ∙ sym (ap (λ those. (slot_at those place).is_broken) slots) ∙ broken));
-}
-
 -- Of a run over inputs: the output that the fault marked is the one that its line names.
 
 record IsBlamed (fault : Fault) (place : ℕ) (old new : Slot) : Type 0 where
@@ -111,42 +61,109 @@ blamed (Write slot) place before sound (here, there, is) = grind (arith, common_
 blamed (Open slot) place before sound (here, (kept, is)) = grind (arith, common_steps)
 blamed fault place before sound marked = absurd marked
 
+-- the output at its place
+marked_here : (IsDue : List ℕ → Type 0) (slot : ℕ) (before reached : List Slot) → (slot_at reached slot).is_broken ≡ true → IsSoundAt before slot → (fault : Fault) → Marks IsDue fault before reached → IsMarked fault slot before (slot_at reached slot)
+marked_here IsDue slot before reached broken sound fault marks = elim (marked_at IsDue fault before reached slot marks) [
+  | inl same ↦ absurd (false≢true (sym sound.0 ∙ sym (ap (λ (output : Slot). output.is_broken) same) ∙ broken))
+  | inr marked ↦ marked
+]
+
+broke_at : (run : Run) (IsDue : List ℕ → Type 0) (clears : Bool) (slot : ℕ) (before reached : List Slot) (fault : Fault) → (slot ≡ 1 → ⊥) → (slot_at reached slot).is_broken ≡ true → IsSoundAt before slot → Marks IsDue fault before reached → Swept clears 2 reached run.outputs
+    → BrokeAt run slot (slot_at run.outputs slot).name fault
+broke_at run IsDue clears slot before reached fault differs broken sound marks swept =
+    let kept = swept_kept clears reached run.outputs swept slot in
+    (differs, inl refl, kept.still broken, kept.fails slot ∙ (blamed fault slot before sound (marked_here IsDue slot before reached broken sound fault marks)).is)
+
+stops_run : (run : Run) (asked : Settings) (IsDue : List ℕ → Type 0) (step : Step) (clears : Bool) (place count : ℕ) (before reached : List Slot) (fault : Fault) → (2 ^ 63 ≤ length step.read → HasLong run asked) → ((slot : ℕ) → (slot ≡ 1 → ⊥) → IsSoundAt before slot) → 2 ≤ length before
+    → IsAt fault 2 place count → Stops step reached fault → Marks IsDue fault before reached → Swept clears 2 reached run.outputs → StopsRun run asked (output_named run.outputs fault) fault
+stops_run run asked IsDue step clears place count before reached (Write slot) long sound two from stops marks swept =
+    let differs : slot ≡ 1 → ⊥ = λ one. elim from [ inl is ↦ omega (arith, is, one) | inr is ↦ omega (arith, is, one) ] in broke_at run IsDue clears slot before reached (Write slot) differs stops.2 (sound slot differs) marks swept
+stops_run run asked IsDue step clears place count before reached (Open slot) long sound two from stops (number, (name, kept, due, is, slots)) swept =
+    let differs : slot ≡ 1 → ⊥ = λ one. omega (arith, number, two, one) in
+    broke_at run IsDue clears slot before reached (Open slot) differs
+    (ap (λ (output : Slot). output.is_broken) (ap (λ those. slot_at those slot) slots ∙ get_or_push before (unopened kept) no_slot slot (sym number)))
+    (sound slot differs) (number, (name, kept, due, is, slots)) swept
+stops_run run asked IsDue step clears place count before reached Memory long sound two from stops marks swept = tt
+stops_run run asked IsDue step clears place count before reached TooLong long sound two from stops marks swept = long stops
+stops_run run asked IsDue step clears place count before reached fault long sound two from stops marks swept = absurd stops
+
+-- Why an output is broken: it was told by its name, or the output was to be removed.
+
+abbrev IsToldOf : Run → Settings → ℕ → Type 0
+IsToldOf run asked place = (name : List ℕ) × IsCalled (slot_at run.outputs place) name × Tells run asked (failing place (slot_at run.outputs place).state) name
+
+abbrev IsStuck : Bool → List Slot → ℕ → Type 0
+IsStuck clears new place = (clears ≡ true) × ((slot_at new place).state ≡ state.Closed) × ((other : ℕ) → 2 ≤ other → IsGone (slot_at new other))
+
+-- the fault that stopped a run, and which outputs are broken
+record IsStop (clears : Bool) (run : Run) (asked : Settings) : Type 0 where
+  pub failed : run.status ≡ 1
+  pub why : Fault
+  pub name : List ℕ
+  pub stops : StopsRun run asked name why
+  pub line : Tells run asked why name
+  pub broke : (place : ℕ) → (place ≡ 1 → ⊥) → (slot_at run.outputs place).is_broken ≡ true → IsToldOf run asked place ⊎ IsStuck clears run.outputs place
+
+-- it stopped before anything was written
+
+streams_sound : (place : ℕ) (error : Slot) → (place ≡ 1 → ⊥) → (slot_at (streams_with error) place).is_broken ≡ false
+streams_sound (suc zero) error differs = absurd (differs refl)
+streams_sound place error differs = refl
+
+stop_early : {clears : Bool} {run : Run} {asked : Settings} (fault : Fault) (name : List ℕ) {error : Slot} → StopsRun run asked name fault → SaysAll true (tool_of asked) (message_of (tool_of asked) fault name ∷ []) standard_error error → run.outputs ≡ streams_with error → run.status ≡ 1
+    → IsStop clears run asked
+stop_early {run = run} {asked = asked} fault name {error} stops says slots is = record {
+  failed = is;
+  why = fault;
+  name = name;
+  stops = stops;
+  line = ([], [], record { are = one_line (TellsMet run asked) (message_of (tool_of asked) fault name) (fault, name, inl stops, refl); said = rw slots says });
+  broke = λ place differs broken.
+      absurd (false≢true (sym (streams_sound place error differs) ∙ sym (ap (λ those. (slot_at those place).is_broken) slots) ∙ broken));
+}
+
 -- Standard error stays the slot after the first.
 
 stopped_error : {output : Output} (clears : Bool) {error : Slot} {low high : Part} {fault : Fault} {reached : List Slot} (new : List Slot) → StoppedBetween output true (streams_with error) low high fault reached → Swept clears 2 reached new → slot_at new 1 ≡ error
 stopped_error clears {high = high} {fault} {reached} new between swept = grind (arith, common_steps)
 
-stopped_broke : {output : Output} {which : Tool} {clears : Bool} {error : Slot} {low high : Part} {fault : Fault} {reached : List Slot} (new : List Slot) (lines : List (List ℕ)) → AreLive high.files → StoppedBetween output true (streams_with error) low high fault reached → Swept clears 2 reached new
-    → SaysLines which (lines ++ message_of which fault (output_named new fault) ∷ []) (slot_at new 1) → (place : ℕ) → (place ≡ 1 → ⊥) → (slot_at new place).is_broken ≡ true → IsToldOf which new place ⊎ IsStuck clears new place
-stopped_broke {which = which} {clears} {error} {high} {fault} {reached} new lines live between swept says place differs broken =
+-- what was there before the fault is sound
+sound_before : {output : Output} {error : Slot} {low high : Part} {fault : Fault} {reached : List Slot} → AreLive high.files → (between : StoppedBetween output true (streams_with error) low high fault reached) → (place : ℕ) → (place ≡ 1 → ⊥) → IsSoundAt between.reached place
+sound_before {error} {high} live between place differs =
+    subst (λ slots. IsSoundAt slots place) (sym (slots_at between.outputs)) (outputs_live between.part error place (live_begin between.part.files high.files between.below.files live) differs)
+
+stopped_broke : {output : Output} {clears : Bool} {run : Run} (asked : Settings) {error : Slot} {low high : Part} {fault : Fault} {reached : List Slot} (lines : List (List ℕ)) → AreLive high.files → StoppedBetween output true (streams_with error) low high fault reached → Swept clears 2 reached run.outputs
+    → SaysLines run asked (lines ++ message_of (tool_of asked) fault (output_named run.outputs fault) ∷ []) → (place : ℕ) → (place ≡ 1 → ⊥) → (slot_at run.outputs place).is_broken ≡ true → IsToldOf run asked place ⊎ IsStuck clears run.outputs place
+stopped_broke {clears} {run} asked {error} {high} {fault} {reached} lines live between swept says place differs broken =
+    let new = run.outputs in
     let kept = swept_kept clears reached new swept place in
-    let sound = subst (λ slots. IsSoundAt slots place) (sym (slots_at between.outputs)) (outputs_live between.part error place (live_begin between.part.files high.files between.below.files live) differs) in
+    let sound = sound_before live between place differs in
     elim (cases_Bool (slot_at reached place).is_broken) [
       | inr was ↦ let (is, closed) = kept.broke was broken in inr (is, closed, swept_gone clears reached new is swept)
-      | inl was ↦ elim (marked_at (IsNext between.part high) fault between.reached reached place between.marks) [
-        | inl same ↦ absurd (false≢true (sym sound.0 ∙ sym (ap (λ (output : Slot). output.is_broken) same) ∙ was))
-        | inr marked ↦ let why = blamed fault place between.reached sound marked in
-            inl ((slot_at new place).name, inl refl, (lines, [], rw (ap (λ what. message_of which what (slot_at new place).name) (kept.fails place ∙ why.is) ∙ ap (message_of which fault) (why.named new)) says))
-      ]
+      | inl was ↦ let why = blamed fault place between.reached sound (marked_here (IsNext between.part high) place between.reached reached was sound fault between.marks) in
+          inl ((slot_at new place).name, inl refl, (lines, [], rw (ap (λ what. message_of (tool_of asked) what (slot_at new place).name) (kept.fails place ∙ why.is) ∙ ap (message_of (tool_of asked) fault) (why.named new)) says))
     ]
 
-ends_or : {run : Run} {asked : Settings} {task : Task} → IsLiving task.work → (ends : EndsAs true true task (inputs_at run.world (names_of asked)) run.inputs run.outputs run.status) → IsUnstopped ends ⊎ IsStop task.tool task.work.clears run asked
-ends_or living (as_defined error reached says outputs swept done is) = inl tt
-ends_or {run} {asked} {task} living (stopped fault before input after error step reached are done untouched at stops between swept says is) =
+ends_or : {run : Run} {asked : Settings} {task : Task} → IsTask asked task → IsLiving task.work → (ends : EndsAs true true task (inputs_at run.world (names_of asked)) run.inputs run.outputs run.status) → IsUnstopped ends ⊎ IsStop task.work.clears run asked
+ends_or of living (as_defined error reached says outputs swept done is) = inl tt
+ends_or {run} {asked} {task} of living (stopped fault before input after error step reached are done untouched at stops between swept says is) =
     let slots = ap length (slots_at between.outputs) in
     let lines = (made_by task before).messages in
-    let fits = inputs_fit task true before living in
-    let told : SaysLines task.tool (lines ++ message_of task.tool fault (output_named run.outputs fault) ∷ []) (slot_at run.outputs 1) =
-    record { are = All-append (IsMessage task.tool) lines _ fits.are (a_message fault _); said = rw (stopped_error task.work.clears run.outputs between swept) says } in inr (record {
+    let name = output_named run.outputs fault in
+    let fits = inputs_fit task true before (all_tell run asked task [] before (input ∷ after) of are) living in
+    let live = step_live living fits.live at in
+    let stop = stops_run run asked (IsNext between.part step.high) step task.work.clears between.place (length between.part.files) between.reached reached fault
+    (λ many. let (content, there, long) = step_long at many in (input, content, (before, after, are), there, long)) (sound_before live between) (omega (arith, slots)) between.from stops between.marks swept in
+    let told : SaysLines run asked (lines ++ message_of (tool_of asked) fault name ∷ []) =
+    record { are = All-append (TellsMet run asked) lines _ fits.are (one_line (TellsMet run asked) (message_of (tool_of asked) fault name) (fault, name, inl stop, refl)); said = rw (stopped_error task.work.clears run.outputs between swept) (subst (λ which. SaysAll true which (lines ++ message_of which fault name ∷ []) standard_error error) (tool_is asked task of) says) } in inr (record {
       failed = is;
       why = fault;
-      name = output_named run.outputs fault;
-      stops = stops_run run asked (IsNext between.part step.high) step task.work.clears between.place (length between.part.files) between.reached reached fault
-          (λ many. let (content, there, long) = step_long at many in (before, input, after, content, are, there, long)) (omega (arith, slots)) between.from stops between.marks swept;
+      name = name;
+      stops = stop;
       line = (lines, [], told);
-      broke = stopped_broke run.outputs lines (step_live living fits.live at) between swept told;
+      broke = stopped_broke asked lines live between swept told;
     })
-ends_or living (no_room error says slots untouched count is) = inr (stop_early Memory [] tt says slots is)
+ends_or {asked = asked} {task = task} of living (no_room error says slots untouched count is) = inr (stop_early Memory [] tt (subst (λ which. SaysAll true which (message_of which Memory [] ∷ []) standard_error error) (tool_is asked task of) says) slots is)
 
 -- `tee`
 
@@ -156,53 +173,59 @@ read_or Leaves left (tee.to_break x is breaks leaves) = inl (sym is)
 read_or Leaves left (tee.to_limit x piece rest is many within leaves) = let size = ap length is in let all = length-append (x ++ piece) rest in inr (refl, omega (arith, size, all, many))
 read_or Leaves left (tee.to_last_output x rest is leaves) = absurd (false≢true (sym left))
 
-failing_stops : (run : Run) (asked : Settings) {name : List ℕ} {place : ℕ} (which : State) → BrokeAt run place name → StopsRun run asked name (failing place which)
-failing_stops run asked state.Open broke = broke
-failing_stops run asked which broke = broke
-
-tee_stop : {run : Run} {asked : Settings} {mode : Mode} {pieces names : List (List ℕ)} {first : Option ℕ} {broke : List (Option ℕ)} {output error : Slot} {files : List Slot} (fault : Option Fault) → OutputLeft true pieces first output → FilesLeft true mode pieces names broke files
-    → SaysAll true tool.Tee (messages_of names (first ∷ broke) (length pieces) fault) standard_error error → run.outputs ≡ output ∷ error ∷ files → run.status ≡ 1 → (why : Fault) (name : List ℕ) → StopsRun run asked name why → SaysLine tool.Tee (message_of tool.Tee why name) error
-    → IsStop tool.Tee false run asked
-tee_stop fault left rest says slots failed why name stops line = record {
+tee_stop : {run : Run} {asked : TeeAsked} {mode : Mode} {pieces names : List (List ℕ)} {first : Option ℕ} {broke : List (Option ℕ)} {output error : Slot} {files : List Slot} (fault : Option Fault) → OutputLeft true pieces first output → FilesLeft true mode pieces names broke files
+    → SaysLines run (Tee asked) (messages_of names (first ∷ broke) (length pieces) fault) → run.outputs ≡ output ∷ error ∷ files → run.status ≡ 1 → (why : Fault) (name : List ℕ) → StopsRun run (Tee asked) name why → Tells run (Tee asked) why name
+    → IsStop false run (Tee asked)
+tee_stop {run} {asked} {error = error} fault left rest says slots failed why name stops line = record {
   failed = failed;
   why = why;
   name = name;
   stops = stops;
-  line = rw slots line;
-  broke = λ place differs broken. inl (rw slots (tee_says fault place left rest says differs (rw slots at broken)));
+  line = line;
+  broke = λ place differs broken. let (name, called, has) = tee_tells error fault place left rest differs (rw slots at broken) in
+      inl (subst (λ those. (name : List ℕ) × IsCalled (slot_at those place) name × Tells run (Tee asked) (failing place (slot_at those place).state) name) (sym slots) (name, called, says_line has says));
 }
 
-tee_by : {run : Run} {asked : Settings} {mode : Mode} {content : Content} (Leaves : List ℕ → Type 0) {is_vain : Bool} {pieces names : List (List ℕ)} {first : Option ℕ} {broke : List (Option ℕ)} {output error : Slot} {files : List Slot} (fault : Option Fault) (sound : Bool) → are_sound (first ∷ broke) ≡ sound
-    → (2 ^ 63 ≤ length content.bytes → HasLong run asked) → (first ≡ None → is_vain ≡ false) → IsRead content Leaves is_vain (concat pieces) fault → OutputLeft true pieces first output → FilesLeft true mode pieces names broke files
-    → SaysAll true tool.Tee (messages_of names (first ∷ broke) (length pieces) fault) standard_error error → run.outputs ≡ output ∷ error ∷ files → run.status ≡ cond (are_sound (first ∷ broke) && is_none fault) 0 1
-    → ((are_sound (first ∷ broke) ≡ true) × (concat pieces ≡ content.bytes)) ⊎ IsStop tool.Tee false run asked
+-- what is told of the input was met
+input_tells : (run : Run) (asked : TeeAsked) {content : Content} (Leaves : List ℕ → Type 0) {is_vain : Bool} {x : List ℕ} {fault : Option Fault} → inputs_at run.world (names_of (Tee asked)) ≡ standard_input content ∷ [] → IsRead content Leaves is_vain x fault → TellsOfInput (TellsMet run (Tee asked)) fault
+input_tells run asked Leaves only (tee.to_end x is ended leaves) = tt
+input_tells run asked {content} Leaves only (tee.to_break x is broke leaves) = (Read 0, codes "standard input", inr (broken_off (standard_input content) content ([], [], only) refl broke (λ task of. absurd of)), refl)
+input_tells run asked {content} Leaves only (tee.to_limit x piece rest is many within leaves) =
+    let size = ap length is in let all = length-append (x ++ piece) rest in
+    (TooLong, codes "standard input", inl (standard_input content, content, ([], [], only), refl, omega (arith, size, all, many)), refl)
+input_tells run asked Leaves only (tee.to_last_output x rest is leaves) = tt
+
+tee_by : {run : Run} {asked : TeeAsked} {mode : Mode} {content : Content} (Leaves : List ℕ → Type 0) {is_vain : Bool} {pieces names : List (List ℕ)} {first : Option ℕ} {broke : List (Option ℕ)} {output error : Slot} {files : List Slot} (fault : Option Fault) (sound : Bool) → are_sound (first ∷ broke) ≡ sound
+    → (2 ^ 63 ≤ length content.bytes → HasLong run (Tee asked)) → (first ≡ None → is_vain ≡ false) → IsRead content Leaves is_vain (concat pieces) fault → OutputLeft true pieces first output → FilesLeft true mode pieces names broke files
+    → SaysLines run (Tee asked) (messages_of names (first ∷ broke) (length pieces) fault) → run.outputs ≡ output ∷ error ∷ files → run.status ≡ cond (are_sound (first ∷ broke) && is_none fault) 0 1
+    → ((are_sound (first ∷ broke) ≡ true) × (concat pieces ≡ content.bytes)) ⊎ IsStop false run (Tee asked)
 tee_by {run} {asked} Leaves {output} {error} {files} fault false sound long vain reads left rest says slots is =
     let (place, differs, broken) = unsound_broke left rest sound in
-    let (name, called, line) = tee_says fault place left rest says differs broken in
+    let (name, called, has) = tee_tells error fault place left rest differs broken in
     inr (tee_stop fault left rest says slots (is ∙ ap (λ flag. cond (flag && is_none fault) 0 1) sound) (failing place (slot_at (output ∷ error ∷ files) place).state) name
-    (failing_stops run asked (slot_at (output ∷ error ∷ files) place).state (rw slots (differs, called, broken))) line)
+    (failing_stops run (Tee asked) (slot_at (output ∷ error ∷ files) place).state (rw slots (differs, called, broken, refl))) (says_line has says))
 tee_by Leaves {pieces} {names} {first} {broke} fault true sound long vain reads left rest says slots is = elim (read_or Leaves (vain (sound_first first (are_sound broke) sound).0) reads) [
   | inl all ↦ inl (sound, all)
   | inr (met, many) ↦ inr (tee_stop fault left rest says slots (is ∙ ap (λ flag. cond (flag && is_none fault) 0 1) sound ∙ ap (λ why. cond (is_none why) 0 1) met) TooLong (codes "standard input") (long many)
-      (says_line (has_before (said_in (suc (length pieces)) (output_names names) (first ∷ broke)) (has_after (said_before (suc (length pieces)) (output_names names) (first ∷ broke)) ([], [], refl)))
-      (tee_lines names (first ∷ broke) (length pieces) (Some TooLong) (rw met at says))))
+      (says_line (has_before (said_in (suc (length pieces)) (output_names names) (first ∷ broke)) (has_after (said_before (suc (length pieces)) (output_names names) (first ∷ broke)) ([], [], refl))) (rw met at says)))
 ]
 
-tee_or : {run : Run} {asked : Settings} {mode : Mode} {names : List (List ℕ)} {content : Content} {source : Source} → inputs_at run.world (names_of asked) ≡ standard_input content ∷ [] → (ends : tee.EndsAs true true mode names content source run.outputs run.status)
-    → IsCopied ends ⊎ IsStop tool.Tee false run asked
-tee_or {content} only (tee.copied pieces fault first broke output error files comes some left rest says slots is) =
-    tee_by _ fault (are_sound (first ∷ broke)) refl (λ many. ([], standard_input content, [], content, only, refl, many)) (λ none. some_left (suc (length pieces)) broke none) comes.read left rest says slots is
-tee_or only (tee.no_room error says unread slots is) = inr (stop_early Memory [] tt says slots is)
+tee_or : {run : Run} (asked : TeeAsked) {mode : Mode} {names : List (List ℕ)} {content : Content} {source : Source} → inputs_at run.world (names_of (Tee asked)) ≡ standard_input content ∷ [] → (ends : tee.EndsAs true true mode names content source run.outputs run.status)
+    → IsCopied ends ⊎ IsStop false run (Tee asked)
+tee_or {run} asked {content} only (tee.copied pieces fault first broke output error files comes some left rest says slots is) =
+    tee_by _ fault (are_sound (first ∷ broke)) refl (λ many. (standard_input content, content, ([], [], only), refl, many)) (λ none. some_left (suc (length pieces)) broke none) comes.read left rest
+    (tee_lines asked fault slots left rest (input_tells run asked _ only comes.read) says) slots is
+tee_or asked only (tee.no_room error says unread slots is) = inr (stop_early Memory [] tt says slots is)
 
 -- All tools
 
 does_or : {run : Run} (asked : Settings) (does : DoesAsked true true asked (inputs_at run.world (names_of asked)) run.inputs run.outputs run.status)
-    → Unstopped asked (inputs_at run.world (names_of asked)) run.inputs run.outputs run.status does ⊎ IsStop (tool_of asked) (removes_files asked) run asked
-does_or (Head asked) does = ends_or (head_living asked.delim asked.unit (is_minus asked.count.sign) asked.count.amount) does
-does_or (Tail asked) does = search (rules, ends_or, tail_living)
-does_or (Split asked) does = ends_or (split_living (plan_of asked)) does
-does_or (Csplit asked) does = ends_or (csplit_living asked.style does.operands) does.ends
-does_or (Tee asked) does = tee_or does.input does.ends
+    → Unstopped asked (inputs_at run.world (names_of asked)) run.inputs run.outputs run.status does ⊎ IsStop (removes_files asked) run asked
+does_or (Head asked) does = ends_or {asked = Head asked} refl (head_living asked.delim asked.unit (is_minus asked.count.sign) asked.count.amount) does
+does_or (Tail asked) does = ends_or {asked = Tail asked} refl (tail_living asked.ends.delim asked.ends.unit (is_plus asked.ends.count.sign) asked.ends.count.amount) does
+does_or (Split asked) does = ends_or {asked = Split asked} refl (split_living (plan_of asked)) does
+does_or (Csplit asked) does = ends_or {asked = Csplit asked} (does.operands, does.asks, refl) (csplit_living asked.style does.operands) does.ends
+does_or (Tee asked) does = tee_or asked does.input does.ends
 
 -- operands that are wrong
 
@@ -210,7 +233,7 @@ bad_stops : (run : Run) (asked : Settings) (fault : Fault) → HasBadOperands as
 bad_stops run (Csplit asked) fault bad = grind (arith, common_steps)
 bad_stops run asked fault bad = absurd bad
 
-ran_so : {run : Run} {asked : Settings} → Ran run asked → Completes run asked ⊎ IsStop (tool_of asked) (removes_files asked) run asked
+ran_so : {run : Run} {asked : Settings} → Ran run asked → Completes run asked ⊎ IsStop (removes_files asked) run asked
 ran_so {run} {asked} ran = elim (ran_over ran) [
   | inl does ↦ elim (does_or asked does) [
     | inl unstopped ↦ inl (record { read = ran.read; does = does; unstopped = unstopped })
@@ -229,8 +252,10 @@ has_failed false is one = cc
 
 pub says_why : (run : Run) (asked : Settings) → Ran run asked → run.status ≡ 1 → SaysWhy run asked
 says_why run asked ran one = elim (ran_so ran) [
-  | inl whole ↦ let all = completes_left whole in let (fault, name, has) = all.fits.tells (has_failed all.made.failed all.left.is one) in (fault, name, says_line has (left_says all.fits all.left))
-  | inr stop ↦ (stop.why, stop.name, stop.line)
+  | inl whole ↦
+      let all = completes_left whole in
+      let (line, (fault, name, met, is), has) = all.fits.tells (has_failed all.made.failed all.left.is one) in (fault, name, met, says_line (rw is at has) (left_says all.fits all.left))
+  | inr stop ↦ (stop.why, stop.name, inl stop.stops, stop.line)
 ]
 
 -- where no fault stopped the run, only files that were to be removed are broken
@@ -240,7 +265,7 @@ left_broke run asked {place} all differs broken =
     let (clears, failed) = all.fits.sweeps sweeps in
     (all.left.is ∙ ap (λ flag. cond flag 1 0) failed, (clears, closed, swept_gone all.made.sweeps _ _ sweeps all.left.swept))
 
-why_broken : {run : Run} {asked : Settings} {place : ℕ} → IsToldOf (tool_of asked) run.outputs place ⊎ IsStuck (removes_files asked) run.outputs place → WhyBroken run asked place
+why_broken : {run : Run} {asked : Settings} {place : ℕ} → IsToldOf run asked place ⊎ IsStuck (removes_files asked) run.outputs place → WhyBroken run asked place
 why_broken (inl (name, called, line)) = named name called line
 why_broken (inr (removes, closed, gone)) = search rules
 

@@ -10,7 +10,7 @@ use Rattle.ports_core.specs.declared.fault.Fault.{Fault}
 use Rattle.ports_core.specs.declared.fault.Fault.TheVariants.{Usage}
 use Rattle.operand_core.specs.declared.operand.Operand.{Operand}
 use Rattle.operand_core.specs.Reading.{Asks}
-use Rattle.ports_core.specs.Inputs.{BreaksOnly}
+use Rattle.ports_core.specs.Inputs.{CameFrom}
 use Rattle.run_core.specs.Input.{Input, standard_input}
 use Rattle.run_core.specs.RunEnds.{EndsAs}
 use Rattle.ports_core.specs.Streams.{standard_error, streams_with}
@@ -49,7 +49,7 @@ pub record TeeEndsAs (told_in told : Bool) (asked : TeeAsked) (inputs : List Inp
   pub content : Content
   pub input : inputs ≡ standard_input content ∷ []
   pub ends : TeeCopies told_in told asked.mode asked.names content (source_at sources 0) new status
-  pub breaks : BreaksOnly told_in content (source_at sources 0)
+  pub came : CameFrom told_in content (source_at sources 0)
   -- where nothing broke: standard output and every file have the input's bytes
   pub whole : told_in ≡ true → status ≡ 0 → new ≡ all_copied told asked.mode asked.names content.bytes
 

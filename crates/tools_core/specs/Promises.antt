@@ -13,6 +13,7 @@ use Rattle.ports_core.specs.Slot.{Slot, has_file, slot_at}
 use Rattle.ports_core.specs.Source.{Content, Source, source_of}
 use Rattle.ports_core.specs.Streams.{standard_error}
 use Rattle.ports_core.specs.Text.{message_of}
+use Rattle.ports_core.specs.Work.{Judges}
 use Rattle.ports_core.specs.declared.fault.Fault.{Fault}
 use Rattle.ports_core.specs.declared.fault.Fault.TheVariants as fault
 use Rattle.ports_core.specs.declared.slot.Mode.{Mode}
@@ -20,9 +21,9 @@ use Rattle.ports_core.specs.declared.slot.Mode.TheVariants.{Fresh}
 use Rattle.ports_core.specs.declared.slot.State.{State}
 use Rattle.ports_core.specs.declared.slot.State.TheVariants as state
 use Rattle.ports_core.specs.declared.slot.State.TheVariants.{Closed}
-use Rattle.ports_core.specs.declared.tool.Tool.{Tool}
 use Rattle.seg_core.specs.declared.count.Sign.{Sign}
 use Rattle.seg_core.specs.declared.unit.Unit.TheVariants.{Lines}
+use Rattle.operand_core.specs.Reading.{Asks}
 use Rattle.operand_core.specs.Style.{Style}
 use Rattle.operand_core.specs.declared.operand.Operand.{Operand}
 use Rattle.csplit_core.specs.Input.{all_lines}
@@ -31,6 +32,7 @@ use Rattle.csplit_core.specs.Output.{contents_of as contents_in, files_of as fil
 use Rattle.csplit_core.specs.Plan.{Step}
 use Rattle.csplit_core.specs.Planned.{Plan, plan}
 use Rattle.csplit_core.specs.Section.{lines_between, section_of, whole_end, whole_sections}
+use Rattle.run_core.specs.Feeding.{is_enough}
 use Rattle.run_core.specs.Input.{Input, World, inputs_at, is_dash}
 use Rattle.run_core.specs.RunEnds.{EndsAs, RunsOver, as_defined, no_room, stopped}
 use Rattle.run_core.specs.Task.{Task}
@@ -45,20 +47,31 @@ use Rattle.watch_core.specs.Snapshot.{Snapshot}
 use Rattle.watch_core.specs.Watched.{Watched}
 use Rattle.tools_core.specs.Following.{FollowingEnds}
 use Rattle.tools_core.specs.Outcome.{DoesAsked, RunEnds, names_read}
-use Rattle.tools_core.specs.Tasks.{has_headers, names_of, tool_of}
+use Rattle.tools_core.specs.Program.{ProgramEnds}
+use Rattle.tools_core.specs.Tasks.{csplit_task, has_headers, head_task, names_of, split_task, tail_task, tool_of}
 
--- One run: its words, what it found, and what it left. Where words ask `tail` to follow files, the program makes
--- another kind of run, a `FollowRun`.
+-- One run of the program: its words, what it found, and what it left.
 pub record Run : Type 0 where
   -- the first is the tool's name
   pub words : List (List ℕ)
   -- what standard input holds, and what lies at each name
   pub world : World
+  -- what each look would see, where words ask `tail` to follow files
+  pub shows : ℕ → Snapshot
   -- what is left of the inputs
   pub inputs : List Source
+  -- what the looks saw that were made, and the names as they are watched
+  pub seen : List Snapshot
+  pub watched : List Watched
   -- standard output, standard error, and then the files, in the order in which they were opened
   pub outputs : List Slot
   pub status : ℕ
+
+-- It began with standard input unread and no name watched, and it ended as `run_words` ensures, which the program calls.
+abbrev pub IsOfProgram : Run → Type 0
+IsOfProgram run =
+    ProgramEnds true true true run.words run.world.laid (source_of run.world.standard ∷ []) run.inputs run.shows
+    run.seen run.watched run.outputs run.status
 
 -- Its words are read as these settings, it began with standard input unread, and it ended as `run` ensures, whether it
 -- met a fault or not.
@@ -187,6 +200,7 @@ pub record AreLinePieces (delim n : ℕ) (input : List ℕ) (pieces : List (List
 -- n, or those that have a line, where the others are left out.
 pub record AreDealt (delim n : ℕ) (elide : Bool) (input : List ℕ) (contents : List (List ℕ)) : Type 0 where
   pub lines : (i : ℕ) → text_at (lines_of delim input) i ≡ text_at (lines_of delim (text_at contents (i % n))) (i / n)
+  -- each line has a place of its own in the files; these have no more bytes than the input, and so no others
   pub all : length (joined contents) ≡ length input
   pub count : elide ≡ false → length contents ≡ n
   pub left_out : elide ≡ true → All (λ bytes. 0 < length bytes) contents
@@ -249,21 +263,6 @@ abbrev pub BeginsEach : Run → Run → Type 0
 BeginsEach run other =
     (place : ℕ) → (place ≡ 1 → ⊥) → BeginsAs (slot_at run.outputs place) (slot_at other.outputs place)
 
--- Standard error got these lines of a tool, of which each tells some fault of some name: as far as it takes lines, and
--- where there was no memory for one, the line that says so stands in its place.
-pub record SaysLines (tool : Tool) (lines : List (List ℕ)) (error : Slot) : Type 0 where
-  pub are : All (λ line. (fault : Fault) × (name : List ℕ) × (line ≡ message_of tool fault name)) lines
-  pub said : SaysAll true tool lines standard_error error
-
--- the run told this fault of this name by a line on standard error, perhaps among others
-abbrev pub Tells : Run → Settings → Fault → List ℕ → Type 0
-Tells run asked fault name = (before : List (List ℕ)) × (after : List (List ℕ)) × SaysLines (tool_of asked)
-    (before ++ message_of (tool_of asked) fault name ∷ after) (slot_at run.outputs 1)
-
--- it says why it failed
-abbrev pub SaysWhy : Run → Settings → Type 0
-SaysWhy run asked = (fault : Fault) × (name : List ℕ) × Tells run asked fault name
-
 -- an output's name, which is lost where a file could not be opened and there was no memory to keep it
 abbrev pub IsCalled : Slot → List ℕ → Type 0
 IsCalled output name = (output.name ≡ name) ⊎ ((output.name ≡ []) × (output.state ≡ state.Unopened))
@@ -274,6 +273,88 @@ failing place state.Unopened = fault.Open place
 failing place state.Open = fault.Write place
 failing place state.Closed = fault.Write place
 failing place state.Removed = fault.Write place
+
+-- The output at this place, which isn't standard error, is broken, has this name, and could not be opened or written, as
+-- this fault says.
+abbrev pub BrokeAt : Run → ℕ → List ℕ → Fault → Type 0
+BrokeAt run place name fault = (place ≡ 1 → ⊥) × IsCalled (slot_at run.outputs place) name
+    × ((slot_at run.outputs place).is_broken ≡ true) × (failing place (slot_at run.outputs place).state ≡ fault)
+
+-- one of the inputs that the run found
+abbrev pub IsFound : Run → Settings → Input → Type 0
+IsFound run asked input = (before : List Input) × (after : List Input)
+    × (inputs_at run.world (names_of asked) ≡ before ++ input ∷ after)
+
+-- one of them has more bytes than any tool takes
+abbrev pub HasLong : Run → Settings → Type 0
+HasLong run asked = (input : Input) × (content : Content) × IsFound run asked input × (input.content ≡ Some content)
+    × (2 ^ 63 ≤ length content.bytes)
+
+-- A fault that stops a run, and the name that its line has: there was no memory, which nothing that is left could show;
+-- an input has more than any tool takes; operands of `csplit` are wrong, the first of them this word; or the output of
+-- this name broke. Where one of `tee` broke it went on with the others: that counts as well.
+abbrev pub StopsRun : Run → Settings → List ℕ → Fault → Type 0
+StopsRun run asked name fault.Memory = Unit {0}
+StopsRun run asked name fault.TooLong = HasLong run asked
+StopsRun run asked name (fault.Usage kind word) = HasBadOperands asked (fault.Usage kind word)
+    × (name ≡ text_at run.words word)
+StopsRun run asked name (fault.Write place) = BrokeAt run place name (fault.Write place)
+StopsRun run asked name (fault.Open place) = BrokeAt run place name (fault.Open place)
+StopsRun run asked name (fault.Read slot) = ⊥
+StopsRun run asked name fault.Suffixes = ⊥
+StopsRun run asked name (fault.NoMatch operand repetition) = ⊥
+StopsRun run asked name (fault.Range operand repetition) = ⊥
+StopsRun run asked name fault.Failed = ⊥
+
+-- what a tool does with each of its inputs; `tee` has no such task
+abbrev pub IsTask : Settings → Task → Type 0
+IsTask (Head asked) task = task ≡ head_task asked
+IsTask (Tail asked) task = task ≡ tail_task asked.ends
+IsTask (Split asked) task = task ≡ split_task asked
+IsTask (Csplit asked) task = (operands : List Operand) × Asks asked.operands operands
+    × (task ≡ csplit_task asked operands)
+IsTask (Tee asked) task = ⊥
+
+-- the tool has not enough of what an input gives before it breaks off, and `tee` never has
+abbrev pub WantsMore : Settings → Content → Type 0
+WantsMore asked content = (task : Task) → IsTask asked task → is_enough task.work content ≡ false
+
+-- A fault after which a run goes on, and the name that its line has: an input of this name is missing, or breaks off
+-- before the tool has enough of it; or the tool has, and its own work over that input ends with the fault, as where
+-- names run out or no line matches. The number of an input stands in no line.
+pub data GoesOnAfter (run : Run) (asked : Settings) : Fault → List ℕ → Type 0 where
+  missing : (input : Input) → IsFound run asked input → input.content ≡ None
+      → GoesOnAfter run asked (fault.Open 0) input.name
+  broken_off : (input : Input) (content : Content) → IsFound run asked input → input.content ≡ Some content
+      → content.breaks_off ≡ true → WantsMore asked content → GoesOnAfter run asked (fault.Read 0) input.name
+  judged : (input : Input) (content : Content) (task : Task) (why : Fault) → IsFound run asked input
+      → input.content ≡ Some content → IsTask asked task → is_enough task.work content ≡ true
+      → Judges task.work content.bytes why
+      → GoesOnAfter run asked why (task.subject why)
+
+-- a fault that the run met, and the name that its line has
+abbrev pub IsMet : Run → Settings → Fault → List ℕ → Type 0
+IsMet run asked fault name = StopsRun run asked name fault ⊎ GoesOnAfter run asked fault name
+
+-- the line that tells such a fault
+abbrev pub TellsMet : Run → Settings → List ℕ → Type 0
+TellsMet run asked line = (fault : Fault) × (name : List ℕ) × IsMet run asked fault name
+    × (line ≡ message_of (tool_of asked) fault name)
+
+-- Standard error got these lines, of which each tells a fault that the run met: as far as it takes lines, and where
+-- there was no memory for one, the line that says so stands in its place.
+pub record SaysLines (run : Run) (asked : Settings) (lines : List (List ℕ)) : Type 0 where
+  pub are : All (TellsMet run asked) lines
+  pub said : SaysAll true (tool_of asked) lines standard_error (slot_at run.outputs 1)
+
+-- the run told this fault by a line that has this name, perhaps among others
+abbrev pub Tells : Run → Settings → Fault → List ℕ → Type 0
+Tells run asked fault name = (before : List (List ℕ)) × (after : List (List ℕ))
+    × SaysLines run asked (before ++ message_of (tool_of asked) fault name ∷ after)
+
+-- it says why it failed: it told a fault that it met
+abbrev pub SaysWhy : Run → Settings → Type 0
+SaysWhy run asked = (fault : Fault) × (name : List ℕ) × IsMet run asked fault name × Tells run asked fault name
 
 -- its files are removed after a fault: those of a `csplit` that isn't to keep them
 abbrev pub removes_files : Settings → Bool
@@ -296,8 +377,9 @@ pub data WhyBroken (run : Run) (asked : Settings) (place : ℕ) : Type 0 where
   unremoved : removes_files asked ≡ true → (slot_at run.outputs place).state ≡ Closed
       → ((other : ℕ) → 2 ≤ other → IsGone (slot_at run.outputs other)) → WhyBroken run asked place
 
--- No fault stopped a run over its inputs. It went on where one was missing or broke off, and where the tool's own work
--- ended with a fault: no match, a line out of range, names that ran out. These are told, and its status is 1.
+-- A run over its inputs ended in the first of the three ways in which one can (`EndsAs`): it did all that it had to do,
+-- and no fault stopped it. It went on where an input was missing or broke off, and where the tool's own work ended with a
+-- fault: no match, a line out of range, names that ran out. These are told, and its status is 1.
 abbrev pub IsUnstopped : {told_in told : Bool} {task : Task} {inputs : List Input} {sources : List Source}
     {new : List Slot} {status : ℕ} → EndsAs told_in told task inputs sources new status → Type 0
 IsUnstopped (as_defined error reached says outputs swept done is) = Unit {0}
@@ -327,32 +409,6 @@ pub record Completes (run : Run) (asked : Settings) : Type 0 where
   pub does : DoesAsked true true asked (inputs_at run.world (names_of asked)) run.inputs run.outputs run.status
   pub unstopped : Unstopped asked (inputs_at run.world (names_of asked)) run.inputs run.outputs run.status does
 
--- one of the inputs that the run found has more bytes than any tool takes
-abbrev pub HasLong : Run → Settings → Type 0
-HasLong run asked = (before : List Input) × (input : Input) × (after : List Input) × (content : Content)
-    × (inputs_at run.world (names_of asked) ≡ before ++ input ∷ after) × (input.content ≡ Some content)
-    × (2 ^ 63 ≤ length content.bytes)
-
--- the output at this place, which isn't standard error, broke, and has this name
-abbrev pub BrokeAt : Run → ℕ → List ℕ → Type 0
-BrokeAt run place name = (place ≡ 1 → ⊥) × IsCalled (slot_at run.outputs place) name
-    × ((slot_at run.outputs place).is_broken ≡ true)
-
--- A fault that stops a run, and the name that its line has: there was no memory; an input has more than any tool takes;
--- operands of `csplit` are wrong, the first of them this word; or the output of this name broke.
-abbrev pub StopsRun : Run → Settings → List ℕ → Fault → Type 0
-StopsRun run asked name fault.Memory = Unit {0}
-StopsRun run asked name fault.TooLong = HasLong run asked
-StopsRun run asked name (fault.Usage kind word) = HasBadOperands asked (fault.Usage kind word)
-    × (name ≡ text_at run.words word)
-StopsRun run asked name (fault.Write place) = BrokeAt run place name
-StopsRun run asked name (fault.Open place) = BrokeAt run place name
-StopsRun run asked name (fault.Read slot) = ⊥
-StopsRun run asked name fault.Suffixes = ⊥
-StopsRun run asked name (fault.NoMatch operand repetition) = ⊥
-StopsRun run asked name (fault.Range operand repetition) = ⊥
-StopsRun run asked name fault.Failed = ⊥
-
 -- Such a fault stopped the run, which told it; or, of `tee`, an output broke: it went on with the others, and no more
 -- is said here of that run.
 pub record IsStopped (run : Run) (asked : Settings) : Type 0 where
@@ -372,8 +428,7 @@ pub record IsAlike (output other : Slot) : Type 0 where
 
 -- two runs said the same lines on standard error, as far as that took them in each
 abbrev pub SayAlike : Settings → Run → Run → Type 0
-SayAlike asked one other = (lines : List (List ℕ)) × SaysLines (tool_of asked) lines (slot_at one.outputs 1)
-    × SaysLines (tool_of asked) lines (slot_at other.outputs 1)
+SayAlike asked one other = (lines : List (List ℕ)) × SaysLines one asked lines × SaysLines other asked lines
 
 -- two runs left the same status, as many outputs, the same in each, and said the same
 pub record LeaveAlike (asked : Settings) (one other : Run) : Type 0 where
@@ -382,22 +437,17 @@ pub record LeaveAlike (asked : Settings) (one other : Run) : Type 0 where
   pub outputs : (place : ℕ) → (place ≡ 1 → ⊥) → IsAlike (slot_at one.outputs place) (slot_at other.outputs place)
   pub said : SayAlike asked one other
 
--- one run of `tail` that follows: its words, in how many looks, what each look would see, and what it left
-pub record FollowRun : Type 0 where
-  pub words : List (List ℕ)
-  pub count : ℕ
-  pub shows : ℕ → Snapshot
-  -- what the looks that were made saw, and the names as they are watched
-  pub seen : List Snapshot
-  pub watched : List Watched
-  pub outputs : List Slot
-  pub status : ℕ
+-- its words ask `tail` to follow files so, in this many looks
+abbrev pub AsksToFollow : Run → EndsAsked → Followed → (looks : ℕ) → Type 0
+AsksToFollow run options followed looks =
+    settings_of run.words ≡ Ok (Tail (record { ends = options; followed = Some followed; looks = looks }))
 
--- it followed what its words ask for, ended as `run_follow` ensures, and met no fault
-pub record Follows (run : FollowRun) (options : EndsAsked) (followed : Followed) : Type 0 where
+-- It followed what its words ask for, in as many looks as its caller asks for, ended as `run_follow` ensures, and met no
+-- fault. The program asks for as many looks as its words do.
+pub record Follows (run : Run) (count : ℕ) (options : EndsAsked) (followed : Followed) : Type 0 where
   pub looks : ℕ
-  pub read : settings_of run.words ≡ Ok (Tail (record { ends = options; followed = Some followed; looks = looks }))
-  pub ends : FollowingEnds true true run.words run.count run.shows run.seen run.watched run.outputs run.status
+  pub read : AsksToFollow run options followed looks
+  pub ends : FollowingEnds true true run.words count run.shows run.seen run.watched run.outputs run.status
   pub well : run.status ≡ 0
 
 -- at each of the first `count` looks the name leads to this file, which has all that it had at the look before, and

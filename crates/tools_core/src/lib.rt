@@ -13,5 +13,5 @@ pub use follow::run_follow;
 pub use program::run_words;
 pub use promises::{
     csplit_loses_nothing, cutting_changes_nothing, faults_leave_a_beginning, head_and_tail_meet,
-    split_loses_nothing, tail_follows, tee_copies,
+    program_makes_these_runs, split_loses_nothing, tail_follows, tee_copies,
 };

@@ -1,26 +1,36 @@
 //! What people rest on, as laws of runs, with no code: each stands on the contract of a function whose body is empty. They
-//! speak of runs over inputs and outputs that tell their bytes, as those in memory do, and of what `run` ensures of each; where
-//! nothing else is said, of runs whose status is 0.
-ghost use Rattle.std.specs.Prelude.{◌≡◌, ◌<◌, ◌⊎◌, ◌+◌, ◌++◌, ◌∷◌, [], ℕ, List, true, false, length};
+//! speak of runs over inputs and outputs that tell their bytes, as those in memory do, and of what `run` and `run_follow` ensure of
+//! each; where nothing else is said, of runs whose status is 0. Each run of the program, `run_words`, is one of these.
+ghost use Rattle.std.specs.Prelude.{◌≡◌, ◌<◌, ◌⊎◌, ◌+◌, ◌++◌, ◌∷◌, [], ℕ, List, Ok, true, false, length};
 ghost use Rattle.ends_core.specs.Ends.{tail_of};
 ghost use Rattle.follow_core.specs.Run.{AreKept, name_text};
 ghost use Rattle.follow_core.specs.Version.{entries_of};
 ghost use Rattle.ports_core.specs.Slot.{slot_at};
+ghost use Rattle.ports_core.specs.Source.{source_of};
 ghost use Rattle.seg_core.specs.Line.{joined, line_count};
 ghost use Rattle.seg_core.specs.declared.count.Sign.TheVariants.{Minus, Plain, Plus};
 ghost use Rattle.seg_core.specs.declared.cut.Cut.TheVariants.{Bytes, LineBytes, Lines, Round};
 ghost use Rattle.operand_core.specs.Reading.{Asks};
 ghost use Rattle.operand_core.specs.declared.operand.Operand.{Operand};
 ghost use Rattle.tools_core.specs.Following.{is_name};
-ghost use Rattle.tools_core.specs.Promises.{AreCopies, AreDealt, AreLinePieces, AreListed, AreNumbered, ArePieces, AreSections, AreUncut, BeginsEach, Completes, CountAlike, Does, FindAlike, FollowRun, Follows, HasInput, IsBare, IsHead, IsStopped, IsTail, SaysWhy, LeaveAlike, OnlyGrows, Ran, Run, SkipNothing, WhyBroken, contents_of, files_of, output_of};
+ghost use Rattle.tools_core.specs.Promises.{AreCopies, AreDealt, AreLinePieces, AreListed, AreNumbered, ArePieces, AreSections, AreUncut, BeginsEach, Completes, CountAlike, Does, AsksToFollow, FindAlike, Follows, HasInput, HasLong, IsBare, IsHead, IsOfProgram, IsStopped, IsTail, SaysWhy, LeaveAlike, OnlyGrows, Ran, Run, SkipNothing, WhyBroken, contents_of, files_of, output_of};
 ghost use Rattle.tools_core.specs.Tasks.{is_plus};
 ghost use Rattle.words_core.specs.CsplitAsked.{CsplitAsked};
 ghost use Rattle.words_core.specs.EndsAsked.{EndsAsked};
 ghost use Rattle.words_core.specs.SplitAsked.{SplitAsked};
 ghost use Rattle.words_core.specs.TeeAsked.{TeeAsked};
+ghost use Rattle.words_core.specs.Words.{HasOperands, follows, settings_of};
 ghost use Rattle.words_core.specs.declared.settings.Settings.{Settings};
 ghost use Rattle.words_core.specs.declared.settings.Settings.TheVariants.{Csplit, Split, Tee};
 ghost use Rattle.words_core.specs.declared.value.Followed.{Followed};
+
+/// The program makes runs of two kinds, and these laws speak of both. Where the words of a run of `run_words` ask for nothing to
+/// be followed, it ended as `run` ensures, and no file was watched. Where they ask `tail` to follow files, it ended as `run_follow`
+/// ensures, in as many looks as the words ask for, and no input was opened or read.
+pub fn program_makes_these_runs()
+    ensures runs { (run : Run) (asked : Settings) → IsOfProgram run → settings_of run.words ≡ Ok asked → follows asked ≡ false → Ran run asked × (run.seen ≡ []) × (run.watched ≡ []) }
+    ensures followed { (run : Run) (options : EndsAsked) (followed : Followed) (looks : ℕ) → IsOfProgram run → AsksToFollow run options followed looks → run.status ≡ 0 → Follows run looks options followed × (run.inputs ≡ source_of run.world.standard ∷ []) }
+{}
 
 /// Of one input, the first N lines and all from the line after them on, written one after another, are the input:
 /// `head -n N` and then `tail -n +M`, where M is N + 1. So are all but the last N and the last N: `head -n -N` and then
@@ -76,13 +86,15 @@ pub fn csplit_loses_nothing()
     ensures sections { (csplit : Run) (asked : CsplitAsked) (input : List ℕ) → Does csplit (Csplit asked) → HasInput csplit input → (operands : List Operand) × Asks asked.operands operands × AreSections asked.style operands input (contents_of csplit) }
 {}
 
-/// Nothing after a fault but a beginning. Over one input that ends, whatever else a run met, standard output and each file have
-/// a beginning of what they have after a run that no fault stopped, which is asked for the same, over the same input. A run
-/// whose status is 1 told a fault, as far as standard error takes lines. So it did where standard output or a file broke: that
-/// it can't be written, or not be opened, is told by its name. That a file of `csplit` couldn't be removed need not be told,
-/// nor then what broke it before; each other file of that run is gone, or broken too.
+/// Nothing after a fault but a beginning. Whatever a run met over its inputs, standard output and each file have a beginning of
+/// what they have after a run that no fault stopped, which is asked for the same, over the same inputs. There is such a run,
+/// unless operands of `csplit` are wrong or an input has more than any tool takes. A run whose status is 1 told a fault that it
+/// met, as far as standard error takes lines, and each line tells one. So it did where standard output or a file broke: that it
+/// can't be written, or not be opened, is told by its name. That a file of `csplit` couldn't be removed need not be told, nor
+/// then what broke it before; each other file of that run is gone, or broken too.
 pub fn faults_leave_a_beginning()
-    ensures begins { (run well : Run) (asked : Settings) (input : List ℕ) → Ran run asked → Completes well asked → FindAlike run well → HasInput run input → BeginsEach run well }
+    ensures begins { (run well : Run) (asked : Settings) → Ran run asked → Completes well asked → FindAlike run well → BeginsEach run well }
+    ensures beside { (run : Run) (asked : Settings) → Ran run asked → HasOperands asked → (HasLong run asked → ⊥) → (well : Run) × FindAlike run well × Completes well asked }
     ensures says { (run : Run) (asked : Settings) → Ran run asked → run.status ≡ 1 → SaysWhy run asked }
     ensures broken { (run : Run) (asked : Settings) (place : ℕ) → Ran run asked → (place ≡ 1 → ⊥) → (slot_at run.outputs place).is_broken ≡ true → (run.status ≡ 1) × WhyBroken run asked place }
 {}
@@ -94,9 +106,9 @@ pub fn faults_leave_a_beginning()
 /// which it only grew, and from the second stretch on all that it came to have. What the file is at looks that were not made is
 /// no matter.
 pub fn tail_follows()
-    ensures grows { (run : FollowRun) (options : EndsAsked) (followed : Followed) (name came : List ℕ) (file n : ℕ) → Follows run options followed → IsBare options → options.names ≡ name ∷ [] → run.count ≡ n + 1 → OnlyGrows (length run.seen) run.shows name file
+    ensures grows { (run : Run) (options : EndsAsked) (followed : Followed) (name came : List ℕ) (file n : ℕ) → Follows run (n + 1) options followed → IsBare options → options.names ≡ name ∷ [] → OnlyGrows (length run.seen) run.shows name file
         → (run.shows n).holds file ≡ (run.shows 0).holds file ++ came
         → (slot_at run.outputs 0).written ≡ tail_of options.delim options.unit (is_plus options.count.sign) options.count.amount ((run.shows 0).holds file) ++ came }
-    ensures text { (run : FollowRun) (options : EndsAsked) (followed : Followed) (name : List ℕ) → Follows run options followed → IsBare options → options.names ≡ name ∷ [] → AreKept (entries_of (is_name followed) name run.seen)
+    ensures text { (run : Run) (count : ℕ) (options : EndsAsked) (followed : Followed) (name : List ℕ) → Follows run count options followed → IsBare options → options.names ≡ name ∷ [] → AreKept (entries_of (is_name followed) name run.seen)
         → (slot_at run.outputs 0).written ≡ name_text (tail_of options.delim options.unit (is_plus options.count.sign) options.count.amount) (entries_of (is_name followed) name run.seen) }
 {}

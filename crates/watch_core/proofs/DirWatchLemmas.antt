@@ -1,9 +1,9 @@
 -- A watch over real files, where one of its names changes.
-use Rattle.std.proofs.Common.{◌≡◌, ℕ, Bool, false, IsTrue, List, ap, get_or, set, is_some}
+use Rattle.std.proofs.Common.{◌≡◌, ℕ, zero, suc, refl, replicate, Bool, false, IsTrue, List, ap, get_or, set, is_some}
 use Rattle.std.proofs.lemmas.Bool.{false≢true}
 use Rattle.ports_core.specs.Slot.{changed_at}
-use Rattle.watch_core.specs.Snapshot.{Snapshot}
-use Rattle.watch_core.specs.Watched.{Watched, Reopens, is_watchable, opens}
+use Rattle.watch_core.specs.Snapshot.{Snapshot, Finding, Found, latest, no_files, opens_as}
+use Rattle.watch_core.specs.Watched.{Watched, Reopens, watched_at, is_watchable, opens}
 use Rattle.watch_core.specs.DirWatchState.{DirWatchState}
 use Rattle.watch_core.proofs.NameLemmas.{name_changes, names_within}
 
@@ -13,12 +13,20 @@ one_changes {watch} {names} turns place change {item} {new} is can at changed =
     let those : names ≡ watch.watched = ap (λ (all : DirWatchState). all.watched) is in
     name_changes names watch.watched place change item new those (names_within names watch.watched place those can) at changed
 
+-- any call may have found anything
+pub finds_any : (n : ℕ) (name : List ℕ) (finding : Finding) → Found (latest (replicate n no_files)) name finding
+finds_any zero name finding = refl
+finds_any (suc zero) name finding = refl
+finds_any (suc (suc n)) name finding = finds_any (suc n) name finding
+
 -- what was opened is not told
 pub opened_some : {watch : DirWatchState} {snapshot : Snapshot} {names : List Watched} (turns : ℕ) {place : ℕ} {item new : Watched} {is_there : Bool} → record { turns = turns; watched = names } ≡ watch → IsTrue (is_watchable watch.watched place)
-    → item ≡ get_or names place item → new ≡ opens new.opened item → is_some new.opened ≡ is_there → Reopens false snapshot watch.watched (set names place new) place is_there
-opened_some {names} turns {place} {new} is can at changed found = record {
+    → item ≡ get_or names place item → new ≡ opens new.opened item → is_some new.opened ≡ is_there → Found snapshot (watched_at watch.watched place).name (opens_as new.opened)
+    → Reopens false snapshot watch.watched (set names place new) place is_there
+opened_some {names} turns {place} {new} is can at changed found finding = record {
   file = new.opened;
   found = found;
   names = one_changes turns place (opens new.opened) is can at changed;
   leads = λ told. absurd (false≢true told);
+  opens = finding;
 }

@@ -1,6 +1,6 @@
 -- Files under edits. Of a name that leads nowhere only a replacement does anything, and it makes a file that was not
 -- there before. A file to which no name leads any more keeps what it holds.
-use Rattle.std.specs.Prelude.{ℕ, List, [], ◌∷◌, ◌++◌, length, map, take, Option, Some, None, slice_index_or, bytes_eq, if◌then◌else◌}
+use Rattle.std.specs.Prelude.{ℕ, true, List, [], ◌∷◌, ◌++◌, length, map, take, Option, Some, None, slice_index_or, bytes_eq, if◌then◌else◌}
 use Rattle.ports_core.specs.Slot.{changed_at}
 use Rattle.watch_core.specs.Snapshot.{Snapshot}
 
@@ -54,7 +54,11 @@ edited_by (edit ∷ edits) world = edited_by edits (edited edit world)
 
 -- what a look sees of these files
 abbrev pub seen_in : World → Snapshot
-seen_in world = record { leads = led_to world.links; holds = held_in world.files }
+seen_in world = record {
+  leads = led_to world.links;
+  holds = held_in world.files;
+  finds = λ name finding. true;
+}
 
 -- the files at each look, where a look comes after each of these lists of edits
 abbrev pub worlds_from : World → List (List Edit) → List World

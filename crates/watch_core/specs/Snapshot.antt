@@ -1,14 +1,31 @@
 -- What one look can see: which file each name leads to, and what each file holds.
-use Rattle.std.specs.Prelude.{ℕ, List, [], ◌∷◌, Option, None}
+use Rattle.std.specs.Prelude.{◌≡◌, ℕ, Bool, true, List, [], ◌∷◌, Option, None}
+
+-- what a call on a name finds
+pub data Finding : Type 0 where
+  -- the name leads to this file, or nowhere
+  leads_to : Option ℕ → Finding
+  -- this file was opened, or there was none
+  opens_as : Option ℕ → Finding
+  -- the open file, which is this one, holds so many bytes
+  holds_many : Option ℕ → ℕ → Finding
+  -- a read of it from a place on gave these bytes
+  reads_as : Option ℕ → ℕ → List ℕ → Finding
 
 pub record Snapshot : Type 0 where
   -- the file that a name leads to, by its identity
   pub leads : List ℕ → Option ℕ
   -- what a file holds; one to which no name leads any more still holds it
   pub holds : ℕ → List ℕ
+  -- A call on this name can find this. Of any watch it is known of what its calls found, and of nothing else.
+  pub finds : List ℕ → Finding → Bool
 
 abbrev pub no_files : Snapshot
-no_files = record { leads = λ name. None; holds = λ file. [] }
+no_files = record { leads = λ name. None; holds = λ file. []; finds = λ name finding. true }
+
+-- a call on this name found this
+abbrev pub Found : Snapshot → List ℕ → Finding → Type 0
+Found snapshot name finding = snapshot.finds name finding ≡ true
 
 -- the snapshot of the last look
 abbrev pub latest : List Snapshot → Snapshot

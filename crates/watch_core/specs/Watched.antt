@@ -1,22 +1,22 @@
--- The names that are watched: which file of each is open, and by which fault it broke.
+-- The names that are watched: which file of each is open, and by which call it broke.
 use Rattle.std.specs.Prelude.{is_none, is_some, ◌≡◌, ℕ, Bool, true, false, ◌&&◌, List, [], Option, Some, None, length, drop, option_map, slice_index_or}
-use Rattle.ports_core.specs.declared.fault.Fault.{Fault}
-use Rattle.ports_core.specs.declared.fault.Fault.TheVariants.{Failed}
 use Rattle.ports_core.specs.Slot.{changed_at}
 use Rattle.ports_core.specs.Source.{Gave}
-use Rattle.watch_core.specs.Snapshot.{Snapshot}
+use Rattle.watch_core.specs.Snapshot.{Snapshot, Found, opens_as}
+use Rattle.watch_core.specs.declared.watch.Broken.{Broken}
+use Rattle.watch_core.specs.declared.watch.Broken.TheVariants as broken
 use Rattle.watch_core.specs.declared.watch.Seen.{Seen}
 
 pub record Watched : Type 0 where
   pub name : List ℕ
   -- the file that is open, by its identity
   pub opened : Option ℕ
-  -- the fault of the call by which it broke, if it did: of one that looks or opens, or of one that reads
-  pub failed : Option Fault
+  -- the call by which it broke, if it did: its first one that failed
+  pub failed : Option Broken
 
 -- what stands at a place where no name was added
 abbrev pub no_name : Watched
-no_name = record { name = []; opened = None; failed = Some Failed }
+no_name = record { name = []; opened = None; failed = Some broken.Look }
 
 abbrev pub watched_at : List Watched → ℕ → Watched
 watched_at names place = slice_index_or names place no_name
@@ -29,9 +29,9 @@ added name = record { name = name; opened = None; failed = None }
 abbrev pub opens : Option ℕ → Watched → Watched
 opens file watched = record watched { opened = file }
 
--- it broke by this fault
-abbrev pub breaks : Fault → Watched → Watched
-breaks fault watched = record watched { failed = Some fault }
+-- it broke by a call, while this file was open, which is closed
+abbrev pub breaks : (Option ℕ → Broken) → Watched → Watched
+breaks how watched = record watched { opened = None; failed = Some (how watched.opened) }
 
 -- there is such a name, and it is not broken
 abbrev pub is_watchable : List Watched → ℕ → Bool
@@ -63,6 +63,7 @@ pub record Reopens (told : Bool) (snapshot : Snapshot) (old new : List Watched) 
   pub found : is_some file ≡ is_there
   pub names : new ≡ changed_at place (opens file) old
   pub leads : told ≡ true → file ≡ snapshot.leads (watched_at old place).name
+  pub opens : Found snapshot (watched_at old place).name (opens_as file)
 
 -- a read from a place of the file on: it gave none only from its end on, or into no room
 abbrev pub GaveFrom : List ℕ → ℕ → List ℕ → List ℕ → ℕ → Type 0

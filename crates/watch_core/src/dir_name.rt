@@ -1,9 +1,9 @@
 ghost use Rattle.std.specs.Prelude.{◌≡◌, ◌≤◌, ◌<◌, ◌^◌, length, string_bytes, IfOk, OnOk, OnErr, IfSome, IfNone, OnSome, is_some};
 ghost use Rattle.watch_core.specs.Watched.{Watched, added, breaks, opens};
 
-use crate::Seen;
 use crate::dir_file::DirFile;
-use ports_core::{Fault, MOST_BYTES, id_of};
+use crate::{Broken, Seen};
+use ports_core::{MOST_BYTES, id_of};
 use std::alloc::{AllocError, Global};
 use std::fs::File;
 use std::io::ErrorKind;
@@ -19,8 +19,8 @@ pub(crate) struct DirName {
     opened: Option<u128>,
     /// The open file. None where none is open, and once the name is broken, so that the system has it back.
     file: Option<DirFile>,
-    /// The fault by which it broke.
-    failed: Option<Fault>,
+    /// The call by which it broke.
+    failed: Option<Broken>,
     /// A look found nothing, and changes weren't looked for since.
     is_gone: bool,
     /// What the name led to when a change was last looked for.
@@ -57,12 +57,11 @@ impl DirName {
         self.opened
     }
 
-    /// The file that the name leads to, which is watched at this place; none where it leads nowhere. Where that can't be told, the
-    /// name is broken.
-    pub(crate) fn look(&mut self, place: usize, files: &impl Files) -> io::Result<Option<Seen>>
+    /// The file that the name leads to; none where it leads nowhere. Where that can't be told, the name is broken.
+    pub(crate) fn look(&mut self, files: &impl Files) -> io::Result<Option<Seen>>
         ensures bound { IfOk result (λ found. IfSome found (λ file. file.len < 2 ^ 63)) }
         ensures same { OnOk result (self.new ≡ self.old) }
-        ensures broke { OnErr result (self.new ≡ breaks (Fault.Open place) self.old) }
+        ensures broke { OnErr result (self.new ≡ breaks (λ file. Broken.Look) self.old) }
     {
         match find(files, self.name.as_str()) {
             Ok(found) => {
@@ -70,7 +69,7 @@ impl DirName {
                 Ok(found)
             }
             Err(error) => {
-                self.break_off(Fault::Open(place));
+                self.break_off(Broken::Look);
                 Err(error)
             }
         }
@@ -81,13 +80,12 @@ impl DirName {
     /// there is none: a file that was made since is for the next look to find, which tells that it came.
     pub(crate) fn open(
         &mut self,
-        place: usize,
         alloc: Global,
         files: &impl Files<File = File>,
     ) -> io::Result<bool>
         ensures opened { OnOk result (self.new ≡ opens self.new.opened self.old) }
         ensures found { IfOk result (λ is_there. is_some self.new.opened ≡ is_there) }
-        ensures broke { OnErr result (self.new ≡ breaks (Fault.Open place) self.old) }
+        ensures broke { OnErr result (self.new ≡ breaks (λ file. Broken.Open) self.old) }
     {
         // It goes back to the system first, so that no two files of a name are open.
         self.file = None;
@@ -104,7 +102,7 @@ impl DirName {
                 Ok(false)
             }
             Err(error) => {
-                self.break_off(Fault::Open(place));
+                self.break_off(Broken::Open);
                 Err(error)
             }
         }
@@ -123,40 +121,41 @@ impl DirName {
     }
 
     /// How many bytes the open file holds. Where that can't be told, the name is broken.
-    pub(crate) fn len(&mut self, place: usize) -> Option<u64>
+    pub(crate) fn len(&mut self) -> Option<u64>
         ensures bound { IfSome result (λ len. len < 2 ^ 63) }
         ensures same { OnSome result (self.new ≡ self.old) }
-        ensures broke { IfNone result (self.new ≡ breaks (Fault.Read place) self.old) }
+        ensures broke { IfNone result (self.new ≡ breaks (λ file. Broken.Len file) self.old) }
     {
         if let Some(file) = &self.file {
             if let Some(len) = file.len() {
                 return Some(len);
             }
         }
-        self.break_off(Fault::Read(place));
+        self.break_off(Broken::Len(self.opened));
         None
     }
 
     /// Reads the open file once from a place on, and returns how many bytes that gave. Where it fails, the name is broken.
-    pub(crate) fn read_at(&mut self, place: usize, from: u64, buffer: &mut [u8]) -> Option<usize>
+    pub(crate) fn read_at(&mut self, from: u64, buffer: &mut [u8]) -> Option<usize>
         ensures bound { IfSome result (λ n. n ≤ length buffer.old) }
         ensures same { OnSome result (self.new ≡ self.old) }
-        ensures broke { IfNone result (self.new ≡ breaks (Fault.Read place) self.old) }
+        ensures broke { IfNone result (self.new ≡ breaks (λ file. Broken.Read file from) self.old) }
     {
         if let Some(file) = &self.file {
             if let Some(n) = file.read_at(from, buffer) {
                 return Some(n);
             }
         }
-        self.break_off(Fault::Read(place));
+        self.break_off(Broken::Read(self.opened, from));
         None
     }
 
-    fn break_off(&mut self, fault: Fault)
-        ensures { self.new ≡ breaks fault self.old }
+    fn break_off(&mut self, how: Broken)
+        ensures { self.new ≡ breaks (λ file. how) self.old }
     {
         self.file = None;
-        self.failed = Some(fault);
+        self.opened = None;
+        self.failed = Some(how);
     }
 
     /// Takes what comes next of the open file, where that is a stream, and returns whether that is any. What a look found before

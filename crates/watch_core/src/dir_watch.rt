@@ -150,14 +150,14 @@ impl<R: Files<File = File> + Clock + Drop> Watch for DirWatch<R> {
     }
 
     fn look(&mut self, place: usize) -> Result<Option<Seen>, Fault> {
-        let Ok(found) = self.names[place].look(place, &self.runtime) else {
+        let Ok(found) = self.names[place].look(&self.runtime) else {
             return Err(Fault::Open(place));
         };
         Ok(found)
     }
 
     fn reopen(&mut self, place: usize) -> Result<bool, Fault> {
-        let Ok(is_there) = self.names[place].open(place, self.alloc, &self.runtime) else {
+        let Ok(is_there) = self.names[place].open(self.alloc, &self.runtime) else {
             return Err(Fault::Open(place));
         };
         Ok(is_there)
@@ -171,14 +171,14 @@ impl<R: Files<File = File> + Clock + Drop> Watch for DirWatch<R> {
     }
 
     fn open_len(&mut self, place: usize) -> Result<u64, Fault> {
-        let Some(len) = self.names[place].len(place) else {
+        let Some(len) = self.names[place].len() else {
             return Err(Fault::Read(place));
         };
         Ok(len)
     }
 
     fn read_at(&mut self, place: usize, from: u64, buffer: &mut [u8]) -> Result<usize, Fault> {
-        let Some(n) = self.names[place].read_at(place, from, buffer) else {
+        let Some(n) = self.names[place].read_at(from, buffer) else {
             return Err(Fault::Read(place));
         };
         Ok(n)

@@ -7,4 +7,4 @@ mod dir_watch;
 mod watch;
 
 pub use dir_watch::DirWatch;
-pub use watch::{Seen, Watch};
+pub use watch::{Broken, Seen, Watch};

@@ -1,6 +1,6 @@
-ghost use Rattle.std.specs.Prelude.{◌≡◌, ◌≤◌, ◌<◌, ◌^◌, ◌++◌, ◌∷◌, [], ℕ, List, Bool, true, length, IfOk, IfErr, OnOk, IfSome, IsTrue};
+ghost use Rattle.std.specs.Prelude.{◌≡◌, ◌≤◌, ◌<◌, ◌^◌, ◌++◌, ◌∷◌, [], ℕ, List, Bool, true, length, option_map, take, IfOk, IfErr, OnOk, IfSome, IsTrue};
 ghost use Rattle.ports_core.specs.Slot.{changed_at};
-ghost use Rattle.watch_core.specs.Snapshot.{Snapshot, latest};
+ghost use Rattle.watch_core.specs.Snapshot.{Snapshot, Found, holds_many, latest, leads_to, reads_as};
 ghost use Rattle.watch_core.specs.Watched.{Watched, Reopens, Finds, GaveFrom, watched_at, added, breaks, is_watchable, is_readable, open_contents};
 
 use ports_core::Fault;
@@ -14,9 +14,22 @@ pub struct Seen {
     pub len: u64,
 }
 
+/// By which call a name broke.
+#[derive(Clone, Copy, Debug, PartialEq, Eq)]
+pub enum Broken {
+    /// `look`.
+    Look,
+    /// `reopen`.
+    Open,
+    /// `open_len`. Holds the identity of the open file.
+    Len(Option<u128>),
+    /// `read_at`. Holds the identity of the open file, and from which place on it was read.
+    Read(Option<u128>, u64),
+}
+
 /// Names that are watched in looks, each by its number, from 0 in the order in which they were added. What the names lead to and
 /// what the files hold changes only as a look begins, with `turn`. Of each name one file may be open, which stays what it is when
-/// the name comes to lead elsewhere. A name breaks at its first failure, by the fault that is returned, and stays broken.
+/// the name comes to lead elsewhere. A name breaks at its first call that fails, and stays broken: no file of it is open from then on.
 pub trait Watch {
     /// What each look so far could see, in order.
     ghost seen: { Self → List Snapshot };
@@ -27,7 +40,7 @@ pub trait Watch {
     /// The names that were added, in order.
     ghost watched: { Self → List Watched };
 
-    /// Whether the files tell their bytes. Where they don't, nothing is said of what is found and read.
+    /// Whether the files tell their bytes. Where they don't, nothing is said of what is found and read but that it was found.
     ghost told: { Bool };
 
     /// Begins a look over all names.
@@ -60,9 +73,10 @@ pub trait Watch {
     fn look(&mut self, place: usize) -> Result<Option<Seen>, Fault>
         requires { IsTrue (is_watchable (watched self.old) place) }
         ensures ok { IfOk result (λ found. told ≡ true → Finds (latest (seen self.old)) (watched_at (watched self.old) place).name found) }
+        ensures found { IfOk result (λ found. Found (latest (seen self.old)) (watched_at (watched self.old) place).name (leads_to (option_map (λ file. file.id) found))) }
         ensures bound { IfOk result (λ found. IfSome found (λ file. file.len < 2 ^ 63)) }
         ensures same { OnOk result (watched self.new ≡ watched self.old) }
-        ensures err { IfErr result (λ fault. (fault ≡ Fault.Open place) × (watched self.new ≡ changed_at place (breaks fault) (watched self.old))) }
+        ensures err { IfErr result (λ fault. (fault ≡ Fault.Open place) × (watched self.new ≡ changed_at place (breaks (λ file. Broken.Look)) (watched self.old))) }
         ensures seen { seen self.new ≡ seen self.old }
         ensures shows { shows self.new ≡ shows self.old };
 
@@ -75,7 +89,7 @@ pub trait Watch {
     fn reopen(&mut self, place: usize) -> Result<bool, Fault>
         requires { IsTrue (is_watchable (watched self.old) place) }
         ensures ok { IfOk result (Reopens told (latest (seen self.old)) (watched self.old) (watched self.new) place) }
-        ensures err { IfErr result (λ fault. (fault ≡ Fault.Open place) × (watched self.new ≡ changed_at place (breaks fault) (watched self.old))) }
+        ensures err { IfErr result (λ fault. (fault ≡ Fault.Open place) × (watched self.new ≡ changed_at place (breaks (λ file. Broken.Open)) (watched self.old))) }
         ensures seen { seen self.new ≡ seen self.old }
         ensures shows { shows self.new ≡ shows self.old };
 
@@ -91,9 +105,10 @@ pub trait Watch {
     fn open_len(&mut self, place: usize) -> Result<u64, Fault>
         requires { IsTrue (is_readable (watched self.old) place) }
         ensures ok { IfOk result (λ len. told ≡ true → len ≡ length (open_contents (latest (seen self.old)) (watched_at (watched self.old) place))) }
+        ensures found { IfOk result (λ len. Found (latest (seen self.old)) (watched_at (watched self.old) place).name (holds_many (watched_at (watched self.old) place).opened len)) }
         ensures bound { IfOk result (λ len. len < 2 ^ 63) }
         ensures same { OnOk result (watched self.new ≡ watched self.old) }
-        ensures err { IfErr result (λ fault. (fault ≡ Fault.Read place) × (watched self.new ≡ changed_at place (breaks fault) (watched self.old))) }
+        ensures err { IfErr result (λ fault. (fault ≡ Fault.Read place) × (watched self.new ≡ changed_at place (breaks (λ file. Broken.Len file)) (watched self.old))) }
         ensures seen { seen self.new ≡ seen self.old }
         ensures shows { shows self.new ≡ shows self.old };
 
@@ -107,9 +122,10 @@ pub trait Watch {
         requires { IsTrue (is_readable (watched self.old) place) }
         ensures bound { IfOk result (λ n. n ≤ length buffer.old) }
         ensures bytes { IfOk result (λ n. told ≡ true → GaveFrom (open_contents (latest (seen self.old)) (watched_at (watched self.old) place)) from buffer.old buffer.new n) }
+        ensures found { IfOk result (λ n. Found (latest (seen self.old)) (watched_at (watched self.old) place).name (reads_as (watched_at (watched self.old) place).opened from (take n buffer.new))) }
         ensures length { length buffer.new ≡ length buffer.old }
         ensures same { OnOk result (watched self.new ≡ watched self.old) }
-        ensures err { IfErr result (λ fault. (fault ≡ Fault.Read place) × (watched self.new ≡ changed_at place (breaks fault) (watched self.old))) }
+        ensures err { IfErr result (λ fault. (fault ≡ Fault.Read place) × (watched self.new ≡ changed_at place (breaks (λ file. Broken.Read file from)) (watched self.old))) }
         ensures seen { seen self.new ≡ seen self.old }
         ensures shows { shows self.new ≡ shows self.old };
 }

@@ -1,7 +1,8 @@
 pub mod CalledLemmas
 pub mod ChoiceLemmas
 pub mod CsplitLemmas
-pub mod LimitLemmas
+pub mod LetteredLemmas
+mod LimitLemmas
 pub mod MeaningLemmas
 pub mod SpellingLemmas
 pub mod ValueLemmas

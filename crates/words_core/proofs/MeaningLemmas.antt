@@ -2,8 +2,10 @@
 use Rattle.std.proofs.lemmas.Grind.{common_steps}
 use Rattle.std.proofs.Common.{◌≡◌, refl, ℕ, ◌==◌, ◌&&◌, ◌≤◌, arith, List, [], ◌∷◌, ◌++◌, Option, Some, None, Result, Ok, Err, IfOk, inl, inr, ◌⊎◌}
 use Rattle.std.specs.Prelude.{⊤}
-use Rattle.seg_core.specs.Count.{is_number}
+use Rattle.seg_core.specs.Count.{after_digits, is_number, leading_digits}
+use Rattle.seg_core.specs.declared.count.Count.{Count}
 use Rattle.ports_core.specs.declared.fault.Fault.{Fault}
+use Rattle.ports_core.specs.declared.fault.UsageKind.{UsageKind}
 use Rattle.words_core.specs.declared.table.Choice.{Choice}
 use Rattle.words_core.specs.declared.table.Kind.{Kind}
 use Rattle.words_core.specs.declared.table.Takes.{Takes}
@@ -12,8 +14,9 @@ use Rattle.words_core.specs.declared.spelling.State.{State}
 use Rattle.words_core.specs.declared.spelling.State.TheVariants.{First, Reading, Awaiting, OnlyOperands}
 use Rattle.words_core.specs.Table.{OptionRow}
 use Rattle.words_core.specs.Value.{Meant, Size, Files, Width}
-use Rattle.words_core.specs.Given.{GivenOption, GivenOperand, bare}
-use Rattle.words_core.specs.Spelling.{Meaning, before, valued, lettered, option_lettered, cluster, after_equals, named, dashed, mixed, meaning_of}
+use Rattle.words_core.specs.Given.{Given, GivenOption, GivenOperand, bare, joined}
+use Rattle.words_core.specs.Lettered.{counted_with, is_lettered, is_unit, letter_named, switched, switches, times, unit_in, with_letters}
+use Rattle.words_core.specs.Spelling.{Meaning, before, valued, lettered, option_lettered, cluster, after_equals, named, dashed, foremost, given_at, mixed, meaning_of}
 use Rattle.ports_core.specs.declared.fault.Fault.TheVariants.{Usage}
 use Rattle.words_core.proofs.SpellingLemmas.{either}
 
@@ -85,13 +88,34 @@ module _ (rows : List OptionRow) (place : ℕ) where
   cluster-gives [] = (tt, refl, tt)
   cluster-gives (letter ∷ rest) = lettered-gives rest (cluster rows place rest) (option_lettered rows letter) (cluster-gives rest)
 
-  named-gives : (option : Option (Choice × Takes)) (value : Option (List ℕ)) → GivesOptions place (named place option value)
-  named-gives None value = omega arith
-  named-gives (Some (choice, takes.Nothing)) (Some text) = omega arith
-  named-gives (Some (choice, takes.Value kind)) None = (tt, refl, omega arith)
-  named-gives (Some (choice, other)) None = ((tt, tt), refl, tt)
-  named-gives (Some (choice, takes.Value kind)) (Some text) = valued-gives choice kind place place text
-  named-gives (Some (choice, takes.Optional kind)) (Some text) = valued-gives choice kind place place text
+  named-gives : (option : Result (Choice × Takes) UsageKind) (value : Option (List ℕ)) → GivesOptions place (named place option value)
+  named-gives (Err fault) value = omega arith
+  named-gives (Ok (choice, takes.Nothing)) (Some text) = omega arith
+  named-gives (Ok (choice, takes.Value kind)) None = (tt, refl, omega arith)
+  named-gives (Ok (choice, other)) None = ((tt, tt), refl, tt)
+  named-gives (Ok (choice, takes.Value kind)) (Some text) = valued-gives choice kind place place text
+  named-gives (Ok (choice, takes.Optional kind)) (Some text) = valued-gives choice kind place place text
+
+  -- a number with letters
+
+  abbrev GivesSound : Given → Type 0
+  GivesSound given = AreSound given.options × (given.operands ≡ [])
+
+  switched-gives : (rest : Given) (option : Option (Choice × Takes)) → GivesSound rest → GivesSound (joined (switched place option) rest)
+  switched-gives rest None is = is
+  switched-gives rest (Some option) is = ((tt, is.0), is.1)
+
+  switches-give : (letters : List ℕ) → GivesSound (switches rows place letters)
+  switches-give [] = (tt, refl)
+  switches-give (letter ∷ letters) =
+      either GivesSound (is_unit letter) _ _ (switches-give letters) (switched-gives _ (letter_named rows letter) (switches-give letters))
+
+  counted-gives : (choice : Choice) (options : Given) (count : Result Count UsageKind) → GivesSound options → GivesOptions place (given_at place (counted_with choice place options count))
+  counted-gives choice options (Ok count) is = ((tt, is.0), is.1, tt)
+  counted-gives choice options (Err fault) is = omega arith
+
+  numbered-gives : (text : List ℕ) → GivesOptions place (given_at place (with_letters rows place text))
+  numbered-gives text = counted-gives (unit_in (after_digits text)).0 _ (times (leading_digits text) (unit_in (after_digits text)).1) (switches-give (after_digits text))
 
   dashed-gives : (rest : List ℕ) → GivesOptions place (dashed rows place rest)
   dashed-gives [] = (tt, refl, tt)
@@ -106,10 +130,13 @@ module _ (rows : List OptionRow) (place : ℕ) where
       (tt, inr refl, tt)
 
   pub meaning-gives : (state : State) (word : List ℕ) → GivesItself place word (meaning_of rows state place word)
-  meaning-gives (First choice kind) [] = (tt, inr refl, tt)
-  meaning-gives (First choice kind) (byte ∷ text) =
+  unfolding foremost
+  meaning-gives (First choice kind letters) [] = (tt, inr refl, tt)
+  meaning-gives (First choice kind letters) (byte ∷ text) =
       either (GivesItself place (byte ∷ text)) (byte == 45 && is_number text) _ _
-      (options_alone place (byte ∷ text) _ (valued-gives choice kind place place text)) (mixed-gives (byte ∷ text))
+      (options_alone place (byte ∷ text) _ (valued-gives choice kind place place text))
+      (either (GivesItself place (byte ∷ text)) (byte == 45 && is_lettered rows letters text) _ _
+      (options_alone place (byte ∷ text) _ (numbered-gives text)) (mixed-gives (byte ∷ text)))
   meaning-gives Reading word = mixed-gives word
   meaning-gives (Awaiting choice kind option) word = options_alone place word _ (valued-gives choice kind option place word)
   meaning-gives OnlyOperands word = (tt, inr refl, tt)

@@ -61,12 +61,12 @@ no_equals_in front none = grind (arith, common_steps, cond-true, eq-eqb, no_plac
 all_name : (front : List ℕ) → list_any is_equals front ≡ false → before_first is_equals front ≡ front
 all_name front none = rw (no_place front none, take-length front)
 
-by_its_name : (rows : List OptionRow) (place : ℕ) (word : List ℕ) {name : List ℕ} {option : Option (Choice × Takes)} {value : Option (List ℕ)} → before_first is_equals word ≡ name → after_equals word ≡ value → option_named rows name ≡ option
-    → long rows place word ≡ named place option value
+by_its_name : (rows : List OptionRow) (place : ℕ) (word : List ℕ) {name : List ℕ} {option : Choice × Takes} {value : Option (List ℕ)} → before_first is_equals word ≡ name → after_equals word ≡ value → option_named rows name ≡ Some option
+    → long rows place word ≡ named place (Ok option) value
 by_its_name rows place word front rest is = rw (rest, front, is)
 
 long_value : {rows : List OptionRow} (name : List ℕ) {choice : Choice} {kind : Kind} (value : List ℕ) (place : ℕ) → IsName rows name choice kind
-    → mixed rows place (45 ∷ 45 ∷ name ++ 61 ∷ value) ≡ named place (Some (choice, takes.Value kind)) (Some value)
+    → mixed rows place (45 ∷ 45 ∷ name ++ 61 ∷ value) ≡ named place (Ok (choice, takes.Value kind)) (Some value)
 long_value [] value place is = absurd (is.some refl)
 long_value {rows} (byte ∷ name) value place is =
     let front : List ℕ = 45 ∷ 45 ∷ byte ∷ name in

@@ -4,6 +4,7 @@ pub mod EndsAsked
 pub mod EndsWords
 pub mod Given
 pub mod Laws
+pub mod Lettered
 pub mod Spelling
 pub mod SplitAsked
 pub mod SplitWords

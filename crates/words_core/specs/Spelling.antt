@@ -9,12 +9,14 @@ use Rattle.ports_core.specs.declared.fault.UsageKind.{UsageKind}
 use Rattle.ports_core.specs.declared.fault.UsageKind.TheVariants.{UnknownOption, MissingValue, UnexpectedValue}
 use Rattle.words_core.specs.declared.table.Choice.{Choice}
 use Rattle.words_core.specs.declared.table.Kind.{Kind}
+use Rattle.words_core.specs.declared.table.Letters.{Letters}
 use Rattle.words_core.specs.declared.table.Takes.{Takes}
 use Rattle.words_core.specs.declared.table.Takes.TheVariants as takes
 use Rattle.words_core.specs.declared.spelling.State.{State}
 use Rattle.words_core.specs.declared.spelling.State.TheVariants.{First, Reading, Awaiting, OnlyOperands}
-use Rattle.words_core.specs.Table.{OptionRow, ToolRow, option_named}
+use Rattle.words_core.specs.Table.{OptionRow, ToolRow, option_called, option_named}
 use Rattle.words_core.specs.Value.{Meant, then_check, value_in}
+use Rattle.words_core.specs.Lettered.{is_lettered, with_letters}
 use Rattle.words_core.specs.Given.{Given, nothing, bare, one_option, one_operand, joined}
 
 -- what a word, or some of its letters, gives, and what it leaves to the next word
@@ -64,16 +66,16 @@ is_equals byte = byte == 61
 abbrev pub after_equals : List ℕ → Option (List ℕ)
 after_equals word = if position_or_len is_equals word == length word then None else Some (after_first is_equals word)
 
-abbrev pub named : ℕ → Option (Choice × Takes) → Option (List ℕ) → Result Meaning Fault
-named place None value = Err (Usage UnknownOption place)
-named place (Some (choice, takes.Nothing)) (Some text) = Err (Usage UnexpectedValue place)
-named place (Some (choice, takes.Value kind)) None = awaiting choice kind place
-named place (Some (choice, option)) None = reading (bare choice place)
-named place (Some (choice, takes.Value kind)) (Some text) = valued choice kind place place text
-named place (Some (choice, takes.Optional kind)) (Some text) = valued choice kind place place text
+abbrev pub named : ℕ → Result (Choice × Takes) UsageKind → Option (List ℕ) → Result Meaning Fault
+named place (Err fault) value = Err (Usage fault place)
+named place (Ok (choice, takes.Nothing)) (Some text) = Err (Usage UnexpectedValue place)
+named place (Ok (choice, takes.Value kind)) None = awaiting choice kind place
+named place (Ok (choice, option)) None = reading (bare choice place)
+named place (Ok (choice, takes.Value kind)) (Some text) = valued choice kind place place text
+named place (Ok (choice, takes.Optional kind)) (Some text) = valued choice kind place place text
 
 abbrev pub long : List OptionRow → ℕ → List ℕ → Result Meaning Fault
-long rows place word = named place (option_named rows (before_first is_equals word)) (after_equals word)
+long rows place word = named place (option_called rows (before_first is_equals word)) (after_equals word)
 
 -- A word where options and operands may stand: `--` ends the options, and a hyphen alone is an operand.
 
@@ -89,15 +91,21 @@ mixed rows place (byte ∷ next ∷ rest) =
     then (if next == 45 then dashed rows place rest else cluster rows place (next ∷ rest))
     else reading (one_operand (byte ∷ next ∷ rest) place)
 
--- the first word may be a hyphen and digits, which are the value of this option then
-abbrev pub foremost : List OptionRow → Choice → Kind → ℕ → List ℕ → Result Meaning Fault
-foremost rows choice kind place [] = mixed rows place []
-foremost rows choice kind place (byte ∷ text) =
-    if byte == 45 && is_number text then valued choice kind place place text else mixed rows place (byte ∷ text)
+abbrev pub given_at : ℕ → Result Given UsageKind → Result Meaning Fault
+given_at place (Ok given) = reading given
+given_at place (Err fault) = Err (Usage fault place)
+
+-- The first word may be a hyphen and digits, which are the value of this option then; letters may follow these.
+unfoldable pub foremost : List OptionRow → Choice → Kind → Letters → ℕ → List ℕ → Result Meaning Fault
+foremost rows choice kind letters place [] = mixed rows place []
+foremost rows choice kind letters place (byte ∷ text) =
+    if byte == 45 && is_number text then valued choice kind place place text
+    else (if byte == 45 && is_lettered rows letters text then given_at place (with_letters rows place text)
+    else mixed rows place (byte ∷ text))
 
 -- a word at this place; one that an option awaits is its value, whatever it begins with
 abbrev pub meaning_of : List OptionRow → State → ℕ → List ℕ → Result Meaning Fault
-meaning_of rows (First choice kind) place word = foremost rows choice kind place word
+meaning_of rows (First choice kind letters) place word = foremost rows choice kind letters place word
 meaning_of rows Reading place word = mixed rows place word
 meaning_of rows (Awaiting choice kind option) place word = valued choice kind option place word
 meaning_of rows OnlyOperands place word = Ok (record { given = one_operand word place; next = OnlyOperands })
@@ -119,9 +127,9 @@ spelled rows [] place state = ended state
 spelled rows (word ∷ words) place state = onward (spelled rows words (place + 1)) (meaning_of rows state place word)
 
 -- the words after a tool's name; they are counted from 1
-abbrev pub start_of : Option (Choice × Kind) → State
+abbrev pub start_of : Option (Choice × Kind × Letters) → State
 start_of None = Reading
-start_of (Some number) = First number.0 number.1
+start_of (Some number) = First number.0 number.1 number.2
 
 abbrev pub given_by : ToolRow → List (List ℕ) → Result Given Fault
 given_by tool words = spelled tool.options words 1 (start_of tool.number)

@@ -2,14 +2,19 @@
 -- coreutils manual, for `-q`, `-v`, `-z`, the `-c` of `head`, the `-C`, `-n`, `-d`, `-x`, `-e`, `-t` and
 -- `--additional-suffix` of `split`, the `--suppress-matched` of `csplit`, the `-F`, `--follow` and `--retry` of `tail`,
 -- and the long names; `--looks` is of these tools alone.
-use Rattle.std.specs.Prelude.{ℕ, Bool, true, false, List, [], ◌∷◌, ◌++◌, map, codes, Option, Some, None, if◌then◌else◌, bytes_eq}
+use Rattle.std.specs.Prelude.{ℕ, Bool, true, false, List, [], ◌∷◌, ◌++◌, map, filter, codes, Option, Some, None, Result, Ok, Err, if◌then◌else◌, eqb, bytes_eq}
+use Rattle.std.specs.List.{starts_with}
 use Rattle.std.specs.Borrow.{Bor}
+use Rattle.ports_core.specs.declared.fault.UsageKind.{UsageKind}
+use Rattle.ports_core.specs.declared.fault.UsageKind.TheVariants.{UnknownOption, AmbiguousOption}
 use Rattle.ports_core.specs.declared.tool.Tool.{Tool}
 use Rattle.ports_core.specs.declared.tool.Tool.TheVariants.{Head, Tail, Split, Csplit, Tee}
 use Rattle.words_core.specs.declared.table.Choice.{Choice}
 use Rattle.words_core.specs.declared.table.Choice.TheVariants.{Lines, Bytes, LineBytes, Files, Quiet, Verbose, SuffixLength, NumericSuffixes, HexSuffixes, ElideEmptyFiles, ZeroTerminated, Separator, AdditionalSuffix, Prefix, Digits, KeepFiles, SuppressMatched, Append, Follow, FollowNames, Retry, Looks}
 use Rattle.words_core.specs.declared.table.Kind.{Kind}
 use Rattle.words_core.specs.declared.table.Kind.TheVariants.{Count, Size, Round, Width, Text, Byte, Ending, Following, Looks as number_of_looks}
+use Rattle.words_core.specs.declared.table.Letters.{Letters}
+use Rattle.words_core.specs.declared.table.Letters.TheVariants.{Never, OfHead, OfTail}
 use Rattle.words_core.specs.declared.table.Takes.{Takes}
 use Rattle.words_core.specs.declared.table.Takes.TheVariants.{Nothing, Value, Optional}
 
@@ -19,12 +24,13 @@ pub record OptionRow : Type 0 where
   pub choice : Choice
   pub takes : Takes
 
--- a tool: its name, its options, and the option whose value a first word of a hyphen and digits gives
+-- a tool: its name, its options, the option whose value a first word of a hyphen and digits gives, and the letters that
+-- may follow these
 pub record ToolRow : Type 0 where
   pub name : List ℕ
   pub tool : Tool
   pub options : List OptionRow
-  pub number : Option (Choice × Kind)
+  pub number : Option (Choice × Kind × Letters)
 
 -- The table of the manuals. After its names an option has what it chooses and the kind of its value; `value_in` says
 -- what each kind means.
@@ -81,12 +87,13 @@ csplit_table =
 abbrev pub tee_table : List OptionRow
 tee_table = option (codes "-a" ∷ codes "--append" ∷ []) Append Nothing ∷ []
 
--- The tools. A hyphen and digits as the first word count lines for `head`, `tail` and `split`.
+-- The tools. A hyphen and digits as the first word count lines for `head`, `tail` and `split`; for the first two letters
+-- may follow.
 unfoldable pub tools : List ToolRow
 tools =
-    record { name = codes "head"; tool = Head; options = head_table; number = Some (Lines, Count) }
-    ∷ record { name = codes "tail"; tool = Tail; options = tail_table; number = Some (Lines, Count) }
-    ∷ record { name = codes "split"; tool = Split; options = split_table; number = Some (Lines, Size) }
+    record { name = codes "head"; tool = Head; options = head_table; number = Some (Lines, Count, OfHead) }
+    ∷ record { name = codes "tail"; tool = Tail; options = tail_table; number = Some (Lines, Count, OfTail) }
+    ∷ record { name = codes "split"; tool = Split; options = split_table; number = Some (Lines, Size, Never) }
     ∷ record { name = codes "csplit"; tool = Csplit; options = csplit_table; number = None }
     ∷ record { name = codes "tee"; tool = Tee; options = tee_table; number = None }
     ∷ []
@@ -97,7 +104,7 @@ abbrev pub row_seen : (Bor (List (Bor (List ℕ))) × Choice × Takes) → Optio
 row_seen row = record { names = map (λ name. name.now) row.0.now; choice = row.1; takes = row.2 }
 
 abbrev pub tool_seen : (Bor (List ℕ) × Tool × Bor (List (Bor (List (Bor (List ℕ))) × Choice × Takes))
-    × Option (Choice × Kind)) → ToolRow
+    × Option (Choice × Kind × Letters)) → ToolRow
 tool_seen row = record { name = row.0.now; tool = row.1; options = map row_seen row.2.now; number = row.3 }
 
 -- the tool of this name in a table
@@ -114,3 +121,28 @@ abbrev pub option_named : List OptionRow → List ℕ → Option (Choice × Take
 option_named [] name = None
 option_named (row ∷ rows) name = if is_among row.names name then Some (row.choice, row.takes)
     else option_named rows name
+
+-- A long name may be cut short, where all names that begin so are names of one option.
+
+-- whether one of these names begins so
+abbrev pub begins_one : List ℕ → List (List ℕ) → Bool
+begins_one start [] = false
+begins_one start (name ∷ names) = if starts_with eqb name start then true else begins_one start names
+
+-- the options of which a name begins so
+abbrev pub beginning : List ℕ → List OptionRow → List OptionRow
+beginning start rows = filter (λ row. begins_one start row.names) rows
+
+-- the only one of these options
+abbrev pub only_one : List OptionRow → Result (Choice × Takes) UsageKind
+only_one [] = Err UnknownOption
+only_one (row ∷ []) = Ok (row.choice, row.takes)
+only_one (row ∷ other ∷ rows) = Err AmbiguousOption
+
+abbrev pub full_or : {A E : Type 0} → Option A → Result A E → Result A E
+full_or (Some found) short = Ok found
+full_or None short = short
+
+-- the option of this long name, or else the only one of which a name begins so
+abbrev pub option_called : List OptionRow → List ℕ → Result (Choice × Takes) UsageKind
+option_called rows name = full_or (option_named rows name) (only_one (beginning name rows))

@@ -1,24 +1,26 @@
 //! Laws of what words spell and ask for, with no code: each stands on the contract of a function whose body is empty.
-ghost use Rattle.std.specs.Prelude.{◌≡◌, ◌≢◌, ◌↔◌, ◌+◌, ◌-◌, ◌^◌, ◌≤◌, ◌<◌, ◌++◌, ℕ, List, [], ◌∷◌, Option, Some, None, Result, Ok, Err, IsOk, true, false, length, filter, codes, if◌then◌else◌};
+ghost use Rattle.std.specs.Prelude.{◌≡◌, ◌≢◌, ◌↔◌, ◌+◌, ◌-◌, ◌^◌, ◌≤◌, ◌<◌, ◌++◌, ℕ, List, [], ◌∷◌, All, Option, Some, None, Result, Ok, Err, IsOk, true, false, length, filter, codes, if◌then◌else◌};
 ghost use Rattle.std.specs.List.{list_any};
 ghost use Rattle.ports_core.specs.declared.fault.UsageKind.{UsageKind};
-ghost use Rattle.ports_core.specs.declared.fault.UsageKind.TheVariants.{MissingValue, TwoWays};
+ghost use Rattle.ports_core.specs.declared.fault.UsageKind.TheVariants.{AmbiguousOption, MissingValue, TwoWays, UnknownOption};
 ghost use Rattle.words_core.specs.declared.spelling.State.TheVariants.{Reading};
 ghost use Rattle.seg_core.specs.Count.{count_of, digits_of, is_number};
 ghost use Rattle.words_core.specs.Given.{Given, GivenOption, bare, one_operand, one_option};
 ghost use Rattle.words_core.specs.CsplitWords.{style_of};
 ghost use Rattle.words_core.specs.Laws.{AreAmong, Gives, IsLetter, IsName, IsSwitch, amount_of, appends, as_operands, csplit_as, drops_sizes, elides_files, ends_as, ends_of, ends_with_zero, has, is_alphabet, is_count, is_digits, is_ending, is_headers, is_plain, is_prefix, is_separator, is_width, follow_of, following_as, is_following, is_looks, keeps_files, leaves_lines_out, retries, split_as, split_of, tail_as, plain_style};
-ghost use Rattle.words_core.specs.Spelling.{given_before, spelled};
+ghost use Rattle.words_core.specs.Lettered.{is_lettered};
+ghost use Rattle.words_core.specs.Spelling.{given_before, mixed, spelled};
 ghost use Rattle.words_core.specs.EndsWords.{ten_lines};
 ghost use Rattle.words_core.specs.SplitWords.{is_way, least_width, way_in, way_of};
-ghost use Rattle.words_core.specs.Table.{OptionRow};
+ghost use Rattle.words_core.specs.Table.{OptionRow, beginning, head_table, option_called, option_named, tail_table};
+ghost use Rattle.words_core.specs.declared.table.Letters.TheVariants.{OfHead, OfTail};
 ghost use Rattle.words_core.specs.TeeWords.{tee_asked};
 ghost use Rattle.words_core.specs.Value.{Meant, round_in, size_in, up_to, value_in};
 ghost use Rattle.words_core.specs.Words.{settings_of};
 
 use crate::settings::{Headers, Settings};
 use crate::spelling::State;
-use crate::table::{Choice, Kind};
+use crate::table::{Choice, Kind, Letters, Takes};
 use crate::value::Followed;
 use ports_core::{Alphabet, Fault, Mode};
 use seg_core::count::Count;
@@ -106,6 +108,15 @@ pub fn operands_follow_the_end()
         → spelled rows (codes "--" ∷ words) place Reading ≡ Ok (record { options = []; operands = as_operands (place + 1) words }) }
 {}
 
+/// A long name in full is never read as the beginning of another. Where one is cut short, every option of which a name begins
+/// so is the one that it stands for; where names of two begin so, that is told (GNU's long options).
+pub fn beginnings_are_of_one_option()
+    ensures full { (rows : List OptionRow) (name : List ℕ) (option : Choice × Takes) → option_named rows name ≡ Some option → option_called rows name ≡ Ok option }
+    ensures one { (rows : List OptionRow) (name : List ℕ) (option : Choice × Takes) → option_called rows name ≡ Ok option → option_named rows name ≡ None
+        → (beginning name rows ≢ []) × All (λ row. (row.choice, row.takes) ≡ option) (beginning name rows) }
+    ensures several { (rows : List OptionRow) (name : List ℕ) → option_called rows name ≡ Err AmbiguousOption → 2 ≤ length (beginning name rows) }
+{}
+
 /// The value of an option, where it isn't empty, is spelled in four ways: right after its letter or in the next word,
 /// and after its long name and `=` or in the next word. All four give the same option and value (POSIX.1-2017, XBD
 /// 12.1; GNU's long options).
@@ -160,14 +171,23 @@ pub fn operands_keep_their_order()
         → spelled rows words place state ≡ Ok given → AreAmong given.operands place words }
 {}
 
-/// A first word that isn't a hyphen and digits is read as any other word. One that is gives the option that its tool
-/// has for it, with these digits as the value.
+/// A first word that isn't a hyphen and digits, and letters where its tool takes some, is read as any other word. One of
+/// digits alone gives the option that its tool has for it, with these digits as the value.
+#[tactic(auto, unfolding(crate::specs::Spelling::foremost))]
 pub fn number_comes_first()
-    ensures other { (rows : List OptionRow) (choice : Choice) (kind : Kind) (byte : ℕ) (rest : List ℕ) (words : List (List ℕ)) (place : ℕ)
-        → is_number rest ≡ false → spelled rows ((byte ∷ rest) ∷ words) place (State.First choice kind) ≡ spelled rows ((byte ∷ rest) ∷ words) place Reading }
-    ensures number { (rows : List OptionRow) (choice : Choice) (kind : Kind) (digits : List ℕ) (meant : Meant) (words : List (List ℕ)) (place : ℕ)
+    ensures other { (rows : List OptionRow) (choice : Choice) (kind : Kind) (letters : Letters) (byte : ℕ) (rest : List ℕ) (words : List (List ℕ)) (place : ℕ)
+        → is_number rest ≡ false → is_lettered rows letters rest ≡ false
+        → spelled rows ((byte ∷ rest) ∷ words) place (State.First choice kind letters) ≡ spelled rows ((byte ∷ rest) ∷ words) place Reading }
+    ensures number { (rows : List OptionRow) (choice : Choice) (kind : Kind) (letters : Letters) (digits : List ℕ) (meant : Meant) (words : List (List ℕ)) (place : ℕ)
         → is_number digits ≡ true → value_in kind digits ≡ Ok meant
-        → spelled rows ((codes "-" ++ digits) ∷ words) place (State.First choice kind) ≡ given_before (one_option choice meant place) (spelled rows words (place + 1) Reading) }
+        → spelled rows ((codes "-" ++ digits) ∷ words) place (State.First choice kind letters) ≡ given_before (one_option choice meant place) (spelled rows words (place + 1) Reading) }
+{}
+
+/// A first word that is read as a hyphen, digits and letters means nothing else: read as any other word it is an unknown
+/// option.
+pub fn letters_take_no_option_away()
+    ensures head { (text : List ℕ) (place : ℕ) → is_lettered head_table OfHead text ≡ true → mixed head_table place (codes "-" ++ text) ≡ Err (Fault.Usage UnknownOption place) }
+    ensures tail { (text : List ℕ) (place : ℕ) → is_lettered tail_table OfTail text ≡ true → mixed tail_table place (codes "-" ++ text) ≡ Err (Fault.Usage UnknownOption place) }
 {}
 
 /// What the options of `head` and `tail` ask for, each alone: lines and bytes with their count, headers never or
@@ -189,7 +209,7 @@ pub fn ends_options_ask()
 
 /// What the options of `tail` for following ask for: files that are opened once, or names; as many looks as can be, or this many
 /// (POSIX.1-2017, XCU tail; GNU coreutils manual).
-#[tactic(auto, unfolding(crate::specs::Table::tools, seg_core::specs::Count::digits_of))]
+#[tactic(auto, unfolding(crate::specs::Spelling::foremost, crate::specs::Table::tools, seg_core::specs::Count::digits_of))]
 pub fn tail_options_ask()
     ensures follows { settings_of (codes "tail" ∷ codes "-f" ∷ codes "f" ∷ []) ≡ Ok (Settings.Tail (following_as (Some Followed.Descriptor) (2 ^ 63 - 1))) }
     ensures long { settings_of (codes "tail" ∷ codes "--follow" ∷ codes "f" ∷ []) ≡ Ok (Settings.Tail (following_as (Some Followed.Descriptor) (2 ^ 63 - 1))) }

@@ -6,6 +6,7 @@ mod csplit_settings;
 mod csplit_words;
 mod ends_words;
 mod laws;
+mod lettered;
 mod settings;
 mod spelled;
 mod spelling;
@@ -19,15 +20,16 @@ mod words;
 pub use args::{ArgsFault, read_args};
 pub use csplit_settings::CsplitSettings;
 pub use laws::{
-    csplit_options_ask, ends_options_ask, last_of_csplit_decides, last_of_ends_decides,
-    last_of_split_decides, last_of_tail_decides, leftmost_fault_decides, letters_stand_together,
-    number_comes_first, numbers_ask, one_way_at_most, operands_follow_the_end,
-    operands_keep_their_order, operands_may_mix, options_stand_anywhere, split_options_ask,
-    tail_options_ask, tee_options_ask, values_are_spelled_alike,
+    beginnings_are_of_one_option, csplit_options_ask, ends_options_ask, last_of_csplit_decides,
+    last_of_ends_decides, last_of_split_decides, last_of_tail_decides, leftmost_fault_decides,
+    letters_stand_together, letters_take_no_option_away, number_comes_first, numbers_ask,
+    one_way_at_most, operands_follow_the_end, operands_keep_their_order, operands_may_mix,
+    options_stand_anywhere, split_options_ask, tail_options_ask, tee_options_ask,
+    values_are_spelled_alike,
 };
 pub use settings::{EndsSettings, Headers, Settings, SplitSettings, TailSettings, TeeSettings};
 pub use spelled::{Chosen, Operand, Spelled};
 pub use spelling::read_given;
-pub use table::{Choice, Kind, OptionRow, Takes, ToolRow};
+pub use table::{Choice, Kind, Letters, OptionRow, Takes, ToolRow, all_tools, find_row};
 pub use value::{Followed, MOST_LOOKS, Value};
 pub use words::{find_tool, read_words};

@@ -7,8 +7,9 @@ ghost use Rattle.words_core.specs.Spelling.{Reads, after_equals, attached, clust
 ghost use Rattle.words_core.specs.Given.{one_operand};
 ghost use Rattle.words_core.specs.Table.{row_seen, tool_seen};
 
+use crate::lettered::{is_lettered, read_lettered};
 use crate::spelled::Spelled;
-use crate::table::{Choice, Kind, OptionRow, Takes, ToolRow, find_option};
+use crate::table::{Choice, Kind, Letters, OptionRow, Takes, ToolRow, find_called, find_option};
 use crate::value::{Value, read_value};
 use ports_core::{Fault, UsageKind};
 use std::alloc::Global;
@@ -16,8 +17,9 @@ use std::alloc::Global;
 /// What may stand in the next word.
 #[derive(Clone, Copy)]
 pub enum State {
-    /// Options and operands, or a hyphen and digits, which are then the value of this option.
-    First(Choice, Kind),
+    /// Options and operands, or a hyphen and digits, which are then the value of this option and may be followed by these
+    /// letters.
+    First(Choice, Kind, Letters),
     /// Options and operands.
     Reading,
     /// The value of this option. The option stands in the word at this place.
@@ -39,7 +41,7 @@ pub fn read_given<'a>(
     ensures { Reads (given_by (tool_seen tool.now) (map (λ word. word.now) words.now)) result }
 {
     let start = match tool.3 {
-        Some((choice, kind)) => State::First(choice, kind),
+        Some((choice, kind, letters)) => State::First(choice, kind, letters),
         None => State::Reading,
     };
     read_items(alloc, tool.2, start, words)
@@ -65,7 +67,7 @@ fn read_items<'a>(
     }
     match state {
         State::Awaiting(_, _, option) => Err(Fault::Usage(UsageKind::MissingValue, option)),
-        State::First(_, _) | State::Reading | State::OnlyOperands => Ok(spelled),
+        State::First(_, _, _) | State::Reading | State::OnlyOperands => Ok(spelled),
     }
 }
 
@@ -79,7 +81,9 @@ fn read_word<'a>(
     ensures { Adds (meaning_of (map row_seen rows.now) state place word.now) spelled.old spelled.new result }
 {
     match state {
-        State::First(choice, kind) => read_first(rows, choice, kind, place, word, spelled),
+        State::First(choice, kind, letters) => {
+            read_first(rows, (choice, kind, letters), place, word, spelled)
+        }
         State::Reading => read_mixed(rows, place, word, spelled),
         State::Awaiting(choice, kind, option) => {
             read_option(choice, kind, option, place, word, spelled)
@@ -91,20 +95,24 @@ fn read_word<'a>(
     }
 }
 
-/// Reads the word after the tool's name, where a hyphen and digits are an option's value.
+/// Reads the word after the tool's name, where a hyphen and digits are an option's value and letters may follow.
+#[tactic(auto, unfolding(crate::specs::Spelling::foremost))]
 fn read_first<'a>(
     rows: &[OptionRow],
-    choice: Choice,
-    kind: Kind,
+    number: (Choice, Kind, Letters),
     place: usize,
     word: &'a str,
     spelled: &mut Spelled<'a>,
 ) -> Result<State, Fault>
-    ensures { Adds (foremost (map row_seen rows.now) choice kind place word.now) spelled.old spelled.new result }
+    ensures { Adds (foremost (map row_seen rows.now) number.0 number.1 number.2 place word.now) spelled.old spelled.new result }
 {
+    let (choice, kind, letters) = number;
     match first_letter(word) {
         Some((b'-', digits)) if is_number(digits.as_bytes()) => {
             read_option(choice, kind, place, place, digits, spelled)
+        }
+        Some((b'-', text)) if is_lettered(rows, letters, text.as_bytes()) => {
+            read_lettered(rows, place, text.as_bytes(), spelled)
         }
         _ => read_mixed(rows, place, word, spelled),
     }
@@ -155,7 +163,7 @@ fn read_operand<'a>(place: usize, word: &'a str, spelled: &mut Spelled<'a>) -> R
     Ok(State::Reading)
 }
 
-/// Reads a long option, with its value where it has one after `=`.
+/// Reads a long option, also one whose name is cut short, with its value where it has one after `=`.
 fn read_long<'a>(
     rows: &[OptionRow],
     place: usize,
@@ -165,9 +173,9 @@ fn read_long<'a>(
     ensures { Adds (long (map row_seen rows.now) place word.now) spelled.old spelled.new result }
 {
     let (name, value) = split_value(word);
-    match find_option(rows, name) {
-        None => Err(Fault::Usage(UsageKind::UnknownOption, place)),
-        Some((choice, takes)) => read_named(choice, takes, value, place, spelled),
+    match find_called(rows, name) {
+        Err(kind) => Err(Fault::Usage(kind, place)),
+        Ok((choice, takes)) => read_named(choice, takes, value, place, spelled),
     }
 }
 
@@ -190,7 +198,7 @@ fn read_named<'a>(
     place: usize,
     spelled: &mut Spelled<'a>,
 ) -> Result<State, Fault>
-    ensures { Adds (named place (Some (choice, takes)) (option_map (λ text. text.now) value.entry)) spelled.old spelled.new result }
+    ensures { Adds (named place (Ok (choice, takes)) (option_map (λ text. text.now) value.entry)) spelled.old spelled.new result }
 {
     match (takes, value) {
         (Takes::Nothing | Takes::Optional(_), None) => {

@@ -2,10 +2,10 @@
 //! `-z`, the `-c` of `head`, the `-C`, `-n`, `-d`, `-x`, `-e`, `-t` and `--additional-suffix` of `split`, the
 //! `--suppress-matched` of `csplit`, the `-F`, `--follow` and `--retry` of `tail` and the long names are GNU's; `--looks` is of these
 //! tools alone.
-ghost use Rattle.std.specs.Prelude.{◌≡◌, map, option_map};
-ghost use Rattle.words_core.specs.Table.{is_among, option_named, row_named, row_seen, tool_seen, tools};
+ghost use Rattle.std.specs.Prelude.{◌≡◌, [], ◌∷◌, map, option_map, IfNone, IfSome};
+ghost use Rattle.words_core.specs.Table.{beginning, begins_one, is_among, only_one, option_called, option_named, row_named, row_seen, tool_seen, tools};
 
-use ports_core::Tool;
+use ports_core::{Tool, UsageKind};
 
 /// An option, by what it chooses. Options of several tools may choose alike.
 #[derive(Clone, Copy, PartialEq, Eq)]
@@ -90,15 +90,27 @@ pub enum Takes {
     Optional(Kind),
 }
 
+/// What letters may follow the digits of a first word of a hyphen and digits.
+#[derive(Clone, Copy)]
+pub enum Letters {
+    /// None.
+    Never,
+    /// Those of `head`: one that says what is counted, and those of options without a value.
+    OfHead,
+    /// Those of `tail`: one that says what is counted, and `f`.
+    OfTail,
+}
+
 /// The names of an option as they are written, what it chooses, and the value it takes.
 pub type OptionRow = (&'static [&'static str], Choice, Takes);
 
-/// The name of a tool, the tool, its options, and the option whose value a first word of a hyphen and digits gives.
+/// The name of a tool, the tool, its options, the option whose value a first word of a hyphen and digits gives, and the
+/// letters that may follow these.
 pub type ToolRow = (
     &'static str,
     Tool,
     &'static [OptionRow],
-    Option<(Choice, Kind)>,
+    Option<(Choice, Kind, Letters)>,
 );
 
 /// The options of `head`.
@@ -224,13 +236,23 @@ const TEE: &[OptionRow] = &[(&["-a", "--append"], Choice::Append, Takes::Nothing
 
 /// The tools.
 pub const TOOLS: &[ToolRow] = &[
-    ("head", Tool::Head, HEAD, Some((Choice::Lines, Kind::Count))),
-    ("tail", Tool::Tail, TAIL, Some((Choice::Lines, Kind::Count))),
+    (
+        "head",
+        Tool::Head,
+        HEAD,
+        Some((Choice::Lines, Kind::Count, Letters::OfHead)),
+    ),
+    (
+        "tail",
+        Tool::Tail,
+        TAIL,
+        Some((Choice::Lines, Kind::Count, Letters::OfTail)),
+    ),
     (
         "split",
         Tool::Split,
         SPLIT,
-        Some((Choice::Lines, Kind::Size)),
+        Some((Choice::Lines, Kind::Size, Letters::Never)),
     ),
     ("csplit", Tool::Csplit, CSPLIT, None),
     ("tee", Tool::Tee, TEE, None),
@@ -268,11 +290,68 @@ pub fn find_option(rows: &[OptionRow], name: &[u8]) -> Option<(Choice, Takes)>
 }
 
 /// Whether a name is one of these.
-fn is_among(names: &[&str], name: &[u8]) -> bool
+pub fn is_among(names: &[&str], name: &[u8]) -> bool
     ensures { result ≡ is_among (map (λ known. known.now) names.now) name.now }
 {
     for known in names {
         if known.as_bytes() == name {
+            return true;
+        }
+    }
+    false
+}
+
+/// The option of this long name, or else the only one of which a name begins so, and whether it takes a value.
+///
+/// # Errors
+///
+/// `UnknownOption` where no name begins so, and `AmbiguousOption` where names of several options do.
+pub fn find_called(rows: &[OptionRow], name: &[u8]) -> Result<(Choice, Takes), UsageKind>
+    ensures { result ≡ option_called (map row_seen rows.now) name.now }
+{
+    match find_option(rows, name) {
+        Some(found) => Ok(found),
+        None => find_only(rows, name),
+    }
+}
+
+/// The only option of which a name begins so, and whether it takes a value.
+fn find_only(rows: &[OptionRow], start: &[u8]) -> Result<(Choice, Takes), UsageKind>
+    ensures { result ≡ only_one (beginning start.now (map row_seen rows.now)) }
+{
+    match first_beginning(rows, start) {
+        None => Err(UsageKind::UnknownOption),
+        Some((row, rest)) => match first_beginning(rest, start) {
+            None => Ok((row.1, row.2)),
+            Some(_) => Err(UsageKind::AmbiguousOption),
+        },
+    }
+}
+
+/// The first option of which a name begins so, and those after it.
+fn first_beginning<'a>(
+    rows: &'a [OptionRow],
+    start: &[u8],
+) -> Option<(&'a OptionRow, &'a [OptionRow])>
+    ensures none { IfNone result (beginning start.now (map row_seen rows.now) ≡ []) }
+    ensures some { IfSome result (λ found. beginning start.now (map row_seen rows.now) ≡ row_seen found.0.now ∷ beginning start.now (map row_seen found.1.now)) }
+{
+    let mut left = rows;
+    while let [row, rest @ ..] = left {
+        if begins_one(row.0, start) {
+            return Some((row, rest));
+        }
+        left = rest;
+    }
+    None
+}
+
+/// Whether one of these names begins so.
+fn begins_one(names: &[&str], start: &[u8]) -> bool
+    ensures { result ≡ begins_one start.now (map (λ known. known.now) names.now) }
+{
+    for known in names {
+        if known.as_bytes().starts_with(start) {
             return true;
         }
     }

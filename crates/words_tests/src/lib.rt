@@ -10,6 +10,8 @@ mod pages;
 #[cfg(test)]
 mod refused;
 #[cfg(test)]
+mod short_tests;
+#[cfg(test)]
 mod spelling_tests;
 #[cfg(test)]
 mod split_tests;

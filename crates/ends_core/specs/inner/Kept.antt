@@ -8,6 +8,7 @@ use Rattle.ports_core.specs.Write.{BrokeAfter}
 use Rattle.ports_core.specs.declared.fault.Fault.{Fault}
 use Rattle.ports_core.specs.declared.fault.Fault.TheVariants as fault
 use Rattle.ports_core.specs.Source.{Source, source_at, skips}
+use Rattle.ports_core.specs.Inputs.{HasLooked}
 
 -- if it keeps bytes and is full, no memory can be wanting
 abbrev pub FullLacksNone : Kept → Type 0
@@ -37,10 +38,13 @@ pub record HasSeen (told : Bool) (text : List ℕ) (len : ℕ) (Keeps : List ℕ
   pub there : told ≡ true → seen ≡ text
   pub keeps : Keeps seen
 
--- The next `count` bytes of an input were passed over, and of these `Keeps` holds.
-pub record Passes (told : Bool) (slot count : ℕ) (Keeps : List ℕ → Type 0) (old new : List Source) : Type 0 where
+-- The next `count` bytes of an input were passed over, after looks of at most `most` bytes each, and of these `Keeps`
+-- holds.
+pub record Passes (told : Bool) (most slot count : ℕ) (Keeps : List ℕ → Type 0) (old new : List Source) : Type 0 where
   pub front : List ℕ
   pub long : count ≡ length front
   pub there : told ≡ true → (source_at old slot).left.bytes ≡ front ++ (source_at new slot).left.bytes
-  pub passed : new ≡ changed_at slot (skips count) old
+  pub mid : List Source
+  pub looked : HasLooked most slot old mid
+  pub passed : new ≡ changed_at slot (skips count) mid
   pub keeps : Keeps front

@@ -1,41 +1,49 @@
 -- What a look gives for one name, call by call: bytes on standard output, under headers, and lines on standard error;
 -- and what one call on a name owes, and what is due of it.
-use Rattle.std.specs.Prelude.{◌≡◌, Bool, true, false, ℕ, List, Option, Some, None, Result, Ok, Err, ◌⊎◌, nat_lt, [], ◌∷◌, map, if◌then◌else◌, IfOk, is_some}
+use Rattle.std.specs.Prelude.{◌≡◌, ◌-◌, Bool, true, false, ℕ, List, Option, Some, None, Result, Ok, Err, ◌⊎◌, nat_lt, [], ◌∷◌, ◌++◌, drop, length, if◌then◌else◌, IfOk, is_some}
 use Rattle.ports_core.specs.Slot.{Slot, changed_at, slot_at}
 use Rattle.ports_core.specs.declared.fault.Fault.{Fault}
-use Rattle.follow_core.specs.declared.visitor.Stop.{Stop}
-use Rattle.follow_core.specs.declared.visitor.Stop.TheVariants.{Broke, Over}
-use Rattle.follow_core.specs.Followed.{header_after, share_text}
-use Rattle.follow_core.specs.Printing.{PrinterState}
-use Rattle.follow_core.specs.Share.{IsFront, Share}
-use Rattle.follow_core.specs.Sharing.{WroteBy, CanPrint, HasError}
 use Rattle.ports_core.specs.declared.fault.Fault.TheVariants as fault
-use Rattle.watch_core.specs.Snapshot.{Snapshot}
-use Rattle.watch_core.specs.Watched.{Watched, breaks, opens, watched_at}
+use Rattle.watch_core.specs.Snapshot.{Snapshot, Found, holds_many}
+use Rattle.watch_core.specs.declared.watch.Broken.TheVariants as broken
+use Rattle.watch_core.specs.Watched.{Watched, breaks, open_contents, opens, watched_at}
 use Rattle.follow_core.specs.declared.notice.Notice.{Notice}
 use Rattle.follow_core.specs.declared.notice.Notice.TheVariants.{Truncated, Replaced, Inaccessible, Appeared}
-use Rattle.follow_core.specs.Gain.{gains_later, last_from}
-use Rattle.follow_core.specs.Notice.{notice_of, notices_later}
+use Rattle.follow_core.specs.declared.visitor.Stop.{Stop}
+use Rattle.follow_core.specs.declared.visitor.Stop.TheVariants.{Broke, Over}
+use Rattle.follow_core.specs.Event.{Begins, Event, all_but, bytes_in, events_later, gives, lines_in, notes}
+use Rattle.follow_core.specs.Followed.{last_with, text_with}
+use Rattle.follow_core.specs.Gain.{last_from}
+use Rattle.follow_core.specs.Look.{Fate, sound, unmeasured, unsought, unread, can_meet, failed_by}
+use Rattle.follow_core.specs.Printing.{PrinterState}
+use Rattle.follow_core.specs.Reading.{AllGive, IsRead, IsWhole}
+use Rattle.follow_core.specs.Share.{Share, bytes_of, came_before, is_kept, led_before, lines_of}
+use Rattle.follow_core.specs.Sharing.{WroteBy, CanPrint, HasError}
 use Rattle.follow_core.specs.Standing.{StandsAt}
-use Rattle.follow_core.specs.Version.{Entry, entries_led, is_file}
+use Rattle.follow_core.specs.Version.{Entry, entries_led, entries_open, held_at, is_file}
 
--- a share with the header that stands before it
-abbrev pub text_under : PrinterState → Share → List ℕ
-text_under printer share = share_text printer.headers printer.last share
+abbrev pub IsFront : {X : Type 0} → List X → List X → Type 0
+IsFront {X} front whole = (rest : List X) × (whole ≡ front ++ rest)
 
-abbrev pub printer_under : PrinterState → Share → PrinterState
-printer_under printer share = record printer { last = header_after printer.headers printer.last share }
+-- bytes of a name with the header that stands before them
+abbrev pub text_under : PrinterState → (is_opened : Bool) → (name bytes : List ℕ) → List ℕ
+text_under printer is_opened name bytes = text_with printer.headers printer.last is_opened name bytes
 
--- what a look gave for a name so far, whether it opened a file for it or not
-abbrev pub given_share : (opened : Bool) → List ℕ → List ℕ → List (List ℕ) → Share
-given_share opened name bytes lines =
-    record { name = name; is_opened = opened; bytes = bytes; messages = lines; has_failed = false }
+abbrev pub printer_under : PrinterState → (is_opened : Bool) → (name bytes : List ℕ) → PrinterState
+printer_under printer is_opened name bytes =
+    record printer { last = last_with printer.headers printer.last is_opened name bytes }
 
--- all of a share came to the outputs, or a beginning of it before this fault
-pub record Shared (told : Bool) (printer : PrinterState) (share : Share) (old : List Slot) (after : PrinterState)
-    (new : List Slot) (over : Option Fault) : Type 0 where
-  pub printer_is : over ≡ None → after ≡ printer_under printer share
-  pub slots : WroteBy told (text_under printer share) share.messages old new over
+-- bytes and lines of a name came to the outputs, or a beginning of them before this fault
+pub record Came (told : Bool) (printer : PrinterState) (is_opened : Bool) (name bytes : List ℕ)
+    (lines : List (List ℕ)) (old : List Slot) (after : PrinterState) (new : List Slot)
+    (over : Option Fault) : Type 0 where
+  pub printer_is : over ≡ None → after ≡ printer_under printer is_opened name bytes
+  pub slots : WroteBy told (text_under printer is_opened name bytes) lines old new over
+
+-- a share did
+abbrev pub Shared : Bool → PrinterState → Share → List Slot → PrinterState → List Slot → Option Fault → Type 0
+Shared told printer share old after new over =
+    Came told printer share.is_opened share.name (bytes_of share) (lines_of share) old after new over
 
 -- what stopped a call on a name
 abbrev pub stop_in : {T : Type 0} → Result T Stop → Option Stop
@@ -47,24 +55,63 @@ abbrev pub over_in : {T : Type 0} → Result T Fault → Option Stop
 over_in (Ok value) = None
 over_in (Err why) = Some (Over why)
 
--- what is due, or a beginning of it where the call was stopped
-abbrev pub IsGiven : {X : Type 0} → Option Stop → List X → List X → Type 0
-IsGiven None given due = given ≡ due
-IsGiven (Some stop) given due = IsFront given due
-
 abbrev pub over_by : Option Stop → Option Fault
 over_by None = None
 over_by (Some (Broke why)) = None
 over_by (Some (Over why)) = Some why
 
--- What is due of a name was given, or a beginning of it where a call on the name failed or following ends. Where the
--- files don't tell their bytes, something was given.
-pub record Ends (told_in told opened : Bool) (printer : PrinterState) (name due : List ℕ) (lines_due : List (List ℕ))
-    (old : List Slot) (after : PrinterState) (new : List Slot) (stop : Option Stop) : Type 0 where
+-- bytes that are due, or a beginning of them where following ended
+abbrev pub ArePut : Option Fault → List ℕ → List ℕ → Type 0
+ArePut None bytes due = bytes ≡ due
+ArePut (Some why) bytes due = IsFront bytes due
+
+-- bytes that are due of a name came to standard output
+pub record Puts (told is_opened : Bool) (printer : PrinterState) (name due : List ℕ) (old : List Slot)
+    (after : PrinterState) (new : List Slot) (over : Option Fault) : Type 0 where
   pub bytes : List ℕ
-  pub lines : List (List ℕ)
-  pub are : told_in ≡ true → IsGiven stop bytes due × IsGiven stop lines lines_due
-  pub shared : Shared told printer (given_share opened name bytes lines) old after new (over_by stop)
+  pub are : ArePut over bytes due
+  pub came : Came told printer is_opened name bytes [] old after new over
+
+-- what is due; where a call on the name failed, what comes before that; and a beginning where following ended
+abbrev pub AreGiven : Option Stop → List Event → (due before : List Event) → Type 0
+AreGiven None events due before = events ≡ due
+AreGiven (Some (Broke why)) events due before = events ≡ before
+AreGiven (Some (Over why)) events due before = Begins events due
+
+-- What is due of a name was given; or what comes before the call on it that failed; or a beginning, where following
+-- ends. Whatever is watched, this is so of what was given.
+pub record Ends (told_in : Bool) (Is : List Event → Type 0) (told is_opened : Bool) (printer : PrinterState)
+    (name : List ℕ) (due before : List Event) (old : List Slot) (after : PrinterState) (new : List Slot)
+    (stop : Option Stop) : Type 0 where
+  pub events : List Event
+  pub are : told_in ≡ true → AreGiven stop events due before
+  pub found : Is events
+  pub came : Came told printer is_opened name (bytes_in events) (lines_in name events) old after new (over_by stop)
+
+-- lines alone were given
+abbrev pub Noted : List Event → Type 0
+Noted events = AllGive (λ bytes. ⊥) events
+
+-- what was given is what reads gave of files, from such places on, or a beginning of it where following ends
+abbrev pub WereFound : (Option ℕ → ℕ → Type 0) → Snapshot → List ℕ → Fate → Option Stop → List Event → Type 0
+WereFound Starts snapshot name fate None events = AllGive (IsWhole Starts snapshot name sound) events
+WereFound Starts snapshot name fate (Some (Broke why)) events = AllGive (IsWhole Starts snapshot name fate) events
+WereFound Starts snapshot name fate (Some (Over why)) events =
+    (all : List Event) × Begins events all × AllGive (IsRead Starts snapshot name) all
+
+-- the open file was read, from this place on
+abbrev pub FromThere : Option ℕ → ℕ → Option ℕ → ℕ → Type 0
+FromThere opened place file from = (file ≡ opened) × (from ≡ place)
+
+-- or from the front or the position on
+abbrev pub FromEither : Option ℕ → (position : ℕ) → Option ℕ → ℕ → Type 0
+FromEither opened position file from =
+    (file ≡ opened) × (is_some opened ≡ true) × ((from ≡ 0) ⊎ (from ≡ position))
+
+-- the open file was found to be so long
+abbrev pub IsLong : Snapshot → Watched → ℕ → Type 0
+IsLong snapshot watched len = is_some watched.opened ≡ true
+    → Found snapshot watched.name (holds_many watched.opened len)
 
 -- following is over: there was no memory, or standard output is broken; a message can still be said
 abbrev pub HasStopped : Fault → List Slot → Type 0
@@ -77,26 +124,80 @@ CanGoOn None slots = CanPrint slots
 CanGoOn (Some (Broke why)) slots = CanPrint slots
 CanGoOn (Some (Over why)) slots = HasStopped why slots
 
--- the call changed no name, but that this one broke where the call failed
-abbrev pub Keeps : ℕ → List Watched → List Watched → Option Stop → Type 0
-Keeps place old new None = new ≡ old
-Keeps place old new (Some (Broke why)) = (why ≡ fault.Read place) × (new ≡ changed_at place (breaks why) old)
-Keeps place old new (Some (Over why)) = new ≡ old
+-- this is how a call on the open file failed
+abbrev pub is_read : Fate → Bool
+is_read (unmeasured file) = true
+is_read (unsought file from) = true
+is_read (unread file from) = true
+is_read fate = false
 
--- The call made what the name leads to the open file; it broke the name where it failed, and by a failed open only where
--- names are followed. No other name was changed.
-abbrev pub Follows : (told by_name : Bool) → Option ℕ → ℕ → List Watched → List Watched → Option Stop → Type 0
-Follows told by_name led place old new None = (file : Option ℕ) × (new ≡ changed_at place (opens file) old)
+-- the fault of a call on the name of this number that failed so
+abbrev pub fault_by : ℕ → Fate → Fault
+fault_by place fate = if is_read fate then fault.Read place else fault.Open place
+
+-- a call on the name of this number failed so, and the name broke
+pub record BrokeAt (place : ℕ) (old new : List Watched) (fate : Fate) (why : Fault) : Type 0 where
+  pub broke : is_some (failed_by fate None) ≡ true
+  pub fault_is : why ≡ fault_by place fate
+  pub names : new ≡ changed_at place (λ watched. record watched { opened = None; failed = failed_by fate None }) old
+
+-- the name of this number broke by a read of some place of its open file
+abbrev pub FailsToRead : ℕ → List Watched → List Watched → Type 0
+FailsToRead place old new = (from : ℕ) × (new ≡ changed_at place (breaks (λ file. broken.Read file from)) old)
+
+-- the call changed no name, but that this one broke where the call failed, which reads the open file
+abbrev pub Keeps : ℕ → List Watched → List Watched → Fate → Option Stop → Type 0
+Keeps place old new fate None = new ≡ old
+Keeps place old new fate (Some (Broke why)) = BrokeAt place old new fate why × (is_read fate ≡ true)
+Keeps place old new fate (Some (Over why)) = new ≡ old
+
+-- the call made what the name leads to the open file; it broke the name where it failed, and changed no other
+abbrev pub Follows : (told : Bool) → Option ℕ → ℕ → List Watched → List Watched → Fate → Option Stop → Type 0
+Follows told led place old new fate None = (file : Option ℕ) × (new ≡ changed_at place (opens file) old)
     × (told ≡ true → file ≡ led)
-Follows told by_name led place old new (Some (Broke why)) = (file : Option ℕ)
-    × (new ≡ changed_at place (breaks why) (changed_at place (opens file) old))
-    × (((why ≡ fault.Open place) × (by_name ≡ true)) ⊎ (why ≡ fault.Read place))
-Follows told by_name led place old new (Some (Over why)) = (file : Option ℕ)
-    × (new ≡ changed_at place (opens file) old)
+Follows told led place old new fate (Some (Broke why)) = BrokeAt place old new fate why
+Follows told led place old new fate (Some (Over why)) = (file : Option ℕ) × (new ≡ changed_at place (opens file) old)
+
+-- a call on the name failed, and then this is so
+abbrev pub IfBroke : Option Stop → Type 0 → Type 0
+IfBroke None so = Unit {0}
+IfBroke (Some (Broke why)) so = so
+IfBroke (Some (Over why)) so = Unit {0}
+
+-- the call that failed asks how long this file is, or reads it to write it
+abbrev pub ReadsOf : Option ℕ → Fate → Type 0
+ReadsOf opened (unmeasured file) = (file ≡ opened) × (is_some opened ≡ true)
+ReadsOf opened (unread file from) = (file ≡ opened) × (is_some opened ≡ true)
+ReadsOf opened fate = ⊥
+
+-- Bytes of the open file were written from one place on; a read that fails is that of another.
+pub record Copies (told_in told : Bool) (snapshot : Snapshot) (from : ℕ) (place : ℕ) (name : List ℕ)
+    (watched : List Watched) (printer : PrinterState) (slots : List Slot) (watched_new : List Watched)
+    (after : PrinterState) (slots_new : List Slot) (stop : Option Stop) : Type 0 where
+  pub at : ℕ
+  pub ends : let opened = watched_at watched place in let contents = open_contents snapshot opened in
+      Ends told_in (WereFound (FromThere opened.opened from) snapshot opened.name (unread opened.opened at) stop)
+      told false printer name (gives (drop from contents) ∷ [])
+      (all_but (length contents - at) (gives (drop from contents) ∷ [])) slots after slots_new stop
+  pub keeps : Keeps place watched watched_new (unread (watched_at watched place).opened at) stop
+
+-- from anywhere
+abbrev pub Anywhere : Option ℕ → ℕ → Type 0
+Anywhere file from = Unit {0}
+
+-- The part of the open file that the first look writes was written. It was sought first.
+pub record Starts (told_in told : Bool) (snapshot : Snapshot) (start : List ℕ → List ℕ) (place : ℕ) (name : List ℕ)
+    (watched : List Watched) (printer : PrinterState) (slots : List Slot) (watched_new : List Watched)
+    (after : PrinterState) (slots_new : List Slot) (stop : Option Stop) : Type 0 where
+  pub fate : Fate
+  pub ends : let due = gives (start (held_at snapshot (watched_at watched place).opened)) ∷ [] in
+      Ends told_in (WereFound Anywhere snapshot (watched_at watched place).name fate stop) told false printer name due
+      (led_before snapshot fate due) slots after slots_new stop
+  pub keeps : Keeps place watched watched_new fate stop
 
 -- that an open file is shorter than what was seen of it is told
-abbrev pub lines_past : List ℕ → ℕ → ℕ → List (List ℕ)
-lines_past name position len = if nat_lt len position then notice_of Truncated name ∷ [] else []
+abbrev pub notes_past : ℕ → ℕ → List Event
+notes_past position len = if nat_lt len position then notes Truncated ∷ [] else []
 
 -- what changed, where this file is open and the name leads to that one
 abbrev pub change_between : Option ℕ → Option ℕ → Option Notice
@@ -105,26 +206,38 @@ change_between (Some opened) None = Some Inaccessible
 change_between opened (Some file) = if is_file file opened then None
     else Some (if is_some opened then Replaced else Appeared)
 
--- what is told of a name after its last entry
-abbrev pub said_of : List ℕ → Entry → List Entry → List (List ℕ)
-said_of name last entries = map (λ notice. notice_of notice name) (notices_later last entries)
-
--- A call gave what these entries add to a name that stood at its last one, with this file open of which so much was
--- seen. After them that file is open, and so much of it was seen.
-pub record Adds (told_in told : Bool) (name : List ℕ) (opened : Option ℕ) (position : ℕ) (entries : List Entry)
-    (led : Option ℕ) (printer : PrinterState) (slots : List Slot) (after : PrinterState) (slots_new : List Slot)
-    (result : Result ℕ Stop) : Type 0 where
-  pub ends : (last : Entry) → (told_in ≡ true → StandsAt last opened position)
-      → Ends told_in told false printer name (gains_later last entries) (said_of name last entries) slots after
-      slots_new (stop_in result)
-  pub stands : IfOk result (λ len. told_in ≡ true → (last : Entry) → StandsAt last opened position
-      → StandsAt (last_from last entries) led len)
-
--- the name was followed to where it leads
-pub record Leads (told_in told : Bool) (snapshot : Snapshot) (place : ℕ) (name : List ℕ) (position : ℕ)
+-- A call gave what the open file adds to a name that stood at its last entry, with this file open of which so much was
+-- seen. After that so much of it was seen.
+pub record Adds (told_in told : Bool) (snapshot : Snapshot) (place : ℕ) (name : List ℕ) (position : ℕ)
     (watched : List Watched) (printer : PrinterState) (slots : List Slot) (watched_new : List Watched)
     (after : PrinterState) (slots_new : List Slot) (result : Result ℕ Stop) : Type 0 where
-  pub adds : let opened = (watched_at watched place).opened in
-      Adds told_in told name opened position (entries_led snapshot opened (snapshot.leads name)) (snapshot.leads name)
-      printer slots after slots_new result
-  pub follows : Follows told_in true (snapshot.leads name) place watched watched_new (stop_in result)
+  pub fate : Fate
+  pub ends : let opened = (watched_at watched place).opened in (last : Entry)
+      → (told_in ≡ true → StandsAt last opened position) → let due = events_later last (entries_open snapshot opened) in
+      Ends told_in (WereFound (FromEither opened position) snapshot (watched_at watched place).name fate (stop_in result))
+      told false printer name due (came_before snapshot fate due) slots after slots_new (stop_in result)
+  pub stands : let opened = (watched_at watched place).opened in IfOk result (λ len. told_in ≡ true → (last : Entry)
+      → StandsAt last opened position → StandsAt (last_from last (entries_open snapshot opened)) opened len)
+  pub long : IfOk result (IsLong snapshot (watched_at watched place))
+  pub keeps : Keeps place watched watched_new fate (stop_in result)
+  pub reads : IfBroke (stop_in result) (ReadsOf (watched_at watched place).opened fate)
+
+-- from the front
+abbrev pub FromFront : Option ℕ → ℕ → Type 0
+FromFront file from = from ≡ 0
+
+-- the name was followed to this file, or to none
+pub record Leads (told_in told : Bool) (snapshot : Snapshot) (led : Option ℕ) (place : ℕ) (name : List ℕ)
+    (position : ℕ) (watched : List Watched) (printer : PrinterState) (slots : List Slot) (watched_new : List Watched)
+    (after : PrinterState) (slots_new : List Slot) (result : Result ℕ Stop) : Type 0 where
+  pub fate : Fate
+  pub ends : let opened = (watched_at watched place).opened in (last : Entry)
+      → (told_in ≡ true → StandsAt last opened position) → let due = events_later last (entries_led snapshot opened led) in
+      Ends told_in (WereFound FromFront snapshot (watched_at watched place).name fate (stop_in result))
+      told false printer name due (led_before snapshot fate due) slots after slots_new (stop_in result)
+  pub stands : let opened = (watched_at watched place).opened in IfOk result (λ len. told_in ≡ true → (last : Entry)
+      → StandsAt last opened position → StandsAt (last_from last (entries_led snapshot opened led)) led len)
+  pub long : IsLong snapshot (watched_at watched place) position → IfOk result (IsLong snapshot (watched_at watched_new place))
+  pub follows : Follows told_in led place watched watched_new fate (stop_in result)
+  pub other : IfBroke (stop_in result) (told_in ≡ true → is_kept (watched_at watched place).opened fate ≡ false)
+  pub met : IfBroke (stop_in result) (can_meet false true fate ≡ true)

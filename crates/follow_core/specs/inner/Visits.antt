@@ -1,8 +1,8 @@
 -- What a look leaves at one name, at one name after another and at all names, and what all looks of a run do.
-use Rattle.std.specs.Prelude.{Bool, true, false, ◌||◌, List, [], ◌∷◌, ◌≡◌, ℕ, ◌++◌, Option, Some, None, length, Result, Ok, Err, ◌<◌, take, ◌≤◌, IfErr, IfOk, OnOk, ◌+◌, map}
+use Rattle.std.specs.Prelude.{Bool, true, false, ◌||◌, List, [], ◌∷◌, ◌≡◌, ℕ, ◌++◌, Option, Some, None, length, Result, Ok, Err, ◌<◌, take, ◌≤◌, IfErr, IfOk, OnOk, ◌+◌, map, is_some}
 use Rattle.follow_core.specs.declared.name.Standing.{Standing}
 use Rattle.follow_core.specs.declared.name.Standing.TheVariants.{New, Followed, Left}
-use Rattle.follow_core.specs.Standing.{NameState, AllStand, CanVisit, Stands, StandsAmong, texts}
+use Rattle.follow_core.specs.Standing.{NameState, NoneGoesOn, AllStand, CanVisit, Stands, StandsAmong, texts}
 use Rattle.ports_core.specs.Slot.{Slot, changed_at}
 use Rattle.ports_core.specs.Message.{SaysOn}
 use Rattle.ports_core.specs.Text.{message_of}
@@ -10,10 +10,11 @@ use Rattle.ports_core.specs.declared.tool.Tool.TheVariants.{Tail}
 use Rattle.ports_core.specs.declared.fault.Fault.{Fault}
 use Rattle.watch_core.specs.Snapshot.{Snapshot}
 use Rattle.watch_core.specs.Watched.{Watched, opens, watched_at, added}
-use Rattle.follow_core.specs.Share.{BeginsShare, IsFront, Share, share_by, share_of, shares_at_look_from}
+use Rattle.follow_core.specs.Share.{BeginsShare, Share, share_by, share_of, shares_at_look_from}
 use Rattle.follow_core.specs.Look.{Fate, Look, Ways, sound, fate_at, is_dropped, ways_of, snapshots}
 use Rattle.follow_core.specs.Printing.{PrinterState}
-use Rattle.follow_core.specs.inner.Giving.{Shared, HasStopped}
+use Rattle.follow_core.specs.Reading.{AreAtLook, IsBegun, IsGiven}
+use Rattle.follow_core.specs.inner.Giving.{IsFront, Shared, HasStopped}
 use Rattle.follow_core.specs.declared.visitor.Stop.{Stop}
 use Rattle.follow_core.specs.declared.visitor.Stop.TheVariants.{Broke, Over}
 use Rattle.follow_core.specs.Followed.{any_failed}
@@ -41,6 +42,7 @@ pub record Stopped (told_in told : Bool) (ways : Ways) (before : List Look) (sna
   pub after : PrinterState
   pub begins : told_in ≡ true → (fates : List Fate)
       → BeginsShare share (share_by ways name before (record { snapshot = snapshot; fates = fates }) sound)
+  pub found : IsBegun before snapshot name share
   pub short : Shared told printer share old after new (Some why)
 
 -- A call on the name failed, which was told, so that it is dropped; or following ends, and nothing more was told.
@@ -68,7 +70,9 @@ pub record Visited (told_in told : Bool) (ways : Ways) (looks : List Look) (snap
   pub is_share : told_in ≡ true → (fates : List Fate)
       → fate_at place (record { snapshot = snapshot; fates = fates }) ≡ fate
       → share ≡ share_of ways looks (record { snapshot = snapshot; fates = fates }) place name
-  pub is_failed : share.has_failed ≡ failed
+  pub found : (fates : List Fate) → fate_at place (record { snapshot = snapshot; fates = fates }) ≡ fate
+      → IsGiven looks (record { snapshot = snapshot; fates = fates }) place name share
+  pub is_failed : is_some share.failure ≡ failed
   pub shared : Shared told printer share old after new None
   pub stands : (fates : List Fate) → fate_at place (record { snapshot = snapshot; fates = fates }) ≡ fate
       → Stands told_in ways (looks ++ record { snapshot = snapshot; fates = fates } ∷ []) place name watched standing
@@ -100,6 +104,8 @@ pub record VisitedTo (told_in told : Bool) (ways : Ways) (looks : List Look) (sn
   pub count : length fates ≡ ways.first + place
   pub are : told_in ≡ true → (all : List Fate) → IsFront fates all → shares ≡ shares_at_look_from ways looks
       (record { snapshot = snapshot; fates = all }) ways.first (take place (texts names))
+  pub found : (all : List Fate) → IsFront fates all → AreAtLook looks (record { snapshot = snapshot; fates = all })
+      ways.first (take place (texts names)) shares
   pub is_failed : any_failed shares ≡ failed
   pub shared : AllShared told printer shares old after new
   pub same : texts names_now ≡ texts names
@@ -187,4 +193,5 @@ pub record LookedAll (told_in told : Bool) (ways : Ways) (headers : Bool) (names
   pub made : Made told_in ways names shows looks
   pub within : length looks ≤ count
   pub over : length looks < count → (0 < length looks) × (told_in ≡ true → is_alive ways names looks ≡ false)
+      × NoneGoesOn ways watched
   pub holds : Holds told_in told ways headers names looks first follow watched slots

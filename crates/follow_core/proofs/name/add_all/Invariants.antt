@@ -1,6 +1,6 @@
 use Rattle.std.proofs.Common.{◌≡◌, ◌≤◌, ◌^◌, ◌++◌, map, length}
 use Rattle.watch_core.specs.Watched.{added}
-use Rattle.follow_core.specs.Share.{IsFront}
+use Rattle.follow_core.specs.inner.Giving.{IsFront}
 use Rattle.follow_core.specs.Standing.{texts}
 use Rattle.follow_core.proofs.name.add_all.Given as goal
 

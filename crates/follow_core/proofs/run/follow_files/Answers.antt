@@ -2,7 +2,7 @@ use Rattle.ports_core.proofs.Runs.{as_status}
 use Rattle.std.proofs.Common.{Bor, ℕ, List, map, refl, ◌∙◌, ap, sym, if◌then◌else◌}
 use Rattle.follow_core.specs.Ending.{stopped, looked}
 use Rattle.follow_core.specs.Look.{ways_of}
-use Rattle.follow_core.proofs.FollowLemmas.{open_holds, broken_are}
+use Rattle.follow_core.proofs.FollowLemmas.{open_holds, watched_are}
 use Rattle.follow_core.proofs.run.follow_files.Goals as goal
 
 pub returns-in-Ok-make_looks : goal.returns-in-Ok-make_looks
@@ -11,7 +11,7 @@ returns-in-Ok-make_looks g c =
     let ways = ways_of 0 c.args.by_name c.args.start in
     let slots = g.O.Outs.slots c.args.outs.now in
     let all = c.in-Ok-make_looks.ensures.looked ways c.args.headers names slots (open_holds c.in-Ok.ensures.ok c.requires.unwatched) in
-    looked all.looks all.holds.shares all.observed (broken_are all.holds) all.made all.within all.over all.holds.are (record {
+    looked all.looks all.holds.shares all.observed (watched_are all.holds) all.made all.within all.over all.holds.are all.holds.found (record {
       wrote = all.holds.shared.slots;
       status_is = c.from.ensures ∙ as_status c.failed.result ∙ ap (λ those. if those then 1 else 0) (c.failed.ensures ∙ sym all.holds.failed);
     })

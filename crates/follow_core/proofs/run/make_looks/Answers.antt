@@ -12,7 +12,7 @@ returns-then-not-alive-clause-looked g c ways headers names first holds =
     let l = c.loop-made in
     let below = c.loop-made-test.true in
     ended (omega (arith, below)) (λ fewer. (omega arith, c.if-not-alive.true))
-    (one_more l.invariant.shows (l.invariant.progress ways headers names first holds) c.in_default.ensures.looked c.in_default.ensures.seen c.alive.ensures refl)
+    (one_more l.invariant.shows (l.invariant.progress ways headers names first holds) c.in_default.ensures.looked c.in_default.ensures.seen c.alive.ensures.alive c.alive.ensures.none refl)
 
 pub loop-made-preserved : goal.loop-made-preserved
 loop-made-preserved g c =
@@ -23,7 +23,7 @@ loop-made-preserved g c =
       error = c.look.ensures.error l.invariant.error;
       shows = c.look.ensures.shows ∙ l.invariant.shows;
       progress = λ ways headers names first holds. rw c.if-not-alive.false at
-          (one_more {next = l.made + 1} l.invariant.shows (l.invariant.progress ways headers names first holds) c.in_default.ensures.looked c.in_default.ensures.seen c.alive.ensures (omega arith));
+          (one_more {next = l.made + 1} l.invariant.shows (l.invariant.progress ways headers names first holds) c.in_default.ensures.looked c.in_default.ensures.seen c.alive.ensures.alive c.alive.ensures.none (omega arith));
     }
 
 pub returns-clause-looked : goal.returns-clause-looked

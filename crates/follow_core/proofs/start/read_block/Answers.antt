@@ -1,6 +1,8 @@
-use Rattle.std.proofs.Common.{◌∙◌, ◌+◌, ◌-◌, length, take, drop, subst}
+use Rattle.std.proofs.Common.{◌∙◌, ◌+◌, ◌-◌, ap, length, take, drop, subst}
 use Rattle.watch_core.specs.Snapshot.{latest}
-use Rattle.watch_core.specs.Watched.{open_contents, watched_at, GaveFrom}
+use Rattle.watch_core.specs.Watched.{open_contents, watched_at, GaveFrom, breaks}
+use Rattle.watch_core.specs.declared.watch.Broken.TheVariants.{Read}
+use Rattle.ports_core.specs.Slot.{changed_at}
 use Rattle.follow_core.proofs.StartLemmas.{contents_same, fill_ends, fill_more}
 use Rattle.follow_core.proofs.start.read_block.Goals as goal
 
@@ -23,3 +25,10 @@ loop-filled-preserved g c =
           c.loop-filled-test.true c.loop-filled.auto.block c.read_at.ensures.length c.in-Ok.ensures.bound c.in-Ok.ensures.bytes c.in-Ok.ensures.seen c.in-Ok.ensures.same;
       shows = c.read_at.ensures.shows ∙ c.loop-filled.invariant.shows;
     }
+
+pub returns-in-Err-clause-err : goal.returns-in-Err-clause-err
+returns-in-Err-clause-err g c =
+    let l = c.loop-filled in (
+      c.in-Err.ensures.err.0,
+      (c.args.from + l.filled, c.in-Err.ensures.err.1 ∙ ap (changed_at c.args.place (breaks (λ file. Read file (c.args.from + l.filled)))) l.invariant.filling.watched_same),
+    )

@@ -1,18 +1,18 @@
-use Rattle.std.proofs.Common.{arith, drop, sym, ◌∙◌, ◌-◌}
-use Rattle.follow_core.proofs.CallLemmas.{copy_more, cut_short, due_as, nothing_due}
+use Rattle.std.proofs.Common.{arith, drop, sym, ap, ◌∙◌, length, inl, inr}
+use Rattle.follow_core.proofs.CallLemmas.{all_taken, copied_more, copied_none, copies_all, copies_part, copies_short, found_at, opened_is, some_read}
 use Rattle.std.proofs.lemmas.Grind.{common_steps}
 use Rattle.follow_core.proofs.StartLemmas.{contents_same}
 use Rattle.follow_core.proofs.visitor.copy.Goals as goal
 
 pub loop-at-init : goal.loop-at-init
-loop-at-init g c = grind (arith, common_steps, common_steps, due_as, nothing_due)
+loop-at-init g c = grind (arith, common_steps, copied_none)
 
 pub loop-at-preserved : goal.loop-at-preserved
 loop-at-preserved g c =
     let l = c.loop-at in
     let past = l.invariant.past in record {
-      ends = copy_more (drop c.min-room.result l.buffer) past (contents_same c.args.place (sym l.invariant.seen) (sym l.invariant.watched))
-          c.in-Ok.ensures.bound c.read_at.ensures.length c.in-Ok.ensures.bytes l.invariant.ends (c.in-Ok-put.ensures.ends g.W.Watch.told);
+      copied = copied_more (drop c.min-room.result l.buffer) past (contents_same c.args.place (sym l.invariant.seen) (sym l.invariant.watched))
+          c.in-Ok.ensures.bound c.read_at.ensures.length c.in-Ok.ensures.bytes (found_at c.args.place _ _ l.invariant.seen l.invariant.watched c.in-Ok.ensures.found) l.invariant.copied c.in-Ok-put.ensures.puts;
       writable = c.in-Ok-put.ensures.writable;
       within = grind (arith, common_steps);
       past = omega (arith, past);
@@ -22,11 +22,24 @@ loop-at-preserved g c =
       room = grind (arith, common_steps);
     }
 
-pub returns-in-Err-clause-ends : goal.returns-in-Err-clause-ends
-returns-in-Err-clause-ends g c = let l = c.loop-at in let ends = l.invariant.ends in cut_short (l.at - c.args.from) (grind (arith, common_steps))
+pub returns-in-Err-clause-copies : goal.returns-in-Err-clause-copies
+returns-in-Err-clause-copies g c = let l = c.loop-at in copies_part l.at l.invariant.past c.loop-at-test.true c.requires.whole l.invariant.copied l.invariant.watched c.in-Err.ensures.err.0 c.in-Err.ensures.err.1
 
-pub returns-in-Err-put-clause-ends : goal.returns-in-Err-put-clause-ends
-returns-in-Err-put-clause-ends g c =
+pub returns-in-Err-put-clause-copies : goal.returns-in-Err-put-clause-copies
+returns-in-Err-put-clause-copies g c =
     let l = c.loop-at in
-    cut_short _ (copy_more (drop c.min-room.result l.buffer) l.invariant.past (contents_same c.args.place (sym l.invariant.seen) (sym l.invariant.watched))
-    c.in-Ok.ensures.bound c.read_at.ensures.length c.in-Ok.ensures.bytes l.invariant.ends (c.in-Err-put.ensures.ends g.W.Watch.told))
+    copies_short _ (copied_more (drop c.min-room.result l.buffer) l.invariant.past (contents_same c.args.place (sym l.invariant.seen) (sym l.invariant.watched))
+    c.in-Ok.ensures.bound c.read_at.ensures.length c.in-Ok.ensures.bytes (found_at c.args.place _ _ l.invariant.seen l.invariant.watched c.in-Ok.ensures.found) l.invariant.copied c.in-Err-put.ensures.puts) (c.in-Ok.ensures.same ∙ l.invariant.watched)
+
+pub returns-clause-copies : goal.returns-clause-copies
+returns-clause-copies g c =
+    let l = c.loop-at in let past = c.loop-at-test.false in
+    copies_all l.at (λ t. all_taken _ c.args.from l.at (c.requires.whole t) (omega (arith, past))) l.invariant.copied
+    (inl (c.args.len, c.requires.found (opened_is (g.W.Watch.watched c.args.watch.now) c.args.place c.requires.readable), omega (arith, past))) l.invariant.watched
+
+pub returns-in-Ok-eq0-clause-copies : goal.returns-in-Ok-eq0-clause-copies
+returns-in-Ok-eq0-clause-copies g c =
+    let l = c.loop-at in
+    let same = contents_same c.args.place (sym l.invariant.seen) (sym l.invariant.watched) in
+    copies_all l.at (λ t. absurd (some_read _ (c.requires.whole t ∙ ap length same) c.loop-at-test.true c.in-Ok-eq0.field-0-test (grind (arith, common_steps)) (c.in-Ok-eq0.ensures.bytes t))) l.invariant.copied
+    (inr (found_at c.args.place _ _ l.invariant.seen l.invariant.watched (rw c.in-Ok-eq0.field-0-test at c.in-Ok-eq0.ensures.found))) (c.in-Ok-eq0.ensures.same ∙ l.invariant.watched)

@@ -1,13 +1,13 @@
-use Rattle.std.proofs.Common.{◌≡◌, ◌-◌, ◌<◌, ◌≤◌, IsTrue, None, [], false, drop, length, take}
+use Rattle.std.proofs.Common.{◌≡◌, ◌-◌, ◌<◌, ◌≤◌, IsTrue, None, length}
 use Rattle.watch_core.specs.Snapshot.{latest}
 use Rattle.watch_core.specs.Watched.{open_contents, watched_at}
 use Rattle.ports_core.specs.Slot.{is_writable}
-use Rattle.follow_core.specs.inner.Giving.{Ends}
+use Rattle.follow_core.proofs.CallLemmas.{Copied}
 use Rattle.follow_core.proofs.visitor.copy.Given as goal
 
 abbrev pub invariant-loop-at : goal.invariant-loop-at
-invariant-loop-at g l = let contents = open_contents (latest (g.W.Watch.seen l.fn.watch)) (watched_at (g.W.Watch.watched l.fn.watch) l.fn.place) in record {
-  ends : Ends g.W.Watch.told g.O.Outs.told false l.fn.printer l.fn.name (take (l.at - l.fn.from) (drop l.fn.from contents)) [] (g.O.Outs.slots l.fn.outs) l.printer (g.O.Outs.slots l.outs) None;
+invariant-loop-at g l = let snapshot = latest (g.W.Watch.seen l.fn.watch) in let opened = watched_at (g.W.Watch.watched l.fn.watch) l.fn.place in record {
+  copied : Copied g.W.Watch.told g.O.Outs.told snapshot (open_contents snapshot opened) opened.opened opened.name l.fn.from l.fn.name l.fn.printer (g.O.Outs.slots l.fn.outs) l.printer (g.O.Outs.slots l.outs) l.at None;
   writable : IsTrue (is_writable (g.O.Outs.slots l.outs) 0);
   within : l.at ≤ l.fn.len;
   past : l.fn.from ≤ l.at;

@@ -1,9 +1,9 @@
-use Rattle.std.proofs.Common.{◌∙◌, refl, false, []}
-use Rattle.follow_core.proofs.CallLemmas.{tells, stops_early, puts_none, no_memory}
+use Rattle.std.proofs.Common.{◌∙◌}
+use Rattle.follow_core.proofs.CallLemmas.{over_first, tells}
 use Rattle.follow_core.proofs.visitor.tell.Goals as goal
 
 pub returns-in-Ok-clause-ends : goal.returns-in-Ok-clause-ends
 returns-in-Ok-clause-ends g c told_in printer = tells (c.deref.ensures.value ∙ c.in-Ok.ensures.ok) c.print.ensures
 
 pub returns-in-Err-clause-ends : goal.returns-in-Err-clause-ends
-returns-in-Err-clause-ends g c told_in printer = rw c.in-Err.ensures.err (stops_early [] _ (puts_none {opened = false} {bytes = []} refl no_memory))
+returns-in-Err-clause-ends g c told_in printer = rw c.in-Err.ensures.err (over_first tt)

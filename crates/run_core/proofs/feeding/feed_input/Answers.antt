@@ -1,14 +1,14 @@
 use Rattle.std.proofs.lemmas.List.{length-take-le, take_at}
-use Rattle.ports_core.proofs.LoadLemmas.{passed_at}
-use Rattle.std.proofs.Common.{◌&&◌, not, inl, inr, ◌≡◌, ◌≤◌, drop, length, ◌++◌, ◌∙◌, [], true, false, sym, ap, refl, take, arith, append_assoc, append-nil, length-append}
+use Rattle.ports_core.proofs.LoadLemmas.{looked_readable, passed_at}
+use Rattle.std.proofs.Common.{◌&&◌, not, Err, inl, inr, ◌≡◌, ◌≤◌, drop, length, ◌++◌, ◌∙◌, [], true, false, sym, ap, refl, take, arith, append_assoc, append-nil, length-append}
 use Rattle.std.proofs.lemmas.Bool.{false≢true, not-false}
-use Rattle.ports_core.specs.Source.{gets_back, Source}
+use Rattle.ports_core.specs.Source.{gets_back, skips, Source, source_at}
 use Rattle.ports_core.specs.Work.{Work, IsSettled}
 use Rattle.ports_core.specs.Engine.{EndsWith, is_verdict}
 use Rattle.ports_core.proofs.SpareLemmas.{complete_used, spare_within, none_spare}
-use Rattle.run_core.specs.Feeding.{enough, to_end, broke_off}
-use Rattle.run_core.proofs.FeedingLemmas.{of_more, of_read, alike_after, alike_itself, judges, goes_on, stopped_feeding, ended, needed_more, piece_within, ends_sound, needed_within, read_used, takes_more, uses_all, uses_judged, uses_part, needed_front}
-use Rattle.ports_core.proofs.InputsLemmas.{changed_source, sound_at, read_none_more, keeps_again, keeps_others, read_broken, still_readable, read_more, read_failed, read_to_end, asked_again, asked_at_end, broken_now}
+use Rattle.run_core.specs.Feeding.{IsUnread, enough, is_stop, to_end, broke_off}
+use Rattle.run_core.proofs.FeedingLemmas.{of_more, of_read, read_to_used, told_by_complete, alike_after, alike_itself, judges, goes_on, stopped_feeding, ended, needed_more, piece_within, ends_sound, needed_within, read_used, takes_more, uses_all, uses_judged, uses_part, needed_front}
+use Rattle.ports_core.proofs.InputsLemmas.{came_broken, came_sound, changed_source, ended_now, sound_at, read_none_more, keeps_again, keeps_others, read_broken, still_readable, read_more, read_failed, read_to_end, asked_again, asked_at_end, broken_now}
 use Rattle.run_core.proofs.feeding.feed_input.Goals as goal
 
 -- what was taken in before the first piece
@@ -16,7 +16,7 @@ use Rattle.run_core.proofs.feeding.feed_input.Goals as goal
 pub pieces-init : goal.pieces-init
 pieces-init g c =
     let loads = c.load.ensures.loads in
-    let passed = passed_at _ _ _ _ c.requires.input loads.passed in record {
+    let passed = passed_at _ _ _ _ (looked_readable loads.looked c.requires.input) loads.passed ∙ ap (skips c.load.result) loads.looked.looked in record {
       fed = loads.front;
       feeds = record {
         same = c.load.ensures.same;
@@ -26,7 +26,7 @@ pieces-init g c =
         bound = rw c.load.ensures.fed c.load.ensures.bound;
       };
       readable = rw (passed, c.requires.input);
-      others = keeps_others _ _ _ _ loads.passed;
+      others = keeps_again _ _ _ _ loads.looked.others (keeps_others _ _ _ _ loads.passed);
       read = λ told. record { bytes = loads.there told; breaks_off = rw passed };
       took = λ told. record {
         taken = rw (passed, loads.there told, loads.long, take_at loads.front _ (length loads.front) refl);
@@ -40,7 +40,7 @@ pieces-init g c =
       ];
       room = c.load.auto.buffer;
       needed = needed_front loads.going;
-      asked = λ within. rw (ap (λ (source : Source). source.asked) passed) within;
+      asked = λ within. omega (arith, ap (λ (source : Source). source.asked) passed, within, loads.looked.within);
       laid = c.load.ensures.laid;
       ready = loads.ready _ c.requires.output;
     }
@@ -52,9 +52,12 @@ returns-in-Err g c =
     let so_far = c.pieces.invariant in
     let going : (g.S.Stage.work c.pieces.engine.stage).is_complete so_far.fed ≡ false = sym (c.done.ensures.complete so_far.fed so_far.feeds.holds) ∙ c.pieces-test.true in record {
       ends = λ before opening own at.
-          of_read g.I.Inputs.told _ so_far.fed true _ _ (λ told. read_broken _ _ _ _ (so_far.read told) (c.in-Err.ensures.break_off told)) (λ off. broken_now _ _ _ _ so_far.readable c.in-Err.ensures.err)
-          (λ content is bytes breaks. rw (← so_far.feeds.same)
-          (broke_off breaks (ap (g.S.Stage.work c.pieces.engine.stage).is_complete bytes ∙ going) (g.O.Outs.slots c.pieces.outs) (rw bytes (so_far.feeds.outputs before own at)) (c.abandon.ensures.swept (length before) (so_far.feeds.owns (length before) own))));
+          of_read g.I.Inputs.told _ so_far.fed true _ _ (λ told. read_broken _ _ _ _ (so_far.read told) (c.in-Err.ensures.break_off told)) (λ content. came_broken g.I.Inputs.told _ _ _ _ so_far.readable c.in-Err.ensures.err)
+          (λ content is bytes breaks came. (
+            rw (← so_far.feeds.same)
+                (broke_off breaks (ap (g.S.Stage.work c.pieces.engine.stage).is_complete bytes ∙ going) (g.O.Outs.slots c.pieces.outs) (rw bytes (so_far.feeds.outputs before own at)) (c.abandon.ensures.swept (length before) (so_far.feeds.owns (length before) own))),
+            λ ends sound going. absurd (false≢true (sym sound ∙ breaks)),
+          ));
       others = keeps_again _ _ _ _ so_far.others (keeps_others _ _ _ _ c.in-Err.ensures.err);
       reads = λ told. (so_far.fed, so_far.needed, read_failed _ _ _ _ _ _ (so_far.read told) so_far.readable c.in-Err.ensures.err);
       used = λ told ends unread.
@@ -73,26 +76,39 @@ returns-in-Err g c =
 pub returns-then-n-eq0 : goal.returns-then-n-eq0
 returns-then-n-eq0 g c =
     let so_far = c.pieces.invariant in
-    let going : (g.S.Stage.work c.pieces.engine.stage).is_complete so_far.fed ≡ false = sym (c.done.ensures.complete so_far.fed so_far.feeds.holds) ∙ c.pieces-test.true in record {
+    let going : (g.S.Stage.work c.pieces.engine.stage).is_complete so_far.fed ≡ false = sym (c.done.ensures.complete so_far.fed so_far.feeds.holds) ∙ c.pieces-test.true in
+    let nothing : take c.in-Ok.n c.read_part.new.buffer ≡ [] = ap (λ k. take k c.read_part.new.buffer) c.if-n-eq0.true in
+    let at_end = ended_now _ _ c.in-Ok.n _ _ so_far.readable c.in-Ok.ensures.rest c.if-n-eq0.true c.piece_size-size.ensures.some in
+    let far : g.I.Inputs.told ≡ true → IsUnread (source_at (g.I.Inputs.sources c.args.inputs.now) c.args.slot) → (source_at (g.I.Inputs.sources c.read_part.new.inputs) c.args.slot).reached ≤ length so_far.fed
+    = λ told unread. rw (ap (λ more. so_far.fed ++ more) nothing ∙ append-nil so_far.fed) at ((takes_more _ (so_far.took told) so_far.readable (c.in-Ok.ensures.bytes told) c.in-Ok.ensures.rest).far unread) in record {
       ends = λ before opening own at.
           of_read g.I.Inputs.told _ so_far.fed false _ _
           (λ told. let at_end = (c.in-Ok.ensures.bytes told).ended c.if-n-eq0.true (omega (arith, c.requires.room, so_far.room)) in let all = read_to_end _ _ _ _ (so_far.read told) at_end.0 at_end.1 in (all.1, all.0))
-          (λ off. absurd (false≢true off))
-          (λ content is bytes sound. ended _ _ _ g.met.S.Stage.lawful _ _ so_far.feeds own at (sound, going, bytes) (to_end sound bytes) (alike_itself)
-          (rw so_far.feeds.same so_far.needed)
-          (sound_at (g.I.Inputs.sources c.read_part.new.inputs) c.args.slot (still_readable _ _ _ _ c.in-Ok.n c.in-Ok.ensures.rest so_far.readable), λ told. is told ∙ read_none_more _ _ _ _ _ _ c.in-Ok.n (so_far.read told) so_far.readable c.if-n-eq0.true c.in-Ok.ensures.rest)
-          c.end.ensures);
+          (λ content. came_sound g.I.Inputs.told _ c.args.slot (still_readable _ _ _ _ c.in-Ok.n c.in-Ok.ensures.rest so_far.readable))
+          (λ content is bytes sound came. (
+            ended _ _ _ g.met.S.Stage.lawful _ _ so_far.feeds own at (sound, going, bytes) (to_end sound bytes) (alike_itself)
+                (rw so_far.feeds.same so_far.needed) (
+                  record {
+                    came = came;
+                    sound = sound_at (g.I.Inputs.sources c.read_part.new.inputs) c.args.slot (still_readable _ _ _ _ c.in-Ok.n c.in-Ok.ensures.rest so_far.readable);
+                    ended = λ _. at_end;
+                    joined = λ told. is told ∙ read_none_more _ _ _ _ _ _ c.in-Ok.n (so_far.read told) so_far.readable c.if-n-eq0.true c.in-Ok.ensures.rest;
+                  },
+                  λ told unread standard. rw going (omega (arith, far told unread)),
+                )
+                c.end.ensures,
+            λ ends sound going. at_end,
+          ));
       others = keeps_again _ _ _ _ so_far.others (keeps_others _ _ _ _ c.in-Ok.ensures.rest);
       reads = λ told. (so_far.fed, so_far.needed, read_none_more _ _ _ _ _ _ c.in-Ok.n (so_far.read told) so_far.readable c.if-n-eq0.true c.in-Ok.ensures.rest);
       used = λ told ends unread.
           let gave = c.in-Ok.ensures.bytes told in
           let none = (gave.ended c.if-n-eq0.true (omega (arith, c.requires.room, so_far.room))).0 in
           let after = changed_source _ _ _ _ so_far.readable c.in-Ok.ensures.rest in
-          let nothing : take c.in-Ok.n c.read_part.new.buffer ≡ [] = ap (λ k. take k c.read_part.new.buffer) c.if-n-eq0.true in
           uses_all (read_none_more _ _ _ _ _ _ c.in-Ok.n (so_far.read told) so_far.readable c.if-n-eq0.true c.in-Ok.ensures.rest)
           (ap (λ (source : Source). source.left.bytes) after ∙ ap (drop c.in-Ok.n) none ∙ ap (λ k. drop k []) c.if-n-eq0.true)
           so_far.needed (ap (λ (work : Work). work.is_complete so_far.fed) (sym so_far.feeds.same) ∙ going)
-          (rw (ap (λ more. so_far.fed ++ more) nothing ∙ append-nil so_far.fed) at ((takes_more _ (so_far.took told) so_far.readable gave c.in-Ok.ensures.rest).far unread));
+          (far told unread);
       asked = λ within. asked_again _ _ _ _ _ _ so_far.readable c.in-Ok.ensures.rest (omega (arith, c.piece_size-size.ensures.within, so_far.room)) (so_far.asked within);
       broke = ends_sound _ _ _ _ _ (inl refl) c.end.ensures;
       laid = c.read_part.ensures.kept ∙ so_far.laid;
@@ -128,14 +144,26 @@ pieces-preserved g c =
 pub returns-in-Err-feed : goal.returns-in-Err-feed
 returns-in-Err-feed g c =
     let so_far = c.pieces.invariant in
-    let going : (g.S.Stage.work c.pieces.engine.stage).is_complete so_far.fed ≡ false = sym (c.done.ensures.complete so_far.fed so_far.feeds.holds) ∙ c.pieces-test.true in record {
+    let going : (g.S.Stage.work c.pieces.engine.stage).is_complete so_far.fed ≡ false = sym (c.done.ensures.complete so_far.fed so_far.feeds.holds) ∙ c.pieces-test.true in
+    let settles : is_stop (Err c.given_up.result) ≡ false → IsSettled (g.S.Stage.work c.pieces.engine.stage) (so_far.fed ++ take c.in-Ok.n c.read_part.new.buffer) c.in-Err-feed.fault
+    = λ ends. judges (g.S.Stage.work c.pieces.engine.stage).means _ (EndsWith g.S.Stage.Holds g.S.Stage.work c.pieces.engine.stage (take c.in-Ok.n c.read_part.new.buffer)) (ap is_verdict (sym c.given_up.ensures.same) ∙ not-false (is_verdict c.given_up.result) ends) c.in-Err-feed.ensures.refused so_far.fed so_far.feeds.holds.within in record {
       ends = λ before opening own at.
           let within : length (take c.in-Ok.n c.read_part.new.buffer) ≤ length c.args.buffer.now = piece_within c.read_part.new.buffer (omega (arith, c.in-Ok.ensures.bound, c.piece_size-size.ensures.within, so_far.room)) in
           let more = λ (told : g.I.Inputs.told ≡ true). (read_more _ _ _ _ _ _ _ _ _ (so_far.read told) so_far.readable (c.in-Ok.ensures.bytes told) c.in-Ok.ensures.rest).bytes in
-          of_more g.I.Inputs.told _ (so_far.fed ++ take c.in-Ok.n c.read_part.new.buffer) _ _ _ more
-          (λ content is rest bytes. rw c.given_up.ensures.same (stopped_feeding _ _ _ g.met.S.Stage.lawful _ c.feed.new.self _ (take c.in-Ok.n c.read_part.new.buffer) rest so_far.feeds own at bytes within going
-          (sound_at (g.I.Inputs.sources c.read_part.new.inputs) c.args.slot (still_readable _ _ _ _ c.in-Ok.n c.in-Ok.ensures.rest so_far.readable), λ told. is told ∙ more told)
-          c.in-Err-feed.ensures.cut c.in-Err-feed.ensures.refused c.feed.ensures.same (λ unjudged. c.feed.ensures.owns) c.given_up.ensures.judged c.given_up.ensures.swept));
+          of_more g.I.Inputs.told _ (so_far.fed ++ take c.in-Ok.n c.read_part.new.buffer) _ _ _ more (λ content. came_sound g.I.Inputs.told _ c.args.slot (still_readable _ _ _ _ c.in-Ok.n c.in-Ok.ensures.rest so_far.readable))
+          (λ content is rest bytes came. (
+            rw c.given_up.ensures.same (stopped_feeding _ _ _ g.met.S.Stage.lawful _ c.feed.new.self _ (take c.in-Ok.n c.read_part.new.buffer) rest so_far.feeds own at bytes within going (
+              record {
+                came = came;
+                sound = sound_at (g.I.Inputs.sources c.read_part.new.inputs) c.args.slot (still_readable _ _ _ _ c.in-Ok.n c.in-Ok.ensures.rest so_far.readable);
+                ended = λ ends. absurd (false≢true ends);
+                joined = λ told. is told ∙ more told;
+              },
+              λ told unread standard. omega (arith, (takes_more _ (so_far.took told) so_far.readable (c.in-Ok.ensures.bytes told) c.in-Ok.ensures.rest).far unread),
+            )
+                c.in-Err-feed.ensures.cut c.in-Err-feed.ensures.refused c.feed.ensures.same (λ unjudged. c.feed.ensures.owns) c.given_up.ensures.judged c.given_up.ensures.swept),
+            λ ends. rw (← so_far.feeds.same) (told_by_complete (source_at (g.I.Inputs.sources c.read_part.new.inputs) c.args.slot) rest (g.met.S.Stage.lawful _) (settles ends).0 bytes),
+          ));
       others = keeps_again _ _ _ _ so_far.others (keeps_others _ _ _ _ c.in-Ok.ensures.rest);
       reads = λ told. (
         so_far.fed ++ take c.in-Ok.n c.read_part.new.buffer,
@@ -144,14 +172,11 @@ returns-in-Err-feed g c =
       );
       used = λ told ends unread.
           let gave = c.in-Ok.ensures.bytes told in
-          let judging = ap is_verdict (sym c.given_up.ensures.same) ∙ not-false (is_verdict c.given_up.result) ends in
-          let settles : IsSettled (g.S.Stage.work c.pieces.engine.stage) (so_far.fed ++ take c.in-Ok.n c.read_part.new.buffer) c.in-Err-feed.fault
-          = judges (g.S.Stage.work c.pieces.engine.stage).means _ (EndsWith g.S.Stage.Holds g.S.Stage.work c.pieces.engine.stage (take c.in-Ok.n c.read_part.new.buffer)) judging c.in-Err-feed.ensures.refused so_far.fed so_far.feeds.holds.within in
           rw (← so_far.feeds.same)
           (uses_judged
           (read_more _ _ _ _ _ _ _ _ _ (so_far.read told) so_far.readable gave c.in-Ok.ensures.rest).bytes
           (needed_more so_far.fed c.read_part.new.buffer going (omega (arith, c.in-Ok.ensures.bound, c.piece_size-size.ensures.within, so_far.room)))
-          settles.0 settles.1 ((takes_more _ (so_far.took told) so_far.readable gave c.in-Ok.ensures.rest).far unread));
+          (settles ends).0 (settles ends).1 ((takes_more _ (so_far.took told) so_far.readable gave c.in-Ok.ensures.rest).far unread));
       asked = λ within. asked_again _ _ _ _ _ _ so_far.readable c.in-Ok.ensures.rest (omega (arith, c.piece_size-size.ensures.within, so_far.room)) (so_far.asked within);
       broke = tt;
       laid = c.read_part.ensures.kept ∙ so_far.laid;
@@ -169,17 +194,27 @@ returns g c =
     let so_far = c.pieces.invariant in
     let done : (g.S.Stage.work c.pieces.engine.stage).is_complete so_far.fed ≡ true = sym (c.done.ensures.complete so_far.fed so_far.feeds.holds) ∙ c.pieces-test.false in
     let spare = c.unused-unused.ensures so_far.fed so_far.feeds.holds in
+    let few : c.args.slot ≡ 0 → c.unused-unused.result ≤ (g.S.Stage.work c.pieces.engine.stage).ahead = λ standard. rw so_far.feeds.same (so_far.few standard _ (rw so_far.feeds.same at spare)) in
     let back = c.give_back.ensures.rest in record {
       broke = ends_sound _ _ _ _ _ (inr refl) c.end-2.ensures;
       ends = λ before opening own at.
           let used = complete_used _ so_far.fed _ spare done in
-          let sound = sound_at (g.I.Inputs.sources c.give_back.new.self) c.args.slot
-          (ap (λ (source : Source). source.is_open && not source.is_broken) (changed_source _ (gets_back _) _ _ so_far.readable back) ∙ so_far.readable)
-          in
-          of_more g.I.Inputs.told _ so_far.fed _ _ _ (λ told. (so_far.read told).bytes)
-          (λ content is rest bytes. ended _ _ _ g.met.S.Stage.lawful _ _ so_far.feeds own at (done, (rest, bytes))
-          (enough (spare.rest ++ rest) (bytes ∙ ap (λ those. those ++ rest) spare.joined ∙ append_assoc spare.used spare.rest rest) used) (alike_after spare.rest (g.met.S.Stage.lawful _) used spare.joined)
-          (needed_within c.requires.room spare.needed) (sound, λ told. is told ∙ read_used spare (so_far.read told) (so_far.took told) so_far.readable back) c.end-2.ensures);
+          let readable = ap (λ (source : Source). source.is_open && not source.is_broken) (changed_source _ (gets_back _) _ _ so_far.readable back) ∙ so_far.readable in
+          of_more g.I.Inputs.told _ so_far.fed _ _ _ (λ told. (so_far.read told).bytes) (λ content. came_sound g.I.Inputs.told (g.I.Inputs.sources c.give_back.new.self) c.args.slot readable)
+          (λ content is rest bytes came. (
+            ended _ _ _ g.met.S.Stage.lawful _ _ so_far.feeds own at (done, (rest, bytes))
+                (enough (spare.rest ++ rest) (bytes ∙ ap (λ those. those ++ rest) spare.joined ∙ append_assoc spare.used spare.rest rest) used) (alike_after spare.rest (g.met.S.Stage.lawful _) used spare.joined)
+                (needed_within c.requires.room spare.needed) (
+                  record {
+                    came = came;
+                    sound = sound_at (g.I.Inputs.sources c.give_back.new.self) c.args.slot readable;
+                    ended = λ ends. absurd (false≢true (sym (ap not used) ∙ ends));
+                    joined = λ told. is told ∙ read_used spare (so_far.read told) (so_far.took told) so_far.readable back;
+                  },
+                  λ told unread. rw used (read_to_used spare few (so_far.took told) unread so_far.readable back),
+                ) c.end-2.ensures,
+            λ ends. rw (← so_far.feeds.same) (told_by_complete (source_at (g.I.Inputs.sources c.give_back.new.self) c.args.slot) rest (g.met.S.Stage.lawful _) done bytes),
+          ));
       reads = λ told. (
         spare.used,
         rw (← so_far.feeds.same) (needed_within c.requires.room spare.needed),
@@ -188,7 +223,7 @@ returns g c =
       used = λ told ends unread.
           rw (← so_far.feeds.same)
           (uses_part spare (read_used spare (so_far.read told) (so_far.took told) so_far.readable back) c.requires.room (complete_used _ so_far.fed _ spare done)
-          (λ standard. rw so_far.feeds.same (so_far.few standard _ (rw so_far.feeds.same at spare)))
+          few
           (so_far.took told) unread so_far.readable back);
       others = keeps_again _ _ _ _ so_far.others (keeps_others _ _ _ _ back);
       asked = λ within. rw (ap (λ (source : Source). source.asked) (changed_source _ _ _ _ so_far.readable back)) (so_far.asked within);

@@ -27,7 +27,7 @@ found one other bytes same has has_too =
     ∙ ap (λ name. inputs_at other.world (name ∷ [])) (sym named) ∙ sym (ap (inputs_at other.world) has_too.only)
 
 pub returns : goal.returns
-returns c asked read only =
-    let (one, does, has, words, outs) = rw c.in-Some.is at (c.in_ok-one.ensures asked read only) in
-    let (other, does_too, has_too, words_too, outs_too) = rw c.in-Some-2.is at (c.in_ok-other.ensures asked read only) in
+returns c asked read only none =
+    let (one, does, has, words, outs) = rw c.in-Some.is at (c.in_ok-one.ensures asked read only none) in
+    let (other, does_too, has_too, words_too, outs_too) = rw c.in-Some-2.is at (c.in_ok-other.ensures asked read only none) in
     sym outs ∙ c.cutting_changes_nothing.ensures.same one other asked does does_too (found one other c.args.bytes.now (words ∙ sym words_too) has has_too) ∙ outs_too

@@ -9,4 +9,4 @@ well : (words : List (List ℕ)) (asked : Settings) (bytes : List ℕ) (outs : L
 well words asked bytes outs status zero (one, ran, has, words_are, outs_are, is) = (one, record { ran = ran; well = is ∙ zero }, has, words_are, outs_are)
 
 pub returns : goal.returns
-returns c asked read only = well _ asked c.args.bytes.now _ _ c.if-branch-ne0.false (c.in_ok-ran.ensures asked read only)
+returns c asked read only none = well _ asked c.args.bytes.now _ _ c.if-branch-ne0.false (c.in_ok-ran.ensures asked read only none)

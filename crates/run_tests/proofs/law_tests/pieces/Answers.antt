@@ -1,4 +1,4 @@
-use Rattle.std.proofs.Common.{◌≡◌, List, [], ◌∷◌, map, drop, Option, Some, None, Result, Ok, Err, sym, ◌∙◌, ap, IfOk, IfSome}
+use Rattle.std.proofs.Common.{◌≡◌, List, [], ◌∷◌, map, drop, Option, Some, None, Result, Ok, Err, refl, sym, ◌∙◌, ap, IfOk, IfSome}
 use Rattle.seg_core.specs.Line.{joined}
 use Rattle.ports_core.specs.Slot.{Slot}
 use Rattle.ports_core.specs.declared.fault.Fault.{Fault}
@@ -14,4 +14,4 @@ pub returns : goal.returns
 returns c asked n read only cut =
     weaker c.left_of.result _ (λ outs. joined (map (λ (file : Slot). file.written) (drop 2 outs)) ≡ c.args.bytes.now)
     (λ outs (one, does, has, words, same). ap (λ slots. joined (map (λ (file : Slot). file.written) (drop 2 slots))) (sym same) ∙ (c.split_loses_nothing.ensures.bytes one asked n c.args.bytes.now does has cut).all)
-    (c.left_of.ensures (Split asked) read (ap (λ name. name ∷ []) only))
+    (c.left_of.ensures (Split asked) read (ap (λ name. name ∷ []) only) refl)

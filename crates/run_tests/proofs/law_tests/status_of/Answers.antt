@@ -8,7 +8,7 @@ weaker (Ok status) P Q more holds = more status holds
 weaker (Err fault) P Q more holds = tt
 
 pub returns : goal.returns
-returns c asked read only =
+returns c asked read only none =
     weaker c.ran.result _ (λ status. (slot_at c.ran.new.outs 0).is_broken ≡ true → status ≡ 1)
     (λ status (one, ran, has, words, outs, is) broken. sym is ∙ (c.faults_leave_a_beginning.ensures.broken one asked 0 ran (λ at. omega (arith, at)) (ap (λ slots. (slot_at slots 0).is_broken) outs ∙ broken)).0)
-    (c.ran.ensures asked read only)
+    (c.ran.ensures asked read only none)

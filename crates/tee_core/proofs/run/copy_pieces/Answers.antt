@@ -1,5 +1,6 @@
 use Rattle.std.proofs.Common.{◌≡◌, ◌+◌, length, length-take, ◌∷◌, ap, ◌++◌, ◌∙◌, [], take, Some, inl, inr, arith, refl, sym}
-use Rattle.ports_core.proofs.InputsLemmas.{asked_again, keeps_again, keeps_itself, keeps_others, nothing_read, read_more, sound_at, still_readable}
+use Rattle.std.proofs.lemmas.Bool.{false≢true}
+use Rattle.ports_core.proofs.InputsLemmas.{asked_again, ended_now, keeps_again, keeps_itself, keeps_others, nothing_read, read_more, sound_at, still_readable}
 use Rattle.tee_core.proofs.CopyLemmas.{joined_more}
 use Rattle.tee_core.specs.Run.{to_break, to_end, to_last_output, to_limit}
 use Rattle.tee_core.proofs.EndLemmas.{counted_more, more_sized, none_sized, reads_copied, seen_broken, seen_ended, seen_more}
@@ -49,7 +50,7 @@ pub returns-in-Err-clause-copies : goal.returns-in-Err-clause-copies
 returns-in-Err-clause-copies g c mode at =
     let so_far = c.pieces.invariant in
     let (content, is, bytes, ended, leaves, breaks) = seen_broken _ _ _ _ _ _ so_far.read so_far.readable c.in-Err.ensures.break_off c.in-Err.ensures.err.1 in
-    let copied = reads_copied _ so_far.joined so_far.left so_far.sized (omega (arith, so_far.counted, so_far.small)) (inl (ap Some c.in-Err.ensures.err.0))
+    let copied = reads_copied _ so_far.joined so_far.left so_far.sized (omega (arith, so_far.counted, so_far.small)) (inl (ap Some c.in-Err.ensures.err.0)) (λ none. absurd (cc))
     (rw c.in-Err.ensures.err.0 (to_break _ bytes ended leaves)) (so_far.copies mode at) in
     (content, is, (copied, breaks))
 
@@ -60,6 +61,7 @@ returns-then-n-eq0-clause-copies g c mode at =
     let so_far = c.pieces.invariant in
     let (content, is, bytes, ended, leaves, breaks) = seen_ended _ _ _ _ _ _ so_far.read so_far.readable c.in-Ok.ensures.bytes c.if-n-eq0.true (omega (arith, c.requires.room, c.pieces.auto.buffer)) c.in-Ok.ensures.rest in
     let copied = reads_copied _ so_far.joined so_far.left so_far.sized (omega (arith, so_far.counted, so_far.small)) (inr (sound_at (g.I.Inputs.sources c.read.new.self) 0 (still_readable _ _ _ _ c.in-Ok.n c.in-Ok.ensures.rest so_far.readable)))
+    (λ none left. ended_now _ _ c.in-Ok.n _ _ so_far.readable c.in-Ok.ensures.rest c.if-n-eq0.true (omega (arith, c.requires.room, c.pieces.auto.buffer)))
     (to_end _ bytes ended leaves) (so_far.copies mode at) in
     (content, is, (copied, breaks))
 
@@ -70,7 +72,7 @@ returns-in_default-clause-copies g c mode at =
     let so_far = c.pieces.invariant in
     let (content, rest, is, bytes, leaves, breaks) = seen_more _ _ _ _ _ _ so_far.read so_far.readable c.in-Ok.ensures.bytes c.in-Ok.ensures.rest in
     let long : length (so_far.came ++ take c.in-Ok.n c.read.new.buffer) ≡ c.pieces.fed + c.in-Ok.n = sym (counted_more so_far.came c.read.new.buffer c.in-Ok.n so_far.counted (omega (arith, c.in-Ok.ensures.bound, c.read.auto.buffer)) refl) in
-    let copied = reads_copied _ so_far.joined so_far.left so_far.sized (omega (arith, so_far.counted, so_far.small)) (inr (sound_at (g.I.Inputs.sources c.read.new.self) 0 (still_readable _ _ _ _ c.in-Ok.n c.in-Ok.ensures.rest so_far.readable)))
+    let copied = reads_copied _ so_far.joined so_far.left so_far.sized (omega (arith, so_far.counted, so_far.small)) (inr (sound_at (g.I.Inputs.sources c.read.new.self) 0 (still_readable _ _ _ _ c.in-Ok.n c.in-Ok.ensures.rest so_far.readable))) (λ none. absurd (cc))
     (to_limit so_far.came (take c.in-Ok.n c.read.new.buffer) rest bytes (omega (arith, long, c.in_default.ensures)) (omega (arith, c.requires.most, c.read.auto.buffer, c.pieces.auto.buffer, length-take c.in-Ok.n c.read.new.buffer)) leaves) (so_far.copies mode at) in
     (content, is, (copied, breaks))
 
@@ -83,6 +85,6 @@ returns-then-are_all-clause-copies g c mode at =
     let copied = reads_copied _ (ap (λ bytes. bytes ++ take c.in-Ok.n c.read.new.buffer) so_far.joined ∙ joined_more so_far.pieces (take c.in-Ok.n c.read.new.buffer)) (sym c.are_all.ensures ∙ c.if-are_all.true)
     (more_sized so_far.pieces c.read.new.buffer so_far.sized c.if-n-eq0.false (omega (arith, c.in-Ok.ensures.bound, c.read.auto.buffer)) (omega (arith, c.requires.most, c.read.auto.buffer, c.pieces.auto.buffer)))
     (omega (arith, counted_more so_far.came c.read.new.buffer c.in-Ok.n so_far.counted (omega (arith, c.in-Ok.ensures.bound, c.read.auto.buffer)) c.in-Some.ensures.1, c.in-Some.ensures.0, c.in-Some.ensures.1))
-    (inr (sound_at (g.I.Inputs.sources c.read.new.self) 0 (still_readable _ _ _ _ c.in-Ok.n c.in-Ok.ensures.rest so_far.readable)))
+    (inr (sound_at (g.I.Inputs.sources c.read.new.self) 0 (still_readable _ _ _ _ c.in-Ok.n c.in-Ok.ensures.rest so_far.readable))) (λ none left. absurd (false≢true (sym left)))
     (to_last_output _ rest bytes leaves) (c.copy_piece.ensures.copies mode so_far.pieces (so_far.copies mode at)) in
     (content, is, (copied, breaks))

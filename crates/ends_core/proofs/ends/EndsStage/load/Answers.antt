@@ -1,5 +1,6 @@
 use Rattle.std.proofs.Common.{◌∙◌, sym, refl}
 use Rattle.ends_core.specs.Stage.{count_of, delim_of, stretch_of, unit_of}
+use Rattle.ports_core.proofs.LoadLemmas.{looked_none}
 use Rattle.ends_core.proofs.KeptLemmas.{passes_none}
 use Rattle.ends_core.proofs.EndsLemmas.{waits_none}
 use Rattle.ends_core.proofs.ends.EndsStage.load.Goals as goal
@@ -7,4 +8,4 @@ use Rattle.ends_core.proofs.ends.EndsStage.load.Goals as goal
 pub returns-in_default-clause-passes : goal.returns-in_default-clause-passes
 returns-in_default-clause-passes g c =
     let ends = c.args.self.now in
-    passes_none _ _ refl (c.requires.none ∙ sym (waits_none (stretch_of ends) (delim_of ends) (unit_of ends) (count_of ends)))
+    passes_none _ _ (looked_none _ _ _) (c.requires.none ∙ sym (waits_none (stretch_of ends) (delim_of ends) (unit_of ends) (count_of ends)))

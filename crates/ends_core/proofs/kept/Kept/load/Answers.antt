@@ -2,14 +2,15 @@ use Rattle.std.proofs.Common.{arith}
 use Rattle.std.proofs.lemmas.Grind.{common_steps}
 use Rattle.std.proofs.lemmas.List.{drop_all}
 use Rattle.ends_core.proofs.KeptLemmas.{passes_none, passes_seen, last_none}
+use Rattle.ports_core.proofs.LoadLemmas.{looked_none, looked_readable}
 use Rattle.ends_core.proofs.kept.Kept.load.Goals.{else-hold_last-via-then-hold_last+else-skip, else-hold_last-via-else-hold_last}
 use Rattle.ends_core.proofs.kept.Kept.load.Goals as goal
 
 pub returns-in_default-clause-passes : goal.returns-in_default-clause-passes
-returns-in_default-clause-passes g c = grind (arith, common_steps, passes_none, last_none)
+returns-in_default-clause-passes g c = grind (arith, common_steps, passes_none, looked_none, last_none)
 
 pub returns-then-left-buffer-clause-passes : goal.returns-then-left-buffer-clause-passes
-returns-then-left-buffer-clause-passes g c = grind (arith, common_steps, passes_none, last_none)
+returns-then-left-buffer-clause-passes g c = grind (arith, common_steps, passes_none, looked_none, last_none)
 
 pub returns-then-skip-clause-passes : goal.returns-then-skip-clause-passes
 returns-then-skip-clause-passes g c = grind (arith, common_steps, passes_seen)

@@ -1,28 +1,33 @@
-use Rattle.std.proofs.Common.{◌∙◌, ap, sym, arith, length}
+use Rattle.std.proofs.Common.{◌∙◌, ap, sym, arith, length, true}
 use Rattle.std.proofs.lemmas.Grind.{common_steps}
 use Rattle.watch_core.specs.Snapshot.{latest}
 use Rattle.watch_core.specs.Watched.{watched_at}
-use Rattle.follow_core.proofs.CallLemmas.{adds_copied, adds_untold, contents_open, ends_can, nothing_due}
-use Rattle.follow_core.proofs.StartLemmas.{contents_same}
+use Rattle.follow_core.proofs.CallLemmas.{adds_copied, adds_none, adds_unmeasured, adds_untold, contents_open, ends_can, long_at}
 use Rattle.follow_core.proofs.visitor.Visitor.catch_up.Goals as goal
 
 pub returns-in_default-clause-adds : goal.returns-in_default-clause-adds
-returns-in_default-clause-adds g c = grind (arith, common_steps, nothing_due)
+returns-in_default-clause-adds g c = adds_none (sym c.open_id.ensures ∙ c.in_default.is)
+
+pub returns-in-Err-clause-adds : goal.returns-in-Err-clause-adds
+returns-in-Err-clause-adds g c = adds_unmeasured (sym c.open_id.ensures ∙ c.in-Some.is) c.in-Err.ensures.err.0 c.in-Err.ensures.err.1
 
 pub returns-in-Err-begin_at-clause-adds : goal.returns-in-Err-begin_at-clause-adds
 returns-in-Err-begin_at-clause-adds g c =
     let holds = contents_open (latest (g.W.Watch.seen c.args.watch.now)) (watched_at (g.W.Watch.watched c.args.watch.now) c.args.place) in
-    adds_untold (latest (g.W.Watch.seen c.args.watch.now)) (sym c.open_id.ensures ∙ c.in-Some.is) (λ t. c.in-Ok.ensures.ok t ∙ ap length holds) (c.in-Err-begin_at.ensures.ends g.W.Watch.told c.args.self.now)
+    adds_untold (sym c.open_id.ensures ∙ c.in-Some.is) (λ t. c.in-Ok.ensures.ok t ∙ ap length holds) (c.in-Err-begin_at.ensures.ends g.W.Watch.told c.args.self.now) c.in-Ok.ensures.same
 
 pub invariant_of-self : goal.invariant_of-self
 invariant_of-self g c = grind (arith, common_steps)
 
+pub copy-requires-clause-found : goal.copy-requires-clause-found
+copy-requires-clause-found g c = long_at c.args.place _ (sym c.open_len.ensures.seen) (sym c.in-Ok.ensures.same) (λ some. c.in-Ok.ensures.found)
+
 pub returns-clause-adds : goal.returns-clause-adds
 returns-clause-adds g c =
     let holds = contents_open (latest (g.W.Watch.seen c.args.watch.now)) (watched_at (g.W.Watch.watched c.args.watch.now) c.args.place) in
-    adds_copied (latest (g.W.Watch.seen c.args.watch.now)) c.self.view_is (sym c.open_id.ensures ∙ c.in-Some.is) (λ t. c.in-Ok.ensures.ok t ∙ ap length holds)
-    (contents_same c.args.place c.open_len.ensures.seen c.in-Ok.ensures.same ∙ holds)
-    c.in-Ok-begin_at.ensures.from (c.in-Ok-begin_at.ensures.ends g.W.Watch.told c.self.inside.printer) c.copy.ensures.ends c.copy.ensures.len
+    adds_copied c.self.view_is (sym c.open_id.ensures ∙ c.in-Some.is) (λ t. c.in-Ok.ensures.ok t ∙ ap length holds) c.in-Ok.ensures.found
+    (ap latest c.open_len.ensures.seen) c.in-Ok.ensures.same
+    c.in-Ok-begin_at.ensures.from (c.in-Ok-begin_at.ensures.ends true c.self.inside.printer) c.copy.ensures.copies c.copy.ensures.len
 
 pub returns-clause-can : goal.returns-clause-can
-returns-clause-can g c = ends_can c.copy.ensures.ends c.in-Ok-begin_at.ensures.can
+returns-clause-can g c = ends_can c.copy.ensures.copies.ends c.in-Ok-begin_at.ensures.can

@@ -1,10 +1,13 @@
 use Rattle.std.proofs.lemmas.Grind.{common_steps}
-use Rattle.std.proofs.Common.{◌≡◌, ◌∙◌, ap, refl, None, [], if◌then◌else◌, arith}
+use Rattle.std.proofs.Common.{◌≡◌, ◌∙◌, ap, refl, sym, false, None, Some, [], if◌then◌else◌, arith}
 use Rattle.watch_core.specs.Snapshot.{latest}
 use Rattle.follow_core.specs.declared.name.Standing.TheVariants.{Followed, Left}
+use Rattle.follow_core.specs.Event.{begins_none}
+use Rattle.follow_core.specs.Look.{sound}
+use Rattle.follow_core.specs.inner.Giving.{Noted}
 use Rattle.follow_core.specs.declared.visitor.Stop.TheVariants.{Over}
-use Rattle.follow_core.proofs.CallLemmas.{contents_led, ends_can, follows_from, follows_stop, goes_after, stops_early, opened_there}
-use Rattle.follow_core.proofs.LookLemmas.{first_gave, first_missing, first_unopened, gave_fails, gave_through}
+use Rattle.follow_core.proofs.CallLemmas.{ends_can, follows_from, follows_stop, header_only, long_at, stops_early, opened_there}
+use Rattle.follow_core.proofs.LookLemmas.{first_gave, first_missing, first_started, first_unopened, gave_fails, gave_through}
 use Rattle.follow_core.proofs.visitor.Visitor.first.Goals as goal
 use Rattle.follow_core.proofs.visitor.Visitor.first.Goals.{then-by_name, else-by_name}
 
@@ -17,34 +20,33 @@ returns-in-Ok-false-clause-visits g c first =
     rw now (first_missing c.in-Ok-false.ensures.ok c.in-Ok-false.field-0-test c.requires.name c.requires.watchable c.say.ensures)
 
 pub returns-in-Err-clause-visits : goal.returns-in-Err-clause-visits
-returns-in-Err-clause-visits g c first = first_unopened c.requires.watchable c.in-Err.ensures.err.0 c.in-Err.ensures.err.1 c.stop.ensures.tells
+returns-in-Err-clause-visits g c first = first_unopened c.requires.name c.requires.watchable c.in-Err.ensures.err.0 c.in-Err.ensures.err.1 c.stop.ensures.tells
 
 pub returns-in-Err-put-clause-visits : goal.returns-in-Err-put-clause-visits
-returns-in-Err-put-clause-visits g c first = gave_fails (Over c.in-Err-put.fault) c.requires.watchable
+returns-in-Err-put-clause-visits g c first = gave_fails sound (Over c.in-Err-put.fault) c.requires.name c.requires.watchable
     (c.in-Ok-true.ensures.ok.file, c.in-Ok-true.ensures.ok.names)
-    (first_gave _ c.self.view_is c.in-Ok-true.ensures.ok c.in-Ok-true.field-0-test c.requires.name (λ t. refl) refl tt (stops_early _ [] (c.in-Err-put.ensures.ends g.W.Watch.told)))
+    (first_gave _ c.self.view_is c.in-Ok-true.ensures.ok c.in-Ok-true.field-0-test c.requires.name (λ t. refl) refl tt (stops_early _ (header_only {before = _} (Some c.in-Err-put.fault) ([], begins_none, tt) c.in-Err-put.ensures.puts)))
     (refl, refl)
 
 pub write_start-requires-clause-readable : goal.write_start-requires-clause-readable
 write_start-requires-clause-readable g c = grind (arith, common_steps, opened_there)
 
 pub write_start-requires-clause-can : goal.write_start-requires-clause-can
-write_start-requires-clause-can g c = ends_can (c.in_default.ensures.ends g.W.Watch.told) c.requires.can
+write_start-requires-clause-can g c = ends_can (header_only {told_in = false} {Is = Noted} {before = []} None tt c.in_default.ensures.puts) c.requires.can
 
 pub returns-in-Ok-clause-visits : goal.returns-in-Ok-clause-visits
-returns-in-Ok-clause-visits g c first = gave_through c.requires.name c.requires.watchable
-    (follows_from c.args.by_name _ _ _ None c.in-Ok-true.ensures.ok.names (λ t. c.in-Ok-true.ensures.ok.leads t ∙ ap (latest (g.W.Watch.seen c.args.watch.now)).leads c.requires.name) c.in-Ok.ensures.keeps)
-    (first_gave _ c.self.view_is c.in-Ok-true.ensures.ok c.in-Ok-true.field-0-test c.requires.name
-    (contents_led (ap latest c.reopen.ensures.seen) c.requires.watchable c.in-Ok-true.ensures.ok c.requires.name) c.in-Ok.ensures.keeps c.in-Ok.ensures.len
-    (goes_after (c.in_default.ensures.ends g.W.Watch.told) c.in-Ok.ensures.ends))
+returns-in-Ok-clause-visits g c first = gave_through c.in-Ok.ensures.starts.fate c.requires.name c.requires.watchable
+    (follows_from _ _ _ c.in-Ok.ensures.starts.fate None c.in-Ok-true.ensures.ok.names (λ t. c.in-Ok-true.ensures.ok.leads t ∙ ap (latest (g.W.Watch.seen c.args.watch.now)).leads c.requires.name) c.in-Ok.ensures.starts.keeps)
+    (first_started _ c.self.view_is c.in-Ok-true.ensures.ok c.in-Ok-true.field-0-test c.requires.name c.requires.watchable (ap latest c.reopen.ensures.seen)
+    (λ Is found. header_only {Is = Is} {before = []} None found c.in_default.ensures.puts) c.in-Ok.ensures.starts c.in-Ok.ensures.len)
+    (long_at c.args.place _ c.reopen.ensures.seen (sym c.in-Ok.ensures.starts.keeps) c.in-Ok.ensures.long)
 
 pub returns-in-Err-write_start-clause-visits : goal.returns-in-Err-write_start-clause-visits
-returns-in-Err-write_start-clause-visits g c first = gave_fails c.in-Err-write_start.stop c.requires.watchable
-    (follows_stop g.W.Watch.told c.args.by_name ((latest (g.W.Watch.seen c.args.watch.now)).leads c.args.name.now) _ _ _ _ c.in-Err-write_start.stop c.in-Ok-true.ensures.ok.names c.in-Err-write_start.ensures.keeps)
-    (first_gave _ c.self.view_is c.in-Ok-true.ensures.ok c.in-Ok-true.field-0-test c.requires.name
-    (contents_led (ap latest c.reopen.ensures.seen) c.requires.watchable c.in-Ok-true.ensures.ok c.requires.name) c.in-Err-write_start.ensures.keeps tt
-    (goes_after (c.in_default.ensures.ends g.W.Watch.told) c.in-Err-write_start.ensures.ends))
+returns-in-Err-write_start-clause-visits g c first = gave_fails c.in-Err-write_start.ensures.starts.fate c.in-Err-write_start.stop c.requires.name c.requires.watchable
+    (follows_stop g.W.Watch.told ((latest (g.W.Watch.seen c.args.watch.now)).leads c.args.name.now) _ _ _ _ c.in-Err-write_start.ensures.starts.fate c.in-Err-write_start.stop c.in-Ok-true.ensures.ok.names c.in-Err-write_start.ensures.starts.keeps)
+    (first_started _ c.self.view_is c.in-Ok-true.ensures.ok c.in-Ok-true.field-0-test c.requires.name c.requires.watchable (ap latest c.reopen.ensures.seen)
+    (λ Is found. header_only {Is = Is} {before = []} None found c.in_default.ensures.puts) c.in-Err-write_start.ensures.starts tt)
     c.stop-in-Err-write_start.ensures.tells
 
 pub returns-in-Err-put-clause-can : goal.returns-in-Err-put-clause-can
-returns-in-Err-put-clause-can g c = ends_can (c.in-Err-put.ensures.ends g.W.Watch.told) c.requires.can
+returns-in-Err-put-clause-can g c = ends_can (header_only {told_in = false} {Is = Noted} {before = []} (Some c.in-Err-put.fault) tt c.in-Err-put.ensures.puts) c.requires.can

@@ -1,9 +1,12 @@
-use Rattle.std.proofs.Common.{refl}
-use Rattle.ports_core.specs.declared.fault.Fault.TheVariants.{Read}
+use Rattle.std.proofs.Common.{rules, refl}
+use Rattle.watch_core.specs.declared.watch.Broken.TheVariants.{Len}
 use Rattle.watch_core.specs.Watched.{breaks}
-use Rattle.watch_core.proofs.DirWatchLemmas.{one_changes}
+use Rattle.watch_core.proofs.DirWatchLemmas.{finds_any, one_changes}
 use Rattle.watch_core.proofs.NameLemmas.{readable_watchable}
 use Rattle.watch_core.proofs.dir_watch.DirWatchWatch.open_len.Goals as goal
 
 pub returns-in_default-clause-err : goal.returns-in_default-clause-err
-returns-in_default-clause-err g c = (refl, one_changes _ c.args.place (breaks (Read c.args.place)) c.self.view_is (readable_watchable _ c.args.place c.requires) c.index_mut.ensures.value c.in_default.ensures.broke)
+returns-in_default-clause-err g c = (refl, one_changes _ c.args.place (breaks (λ file. Len file)) c.self.view_is (readable_watchable _ c.args.place c.requires) c.index_mut.ensures.value c.in_default.ensures.broke)
+
+pub returns-clause-found : goal.returns-clause-found
+returns-clause-found g c = search (rules, finds_any)

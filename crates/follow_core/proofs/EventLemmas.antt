@@ -1,0 +1,60 @@
+-- Lists of events: what is in two of them, what entries give, and beginnings.
+use Rattle.std.proofs.Common.{◌≡◌, ℕ, List, [], ◌∷◌, ◌++◌, refl, sym, ◌∙◌, ap, append_assoc, map}
+use Rattle.std.proofs.lemmas.List.{append-nil}
+use Rattle.follow_core.specs.declared.notice.Notice.{Notice}
+use Rattle.follow_core.specs.Event.{Begins, begins_none, begins_within, begins_on, Event, bytes_in, events_between, events_later, gives, lines_in, notes}
+use Rattle.follow_core.specs.Gain.{gain_between, gains_later, last_from}
+use Rattle.follow_core.specs.Notice.{notice_of, notices_between}
+use Rattle.follow_core.specs.inner.Giving.{IsFront}
+use Rattle.follow_core.specs.Version.{Entry, gap, version}
+
+pub bytes-append : (events more : List Event) → bytes_in (events ++ more) ≡ bytes_in events ++ bytes_in more
+bytes-append [] more = refl
+bytes-append (notes notice ∷ events) more = bytes-append events more
+bytes-append (gives bytes ∷ events) more = ap (λ rest. bytes ++ rest) (bytes-append events more) ∙ sym (append_assoc bytes (bytes_in events) (bytes_in more))
+
+pub lines-append : (name : List ℕ) (events more : List Event) → lines_in name (events ++ more) ≡ lines_in name events ++ lines_in name more
+lines-append name [] more = refl
+lines-append name (notes notice ∷ events) more = ap (λ rest. notice_of notice name ∷ rest) (lines-append name events more)
+lines-append name (gives bytes ∷ events) more = lines-append name events more
+
+pub events-append : (last : Entry) (entries more : List Entry) → events_later last (entries ++ more) ≡ events_later last entries ++ events_later (last_from last entries) more
+events-append last [] more = refl
+events-append last (entry ∷ entries) more = ap (λ rest. events_between last entry ++ rest) (events-append entry entries more)
+    ∙ sym (append_assoc (events_between last entry) (events_later entry entries) (events_later (last_from entry entries) more))
+
+-- the bytes that entries give are what they add
+
+noted_bytes : (notices : List Notice) (events : List Event) → bytes_in (map (λ notice. notes notice) notices ++ events) ≡ bytes_in events
+noted_bytes [] events = refl
+noted_bytes (notice ∷ notices) events = noted_bytes notices events
+
+gap_adds : (last : Entry) → gain_between last gap ≡ []
+gap_adds (version v) = refl
+gap_adds gap = refl
+
+bytes_between : (last entry : Entry) → bytes_in (events_between last entry) ≡ gain_between last entry
+bytes_between last gap = ap bytes_in (sym (append-nil (map (λ notice. notes notice) (notices_between last gap)))) ∙ noted_bytes (notices_between last gap) [] ∙ sym (gap_adds last)
+bytes_between last (version v) = noted_bytes (notices_between last (version v)) (gives (gain_between last (version v)) ∷ []) ∙ append-nil _
+
+pub bytes_later : (last : Entry) (entries : List Entry) → bytes_in (events_later last entries) ≡ gains_later last entries
+bytes_later last [] = refl
+bytes_later last (entry ∷ entries) = bytes-append (events_between last entry) (events_later entry entries) ∙ (λ i. bytes_between last entry i ++ bytes_later entry entries i)
+
+-- beginnings
+
+pub begins_all : (events : List Event) → Begins events events
+begins_all [] = begins_none
+begins_all (event ∷ events) = begins_on (begins_all events)
+
+pub begins_more : {part all : List Event} (more : List Event) → Begins part all → Begins part (all ++ more)
+begins_more more begins_none = begins_none
+begins_more more (begins_within bytes) = begins_within bytes
+begins_more more (begins_on begins) = begins_on (begins_more more begins)
+
+pub begins_after : (front : List Event) {part all : List Event} → Begins part all → Begins (front ++ part) (front ++ all)
+begins_after [] begins = begins
+begins_after (event ∷ front) begins = begins_on (begins_after front begins)
+
+pub begins_bytes : {bytes due : List ℕ} → IsFront bytes due → Begins (gives bytes ∷ []) (gives due ∷ [])
+begins_bytes front = begins_within (front.0, front.1)

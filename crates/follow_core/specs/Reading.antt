@@ -1,0 +1,86 @@
+-- What comes of a name whatever is watched, also where files don't tell their bytes: what the calls on it found.
+use Rattle.std.specs.Prelude.{◌≡◌, ◌⊎◌, ◌≤◌, ◌+◌, ℕ, true, false, not, ◌&&◌, List, [], ◌∷◌, ◌++◌, Option, Some, None, length}
+use Rattle.watch_core.specs.Snapshot.{Snapshot, Found, latest, holds_many, opens_as, reads_as}
+use Rattle.follow_core.specs.Event.{Begins, Event, gives, notes}
+use Rattle.follow_core.specs.Look.{Fate, Look, Ways, sound, unread, fate_at, is_dropped, is_first, snapshots}
+use Rattle.follow_core.specs.Share.{Share, failure_of, is_unopened, missing_share, no_share}
+
+-- reads of this file, each from where the one before it ended, gave these bytes, from one place on up to another
+pub data AreRead (snapshot : Snapshot) (name : List ℕ) (file : Option ℕ) (from : ℕ) : List ℕ → ℕ → Type 0 where
+  none_read : AreRead snapshot name file from [] from
+  one_more : {bytes : List ℕ} {at : ℕ} (piece : List ℕ) → AreRead snapshot name file from bytes at
+      → Found snapshot name (reads_as file at piece)
+      → AreRead snapshot name file from (bytes ++ piece) (at + length piece)
+
+-- bytes that reads of a file gave, which began at such a place of it
+pub record IsRead (Starts : Option ℕ → ℕ → Type 0) (snapshot : Snapshot) (name bytes : List ℕ) : Type 0 where
+  pub file : Option ℕ
+  pub from : ℕ
+  pub end : ℕ
+  pub begins : Starts file from
+  pub read : AreRead snapshot name file from bytes end
+
+-- and these went on to the length that was found, or until one gave nothing, or until one failed
+pub record IsWhole (Starts : Option ℕ → ℕ → Type 0) (snapshot : Snapshot) (name : List ℕ) (fate : Fate)
+    (bytes : List ℕ) : Type 0 where
+  pub is : IsRead Starts snapshot name bytes
+  pub ends : ((len : ℕ) × Found snapshot name (holds_many is.file len) × (len ≤ is.end))
+      ⊎ Found snapshot name (reads_as is.file is.end []) ⊎ (fate ≡ unread is.file is.end)
+
+-- this is so of the bytes of each event
+abbrev pub AllGive : (List ℕ → Type 0) → List Event → Type 0
+AllGive Is [] = Unit {0}
+AllGive Is (notes notice ∷ events) = AllGive Is events
+AllGive Is (gives bytes ∷ events) = Is bytes × AllGive Is events
+
+-- Where reads begin: at the first look, where the start part is found to begin; later at the front, or after as many
+-- bytes as the look before found the file to have.
+abbrev pub StartsIn : List Look → List ℕ → Option ℕ → ℕ → Type 0
+StartsIn before name file from = (is_first before ≡ true) ⊎ (from ≡ 0)
+    ⊎ Found (latest (snapshots before)) name (holds_many file from)
+
+-- what a look after these gives for a name that wasn't dropped: by its fate, and of what its calls found
+pub record IsFound (before : List Look) (snapshot : Snapshot) (name : List ℕ) (fate : Fate)
+    (share : Share) : Type 0 where
+  pub named : share.name ≡ name
+  pub opened : share.is_opened ≡ (not (is_unopened fate) && is_first before)
+  pub failed : share.failure ≡ failure_of fate
+  pub events : AllGive (IsWhole (StartsIn before name) snapshot name fate) share.events
+  -- at the first look a file was opened
+  pub there : share.is_opened ≡ true → (file : ℕ) × Found snapshot name (opens_as (Some file))
+
+-- or its name was found to lead nowhere at the first look
+pub record IsMissing (before : List Look) (snapshot : Snapshot) (name : List ℕ) (fate : Fate)
+    (share : Share) : Type 0 where
+  pub first : is_first before ≡ true
+  pub kept : fate ≡ sound
+  pub nowhere : Found snapshot name (opens_as None)
+  pub is : share ≡ missing_share name
+
+-- what a look after these gives for the name of this number
+abbrev pub IsGiven : List Look → Look → ℕ → List ℕ → Share → Type 0
+IsGiven before look place name share = ((is_dropped place before ≡ true) × (share ≡ no_share name))
+    ⊎ ((is_dropped place before ≡ false) × (IsFound before look.snapshot name (fate_at place look) share
+    ⊎ IsMissing before look.snapshot name (fate_at place look) share))
+
+-- what it gives for the names in order, of which the first has this number
+pub data AreAtLook (before : List Look) (look : Look) : ℕ → List (List ℕ) → List Share → Type 0 where
+  no_names : {place : ℕ} → AreAtLook before look place [] []
+  names_more : {place : ℕ} {name : List ℕ} {names : List (List ℕ)} {share : Share} {shares : List Share}
+      → IsGiven before look place name share → AreAtLook before look (place + 1) names shares
+      → AreAtLook before look place (name ∷ names) (share ∷ shares)
+
+-- what all looks give, look by look
+pub data AreFound (ways : Ways) (names : List (List ℕ)) : List Look → List Share → Type 0 where
+  no_looks : AreFound ways names [] []
+  looks_more : {looks : List Look} {look : Look} {shares more : List Share} → AreFound ways names looks shares
+      → AreAtLook looks look ways.first names more → AreFound ways names (looks ++ look ∷ []) (shares ++ more)
+
+-- a beginning of what a look gives for a name for which no call failed
+pub record IsBegun (before : List Look) (snapshot : Snapshot) (name : List ℕ) (share : Share) : Type 0 where
+  pub named : share.name ≡ name
+  pub opened : share.is_opened ≡ is_first before
+  pub unfailed : share.failure ≡ None
+  pub all : List Event
+  pub begins : Begins share.events all
+  pub events : AllGive (IsRead (StartsIn before name) snapshot name) all

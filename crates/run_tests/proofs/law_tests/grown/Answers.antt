@@ -1,0 +1,37 @@
+use Rattle.std.proofs.Common.{◌≡◌, ℕ, ◌+◌, ◌++◌, true, false, List, [], ◌∷◌, length, Option, Some, Ok, subst}
+use Rattle.ends_core.specs.Ends.{tail_of}
+use Rattle.ports_core.specs.Slot.{Slot, slot_at}
+use Rattle.ports_core.specs.Source.{Content, Source, source_of}
+use Rattle.watch_core.specs.Snapshot.{Snapshot}
+use Rattle.watch_core.specs.Watched.{Watched}
+use Rattle.words_core.specs.EndsAsked.{EndsAsked}
+use Rattle.words_core.specs.Words.{settings_of}
+use Rattle.words_core.specs.declared.settings.Settings.TheVariants.{Tail}
+use Rattle.words_core.specs.declared.value.Followed.{Followed}
+use Rattle.tools_core.specs.Program.{ProgramEnds}
+use Rattle.tools_core.specs.Promises.{AsksToFollow, Follows, IsBare, IsOfProgram, OnlyGrows, Run}
+use Rattle.tools_core.specs.Tasks.{is_plus}
+use Rattle.run_tests.proofs.law_tests.grown.Goals as goal
+
+-- both laws, of one run
+
+abbrev AreRuns : Type 0
+AreRuns = (run : Run) (options : EndsAsked) (followed : Followed) (looks : ℕ) → IsOfProgram run → AsksToFollow run options followed looks → run.status ≡ 0 → Follows run looks options followed × (run.inputs ≡ source_of run.world.standard ∷ [])
+
+abbrev TellAll : Type 0
+TellAll = (run : Run) (options : EndsAsked) (followed : Followed) (name came : List ℕ) (file n : ℕ) → Follows run (n + 1) options followed → IsBare options → options.names ≡ name ∷ [] → OnlyGrows (length run.seen) run.shows name file → (run.shows n).holds file ≡ (run.shows 0).holds file ++ came
+    → (slot_at run.outputs 0).written ≡ tail_of options.delim options.unit (is_plus options.count.sign) options.count.amount ((run.shows 0).holds file) ++ came
+
+-- what standard output has after a run of these words
+grown_so : AreRuns → TellAll → (words : List (List ℕ)) (laid : ℕ → List ℕ → Option Content) (old sources : List Source) (shows : ℕ → Snapshot) (seen : List Snapshot) (watched : List Watched) (outs : List Slot) (status : ℕ)
+    → old ≡ source_of (record { bytes = []; breaks_off = false }) ∷ [] → ProgramEnds true true true words laid old sources shows seen watched outs status → status ≡ 0
+    → (options : EndsAsked) (followed : Followed) (name came : List ℕ) (file n : ℕ) → settings_of words ≡ Ok (Tail (record { ends = options; followed = Some followed; looks = n + 1 })) → IsBare options → options.names ≡ name ∷ []
+    → ((count : ℕ) → OnlyGrows count shows name file) → (shows n).holds file ≡ (shows 0).holds file ++ came
+    → (slot_at outs 0).written ≡ tail_of options.delim options.unit (is_plus options.count.sign) options.count.amount ((shows 0).holds file) ++ came
+grown_so law tells words laid old sources shows seen watched outs status fresh ends well options followed name came file n read bare named grows held =
+    let run : Run = record { words = words; world = record { laid = laid; standard = record { bytes = []; breaks_off = false } }; shows = shows; inputs = sources; seen = seen; watched = watched; outputs = outs; status = status } in
+    let is_of : IsOfProgram run = subst (λ old. ProgramEnds true true true words laid old sources shows seen watched outs status) fresh ends in
+    tells run options followed name came file n (law run options followed (n + 1) is_of read well).0 bare named (grows (length seen)) held
+
+pub returns : goal.returns
+returns c = grown_so c.program_makes_these_runs.ensures.followed c.tail_follows.ensures.grows _ _ _ _ _ _ _ _ _ c.in_ok-inputs.ensures c.run_words.ensures.ends c.if-run_words-ne0.false

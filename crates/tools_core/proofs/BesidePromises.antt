@@ -1,0 +1,272 @@
+-- Over the inputs that any run found there is a run that no fault stops.
+use Rattle.std.proofs.Common.{◌≡◌, ℕ, ◌+◌, ◌≤◌, ◌<◌, ◌^◌, suc, zero, Bool, true, false, ◌||◌, cond, List, [], ◌∷◌, ◌++◌, length, map, Option, Some, None, inl, inr, ◌⊎◌, refl, sym, ◌∙◌, ap, subst, arith, lit<, append_assoc, length-append}
+use Rattle.std.specs.List.{concat}
+use Rattle.std.proofs.Math.Seq.{get_or-append_seam}
+use Rattle.std.proofs.lemmas.Bool.{cases_Bool, cases_lt, false≢true}
+use Rattle.std.proofs.lemmas.List.{length-map}
+use Rattle.std.proofs.lemmas.List.Elements.{All-map}
+use Rattle.ports_core.specs.Inputs.{CameFrom, largest_piece}
+use Rattle.ports_core.specs.Message.{SaysAll, whole}
+use Rattle.ports_core.specs.Part.{File, OutputsAt, Part, file_of, told_file}
+use Rattle.ports_core.specs.Slot.{Slot, adds, closes, has_file, opened, slot_at}
+use Rattle.ports_core.specs.Source.{Content, Source, missing, source_at, source_of}
+use Rattle.ports_core.specs.Streams.{standard_error, standard_output, streams_with}
+use Rattle.ports_core.specs.Swept.{Cleared, Swept, SweptFrom}
+use Rattle.ports_core.specs.Swept as swept_so
+use Rattle.ports_core.specs.Work.{IsNeeded, Work}
+use Rattle.ports_core.specs.declared.fault.Fault.{Fault}
+use Rattle.ports_core.specs.declared.fault.Fault.TheVariants.{Read}
+use Rattle.ports_core.specs.declared.slot.Mode.{Mode}
+use Rattle.ports_core.specs.declared.tool.Tool.{Tool}
+use Rattle.ports_core.specs.declared.tool.Tool.TheVariants as tool
+use Rattle.run_core.proofs.FeedingLemmas.{needed_within}
+use Rattle.run_core.specs.Input.{World, input_of, inputs_at, inputs_from, is_dash, standard_input}
+use Rattle.run_core.specs.Reading.{AreDone, IsLeft}
+use Rattle.run_core.specs.RunEnds.{EndsAs, as_defined}
+use Rattle.run_core.specs.Task.{Task, made_by, status_of}
+use Rattle.tee_core.specs.Run as tee
+use Rattle.tee_core.specs.Run.{FilesLeft, IsRead, LeavesOf, are_sound, messages_of, said_of_input}
+use Rattle.words_core.specs.TeeAsked.{TeeAsked}
+use Rattle.words_core.specs.Words.{HasOperands}
+use Rattle.words_core.specs.declared.settings.Settings.{Settings}
+use Rattle.words_core.specs.declared.settings.Settings.TheVariants.{Head, Tail, Split, Csplit, Tee}
+use Rattle.tools_core.specs.Outcome.{DoesAsked}
+use Rattle.tools_core.specs.Promises.{Completes, FindAlike, HasLong, IsUnstopped, Ran, Run, Unstopped}
+use Rattle.tools_core.specs.Tasks.{csplit_task, head_task, names_of, split_task, tail_task}
+use Rattle.tools_core.proofs.LeftLemmas.{gone, met_by, outputs_of, quiet_outputs, slot_of}
+
+-- Of an input a tool reads a front: as far as it has enough of it, and no further.
+
+record Front (work : Work) (bytes : List ℕ) : Type 0 where
+  pub read : List ℕ
+  pub rest : List ℕ
+  pub joined : bytes ≡ read ++ rest
+  pub needed : IsNeeded work.is_complete 1 read
+  pub enough : (rest ≡ []) ⊎ (work.is_complete read ≡ true)
+
+front_from : (work : Work) (x rest : List ℕ) → IsNeeded work.is_complete 1 x → Front work (x ++ rest)
+front_from work x [] needed = record { read = x; rest = []; joined = refl; needed = needed; enough = inl refl }
+front_from work x (byte ∷ rest) needed = elim (cases_Bool (work.is_complete x)) [
+  | inl complete ↦ record { read = x; rest = byte ∷ rest; joined = refl; needed = needed; enough = inr complete }
+  | inr going ↦ subst (Front work) (append_assoc x (byte ∷ []) rest) (front_from work (x ++ byte ∷ []) rest (inr (x, byte ∷ [], refl, omega arith, going)))
+]
+
+-- an open source that tells its bytes, whatever it holds
+came_from : {content : Content} (source : Source) → source.is_open ≡ true → CameFrom true content source
+came_from source is = record { was_open = is; breaks = λ untold. absurd (false≢true (sym untold)) }
+
+-- such a reader leaves this of an input, or of one that is missing
+record LeftFor (work : Work) (there : Option Content) : Type 0 where
+  pub source : Source
+  pub is : (slot : ℕ) → IsLeft true work largest_piece slot there source
+
+left_for : (work : Work) (there : Option Content) → LeftFor work there
+left_for work None = record { source = missing; is = λ slot. refl }
+left_for work (Some content) =
+    let front = front_from work [] content.bytes (inl refl) in record {
+      source = record (source_of content) { left = record { bytes = front.rest; breaks_off = content.breaks_off }; taken = front.read; reached = length front.read; ended = true };
+      is = λ slot. (
+        λ told. record { read = front.read; joined = front.joined; enough = front.enough; needed = needed_within (omega arith) front.needed; exact = λ well. front.needed; few = λ standard. omega arith },
+        came_from _ refl,
+        λ ends goes. refl,
+      );
+    }
+
+-- The sources of all inputs: that of standard input, and those of the files in their order.
+
+abbrev files_for : Work → World → ℕ → List (List ℕ) → List Source
+files_for work world slot [] = []
+files_for work world slot (name ∷ names) = cond (is_dash name) (files_for work world slot names) ((left_for work (world.laid slot name)).source ∷ files_for work world (slot + 1) names)
+
+-- the sources when the names before these were taken
+abbrev sources_for : Work → World → List Source → ℕ → List (List ℕ) → List Source
+sources_for work world more slot names = ((left_for work (Some world.standard)).source ∷ more) ++ files_for work world slot names
+
+-- the names after one are done, whatever that is
+abbrev AreDoneFrom : Work → World → List (List ℕ) → Type 0
+AreDoneFrom work world names = (was_read : Bool) (slot : ℕ) (more : List Source) → slot ≡ suc (length more) → AreDone true work largest_piece (inputs_from world was_read slot names) (sources_for work world more slot names)
+
+file_done : (work : Work) (world : World) (was_read : Bool) (slot : ℕ) (name : List ℕ) (names : List (List ℕ)) (more : List Source) → slot ≡ suc (length more) → AreDoneFrom work world names
+    → AreDone true work largest_piece (input_of world was_read slot name false ∷ inputs_from world was_read (slot + 1) names) (((left_for work (Some world.standard)).source ∷ more) ++ (left_for work (world.laid slot name)).source ∷ files_for work world (slot + 1) names)
+file_done work world was_read slot name names more is again =
+    let first = (left_for work (Some world.standard)).source in
+    let here = left_for work (world.laid slot name) in
+    let rest = files_for work world (slot + 1) names in
+    let at_slot : source_at ((first ∷ more) ++ here.source ∷ rest) slot ≡ here.source = ap (source_at ((first ∷ more) ++ here.source ∷ rest)) is ∙ get_or-append_seam (first ∷ more) here.source rest _ in
+    let all = length-append more (here.source ∷ rest) in
+    let next = length-append more (here.source ∷ []) in (
+      (omega (arith, is, all), rw at_slot (here.is slot)),
+      subst (AreDone true work largest_piece (inputs_from world was_read (slot + 1) names)) (append_assoc (first ∷ more) (here.source ∷ []) rest) (again was_read (slot + 1) (more ++ here.source ∷ []) (omega (arith, is, next))),
+    )
+
+name_done : (dash : Bool) (work : Work) (world : World) (was_read : Bool) (slot : ℕ) (name : List ℕ) (names : List (List ℕ)) (more : List Source) → slot ≡ suc (length more) → AreDoneFrom work world names
+    → AreDone true work largest_piece (input_of world was_read slot name dash ∷ inputs_from world (was_read || dash) (cond dash slot (slot + 1)) names)
+    (((left_for work (Some world.standard)).source ∷ more) ++ cond dash (files_for work world slot names) ((left_for work (world.laid slot name)).source ∷ files_for work world (slot + 1) names))
+name_done true work world true slot name names more is again = (tt, again true slot more is)
+name_done true work world false slot name names more is again = ((omega arith, (left_for work (Some world.standard)).is 0), again true slot more is)
+name_done false work world true slot name names more is again = file_done work world true slot name names more is again
+name_done false work world false slot name names more is again = file_done work world false slot name names more is again
+
+all_done : (work : Work) (world : World) (names : List (List ℕ)) → AreDoneFrom work world names
+all_done work world [] = λ was_read slot more is. tt
+all_done work world (name ∷ names) = λ was_read slot more is. name_done (is_dash name) work world was_read slot name names more is (all_done work world names)
+
+-- Standard error takes all lines, the outputs get all of a part, and files are removed.
+
+record TookLines (tool : Tool) (lines : List (List ℕ)) (old : Slot) : Type 0 where
+  pub error : Slot
+  pub says : SaysAll true tool lines old error
+
+took_lines : (tool : Tool) (lines : List (List ℕ)) (old : Slot) → old.is_broken ≡ false → TookLines tool lines old
+took_lines tool [] old sound = record { error = old; says = refl }
+took_lines tool (line ∷ lines) old sound =
+    let rest = took_lines tool lines (adds line old) sound in record { error = rest.error; says = (adds line old, record { said = line; is = inl refl; printed = whole sound refl }, rest.says) }
+
+files_are : (files : List File) → map file_of (map slot_of files) ≡ map (told_file true) files
+files_are [] = refl
+files_are (file ∷ files) = ap (λ rest. file ∷ rest) (files_are files)
+
+at_part : (part : Part) (error : Slot) → OutputsAt true (streams_with error) part (outputs_of part error)
+at_part part error = record { standard = lit< tt; since = map slot_of part.files; slots = refl; files = files_are part.files }
+
+cleared_one : (slot : Slot) → Cleared slot (gone slot)
+cleared_one slot = elim (cases_Bool (has_file slot.state)) [ inl has ↦ rw has (swept_so.removed has) | inr lacks ↦ rw lacks (swept_so.none lacks) ]
+
+cleared_each : (slots : List Slot) (place : ℕ) → Cleared (slot_at slots place) (slot_at (map gone slots) place)
+cleared_each [] place = swept_so.none refl
+cleared_each (slot ∷ slots) zero = cleared_one slot
+cleared_each (slot ∷ slots) (suc place) = cleared_each slots place
+
+record Cleans (sweeps : Bool) (old : List Slot) : Type 0 where
+  pub new : List Slot
+  pub swept : Swept sweeps 2 old new
+
+cleans : (sweeps : Bool) (output error : Slot) (files : List Slot) → Cleans sweeps (output ∷ error ∷ files)
+cleans false output error files = record { new = output ∷ error ∷ files; swept = refl }
+cleans true output error files = record { new = output ∷ error ∷ map gone files; swept = record { size = ap (λ n. suc (suc n)) (length-map files gone); before = before; cleared = cleared } } where
+  before : (place : ℕ) → place < 2 → slot_at (output ∷ error ∷ map gone files) place ≡ slot_at (output ∷ error ∷ files) place
+  before zero few = refl
+  before (suc zero) few = refl
+  before (suc (suc place)) few = absurd (omega (arith, few))
+
+  cleared : (place : ℕ) → 2 ≤ place → Cleared (slot_at (output ∷ error ∷ files) place) (slot_at (output ∷ error ∷ map gone files) place)
+  cleared zero past = absurd (omega (arith, past))
+  cleared (suc zero) past = absurd (omega (arith, past))
+  cleared (suc (suc place)) past = cleared_each files place
+
+-- So a run over any inputs can end well.
+
+record EndsWell (task : Task) (world : World) (names : List (List ℕ)) : Type 0 where
+  pub sources : List Source
+  pub new : List Slot
+  pub status : ℕ
+  pub ends : EndsAs true true task (inputs_at world names) sources new status
+  pub unstopped : IsUnstopped ends
+
+ends_well : (task : Task) (world : World) (names : List (List ℕ)) → EndsWell task world names
+ends_well task world names =
+    let made = made_by task (inputs_at world names) in
+    let lines = took_lines task.tool made.messages standard_error refl in
+    let left = cleans made.sweeps (adds made.part.out standard_output) lines.error (map slot_of made.part.files) in record {
+      sources = sources_for task.work world [] 1 names;
+      new = left.new;
+      status = status_of made;
+      ends = as_defined lines.error (outputs_of made.part lines.error) lines.says (at_part made.part lines.error) left.swept (all_done task.work world names false 1 [] refl) refl;
+      unstopped = tt;
+    }
+
+-- `tee`, whose input comes byte by byte
+
+abbrev pieces_of : List ℕ → List (List ℕ)
+pieces_of bytes = map (λ byte. byte ∷ []) bytes
+
+pieces_are : (bytes : List ℕ) → concat (pieces_of bytes) ≡ bytes
+pieces_are [] = refl
+pieces_are (byte ∷ bytes) = ap (λ rest. byte ∷ rest) (pieces_are bytes)
+
+abbrev unbroken : List (List ℕ) → List (Option ℕ)
+unbroken names = map (λ name. None) names
+
+all_sound : (names : List (List ℕ)) → are_sound (unbroken names) ≡ true
+all_sound [] = refl
+all_sound (name ∷ names) = all_sound names
+
+copies_left : (mode : Mode) (pieces names : List (List ℕ)) → FilesLeft true mode pieces names (unbroken names) (map (λ name. closes (adds (concat pieces) (opened name mode))) names)
+copies_left mode pieces [] = tee.no_file
+copies_left mode pieces (name ∷ names) = tee.one_file name names None (unbroken names) _ _ tee.file_whole (copies_left mode pieces names)
+
+-- what settings ask for was done
+record DoesWell (asked : Settings) (world : World) : Type 0 where
+  pub sources : List Source
+  pub new : List Slot
+  pub status : ℕ
+  pub does : DoesAsked true true asked (inputs_at world (names_of asked)) sources new status
+  pub unstopped : Unstopped asked (inputs_at world (names_of asked)) sources new status does
+
+read_all : (bytes : List ℕ) (breaks_off : Bool) (Leaves : List ℕ → Type 0) → Leaves [] → IsRead (record { bytes = bytes; breaks_off = breaks_off }) Leaves false (concat (pieces_of bytes)) (met_by breaks_off)
+read_all bytes true Leaves none = tee.to_break _ (sym (pieces_are bytes)) refl none
+read_all bytes false Leaves none = tee.to_end _ (sym (pieces_are bytes)) refl none
+
+met_or_sound : (breaks_off : Bool) → (met_by breaks_off ≡ Some (Read 0)) ⊎ (breaks_off ≡ false)
+met_or_sound true = inl refl
+met_or_sound false = inr refl
+
+tee_well : (asked : TeeAsked) (world : World) → length world.standard.bytes < 2 ^ 63 → DoesWell (Tee asked) world
+tee_well asked world few = record {
+  sources = source ∷ [];
+  new = left lines.error;
+  status = tee.status_of (None ∷ unbroken asked.names) fault;
+  does = record { content = content; input = refl; ends = ends; came = came_from source refl; whole = λ told well. all content.breaks_off well };
+  unstopped = (all_sound asked.names, pieces_are content.bytes);
+} where
+  content : Content
+  content = world.standard
+
+  pieces : List (List ℕ)
+  pieces = pieces_of content.bytes
+
+  fault : Option Fault
+  fault = met_by content.breaks_off
+
+  source : Source
+  source = record (source_of content) { left = record { bytes = []; breaks_off = content.breaks_off }; is_broken = content.breaks_off; taken = content.bytes; reached = length content.bytes; ended = true }
+
+  lines : TookLines tool.Tee (said_of_input fault) standard_error
+  lines = took_lines tool.Tee (said_of_input fault) standard_error refl
+
+  left : Slot → List Slot
+  left error = adds (concat pieces) standard_output ∷ error ∷ map (λ name. closes (adds (concat pieces) (opened name asked.mode))) asked.names
+
+  ends : tee.EndsAs true true asked.mode asked.names content source (left lines.error) (tee.status_of (None ∷ unbroken asked.names) fault)
+  ends = tee.copied pieces fault None (unbroken asked.names) _ lines.error _
+      (record {
+        read = read_all content.bytes content.breaks_off (LeavesOf true source) (λ told. refl);
+        sizes = All-map (λ (piece : List ℕ). (0 < length piece) × (length piece ≤ largest_piece)) (λ byte. byte ∷ []) content.bytes (λ k byte within. (omega arith, omega arith));
+        few = rw (pieces_are content.bytes) few;
+        met = met_or_sound content.breaks_off;
+        ended = λ none some. refl;
+      })
+      refl tee.output_whole (copies_left asked.mode pieces asked.names)
+      (rw (quiet_outputs asked.names (None ∷ unbroken asked.names) (length pieces) fault (all_sound asked.names)) lines.says) refl refl
+
+  all : (breaks_off : Bool) → tee.status_of (None ∷ unbroken asked.names) (met_by breaks_off) ≡ 0
+      → left (took_lines tool.Tee (said_of_input (met_by breaks_off)) standard_error refl).error ≡ tee.all_copied true asked.mode asked.names content.bytes
+  all true well = absurd (let is = rw (all_sound asked.names) at well in omega (arith, is))
+  all false well = ap left (took_lines tool.Tee (said_of_input (met_by false)) standard_error refl).says ∙ ap (λ those. adds those standard_output ∷ standard_error ∷ map (λ name. closes (adds those (opened name asked.mode))) asked.names) (pieces_are content.bytes)
+
+does_well : (run : Run) (asked : Settings) → HasOperands asked → (HasLong run asked → ⊥) → DoesWell asked run.world
+does_well run (Head asked) can short = let e = ends_well (head_task asked) run.world asked.names in record { sources = e.sources; new = e.new; status = e.status; does = e.ends; unstopped = e.unstopped }
+does_well run (Tail asked) can short = let e = ends_well (tail_task asked.ends) run.world asked.ends.names in record { sources = e.sources; new = e.new; status = e.status; does = e.ends; unstopped = e.unstopped }
+does_well run (Split asked) can short = let e = ends_well (split_task asked) run.world (asked.input ∷ []) in record { sources = e.sources; new = e.new; status = e.status; does = e.ends; unstopped = e.unstopped }
+does_well run (Csplit asked) (operands, asks) short =
+    let e = ends_well (csplit_task asked operands) run.world (asked.input ∷ []) in
+    record { sources = e.sources; new = e.new; status = e.status; does = record { operands = operands; asks = asks; ends = e.ends }; unstopped = e.unstopped }
+does_well run (Tee asked) can short = elim (cases_lt (length run.world.standard.bytes) (2 ^ 63)) [
+  | inl few ↦ tee_well asked run.world few
+  | inr many ↦ absurd (short (standard_input run.world.standard, run.world.standard, ([], [], refl), refl, many))
+]
+
+pub one_completes : (run : Run) (asked : Settings) → Ran run asked → HasOperands asked → (HasLong run asked → ⊥) → (well : Run) × FindAlike run well × Completes well asked
+one_completes run asked ran can short =
+    let all = does_well run asked can short in
+    (record run { inputs = all.sources; outputs = all.new; status = all.status }, refl, record { read = ran.read; does = all.does; unstopped = all.unstopped })

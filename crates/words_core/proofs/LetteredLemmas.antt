@@ -1,0 +1,75 @@
+-- Lemmas on a first word of a hyphen, digits and letters.
+use Rattle.std.proofs.lemmas.Grind.{common_steps}
+use Rattle.std.proofs.lemmas.Bool.Decides.{nat_tests}
+use Rattle.std.proofs.lemmas.Slice.Eq.{bytes_eq-Decides}
+use Rattle.std.specs.Prelude.{nat_lt, bytes_eq, ⊤}
+use Rattle.std.proofs.Common.{◌≡◌, ◌⊎◌, inl, inr, refl, ℕ, ◌≤◌, ◌==◌, Bool, true, false, if◌then◌else◌, arith, List, [], ◌∷◌, length, None, Result, Ok, Err, sym, ◌∙◌}
+use Rattle.seg_core.specs.declared.count.Count.{Count}
+use Rattle.seg_core.specs.Count.{after_digits, leading_digits}
+use Rattle.ports_core.specs.declared.fault.Fault.{Fault}
+use Rattle.ports_core.specs.declared.fault.Fault.TheVariants.{Usage}
+use Rattle.ports_core.specs.declared.fault.UsageKind.TheVariants.{UnknownOption}
+use Rattle.words_core.specs.declared.table.Letters.TheVariants.{OfHead, OfTail}
+use Rattle.ports_core.specs.declared.fault.UsageKind.{UsageKind}
+use Rattle.words_core.specs.declared.spelling.State.{State}
+use Rattle.words_core.specs.declared.table.Choice.{Choice}
+use Rattle.words_core.specs.Given.{Given, joined, one_option}
+use Rattle.words_core.specs.Lettered.{counted_with, is_lettered, switches, without_digits, times, unit_in, with_letters}
+use Rattle.words_core.specs.Spelling.{before, given_at, mixed, option_lettered, reading}
+use Rattle.words_core.specs.Table.{OptionRow, head_table, is_among, tail_table}
+use Rattle.words_core.specs.Value.{Counted}
+use Rattle.words_core.specs.inner.Spelling.{Adds}
+
+adds_both : (old one more : Given) (new : Given) (result : Result State Fault) → Adds (reading more) (joined old one) new result → Adds (reading (joined one more)) old new result
+adds_both old one more new (Ok next) is = grind (arith, common_steps)
+adds_both old one more new (Err fault) is = grind (arith, common_steps)
+
+-- the count was added, and then the options
+pub adds_count : (rows : List OptionRow) (place : ℕ) (text : List ℕ) (unit : Choice × ℕ) (counted : Result Count UsageKind) {count : Count} (old mid new : Given) (result : Result State Fault)
+    → unit ≡ unit_in (after_digits text) → counted ≡ times (leading_digits text) unit.1 → counted ≡ Ok count → mid ≡ joined old (one_option unit.0 (Counted count) place)
+    → Adds (reading (switches rows place (after_digits text))) mid new result → Adds (given_at place (with_letters rows place text)) old new result
+adds_count rows place text unit counted {count} old mid new result which many is met adds =
+    let told : times (leading_digits text) (unit_in (after_digits text)).1 ≡ Ok count = rw (← which) (sym many ∙ is) in
+    rw told (rw (← which) (adds_both old (one_option unit.0 (Counted count) place) _ new result (rw met at adds)))
+
+-- such a word means nothing else
+
+unknown_first : (rows : List OptionRow) (place byte : ℕ) (rest : List ℕ) → option_lettered rows byte ≡ None → (byte == 45) ≡ false → mixed rows place (45 ∷ byte ∷ rest) ≡ Err (Usage UnknownOption place)
+unknown_first rows place byte rest none other = rw (other, none)
+
+head_has_no_digit : (byte : ℕ) → 48 ≤ byte → byte ≤ 57 → option_lettered head_table byte ≡ None
+head_has_no_digit byte least most = grind (arith, common_steps, nat_tests)
+
+tail_has_no_digit : (byte : ℕ) → 48 ≤ byte → byte ≤ 57 → option_lettered tail_table byte ≡ None
+tail_has_no_digit byte least most = grind (arith, common_steps, nat_tests)
+
+begins_with_digit : (P : List ℕ → Type 0) (text : List ℕ) → nat_lt 0 (length (leading_digits text)) ≡ true → ((byte : ℕ) (rest : List ℕ) → 48 ≤ byte → byte ≤ 57 → P (byte ∷ rest)) → P text
+begins_with_digit P [] some each = absurd (cc)
+begins_with_digit P (byte ∷ rest) some each = each byte rest (grind (arith, common_steps, nat_tests)) (grind (arith, common_steps, nat_tests))
+
+pub head_letters : (text : List ℕ) (place : ℕ) → is_lettered head_table OfHead text ≡ true → mixed head_table place (45 ∷ text) ≡ Err (Usage UnknownOption place)
+head_letters text place is =
+    begins_with_digit (λ text. mixed head_table place (45 ∷ text) ≡ Err (Usage UnknownOption place)) text (grind (arith, nat_tests))
+    (λ byte rest least most. unknown_first head_table place byte rest (head_has_no_digit byte least most) (grind (arith, nat_tests)))
+
+found_by : (P : List ℕ → Type 0) (known text : List ℕ) (names : List (List ℕ)) (test : Bool) → bytes_eq known text ≡ test → (if test then true else is_among names text) ≡ true
+    → P known → (is_among names text ≡ true → P text) → P text
+found_by P known text names true same is first more = rw (← (bytes_eq-Decides known text).0 same) first
+found_by P known text names false other is first more = more is
+
+abbrev AreAll : (List ℕ → Type 0) → List (List ℕ) → Type 0
+AreAll P [] = ⊤
+AreAll P (name ∷ names) = P name × AreAll P names
+
+begins_with_unit : (P : List ℕ → Type 0) (names : List (List ℕ)) (text : List ℕ) → is_among names text ≡ true → AreAll P names → P text
+begins_with_unit P [] text is all = absurd (cc)
+begins_with_unit P (known ∷ names) text is all = found_by P known text names (bytes_eq known text) refl is all.0 (λ among. begins_with_unit P names text among all.1)
+
+pub tail_letters : (text : List ℕ) (place : ℕ) → is_lettered tail_table OfTail text ≡ true → mixed tail_table place (45 ∷ text) ≡ Err (Usage UnknownOption place)
+tail_letters text place is =
+    let P : List ℕ → Type 0 = λ text. mixed tail_table place (45 ∷ text) ≡ Err (Usage UnknownOption place) in
+    let either_way : (nat_lt 0 (length (leading_digits text)) ≡ true) ⊎ (is_among without_digits text ≡ true) = grind (arith, nat_tests) in
+    elim either_way [
+      | inl some ↦ begins_with_digit P text some (λ byte rest least most. unknown_first tail_table place byte rest (tail_has_no_digit byte least most) (grind (arith, nat_tests)))
+      | inr among ↦ begins_with_unit P without_digits text among (refl, (refl, (refl, (refl, tt))))
+    ]

@@ -1,0 +1,102 @@
+-- A first word of a hyphen, digits and letters, as `-5c` of `head` and `-20f` of `tail`: GNU's, from before POSIX. What
+-- follows the hyphen is the text. 45 is a hyphen.
+use Rattle.std.specs.Prelude.{ℕ, ◌*◌, ◌^◌, ◌==◌, ◌&&◌, ◌||◌, nat_lt, Bool, true, false, List, [], ◌∷◌, length, filter, codes, is_some, Option, Some, None, Result, Ok, Err, if◌then◌else◌}
+use Rattle.seg_core.specs.Count.{after_digits, leading_digits, sized, value_of}
+use Rattle.seg_core.specs.declared.count.Count.{Count}
+use Rattle.seg_core.specs.declared.count.Sign.TheVariants.{Plain}
+use Rattle.ports_core.specs.declared.fault.UsageKind.{UsageKind}
+use Rattle.words_core.specs.declared.table.Choice.{Choice}
+use Rattle.words_core.specs.declared.table.Choice.TheVariants.{Bytes, Lines}
+use Rattle.words_core.specs.declared.table.Letters.{Letters}
+use Rattle.words_core.specs.declared.table.Letters.TheVariants.{Never, OfHead, OfTail}
+use Rattle.words_core.specs.declared.table.Takes.{Takes}
+use Rattle.words_core.specs.declared.table.Takes.TheVariants as takes
+use Rattle.words_core.specs.Table.{OptionRow, is_among, option_named}
+use Rattle.words_core.specs.Value.{Counted, counted}
+use Rattle.words_core.specs.Given.{Given, bare, joined, nothing, one_option}
+
+-- What is counted where this letter stands after the digits, and how much each of it is: 98 is b, 99 c, 107 k, 108 l and
+-- 109 m.
+abbrev pub unit_of : ℕ → Option (Choice × ℕ)
+unit_of letter =
+    if letter == 98 then Some (Bytes, 512)
+    else (if letter == 99 then Some (Bytes, 1)
+    else (if letter == 107 then Some (Bytes, 1024)
+    else (if letter == 108 then Some (Lines, 1)
+    else (if letter == 109 then Some (Bytes, 1024 ^ 2)
+    else None))))
+
+abbrev pub is_unit : ℕ → Bool
+is_unit letter = is_some (unit_of letter)
+
+abbrev pub unit_or : Choice × ℕ → Option (Choice × ℕ) → Choice × ℕ
+unit_or other None = other
+unit_or other (Some unit) = unit
+
+-- what the first unit among letters says; without one lines are counted
+abbrev pub unit_in : List ℕ → Choice × ℕ
+unit_in [] = (Lines, 1)
+unit_in (letter ∷ letters) = unit_or (unit_in letters) (unit_of letter)
+
+-- Which letters may follow the digits.
+
+-- whether an option takes no value
+abbrev pub is_switch : Option (Choice × Takes) → Bool
+is_switch (Some (choice, takes.Nothing)) = true
+is_switch other = false
+
+abbrev pub letter_named : List OptionRow → ℕ → Option (Choice × Takes)
+letter_named rows letter = option_named rows (45 ∷ letter ∷ [])
+
+-- for `head` units and letters of options without a value
+
+abbrev pub is_known : List OptionRow → ℕ → Bool
+is_known rows letter = is_unit letter || is_switch (letter_named rows letter)
+
+abbrev pub are_known : List OptionRow → List ℕ → Bool
+are_known rows [] = true
+are_known rows (letter ∷ letters) = if is_known rows letter then are_known rows letters else false
+
+-- for `tail` a unit or none, and then f or nothing
+abbrev pub are_of_tail : List ℕ → Bool
+are_of_tail letters = is_among
+    (codes "f" ∷ codes "b" ∷ codes "bf" ∷ codes "c" ∷ codes "cf" ∷ codes "l" ∷ codes "lf" ∷ []) letters
+
+-- what `tail` takes without digits
+abbrev pub without_digits : List (List ℕ)
+without_digits = codes "b" ∷ codes "bf" ∷ codes "l" ∷ codes "lf" ∷ []
+
+-- Of `head` one letter at most is a unit. Of `tail` the digits may be missing before b and l.
+abbrev pub is_lettered : List OptionRow → Letters → List ℕ → Bool
+is_lettered rows Never text = false
+is_lettered rows OfHead text = nat_lt 0 (length (leading_digits text))
+    && nat_lt (length (filter is_unit (after_digits text))) 2 && are_known rows (after_digits text)
+is_lettered rows OfTail text = are_of_tail (after_digits text) && (nat_lt 0 (length (leading_digits text))
+    || is_among without_digits text)
+
+-- What it says.
+
+-- as many as these digits write, or 10 without digits, each of them this large
+abbrev pub times : List ℕ → ℕ → Result Count UsageKind
+times digits each = counted (sized Plain ((if length digits == 0 then 10 else value_of digits) * each))
+
+-- each letter that is no unit is an option
+abbrev pub switched : ℕ → Option (Choice × Takes) → Given
+switched place None = nothing
+switched place (Some (choice, option)) = bare choice place
+
+abbrev pub switches : List OptionRow → ℕ → List ℕ → Given
+switches rows place [] = nothing
+switches rows place (letter ∷ letters) =
+    if is_unit letter then switches rows place letters
+    else joined (switched place (letter_named rows letter)) (switches rows place letters)
+
+-- the count, and then the options
+abbrev pub counted_with : Choice → ℕ → Given → Result Count UsageKind → Result Given UsageKind
+counted_with choice place options (Ok count) = Ok (joined (one_option choice (Counted count) place) options)
+counted_with choice place options (Err fault) = Err fault
+
+abbrev pub with_letters : List OptionRow → ℕ → List ℕ → Result Given UsageKind
+with_letters rows place text = counted_with (unit_in (after_digits text)).0 place
+    (switches rows place (after_digits text))
+    (times (leading_digits text) (unit_in (after_digits text)).1)
