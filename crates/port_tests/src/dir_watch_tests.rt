@@ -403,7 +403,7 @@ fn a_file_as_a_folder(rt: HostRuntime) -> Result<(), Fail> {
 fn breaks_at_its_first_read(
     abort: &impl Abort,
     watch: &mut DirWatch<HostRuntime>,
-) -> Result<Option<Seen>, Fault>
+) -> Result<(), Fault>
     requires { IsTrue (is_watchable watch.old.watched 0) }
 {
     let found = next_seen(watch)?;
@@ -414,16 +414,16 @@ fn breaks_at_its_first_read(
         &read_at(watch, 0, &mut [0u8; 3]),
         &Err(Fault::Read(0)),
     );
-    Ok(found)
+    Ok(())
 }
 
 #[test]
 fn a_folder_breaks_at_its_first_read(rt: HostRuntime) -> Result<(), Fail> {
     make_folder(&rt, "watch_core_folder")?;
     let mut watch = watch_of(rt, "watch_core_folder")?;
-    let found = breaks_at_its_first_read(&rt, &mut watch)?;
-    // It is given back, and its identity stays known.
-    same(&rt, &watch.open_id(0), &id_of(found));
+    breaks_at_its_first_read(&rt, &mut watch)?;
+    // It is given back, so that no file of the name is open.
+    same(&rt, &watch.open_id(0), &None);
     fs::remove_dir_all(&rt, "watch_core_folder")?;
     Ok(())
 }
