@@ -209,4 +209,4 @@ runs_tool run asked ends read none =
 
 pub runs_following : (run : Run) (options : EndsAsked) (followed : Followed) (looks : ℕ) → IsOfProgram run → AsksToFollow run options followed looks → run.status ≡ 0 → Follows run looks options followed × (run.inputs ≡ source_of run.world.standard ∷ [])
 runs_following run options followed looks ends read well =
-    let (unopened, followed_so) = ends_at run ends (ap looks_at read) in (record { looks = looks; read = read; ends = followed_so; well = well }, unopened)
+    let (kept, followed_so) = ends_at run ends (ap looks_at read) in (record { looks = looks; read = read; ends = followed_so; well = well }, kept)

@@ -1,8 +1,8 @@
 pub mod CalledLemmas
 pub mod ChoiceLemmas
 pub mod CsplitLemmas
-pub mod LetteredLemmas
-mod LimitLemmas
+mod LetteredLemmas
+pub mod LimitLemmas
 pub mod MeaningLemmas
 pub mod SpellingLemmas
 pub mod ValueLemmas
