@@ -12,7 +12,7 @@ use Rattle.csplit_core.specs.inner.Writer.{MakesNone, unnamed, failed, with_byte
 use Rattle.ports_core.specs.inner.Write.{Wrote, WritesShort}
 use Rattle.ports_core.specs.declared.fault.Fault.TheVariants.{Memory}
 use Rattle.ports_core.proofs.HandedOn.{handed_on}
-use Rattle.csplit_core.specs.Output.{Style, part_by, Contents, makes_file, file_at, files_of, size_line, size_lines, size_text, sizes_wanted, is_empty}
+use Rattle.csplit_core.specs.Output.{Style, part_by, Contents, makes_file, file_at, files_of, size_line, size_lines, size_of_file, sizes_wanted, is_empty}
 use Rattle.csplit_core.specs.Draft.{Draft, draft_part, last_contents, AreClosed}
 use Rattle.csplit_core.specs.laws.SectionLaws.{part_grows, size_lines-append}
 use Rattle.csplit_core.specs.Writer.{WriterState, IsLast, IsReady, IsOpenAt, Breaks, Writes, IsCurrent, OwnsFiles}
@@ -217,17 +217,17 @@ line_of style draft quiet makes is = grind (arith, common_steps)
 -- what standard output has of sections is the lines for their files
 
 sizes_by : (style : Style) → style.quiet ≡ false → (place : ℕ) (one : Contents) (rest : List Contents) (makes closed : Bool) → makes_file style one ≡ makes → one.is_closed ≡ closed
-    → ((from : ℕ) → size_lines style rest ≡ lines_for (λ (file : PartFile). size_text file.bytes) (files_of style from rest))
-    → size_lines style (one ∷ rest) ≡ lines_for (λ (file : PartFile). size_text file.bytes) (files_of style place (one ∷ rest))
+    → ((from : ℕ) → size_lines style rest ≡ lines_for size_of_file (files_of style from rest))
+    → size_lines style (one ∷ rest) ≡ lines_for size_of_file (files_of style place (one ∷ rest))
 sizes_by style loud place one rest true true makes closed others = grind (arith, common_steps, others (place + 1))
 sizes_by style loud place one rest true false makes closed others = grind (arith, common_steps, others (place + 1))
 sizes_by style loud place one rest false closed makes is others = grind (arith, common_steps, others place)
 
-pub sizes_are : (style : Style) → style.quiet ≡ false → (place : ℕ) (all : List Contents) → size_lines style all ≡ lines_for (λ (file : PartFile). size_text file.bytes) (files_of style place all)
+pub sizes_are : (style : Style) → style.quiet ≡ false → (place : ℕ) (all : List Contents) → size_lines style all ≡ lines_for size_of_file (files_of style place all)
 sizes_are style loud place [] = refl
 sizes_are style loud place (one ∷ rest) = sizes_by style loud place one rest (makes_file style one) one.is_closed refl refl (λ from. sizes_are style loud from rest)
 
-has_sizes : (style : Style) (quiet : Bool) → style.quiet ≡ quiet → (place : ℕ) (all : List Contents) → HasLines (cond quiet gets_none (gets_lines (λ (file : PartFile). size_text file.bytes))) (size_lines style all) (files_of style place all)
+has_sizes : (style : Style) (quiet : Bool) → style.quiet ≡ quiet → (place : ℕ) (all : List Contents) → HasLines (cond quiet gets_none (gets_lines size_of_file)) (size_lines style all) (files_of style place all)
 has_sizes style true is place all = tt
 has_sizes style false is place all = sizes_are style is place all
 
@@ -584,13 +584,13 @@ end_sized {told} {writer} slot size {old} {mid} {new} {fault} is ready said_so c
   reaches = λ draft writes. reaches_as (open_part writer.style draft (now_is is writes).0) (grind (arith, common_steps, closed_part, now_is, line_of, is, said_so, writes)) (reaches_by leaves.owns (λ last. loud (becomes_again
       (close_begins (size_lines writer.style draft.ended) (files_of writer.style 0 draft.ended) (name_after writer.style draft.ended) draft.bytes)
       (closes_last _ told (size_lines writer.style draft.ended) (files_of writer.style 0 draft.ended) (name_after writer.style draft.ended) draft.bytes old (last_file writer old is last) closed)
-      (tells_line (λ (file : PartFile). size_text file.bytes) told (size_lines writer.style draft.ended) (files_of writer.style 0 draft.ended) (sizes_are writer.style said_so 0 draft.ended)
+      (tells_line size_of_file told (size_lines writer.style draft.ended) (files_of writer.style 0 draft.ended) (sizes_are writer.style said_so 0 draft.ended)
       (file_of (name_after writer.style draft.ended) draft.bytes state.Closed) refl mid fault (closed_files writer.style 0 draft.ended writes.closed)
       (let two = (closed_ready slot size is ready closed).streams in omega (arith, two)) (subst (λ n. Wrote told 0 (decimal n ++ newline ∷ []) mid new fault) (now_is is writes).1 wrote)))));
   writes = in_any fault (λ draft writes. file_ends slot size is writes);
 } where
-  loud : {low high : Part} → Becomes (gets_lines (λ (file : PartFile). size_text file.bytes)) told low high old new fault → Becomes (sizes_wanted writer.style) told low high old new fault
-  loud {low} {high} becomes = subst (λ quiet. Becomes (cond quiet gets_none (gets_lines (λ (file : PartFile). size_text file.bytes))) told low high old new fault) (sym said_so) becomes
+  loud : {low high : Part} → Becomes (gets_lines size_of_file) told low high old new fault → Becomes (sizes_wanted writer.style) told low high old new fault
+  loud {low} {high} becomes = subst (λ quiet. Becomes (cond quiet gets_none (gets_lines size_of_file)) told low high old new fault) (sym said_so) becomes
 
   leaves : Leaves writer (paused writer) old new fault
   leaves = leaves_again (closed_leaves slot size is ready closed) (line_leaves told writer (decimal size ++ newline ∷ []) fault said_so (closed_ready slot size is ready closed) wrote)

@@ -59,8 +59,11 @@ abbrev pub size_lines : Style → List Contents → List ℕ
 size_lines style [] = []
 size_lines style (contents ∷ rest) = size_line style contents ++ size_lines style rest
 
+abbrev pub size_of_file : File → List ℕ
+size_of_file file = size_text file.bytes
+
 abbrev pub sizes_wanted : Style → Output
-sizes_wanted style = if style.quiet then gets_none else gets_lines (λ (file : File). size_text file.bytes)
+sizes_wanted style = if style.quiet then gets_none else gets_lines size_of_file
 
 abbrev pub part_by : Style → List Contents → Part
 part_by style all = record { out = size_lines style all; files = files_of style 0 all }

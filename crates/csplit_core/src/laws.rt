@@ -3,13 +3,13 @@ ghost use Rattle.std.specs.Prelude.{◌≡◌, ◌≤◌, ◌++◌, Bool, List, 
 ghost use Rattle.csplit_core.specs.Agreed.{IsAgreed, settled_outputs, whole_outputs};
 ghost use Rattle.csplit_core.specs.Csplit.{settled_by, whole_by};
 ghost use Rattle.csplit_core.specs.Operand.{Line};
-ghost use Rattle.csplit_core.specs.Output.{Style};
+ghost use Rattle.csplit_core.specs.Output.{Style, size_of_file};
 ghost use Rattle.csplit_core.specs.Place.{ArePlaced, IsUndecided, place_of};
 ghost use Rattle.csplit_core.specs.Plan.{Ending, Runs, State, Step, start};
 ghost use Rattle.csplit_core.specs.Planned.{plan};
 ghost use Rattle.csplit_core.specs.Section.{is_final, lines_in, most_waiting, settled_sections, waiting_lines, whole_sections};
 ghost use Rattle.operand_core.specs.declared.operand.Operand.{Operand};
-ghost use Rattle.ports_core.specs.Part.{Begins};
+ghost use Rattle.ports_core.specs.Part.{Begins, lines_for};
 
 /// For any operands and lines there is one plan: the one that is computed is a plan, and no other is (POSIX.1-2017, XCU
 /// csplit).
@@ -24,6 +24,13 @@ pub fn one_plan()
 pub fn settled_grows()
     ensures grows { (style : Style) (operands : List Operand) (x y : List ℕ) → Begins (settled_by style operands x) (settled_by style operands (x ++ y)) }
     ensures ends { (style : Style) (operands : List Operand) (x : List ℕ) → Begins (settled_by style operands x) (whole_by style operands x) }
+{}
+
+/// Where sizes are wanted, standard output has those of just the files that are closed, in their order: of what is settled
+/// and of what is written in the end.
+pub fn sizes_are_of_closed_files()
+    ensures settled { (style : Style) (operands : List Operand) (x : List ℕ) → style.quiet ≡ false → (settled_by style operands x).out ≡ lines_for size_of_file (settled_by style operands x).files }
+    ensures whole { (style : Style) (operands : List Operand) (x : List ℕ) → style.quiet ≡ false → (whole_by style operands x).out ≡ lines_for size_of_file (whole_by style operands x).files }
 {}
 
 /// Where the line at a cut isn't left out, no line is lost: the sections, skipped ones too, and what waits are together
