@@ -1,6 +1,7 @@
 -- A look at a name: what it gives, from where the looks before left it, what is told of it, and how it stands then.
 use Rattle.follow_core.specs.Standing.{BrokeIn, StandsAt, CanVisit, IsFollowed, IsLeft, IsMissed, Stands}
-use Rattle.follow_core.proofs.CallLemmas.{FromFrontOr, LooksAgain, at_look, broke_at, came_none, contents_open, failure_said, found_as, found_both, found_from, goes_after, keeps_others, none_of, nothing_due, opened_led, opened_there, some_of, wrote_after, wrote_line}
+use Rattle.follow_core.proofs.CallLemmas.{broke_at, came_none, contents_open, failure_said, found_as, found_both, found_from, goes_after, keeps_others, none_of, nothing_due, opened_led, opened_there, some_of, wrote_after, wrote_line}
+use Rattle.follow_core.proofs.CatchLemmas.{FromFrontOr, LooksAgain, at_look}
 use Rattle.follow_core.proofs.EventLemmas.{bytes_later, events-append}
 use Rattle.std.proofs.Common.{◌⊎◌, ◌≡◌, ℕ, ◌==◌, Bool, true, false, not, List, [], ◌∷◌, ◌++◌, length, Option, Some, None, refl, sym, ◌∙◌, ap, if◌then◌else◌, subst, inl, inr, append_assoc, ◌&&◌, eqb-true, Result, Ok, Err, IsTrue, IfOk, subst₂, is_none, is_some, rules}
 use Rattle.std.proofs.lemmas.List.{append-nil, map-append}

@@ -1,6 +1,6 @@
 use Rattle.std.proofs.Common.{ap}
 use Rattle.watch_core.specs.Snapshot.{latest}
-use Rattle.follow_core.proofs.CallLemmas.{caught_looks, led_looks, stopped_looks}
+use Rattle.follow_core.proofs.CatchLemmas.{caught_looks, led_looks, stopped_looks}
 use Rattle.follow_core.proofs.LookLemmas.{gave_fails, gave_through, later_gave}
 use Rattle.follow_core.proofs.visitor.Visitor.again.Goals as goal
 

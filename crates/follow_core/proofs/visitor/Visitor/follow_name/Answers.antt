@@ -1,7 +1,8 @@
 use Rattle.std.proofs.lemmas.Grind.{common_steps}
 use Rattle.std.proofs.Common.{◌∙◌, ap, arith}
 use Rattle.watch_core.specs.Snapshot.{latest}
-use Rattle.follow_core.proofs.CallLemmas.{change_seen, leads_opened, leads_same, leads_unled, leads_unopened, leads_unsaid, opened_led, opened_there, reopens_as}
+use Rattle.follow_core.proofs.CallLemmas.{change_seen, opened_led, opened_there, reopens_as}
+use Rattle.follow_core.proofs.CatchLemmas.{leads_opened, leads_same, leads_unled, leads_unopened, leads_unsaid}
 use Rattle.follow_core.proofs.visitor.Visitor.follow_name.Goals as goal
 
 pub returns-in-Err-clause-leads : goal.returns-in-Err-clause-leads

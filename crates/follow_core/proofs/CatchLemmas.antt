@@ -1,0 +1,442 @@
+-- What a call on a name gives: what came to the open file, and where the name leads.
+use Rattle.std.proofs.Common.{◌≡◌, ℕ, Bool, List, [], ◌∷◌, ◌++◌, ◌⊎◌, inl, inr, ◌∙◌, ap, subst, length, true, false, not, if◌then◌else◌, Some, None, Option, refl, sym, arith, ◌-◌, drop, nat_lt, Result, Ok, Err, ◌==◌, nat_le, IsTrue, map, IfOk, is_some, rules}
+use Rattle.ports_core.specs.Slot.{Slot, changed_at}
+use Rattle.ports_core.specs.declared.fault.Fault.{Fault}
+use Rattle.follow_core.specs.Printing.{PrinterState}
+use Rattle.follow_core.specs.inner.Giving.{Adds, Copies, Ends, Follows, IfBroke, Keeps, Leads, FromEither, FromFront, IsLong, Noted, ReadsOf, WereFound, change_between, notes_past, stop_in}
+use Rattle.follow_core.specs.declared.visitor.Stop.{Stop}
+use Rattle.follow_core.specs.Share.{Due, came_before, due_later, given_by, is_kept, led_before, left_from}
+use Rattle.follow_core.specs.Event.{Event, all_but, events_later, gives, notes, notes_in}
+use Rattle.follow_core.specs.Look.{Fate, sound, unled, unopened, unmeasured, unsought, unread, can_meet}
+use Rattle.watch_core.specs.declared.watch.Broken.TheVariants.{Len, Look, Open}
+use Rattle.watch_core.specs.Watched.{Watched, breaks, is_watchable, open_contents, opens, watched_at}
+use Rattle.follow_core.specs.declared.visitor.Stop.TheVariants.{Broke, Over}
+use Rattle.std.proofs.lemmas.Bool.{le-leb, false≢true, eqb-true, eq-eqb}
+use Rattle.follow_core.specs.declared.notice.Notice.TheVariants.{Appeared, Inaccessible, Replaced, Truncated}
+use Rattle.watch_core.specs.Snapshot.{Snapshot, Found, holds_many}
+use Rattle.follow_core.specs.declared.notice.Notice.{Notice}
+use Rattle.follow_core.specs.Version.{Entry, version, gap, version_in, entries_at_look, entries_led, entries_open, held_at, is_same, open_after_look}
+use Rattle.follow_core.specs.Gain.{file_of, last_from}
+use Rattle.std.proofs.lemmas.Bool.Decides.{nat_tests}
+use Rattle.std.proofs.lemmas.Option.{none-some, same_Some}
+use Rattle.std.proofs.lemmas.Result.{IfOk-weaker}
+use Rattle.follow_core.specs.Standing.{StandsAt}
+use Rattle.follow_core.proofs.RunLemmas.{last_from-append}
+use Rattle.ports_core.specs.declared.fault.Fault.TheVariants as fault
+use Rattle.follow_core.proofs.CallLemmas.{broke_at, broke_first, contents_open, due_as, due_by, follows_from, follows_stop, found_as, found_both, found_from, goes_after, if_broke, noted_found, nothing_due, opened_there, opens_same, stops_early, untold}
+
+-- what came to the open file
+
+not_shorter : (p n : ℕ) → nat_le p n ≡ not (nat_lt n p)
+not_shorter p n = grind (arith, nat_tests)
+
+-- what the open file has past what was seen of it, or all where it is shorter, is what its entry gives
+caught : (snapshot : Snapshot) (last : Entry) {file position len : ℕ} → StandsAt last (Some file) position → len ≡ length (snapshot.holds file)
+    → notes_past position len ++ gives (drop (if nat_lt len position then 0 else position) (snapshot.holds file)) ∷ [] ≡ events_later last (version_in snapshot file ∷ [])
+caught snapshot gap {file} stands long = absurd (none-some file (sym stands.file))
+caught snapshot (version v) {file} stands long =
+    let same = eq-eqb v.file file (sym (same_Some file v.file stands.file)) in
+    rw (long, stands.seen, same, not_shorter (length v.contents) (length held)) (by (nat_lt (length held) (length v.contents))) where
+      held : List ℕ
+      held = snapshot.holds file
+
+      by : (test : Bool) → (if test then notes Truncated ∷ [] else []) ++ gives (drop (if test then 0 else length v.contents) held) ∷ []
+          ≡ (map (λ notice. notes notice) (if not test then [] else Truncated ∷ []) ++ gives (if not test then drop (length v.contents) held else held) ∷ []) ++ []
+      by true = refl
+      by false = refl
+
+caught_open : (snapshot : Snapshot) (last : Entry) {opened : Option ℕ} {file position len : ℕ} → opened ≡ Some file → StandsAt last opened position → len ≡ length (held_at snapshot opened)
+    → notes_past position len ++ gives (drop (if nat_lt len position then 0 else position) (held_at snapshot opened)) ∷ [] ≡ events_later last (entries_open snapshot opened)
+caught_open snapshot last {opened} {position} {len} is = subst (λ o. StandsAt last o position → len ≡ length (held_at snapshot o)
+    → notes_past position len ++ gives (drop (if nat_lt len position then 0 else position) (held_at snapshot o)) ∷ [] ≡ events_later last (entries_open snapshot o)) (sym is) (caught snapshot last)
+
+-- a beginning of it, where a read failed
+past_before : (position len left : ℕ) (bytes : List ℕ) → notes_past position len ++ all_but left (gives bytes ∷ []) ≡ all_but left (notes_past position len ++ gives bytes ∷ [])
+past_before position len left bytes = by (nat_lt len position) where
+  by : (test : Bool) → (if test then notes Truncated ∷ [] else []) ++ all_but left (gives bytes ∷ []) ≡ all_but left ((if test then notes Truncated ∷ [] else []) ++ gives bytes ∷ [])
+  by true = refl
+  by false = refl
+
+-- reads begin at the front or at the position
+begins_so : (test : Bool) {from start position : ℕ} → from ≡ (if test then 0 else position) → start ≡ from → (start ≡ 0) ⊎ (start ≡ position)
+begins_so true is at = inl (at ∙ is)
+begins_so false is at = inr (at ∙ is)
+
+module _ {told_in told : Bool} {snapshot : Snapshot} {place : ℕ} {name : List ℕ} {position : ℕ} {watched : List Watched} {printer : PrinterState} {slots : List Slot} where
+  -- ways out of catching up
+
+  pub adds_none : (watched_at watched place).opened ≡ None → Adds told_in told snapshot place name position watched printer slots watched printer slots (Ok position)
+  adds_none is = record {
+    fate = sound;
+    ends = λ last stands. due_as (λ t. let none = ap (λ file. events_later last (entries_open snapshot file)) (sym is) in (none, none)) (nothing_due tt);
+    stands = λ t last stands. subst (λ file. StandsAt (last_from last (entries_open snapshot file)) (watched_at watched place).opened position) (sym is) stands;
+    long = λ some. absurd (false≢true (sym (ap is_some is) ∙ some));
+    keeps = refl;
+    reads = tt;
+  }
+
+  pub adds_unmeasured : {file : ℕ} {watched_new : List Watched} {why : Fault} → (watched_at watched place).opened ≡ Some file → why ≡ fault.Read place
+      → watched_new ≡ changed_at place (breaks (λ file. Len file)) watched → Adds told_in told snapshot place name position watched printer slots watched_new printer slots (Err (Broke why))
+  adds_unmeasured is fault broken = record {
+    fate = unmeasured (watched_at watched place).opened;
+    ends = λ last stands. broke_first tt;
+    stands = tt;
+    long = tt;
+    keeps = (broke_at (λ file. Len file) refl refl fault broken, refl);
+    reads = (refl, ap is_some is);
+  }
+
+  pub adds_untold : {file len : ℕ} {after : PrinterState} {watched_new : List Watched} {slots_new : List Slot} {before : List Event} {why : Fault} → (watched_at watched place).opened ≡ Some file
+      → (told_in ≡ true → len ≡ length (held_at snapshot (watched_at watched place).opened))
+      → Ends told_in Noted told false printer name (notes_past position len) before slots after slots_new (Some (Over why)) → watched_new ≡ watched
+      → Adds told_in told snapshot place name position watched printer slots watched_new after slots_new (Err (Over why))
+  adds_untold {file} {why} is long line same = record {
+    fate = sound;
+    ends = λ last stands. due_by (λ t. (caught_open snapshot last is (stands t) (long t), tt)) (stops_early (gives _ ∷ []) (found_as (noted_found _ snapshot (watched_at watched place).name sound (Some (Over why))) line));
+    stands = tt;
+    long = tt;
+    keeps = same;
+    reads = tt;
+  }
+
+  -- a line where the file is shorter, and then the bytes: from the front there, else from the position on
+  pub adds_copied : {file len from : ℕ} {seen : Snapshot} {watched_mid watched_new : List Watched} {inside after : PrinterState} {mid slots_new : List Slot} {none : List Event} {result : Result ℕ Stop}
+      → inside ≡ printer → (watched_at watched place).opened ≡ Some file → (told_in ≡ true → len ≡ length (held_at snapshot (watched_at watched place).opened))
+      → Found snapshot (watched_at watched place).name (holds_many (watched_at watched place).opened len)
+      → seen ≡ snapshot → watched_mid ≡ watched
+      → from ≡ (if nat_lt len position then 0 else position) → Ends true Noted told false inside name (notes_past position len) none slots inside mid None
+      → Copies told_in told seen from place name watched_mid inside mid watched_new after slots_new (stop_in result) → IfOk result (λ n. n ≡ len)
+      → Adds told_in told snapshot place name position watched printer slots watched_new after slots_new result
+  adds_copied {file} {len} {from} {watched_new} {inside} {after} {mid} {slots_new} {result} viewed is long found saw unchanged begins line copied count = rw (← viewed) (record {
+    fate = unread opened copies.at;
+    ends = λ last stands. due_as (λ t. due last (stands t) (long t)) (goes_after (WereFound (FromEither opened position) snapshot known (unread opened copies.at) (stop_in result))
+        (λ events more noted gave. found_both (FromEither opened position) snapshot known sound (unread opened copies.at) (stop_in result) events more
+        (noted_found (FromEither opened position) snapshot known sound None events noted)
+        (found_from snapshot known (unread opened copies.at) (stop_in result) (λ file start those. (those.0, ap is_some is, begins_so (nat_lt len position) begins those.1)) more gave)) (untold line) copies.ends);
+    stands = IfOk-weaker result (λ n. n ≡ len) _ (λ n whole t last stands. rw is (record { file = refl; seen = whole ∙ long t ∙ ap (λ file. length (held_at snapshot file)) is })) count;
+    long = IfOk-weaker result (λ n. n ≡ len) _ (λ n whole some. rw whole found) count;
+    keeps = copies.keeps;
+    reads = read (stop_in result);
+  }) where
+    opened : Option ℕ
+    opened = (watched_at watched place).opened
+
+    known : List ℕ
+    known = (watched_at watched place).name
+
+    copies : Copies told_in told snapshot from place name watched inside mid watched_new after slots_new (stop_in result)
+    copies = rw (saw, unchanged) at copied
+
+    contents : List ℕ
+    contents = open_contents snapshot (watched_at watched place)
+
+    holds : contents ≡ held_at snapshot opened
+    holds = contents_open snapshot (watched_at watched place)
+
+    read : (stop : Option Stop) → IfBroke stop (ReadsOf opened (unread opened copies.at))
+    read None = tt
+    read (Some (Broke why)) = (refl, ap is_some is)
+    read (Some (Over why)) = tt
+
+    due : (last : Entry) → StandsAt last opened position → len ≡ length (held_at snapshot opened)
+        → (notes_past position len ++ gives (drop from contents) ∷ [] ≡ events_later last (entries_open snapshot opened))
+        × (notes_past position len ++ all_but (length contents - copies.at) (gives (drop from contents) ∷ []) ≡ all_but (left_from snapshot opened copies.at) (events_later last (entries_open snapshot opened)))
+    due last stands size =
+        let all = ap (λ those. notes_past position len ++ gives (drop from those) ∷ []) holds
+        ∙ ap (λ n. notes_past position len ++ gives (drop n (held_at snapshot opened)) ∷ []) begins ∙ caught_open snapshot last is stands size in (
+          all,
+          past_before position len (length contents - copies.at) (drop from contents) ∙ ap (all_but (length contents - copies.at)) all
+              ∙ ap (λ those. all_but (length those - copies.at) (events_later last (entries_open snapshot opened))) holds,
+        )
+
+-- where the name leads
+
+-- nothing is due where nothing changed
+pub nothing_led : (snapshot : Snapshot) (last : Entry) (led : Option ℕ) {opened : Option ℕ} → opened ≡ file_of last
+    → change_between opened led ≡ None
+    → (events_later last (entries_led snapshot opened led) ≡ []) × (last_from last (entries_led snapshot opened led) ≡ last) × (led ≡ opened)
+nothing_led snapshot gap None here is = rw here (refl, refl, refl)
+nothing_led snapshot gap (Some file) here is = let none = rw here at is in absurd (cc)
+nothing_led snapshot (version v) None here is = let none = rw here at is in absurd (cc)
+nothing_led snapshot (version v) (Some file) here is =
+    let none = rw here at is in
+    let same : (file == v.file) ≡ true = grind (arith, nat_tests) in rw (here, same) (refl, refl, ap Some (eqb-true file v.file same))
+
+-- a name as its file was just opened
+abbrev pub fresh : Option ℕ → Entry
+fresh None = gap
+fresh (Some file) = version (record { file = file; contents = [] })
+
+pub fresh_stands : (file : Option ℕ) → StandsAt (fresh file) file 0
+fresh_stands None = search rules
+fresh_stands (Some file) = search rules
+
+-- all that it holds
+abbrev all_held : Snapshot → Option ℕ → List Event
+all_held snapshot None = []
+all_held snapshot (Some file) = gives (snapshot.holds file) ∷ []
+
+-- is due
+fresh_dues : (snapshot : Snapshot) (file : Option ℕ) → events_later (fresh file) (entries_open snapshot file) ≡ all_held snapshot file
+fresh_dues snapshot None = refl
+fresh_dues snapshot (Some file) = rw (eq-eqb file file refl, le-leb 0 (length (snapshot.holds file)) (omega arith)) refl
+
+-- where something changed, that is told, and then the name is as its file was just opened
+change_led : (snapshot : Snapshot) (last : Entry) (led : Option ℕ) {opened : Option ℕ} {change : Notice} → opened ≡ file_of last
+    → change_between opened led ≡ Some change → (events_later last (entries_led snapshot opened led) ≡ notes change ∷ all_held snapshot led)
+    × (last_from last (entries_led snapshot opened led) ≡ last_from (fresh led) (entries_open snapshot led)) × (is_same led opened ≡ false)
+change_led snapshot gap None here is = let none = rw here at is in absurd (cc)
+change_led snapshot gap (Some file) {change} here is = let found : Appeared ≡ change = cc (rw here at is) in rw here (ap (λ those. notes those ∷ gives (snapshot.holds file) ∷ []) found, refl, refl)
+change_led snapshot (version v) None {change} here is = let found : Inaccessible ≡ change = cc (rw here at is) in (ap (λ those. notes those ∷ []) found, refl, refl)
+change_led snapshot (version v) (Some file) {change} here is =
+    let found = rw here at is in
+    let both : ((file == v.file) ≡ false) × (Replaced ≡ change) = grind (arith, nat_tests) in
+    let other : (v.file == file) ≡ false = grind (arith, nat_tests) in
+    rw (here, both.0, other) (ap (λ those. notes those ∷ gives (snapshot.holds file) ∷ []) both.1, refl, refl)
+
+-- what is told of the change, and what of it comes before a call on the new file that fails
+held_notes : (snapshot : Snapshot) (file : Option ℕ) (change : Notice) → notes_in (notes change ∷ all_held snapshot file) ≡ notes change ∷ []
+held_notes snapshot None change = refl
+held_notes snapshot (Some file) change = refl
+
+led_then : (snapshot : Snapshot) (file : Option ℕ) (change : Notice) (opened : Option ℕ) (fate : Fate) → ReadsOf opened fate
+    → led_before snapshot fate (notes change ∷ all_held snapshot file) ≡ notes change ∷ came_before snapshot fate (all_held snapshot file)
+led_then snapshot file change opened (unmeasured those) reads = held_notes snapshot file change
+led_then snapshot file change opened (unread those from) reads = refl
+led_then snapshot file change opened sound reads = absurd reads
+led_then snapshot file change opened unled reads = absurd reads
+led_then snapshot file change opened unopened reads = absurd reads
+led_then snapshot file change opened (unsought those from) reads = absurd reads
+
+other_file : (opened file : Option ℕ) {led : Option ℕ} (fate : Fate) → ReadsOf file fate → file ≡ led → is_same led opened ≡ false → is_kept opened fate ≡ false
+other_file opened file (unmeasured those) reads same other = ap (λ one. is_same one opened) (reads.0 ∙ same) ∙ other
+other_file opened file (unread those from) reads same other = ap (λ one. is_same one opened) (reads.0 ∙ same) ∙ other
+other_file opened file sound reads same other = absurd reads
+other_file opened file unled reads same other = absurd reads
+other_file opened file unopened reads same other = absurd reads
+other_file opened file (unsought those from) reads same other = absurd reads
+
+reads_meet : (by_name : Bool) (file : Option ℕ) (fate : Fate) → ReadsOf file fate → can_meet false by_name fate ≡ true
+reads_meet by_name file (unmeasured those) reads = refl
+reads_meet by_name file (unread those from) reads = refl
+reads_meet by_name file sound reads = absurd reads
+reads_meet by_name file unled reads = absurd reads
+reads_meet by_name file unopened reads = absurd reads
+reads_meet by_name file (unsought those from) reads = absurd reads
+
+module _ {told_in told : Bool} {snapshot : Snapshot} {led : Option ℕ} {place : ℕ} {name : List ℕ} {position : ℕ} {watched : List Watched} {printer : PrinterState} {slots : List Slot} where
+  -- ways out of following a name
+
+  pub leads_unled : {watched_new : List Watched} {why : Fault} → why ≡ fault.Open place → watched_new ≡ changed_at place (breaks (λ file. Look)) watched
+      → Leads told_in told snapshot led place name position watched printer slots watched_new printer slots (Err (Broke why))
+  leads_unled fault broken = record {
+    fate = unled;
+    ends = λ last stands. broke_first tt;
+    stands = tt;
+    long = λ known. tt;
+    follows = broke_at (λ file. Look) refl refl fault broken;
+    other = λ t. refl;
+    met = refl;
+  }
+
+  pub leads_same : {watched_new : List Watched} → (told_in ≡ true → change_between (watched_at watched place).opened led ≡ None) → watched_new ≡ watched
+      → Leads told_in told snapshot led place name position watched printer slots watched_new printer slots (Ok position)
+  leads_same none same = record {
+    fate = sound;
+    ends = λ last stands. due_as (λ t. let due = (nothing_led snapshot last led (stands t).file (none t)).0 in (sym due, sym due)) (nothing_due tt);
+    stands = λ t last stands. let (due, still, same) = nothing_led snapshot last led stands.file (none t) in rw (still, same) stands;
+    long = λ known. rw same known;
+    follows = ((watched_at watched place).opened, same ∙ sym (opens_same watched place), λ t. sym (nothing_led snapshot (fresh _) led (fresh_stands _).file (none t)).2);
+    other = tt;
+    met = tt;
+  }
+
+  pub leads_unsaid : {watched_new : List Watched} {after : PrinterState} {slots_new : List Slot} {before : List Event} {change : Notice} {why : Fault}
+      → (told_in ≡ true → change_between (watched_at watched place).opened led ≡ Some change)
+      → Ends told_in Noted told false printer name (notes change ∷ []) before slots after slots_new (Some (Over why)) → watched_new ≡ watched
+      → Leads told_in told snapshot led place name position watched printer slots watched_new after slots_new (Err (Over why))
+  leads_unsaid {why} changed line same = record {
+    fate = sound;
+    ends = λ last stands. due_by (λ t. (sym (change_led snapshot last led (stands t).file (changed t)).0, tt))
+        (stops_early (all_held snapshot led) (found_as (noted_found FromFront snapshot (watched_at watched place).name sound (Some (Over why))) line));
+    stands = tt;
+    long = λ known. tt;
+    follows = ((watched_at watched place).opened, same ∙ sym (opens_same watched place));
+    other = tt;
+    met = tt;
+  }
+
+  -- it was told, and what the name leads to couldn't be opened
+  pub leads_unopened : {now watched_new : List Watched} {mid : List Slot} {before : List Event} {change : Notice} {why : Fault}
+      → (told_in ≡ true → change_between (watched_at watched place).opened led ≡ Some change)
+      → Ends told_in Noted told false printer name (notes change ∷ []) before slots printer mid None → now ≡ watched → why ≡ fault.Open place
+      → watched_new ≡ changed_at place (breaks (λ file. Open)) now
+      → Leads told_in told snapshot led place name position watched printer slots watched_new printer mid (Err (Broke why))
+  leads_unopened {change} {why} changed line same fault broken = record {
+    fate = unopened;
+    ends = λ last stands. due_as (λ t. let due = (change_led snapshot last led (stands t).file (changed t)).0 in
+        (sym due, sym (ap notes_in due ∙ held_notes snapshot led change)))
+        (goes_after (WereFound FromFront snapshot known unopened (Some (Broke why))) (λ events more noted none. found_both FromFront snapshot known sound unopened (Some (Broke why)) events more
+        (noted_found FromFront snapshot known sound None events noted) (noted_found FromFront snapshot known unopened (Some (Broke why)) more none)) line (broke_first {due = all_held snapshot led} tt));
+    stands = tt;
+    long = λ those. tt;
+    follows = broke_at (λ file. Open) refl same fault broken;
+    other = λ t. refl;
+    met = refl;
+  } where
+    known : List ℕ
+    known = (watched_at watched place).name
+
+  -- it was told, and all that the file holds was given, or a beginning
+  pub leads_opened : {now : Snapshot} {mid slots_new : List Slot} {after : PrinterState} {watched_mid watched_new : List Watched} {file : Option ℕ} {before : List Event} {change : Notice} {result : Result ℕ Stop}
+      → IsTrue (is_watchable watched place) → (told_in ≡ true → change_between (watched_at watched place).opened led ≡ Some change)
+      → Ends told_in Noted told false printer name (notes change ∷ []) before slots printer mid None → now ≡ snapshot
+      → watched_mid ≡ changed_at place (opens file) watched → (told_in ≡ true → file ≡ led) → (told_in ≡ true → (watched_at watched_mid place).opened ≡ led)
+      → Adds told_in told now place name 0 watched_mid printer mid watched_new after slots_new result
+      → Leads told_in told snapshot led place name position watched printer slots watched_new after slots_new result
+  leads_opened {mid} {slots_new} {after} {watched_mid} {watched_new} {file} {change} {result} can changed line same opened leads is adding = record {
+    fate = adds.fate;
+    ends = λ last stands. due_by (λ t. dues last (stands t) t) (goes_after (WereFound FromFront snapshot known adds.fate (stop_in result))
+        (λ events more noted gave. found_both FromFront snapshot known sound adds.fate (stop_in result) events more
+        (noted_found FromFront snapshot known sound None events noted)
+        (found_from snapshot known adds.fate (stop_in result) (λ file start those. at_front those.2) more (rw named at gave))) line (adds.ends (fresh now_open) (λ t. fresh_stands now_open)));
+    stands = IfOk-weaker result _ _ (λ len at t last stands. rw ((change_led snapshot last led stands.file (changed t)).1)
+        (subst (λ o. StandsAt (last_from (fresh o) (entries_open snapshot o)) o len) (is t) (at t (fresh now_open) (fresh_stands now_open)))) adds.stands;
+    long = λ those. still_long result adds.long adds.keeps;
+    follows = follows_from place watched watched_new adds.fate (stop_in result) opened leads adds.keeps;
+    other = if_broke (stop_in result) (λ reads t. other_file (watched_at watched place).opened now_open adds.fate reads (is t) (change_led snapshot (fresh _) led (fresh_stands _).file (changed t)).2) adds.reads;
+    met = if_broke (stop_in result) (reads_meet true now_open adds.fate) adds.reads;
+  } where
+    adds : Adds told_in told snapshot place name 0 watched_mid printer mid watched_new after slots_new result
+    adds = rw same at adding
+
+    now_open : Option ℕ
+    now_open = (watched_at watched_mid place).opened
+
+    known : List ℕ
+    known = (watched_at watched place).name
+
+    named : (watched_at watched_mid place).name ≡ known
+    named = ap (λ those. (watched_at those place).name) opened ∙ ap (λ (w : Watched). w.name) (opened_there watched place can)
+
+    at_front : {start : ℕ} → (start ≡ 0) ⊎ (start ≡ 0) → start ≡ 0
+    at_front (inl at) = at
+    at_front (inr at) = at
+
+    still_long : (result : Result ℕ Stop) → IfOk result (IsLong snapshot (watched_at watched_mid place)) → Keeps place watched_mid watched_new adds.fate (stop_in result) → IfOk result (IsLong snapshot (watched_at watched_new place))
+    still_long (Ok len) long keeps = rw keeps long
+    still_long (Err stop) long keeps = tt
+
+    dues : (last : Entry) → StandsAt last (watched_at watched place).opened position → told_in ≡ true
+        → (notes change ∷ events_later (fresh now_open) (entries_open snapshot now_open) ≡ events_later last (entries_led snapshot (watched_at watched place).opened led))
+        × IfBroke (stop_in result) (notes change ∷ came_before snapshot adds.fate (events_later (fresh now_open) (entries_open snapshot now_open))
+        ≡ led_before snapshot adds.fate (events_later last (entries_led snapshot (watched_at watched place).opened led)))
+    dues last stands t =
+        let held = fresh_dues snapshot now_open ∙ ap (all_held snapshot) (is t) in
+        let due = (change_led snapshot last led stands.file (changed t)).0 in (
+          ap (λ those. notes change ∷ those) held ∙ sym due,
+          if_broke (stop_in result) (λ reads. ap (λ those. notes change ∷ came_before snapshot adds.fate those) held ∙ sym (led_then snapshot led change now_open adds.fate reads)
+              ∙ ap (led_before snapshot adds.fate) (sym due)) adds.reads,
+        )
+
+-- a look again at a name
+
+-- what a look adds: where names aren't followed, as if the name led to the open file
+pub at_look : (by_name : Bool) (name : List ℕ) (opened : Option ℕ) (snapshot : Snapshot)
+    → entries_open snapshot opened ++ entries_led snapshot opened (open_after_look by_name name opened snapshot) ≡ entries_at_look by_name name opened snapshot
+at_look true name opened snapshot = refl
+at_look false name None snapshot = refl
+at_look false name (Some file) snapshot = search rules
+
+unchanged : (file : Option ℕ) → change_between file file ≡ None
+unchanged None = refl
+unchanged (Some file) = search rules
+
+same_file : (file : Option ℕ) → is_some file ≡ true → is_same file file ≡ true
+same_file None some = absurd (false≢true some)
+same_file (Some id) some = eq-eqb id id refl
+
+-- where a call on the open file failed, what comes before it is given
+kept_given : (snapshot : Snapshot) (due : Due) (opened : Option ℕ) (fate : Fate) → ReadsOf opened fate → came_before snapshot fate due.came ≡ given_by due snapshot opened fate
+kept_given snapshot due opened (unmeasured file) reads = rw (reads.0, same_file opened reads.1) refl
+kept_given snapshot due opened (unread file from) reads = rw (reads.0, same_file opened reads.1) refl
+kept_given snapshot due opened sound reads = absurd reads
+kept_given snapshot due opened unled reads = absurd reads
+kept_given snapshot due opened unopened reads = absurd reads
+kept_given snapshot due opened (unsought file from) reads = absurd reads
+
+-- and where another did, all that came to the open file
+led_given : (snapshot : Snapshot) (due : Due) (opened : Option ℕ) (fate : Fate) → is_kept opened fate ≡ false → due.came ++ led_before snapshot fate due.led ≡ given_by due snapshot opened fate
+led_given snapshot due opened fate other = rw other refl
+
+-- from the front, or of the open file from the position on
+abbrev pub FromFrontOr : Option ℕ → ℕ → Option ℕ → ℕ → Type 0
+FromFrontOr opened position file from = (from ≡ 0) ⊎ ((file ≡ opened) × (is_some opened ≡ true) × (from ≡ position))
+
+from_either : {opened : Option ℕ} {position : ℕ} (file : Option ℕ) (from : ℕ) → FromEither opened position file from → FromFrontOr opened position file from
+from_either file from (same, some, inl at) = inl at
+from_either file from (same, some, inr at) = inr (same, some, at)
+
+-- before it is told what failed
+pub record LooksAgain (told_in told by_name : Bool) (snapshot : Snapshot) (place : ℕ) (name : List ℕ) (position : ℕ) (watched : List Watched)
+    (printer : PrinterState) (slots : List Slot) (watched_new : List Watched) (after : PrinterState) (slots_new : List Slot) (result : Result ℕ Stop) : Type 0 where
+  pub fate : Fate
+  pub ends : let opened = (watched_at watched place).opened in (last : Entry) → (told_in ≡ true → StandsAt last opened position)
+      → let due = due_later by_name name opened last snapshot in
+      Ends told_in (WereFound (FromFrontOr opened position) snapshot (watched_at watched place).name fate (stop_in result)) told false printer name (due.came ++ due.led) (given_by due snapshot opened fate) slots after slots_new (stop_in result)
+  pub long : IfOk result (IsLong snapshot (watched_at watched_new place))
+  pub stands : let opened = (watched_at watched place).opened in IfOk result (λ len. told_in ≡ true → (last : Entry) → StandsAt last opened position
+      → StandsAt (last_from last (entries_at_look by_name name opened snapshot)) (open_after_look by_name name opened snapshot) len)
+  pub follows : Follows told_in (open_after_look by_name name (watched_at watched place).opened snapshot) place watched watched_new fate (stop_in result)
+  pub met : IfBroke (stop_in result) (can_meet false by_name fate ≡ true)
+
+module _ {told_in told : Bool} {snapshot : Snapshot} {place : ℕ} {name : List ℕ} {position : ℕ} {watched : List Watched} {printer : PrinterState} {slots : List Slot} where
+  pub stopped_looks : (by_name : Bool) {watched_new : List Watched} {after : PrinterState} {slots_new : List Slot} {stop : Stop}
+      → Adds told_in told snapshot place name position watched printer slots watched_new after slots_new (Err stop)
+      → LooksAgain told_in told by_name snapshot place name position watched printer slots watched_new after slots_new (Err stop)
+  stopped_looks by_name {watched_new} {stop} adds = record {
+    fate = adds.fate;
+    ends = λ last stands. let due = due_later by_name name (watched_at watched place).opened last snapshot in
+        due_by (λ t. (refl, if_broke (Some stop) (kept_given snapshot due (watched_at watched place).opened adds.fate) adds.reads))
+        (stops_early due.led (found_as (found_from snapshot (watched_at watched place).name adds.fate (Some stop) from_either) (adds.ends last stands)));
+    long = tt;
+    stands = tt;
+    follows = follows_stop told_in (open_after_look by_name name (watched_at watched place).opened snapshot) _ place watched watched_new adds.fate stop (sym (opens_same watched place)) adds.keeps;
+    met = if_broke (Some stop) (reads_meet by_name (watched_at watched place).opened adds.fate) adds.reads;
+  }
+
+  -- one call after another
+  looks_both : {by_name : Bool} {watched_new : List Watched} {mid after : PrinterState} {slots_mid slots_new : List Slot} {len : ℕ} {result : Result ℕ Stop}
+      → Adds told_in told snapshot place name position watched printer slots watched mid slots_mid (Ok len)
+      → (leads : Leads told_in told snapshot (open_after_look by_name name (watched_at watched place).opened snapshot) place name len watched mid slots_mid watched_new after slots_new result)
+      → IfBroke (stop_in result) (can_meet false by_name leads.fate ≡ true)
+      → LooksAgain told_in told by_name snapshot place name position watched printer slots watched_new after slots_new result
+  looks_both {by_name} {result} adds leads met =
+      let known = (watched_at watched place).name in let opened = (watched_at watched place).opened in record {
+        fate = leads.fate;
+        ends = λ last stands. let due = due_later by_name name opened last snapshot in
+            due_by (λ t. (refl, if_broke (stop_in result) (λ other. led_given snapshot due opened leads.fate (other t)) leads.other))
+            (goes_after (WereFound (FromFrontOr opened position) snapshot known leads.fate (stop_in result))
+            (λ events more one two. found_both (FromFrontOr opened position) snapshot known adds.fate leads.fate (stop_in result) events more
+            (found_from snapshot known adds.fate None from_either events one) (found_from snapshot known leads.fate (stop_in result) (λ file from at. inl at) more two))
+            (adds.ends last stands) (leads.ends _ (λ t. adds.stands t last (stands t))));
+        long = leads.long adds.long;
+        stands = IfOk-weaker result _ _ (λ len at t last stands. rw (← at_look by_name name opened snapshot, last_from-append last (entries_open snapshot opened) _)
+            (at t _ (adds.stands t last stands))) leads.stands;
+        follows = leads.follows;
+        met = met;
+      }
+
+  pub caught_looks : {by_name : Bool} {watched_new : List Watched} {after : PrinterState} {slots_new : List Slot} {len : ℕ} → by_name ≡ false
+      → Adds told_in told snapshot place name position watched printer slots watched_new after slots_new (Ok len)
+      → LooksAgain told_in told by_name snapshot place name position watched printer slots watched_new after slots_new (Ok len)
+  caught_looks is adding = let adds = rw adding.keeps at adding in rw (is, adding.keeps) (looks_both adds (leads_same (λ t. unchanged (watched_at watched place).opened) refl) tt)
+
+  pub led_looks : {by_name : Bool} {now : Snapshot} {watched_mid watched_new : List Watched} {mid after : PrinterState} {slots_mid slots_new : List Slot}
+      {len : ℕ} {result : Result ℕ Stop} → by_name ≡ true → now ≡ snapshot
+      → Adds told_in told snapshot place name position watched printer slots watched_mid mid slots_mid (Ok len)
+      → Leads told_in told now (now.leads name) place name len watched_mid mid slots_mid watched_new after slots_new result
+      → LooksAgain told_in told by_name snapshot place name position watched printer slots watched_new after slots_new result
+  led_looks is seen adding leading =
+      let adds = rw adding.keeps at adding in let leads = rw (seen, adding.keeps) at leading in
+      rw is (looks_both adds leads leads.met)
