@@ -283,9 +283,10 @@ const FIRST_FAULTS: &[Refused<'static>] = &[
     (&["head", "-qx"], b"head: unknown option '-qx'\n"),
     (&["head", "-f"], b"head: unknown option '-f'\n"),
     (&["tail", "-p"], b"tail: unknown option '-p'\n"),
-    (&["head", "--lin=3"], b"head: unknown option '--lin=3'\n"),
-    (&["head", "--lin"], b"head: unknown option '--lin'\n"),
-    (&["head", "--=3"], b"head: unknown option '--=3'\n"),
+    (&["head", "--linx=3"], b"head: unknown option '--linx=3'\n"),
+    (&["head", "--lin"], b"head: missing value for '--lin'\n"),
+    (&["head", "--=3"], b"head: ambiguous option '--=3'\n"),
+    (&["split", "--s=3"], b"split: ambiguous option '--s=3'\n"),
     (&["head", "--n"], b"head: unknown option '--n'\n"),
     (
         &["head", "---lines=3"],

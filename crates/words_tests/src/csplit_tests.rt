@@ -194,7 +194,11 @@ const BAD_OPTIONS: &[Refused<'static>] = &[
     (&["csplit", "f", "-3"], UsageKind::UnknownOption, 2),
     (&["csplit", "-b", "f", "3"], UsageKind::UnknownOption, 1),
     (&["csplit", "-kx", "f", "3"], UsageKind::UnknownOption, 1),
-    (&["csplit", "--keep", "f", "3"], UsageKind::UnknownOption, 1),
+    (
+        &["csplit", "--keeps", "f", "3"],
+        UsageKind::UnknownOption,
+        1,
+    ),
     (
         &["csplit", "--suppress-matched=1", "f", "3"],
         UsageKind::UnexpectedValue,
