@@ -1,23 +1,30 @@
 -- Lemmas on a first word of a hyphen, digits and letters.
 use Rattle.std.proofs.lemmas.Grind.{common_steps}
 use Rattle.std.proofs.lemmas.Bool.Decides.{nat_tests}
+use Rattle.std.proofs.lemmas.Bool.{and_parts}
 use Rattle.std.proofs.lemmas.Slice.Eq.{bytes_eq-Decides}
+use Rattle.std.proofs.Math.Seq.{drop-append_seam, take-append_seam}
+use Rattle.std.specs.Char.{is_ascii_digit}
+use Rattle.std.specs.List.{list_all, prefix_len}
 use Rattle.std.specs.Prelude.{nat_lt, bytes_eq, ⊤}
-use Rattle.std.proofs.Common.{◌≡◌, ◌⊎◌, inl, inr, refl, ℕ, ◌≤◌, ◌==◌, Bool, true, false, if◌then◌else◌, arith, List, [], ◌∷◌, length, None, Result, Ok, Err, sym, ◌∙◌}
+use Rattle.std.proofs.Common.{◌≡◌, ◌⊎◌, inl, inr, refl, ℕ, ◌≤◌, ◌==◌, Bool, true, false, if◌then◌else◌, arith, List, [], ◌∷◌, ◌++◌, ◌*◌, mul-one, length, Some, None, Result, Ok, Err, sym, ◌∙◌}
 use Rattle.seg_core.specs.declared.count.Count.{Count}
-use Rattle.seg_core.specs.Count.{after_digits, leading_digits}
+use Rattle.seg_core.specs.Count.{after_digits, is_number, leading_digits, sized, value_of}
 use Rattle.ports_core.specs.declared.fault.Fault.{Fault}
 use Rattle.ports_core.specs.declared.fault.Fault.TheVariants.{Usage}
 use Rattle.ports_core.specs.declared.fault.UsageKind.TheVariants.{UnknownOption}
 use Rattle.words_core.specs.declared.table.Letters.TheVariants.{OfHead, OfTail}
 use Rattle.ports_core.specs.declared.fault.UsageKind.{UsageKind}
 use Rattle.words_core.specs.declared.spelling.State.{State}
+use Rattle.seg_core.specs.declared.count.Sign.TheVariants.{Plain}
 use Rattle.words_core.specs.declared.table.Choice.{Choice}
-use Rattle.words_core.specs.Given.{Given, joined, one_option}
-use Rattle.words_core.specs.Lettered.{counted_with, is_lettered, switches, without_digits, times, unit_in, with_letters}
+use Rattle.words_core.specs.declared.table.Choice.TheVariants.{Lines}
+use Rattle.words_core.specs.declared.table.Takes.{Takes}
+use Rattle.words_core.specs.Given.{Given, bare, joined, one_option}
+use Rattle.words_core.specs.Lettered.{counted_with, is_lettered, letter_named, unit_of, switches, without_digits, times, unit_in, with_letters}
 use Rattle.words_core.specs.Spelling.{before, given_at, mixed, option_lettered, reading}
 use Rattle.words_core.specs.Table.{OptionRow, head_table, is_among, tail_table}
-use Rattle.words_core.specs.Value.{Counted}
+use Rattle.words_core.specs.Value.{Counted, counted}
 use Rattle.words_core.specs.inner.Spelling.{Adds}
 
 adds_both : (old one more : Given) (new : Given) (result : Result State Fault) → Adds (reading more) (joined old one) new result → Adds (reading (joined one more)) old new result
@@ -73,3 +80,38 @@ tail_letters text place is =
       | inl some ↦ begins_with_digit P text some (λ byte rest least most. unknown_first tail_table place byte rest (tail_has_no_digit byte least most) (grind (arith, nat_tests)))
       | inr among ↦ begins_with_unit P without_digits text among (refl, (refl, (refl, (refl, tt))))
     ]
+
+-- what the letters after digits ask
+
+digits_in : (digits rest : List ℕ) → list_all is_ascii_digit digits ≡ true → prefix_len is_ascii_digit rest ≡ 0 → prefix_len is_ascii_digit (digits ++ rest) ≡ length digits
+digits_in [] rest all none = none
+digits_in (digit ∷ digits) rest all none =
+    let both = and_parts (is_ascii_digit digit) _ all in
+    let more = digits_in digits rest both.1 none in
+    rw (both.0) (omega (arith, more))
+
+pub one_letter : (rows : List OptionRow) (digits : List ℕ) (letter place : ℕ) → is_number digits ≡ true → is_ascii_digit letter ≡ false
+    → with_letters rows place (digits ++ letter ∷ []) ≡ counted_with (unit_in (letter ∷ [])).0 place (switches rows place (letter ∷ [])) (times digits (unit_in (letter ∷ [])).1)
+one_letter rows digits letter place number other =
+    let front : prefix_len is_ascii_digit (digits ++ letter ∷ []) ≡ length digits = digits_in digits (letter ∷ []) (grind (arith, nat_tests)) (grind (arith, common_steps)) in
+    let before : leading_digits (digits ++ letter ∷ []) ≡ digits = rw front (take-append_seam digits (letter ∷ [])) in
+    let after : after_digits (digits ++ letter ∷ []) ≡ letter ∷ [] = rw front (drop-append_seam digits (letter ∷ [])) in
+    rw (before, after)
+
+not_empty : (digits : List ℕ) → is_number digits ≡ true → (length digits == 0) ≡ false
+not_empty [] is = absurd (cc)
+not_empty (digit ∷ digits) is = grind (arith, nat_tests)
+
+unit_is_no_digit : (letter : ℕ) {unit : Choice × ℕ} → unit_of letter ≡ Some unit → is_ascii_digit letter ≡ false
+unit_is_no_digit letter is = grind (arith, common_steps, nat_tests)
+
+pub unit_asks : (rows : List OptionRow) (digits : List ℕ) (letter place : ℕ) (unit : Choice × ℕ) (count : Count) → is_number digits ≡ true → unit_of letter ≡ Some unit → counted (sized Plain (value_of digits * unit.1)) ≡ Ok count
+    → with_letters rows place (digits ++ letter ∷ []) ≡ Ok (one_option unit.0 (Counted count) place)
+unit_asks rows digits letter place unit count number is many =
+    one_letter rows digits letter place number (unit_is_no_digit letter is) ∙ rw (is, not_empty digits number, many)
+
+pub option_asks : (rows : List OptionRow) (digits : List ℕ) (letter place : ℕ) (option : Choice × Takes) (count : Count) → is_number digits ≡ true → unit_of letter ≡ None → is_ascii_digit letter ≡ false → letter_named rows letter ≡ Some option
+    → counted (sized Plain (value_of digits)) ≡ Ok count → with_letters rows place (digits ++ letter ∷ []) ≡ Ok (joined (one_option Lines (Counted count) place) (bare option.0 place))
+option_asks rows digits letter place option count number is other named many =
+    let once : counted (sized Plain (value_of digits * 1)) ≡ Ok count = rw (mul-one (value_of digits)) many in
+    one_letter rows digits letter place number other ∙ rw (is, not_empty digits number, once, named)

@@ -29,6 +29,7 @@ unit_of letter =
 abbrev pub is_unit : ℕ → Bool
 is_unit letter = is_some (unit_of letter)
 
+-- this unit, or else another
 abbrev pub unit_or : Choice × ℕ → Option (Choice × ℕ) → Choice × ℕ
 unit_or other None = other
 unit_or other (Some unit) = unit
@@ -66,7 +67,8 @@ are_of_tail letters = is_among
 abbrev pub without_digits : List (List ℕ)
 without_digits = codes "b" ∷ codes "bf" ∷ codes "l" ∷ codes "lf" ∷ []
 
--- Of `head` one letter at most is a unit. Of `tail` the digits may be missing before b and l.
+-- Whether a text is such a word. Of `head` it has digits, each letter is known, and one at most is a unit. Of `tail` the
+-- digits may be missing before b and l.
 abbrev pub is_lettered : List OptionRow → Letters → List ℕ → Bool
 is_lettered rows Never text = false
 is_lettered rows OfHead text = nat_lt 0 (length (leading_digits text))

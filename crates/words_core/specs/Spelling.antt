@@ -91,6 +91,7 @@ mixed rows place (byte ∷ next ∷ rest) =
     then (if next == 45 then dashed rows place rest else cluster rows place (next ∷ rest))
     else reading (one_operand (byte ∷ next ∷ rest) place)
 
+-- what this word gives, or the fault that stands in it
 abbrev pub given_at : ℕ → Result Given UsageKind → Result Meaning Fault
 given_at place (Ok given) = reading given
 given_at place (Err fault) = Err (Usage fault place)

@@ -87,8 +87,8 @@ csplit_table =
 abbrev pub tee_table : List OptionRow
 tee_table = option (codes "-a" ∷ codes "--append" ∷ []) Append Nothing ∷ []
 
--- The tools. A hyphen and digits as the first word count lines for `head`, `tail` and `split`; for the first two letters
--- may follow.
+-- The tools. A hyphen and digits as the first word count lines for `head`, `tail` and `split`; for `head` and `tail`
+-- letters may follow the digits.
 unfoldable pub tools : List ToolRow
 tools =
     record { name = codes "head"; tool = Head; options = head_table; number = Some (Lines, Count, OfHead) }
@@ -139,6 +139,7 @@ only_one [] = Err UnknownOption
 only_one (row ∷ []) = Ok (row.choice, row.takes)
 only_one (row ∷ other ∷ rows) = Err AmbiguousOption
 
+-- what was found by a name in full, or else by one that is cut short
 abbrev pub full_or : {A E : Type 0} → Option A → Result A E → Result A E
 full_or (Some found) short = Ok found
 full_or None short = short

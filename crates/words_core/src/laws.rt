@@ -1,21 +1,22 @@
 //! Laws of what words spell and ask for, with no code: each stands on the contract of a function whose body is empty.
-ghost use Rattle.std.specs.Prelude.{◌≡◌, ◌≢◌, ◌↔◌, ◌+◌, ◌-◌, ◌^◌, ◌≤◌, ◌<◌, ◌++◌, ℕ, List, [], ◌∷◌, All, Option, Some, None, Result, Ok, Err, IsOk, true, false, length, filter, codes, if◌then◌else◌};
+ghost use Rattle.std.specs.Prelude.{◌≡◌, ◌≢◌, ◌↔◌, ◌+◌, ◌-◌, ◌*◌, ◌^◌, ◌≤◌, ◌<◌, ◌++◌, ℕ, List, [], ◌∷◌, All, Option, Some, None, Result, Ok, Err, IsOk, true, false, length, filter, codes, if◌then◌else◌};
 ghost use Rattle.std.specs.List.{list_any};
 ghost use Rattle.ports_core.specs.declared.fault.UsageKind.{UsageKind};
 ghost use Rattle.ports_core.specs.declared.fault.UsageKind.TheVariants.{AmbiguousOption, MissingValue, TwoWays, UnknownOption};
 ghost use Rattle.words_core.specs.declared.spelling.State.TheVariants.{Reading};
-ghost use Rattle.seg_core.specs.Count.{count_of, digits_of, is_number};
-ghost use Rattle.words_core.specs.Given.{Given, GivenOption, bare, one_operand, one_option};
+ghost use Rattle.seg_core.specs.Count.{count_of, digits_of, is_number, sized, value_of};
+ghost use Rattle.std.specs.Char.{is_ascii_digit};
+ghost use Rattle.words_core.specs.Given.{Given, GivenOption, bare, joined, one_operand, one_option};
 ghost use Rattle.words_core.specs.CsplitWords.{style_of};
 ghost use Rattle.words_core.specs.Laws.{AreAmong, Gives, IsLetter, IsName, IsSwitch, amount_of, appends, as_operands, csplit_as, drops_sizes, elides_files, ends_as, ends_of, ends_with_zero, has, is_alphabet, is_count, is_digits, is_ending, is_headers, is_plain, is_prefix, is_separator, is_width, follow_of, following_as, is_following, is_looks, keeps_files, leaves_lines_out, retries, split_as, split_of, tail_as, plain_style};
-ghost use Rattle.words_core.specs.Lettered.{is_lettered};
+ghost use Rattle.words_core.specs.Lettered.{is_lettered, letter_named, unit_of, with_letters};
 ghost use Rattle.words_core.specs.Spelling.{given_before, mixed, spelled};
 ghost use Rattle.words_core.specs.EndsWords.{ten_lines};
 ghost use Rattle.words_core.specs.SplitWords.{is_way, least_width, way_in, way_of};
 ghost use Rattle.words_core.specs.Table.{OptionRow, beginning, head_table, option_called, option_named, tail_table};
 ghost use Rattle.words_core.specs.declared.table.Letters.TheVariants.{OfHead, OfTail};
 ghost use Rattle.words_core.specs.TeeWords.{tee_asked};
-ghost use Rattle.words_core.specs.Value.{Meant, round_in, size_in, up_to, value_in};
+ghost use Rattle.words_core.specs.Value.{Counted, Meant, counted, round_in, size_in, up_to, value_in};
 ghost use Rattle.words_core.specs.Words.{settings_of};
 
 use crate::settings::{Headers, Settings};
@@ -23,7 +24,7 @@ use crate::spelling::State;
 use crate::table::{Choice, Kind, Letters, Takes};
 use crate::value::Followed;
 use ports_core::{Alphabet, Fault, Mode};
-use seg_core::count::Count;
+use seg_core::count::{Count, Sign};
 use seg_core::cut::Cut;
 use seg_core::unit::Unit;
 
@@ -181,6 +182,18 @@ pub fn number_comes_first()
     ensures number { (rows : List OptionRow) (choice : Choice) (kind : Kind) (letters : Letters) (digits : List ℕ) (meant : Meant) (words : List (List ℕ)) (place : ℕ)
         → is_number digits ≡ true → value_in kind digits ≡ Ok meant
         → spelled rows ((codes "-" ++ digits) ∷ words) place (State.First choice kind letters) ≡ given_before (one_option choice meant place) (spelled rows words (place + 1) Reading) }
+{}
+
+/// What a letter after the digits of a first word asks: one that says what is counted, as many of that as the digits write;
+/// one of an option, as many lines and that option.
+pub fn letters_ask()
+    ensures unit { (rows : List OptionRow) (digits : List ℕ) (letter place : ℕ) (unit : Choice × ℕ) (count : Count) → is_number digits ≡ true
+        → unit_of letter ≡ Some unit → counted (sized Sign.Plain (value_of digits * unit.1)) ≡ Ok count
+        → with_letters rows place (digits ++ letter ∷ []) ≡ Ok (one_option unit.0 (Counted count) place) }
+    ensures option { (rows : List OptionRow) (digits : List ℕ) (letter place : ℕ) (option : Choice × Takes) (count : Count) → is_number digits ≡ true
+        → unit_of letter ≡ None → is_ascii_digit letter ≡ false → letter_named rows letter ≡ Some option
+        → counted (sized Sign.Plain (value_of digits)) ≡ Ok count
+        → with_letters rows place (digits ++ letter ∷ []) ≡ Ok (joined (one_option Choice.Lines (Counted count) place) (bare option.0 place)) }
 {}
 
 /// A first word that is read as a hyphen, digits and letters means nothing else: read as any other word it is an unknown

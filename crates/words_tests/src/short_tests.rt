@@ -20,7 +20,7 @@ const SHORT: &[Same<'static>] = &[
     ("head", &["--l", "3", "f"], &["-n", "3", "f"]),
     ("head", &["--by=3"], &["-c3"]),
     ("head", &["--quie", "--sil", "--q", "--s"], &["-qqqq"]),
-    ("head", &["--v", "--z"], &["-vz"]),
+    ("head", &["--verb", "--z"], &["-vz"]),
     ("head", &["--ze", "f", "--verb"], &["-z", "f", "-v"]),
     ("tail", &["--foll", "f"], &["-f", "f"]),
     (
@@ -37,7 +37,7 @@ const SHORT: &[Same<'static>] = &[
     ("split", &["--lines=9"], &["-l9"]),
     ("split", &["--numb", "r/3"], &["-n", "r/3"]),
     ("split", &["--numeric"], &["-d"]),
-    ("split", &["--he"], &["-x"]),
+    ("split", &["--hex"], &["-x"]),
     ("split", &["--e", "--sep", "a"], &["-e", "-ta"]),
     (
         "split",
