@@ -3,7 +3,7 @@ use crate::refused::{Refused, refuse};
 use ports_core::UsageKind;
 use std::alloc::Global;
 use std::process::Abort;
-use words_core::{Chosen, Spelled, all_tools, find_row, read_given};
+use words_core::{Chosen, Operand, Spelled, all_tools, find_row, read_given};
 
 /// Words after a tool's name, and others of the same meaning.
 type Same<'a> = (&'a str, &'a [&'a str], &'a [&'a str]);
@@ -112,10 +112,32 @@ fn given<'a>(alloc: Global, name: &'a str, words: &[&'a str]) -> Option<Spelled<
 
 /// Whether both have the same options with the same values, in any words, and the same operands.
 fn are_alike(one: &Spelled<'_>, other: &Spelled<'_>) -> bool {
-    one.options.len() == other.options.len()
-        && one.operands.len() == other.operands.len()
-        && (0..one.options.len()).all(|at| is_alike(&one.options[at], &other.options[at]))
-        && (0..one.operands.len()).all(|at| one.operands[at].text == other.operands[at].text)
+    have_options(one.options.as_slice(), other.options.as_slice())
+        && have_operands(one.operands.as_slice(), other.operands.as_slice())
+}
+
+fn have_options(ones: &[Chosen<'_>], others: &[Chosen<'_>]) -> bool {
+    if ones.len() != others.len() {
+        return false;
+    }
+    for at in 0..ones.len() {
+        if !is_alike(&ones[at], &others[at]) {
+            return false;
+        }
+    }
+    true
+}
+
+fn have_operands(ones: &[Operand<'_>], others: &[Operand<'_>]) -> bool {
+    if ones.len() != others.len() {
+        return false;
+    }
+    for at in 0..ones.len() {
+        if ones[at].text != others[at].text {
+            return false;
+        }
+    }
+    true
 }
 
 fn is_alike(one: &Chosen<'_>, other: &Chosen<'_>) -> bool {
