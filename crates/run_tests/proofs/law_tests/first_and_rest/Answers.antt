@@ -4,6 +4,7 @@ use Rattle.seg_core.specs.Count.{count_of, factor_of}
 use Rattle.seg_core.specs.declared.count.Sign.TheVariants.{Plain, Plus}
 use Rattle.seg_core.specs.declared.unit.Unit.TheVariants.{Lines}
 use Rattle.words_core.specs.EndsAsked.{EndsAsked}
+use Rattle.words_core.specs.Spelling.{foremost}
 use Rattle.words_core.specs.Table.{tools}
 use Rattle.words_core.specs.Words.{settings_of}
 use Rattle.words_core.specs.declared.settings.Headers.TheVariants.{ForSeveral}
@@ -15,11 +16,11 @@ abbrev options : EndsAsked
 options = record { unit = Lines; count = record { sign = Plain; amount = 10 }; headers = ForSeveral; delim = 10; names = codes "-" ∷ [] }
 
 head_read : settings_of (codes "head" ∷ codes "-n" ∷ codes "2" ∷ []) ≡ Ok (Head (counted options Plain 2))
-unfolding tools count_of factor_of
+unfolding tools count_of factor_of foremost
 head_read = refl
 
 tail_read : settings_of (codes "tail" ∷ codes "-n" ∷ codes "+3" ∷ []) ≡ Ok (Tail (record { ends = counted options Plus 3; followed = None; looks = 2 ^ 63 - 1 }))
-unfolding tools count_of factor_of
+unfolding tools count_of factor_of foremost
 tail_read = refl
 
 pub returns : goal.returns
