@@ -14,21 +14,21 @@ _cutters_options() {
     case $1 in
     head)
         valued='-n --lines -c --bytes'
-        plain='-q --quiet --silent -v --verbose -z --zero-terminated'
+        plain='-q --quiet --silent -v --verbose -z --zero-terminated --help --version'
         ;;
     tail)
-        valued='-n --lines -c --bytes --looks'
-        plain='-q --quiet --silent -v --verbose -z --zero-terminated -f --follow --follow= -F --retry'
+        valued='-n --lines -c --bytes --looks -s --sleep-interval --pid --max-unchanged-stats'
+        plain='-q --quiet --silent -v --verbose -z --zero-terminated -f --follow --follow= -F --retry --help --version'
         ;;
     split)
         valued='-l --lines -b --bytes -C --line-bytes -n --number -a --suffix-length -t --separator --additional-suffix'
-        plain='-d --numeric-suffixes -x --hex-suffixes -e --elide-empty-files'
+        plain='-d --numeric-suffixes -x --hex-suffixes -e --elide-empty-files -u --unbuffered --help --version'
         ;;
     csplit)
         valued='-f --prefix -n --digits'
-        plain='-k --keep-files -s -q --quiet --silent -z --elide-empty-files --suppress-matched'
+        plain='-k --keep-files -s -q --quiet --silent -z --elide-empty-files --suppress-matched --help --version'
         ;;
-    tee) plain='-a --append' ;;
+    tee) plain='-a --append -p --output-error --output-error= --help --version' ;;
     esac
 }
 
@@ -53,7 +53,10 @@ _cutters() {
     local typed=${COMP_WORDS[COMP_CWORD]} before=${COMP_WORDS[COMP_CWORD - 1]} valued plain offered option
     COMPREPLY=()
     if [ "$COMP_CWORD" = 1 ]; then
-        _cutters_offer head tail split csplit tee
+        case $typed in
+        -*) _cutters_offer --help --version ;;
+        *) _cutters_offer head tail split csplit tee ;;
+        esac
         return
     fi
     _cutters_options "${COMP_WORDS[1]}"
@@ -67,10 +70,16 @@ _cutters() {
     elif [ "$before" = = ]; then
         before=${COMP_WORDS[COMP_CWORD - 2]}=
     fi
-    if [ "$before" = --follow= ]; then
+    case $before in
+    --follow=)
         _cutters_offer descriptor name
         return
-    fi
+        ;;
+    --output-error=)
+        _cutters_offer warn warn-nopipe exit exit-nopipe
+        return
+        ;;
+    esac
     case " $valued " in
     *" ${before%=} "*)
         # Any other value is a count or a text, which nobody can guess.

@@ -1,41 +1,44 @@
 -- Lemmas on the cutter of lines: what is settled, what holding lines leaves, and that a cut ends the open section and the next one begins.
 use Rattle.std.proofs.lemmas.Grind.{common_steps}
-use Rattle.std.proofs.Common.{◌≡◌, ℕ, ◌+◌, ◌-◌, ◌≤◌, Bool, true, false, List, [], ◌++◌, length, refl, sym, ◌∙◌, ap, arith, inl, inr, Option, None, subst, ◌<◌, min, Some, Result, Ok, Err, OnOk, IfErr, take, drop, IfNone, rules, suc, ◌∷◌, map, append_assoc}
+use Rattle.std.proofs.Common.{◌≡◌, ℕ, ◌+◌, ◌-◌, ◌≤◌, Bool, true, false, List, [], ◌++◌, length, refl, sym, ◌∙◌, ap, arith, inl, inr, Option, None, subst, ◌<◌, min, Some, Result, Err, OnOk, take, drop, IfNone, rules, suc, ◌∷◌, map, append_assoc, cond}
 use Rattle.std.proofs.lemmas.Bool.{cases_lt}
 use Rattle.std.proofs.lemmas.List.{append-nil, length-take-le, length-drop, take-append-le, take_all, drop_all, drop-drop, map-append}
 use Rattle.seg_core.specs.Line.{line_count, first_lines, after_lines, but_last_lines, last_lines}
-use Rattle.csplit_core.specs.Csplit.{settled_of}
-use Rattle.csplit_core.specs.Draft.{draft_part, Draft, last_contents, AreClosed}
+use Rattle.csplit_core.specs.Csplit.{settled_of, whole_of}
+use Rattle.ports_core.specs.Draft.{Draft, share, made_of, shares_of, draft_part, with_bytes, with_next, told_of_files, size_of_file, part_of as part_by}
+use Rattle.ports_core.proofs.ShareLemmas.{next_shares, bytes_begin, next_begins}
+use Rattle.std.specs.List.{flat_map}
+use Rattle.std.proofs.lemmas.Grind.{flat_map-append}
 use Rattle.csplit_core.specs.Input.{newline, all_lines}
 use Rattle.csplit_core.specs.Operand.{Operand, Line, is_kept}
-use Rattle.csplit_core.specs.Output.{Style, makes_file, files_of, contents_of, part_by, sizes_wanted}
+use Rattle.csplit_core.specs.Output.{Style, manner_of, opening_of, file_in, shares_in, part_of, sizes_wanted}
 use Rattle.csplit_core.specs.Plan.{State, start, Step, Ending, Runs, search_line, line_after, state_after, step_of, is_used_up, misses, is_above, is_below, cuts}
 use Rattle.csplit_core.specs.Planned.{Plan, plan, plan_within}
-use Rattle.csplit_core.specs.Section.{lines_between, is_last_kept, settled_end, is_final, most_waiting, bytes_of, Section, section, section_of}
+use Rattle.csplit_core.specs.Section.{lines_between, is_last_kept, settled_end, whole_end, is_final, most_waiting, bytes_of, Section, section, section_of}
 use Rattle.csplit_core.specs.Progress.{AimsAt}
 use Rattle.csplit_core.specs.declared.progress.Turn.{Turn}
 use Rattle.csplit_core.specs.declared.progress.Turn.TheVariants.{Below}
 use Rattle.csplit_core.specs.laws.PlanLaws.{plan_once, goes_on, runs}
 use Rattle.csplit_core.specs.inner.PlanLaws.{EndsAs, needed}
-use Rattle.csplit_core.specs.laws.SectionLaws.{ends_as, closed_still, are_within, part_grows}
+use Rattle.csplit_core.specs.laws.SectionLaws.{ends_as, closed_still, are_within, shares-append, section_grows}
 use Rattle.csplit_core.specs.Cutter.{kept_by, most_by, text_from, draft_by, settled_draft, CutterState, suppress_in, state_in, IsAt, EndsNow, IsLive, IsFit, Stands, Leads}
 use Rattle.csplit_core.specs.inner.Cutter.{Joins, settled_part, Keeps, part_at, Arrives, Holds, GoesPast, search_after, CutsNow, WentOn, PassesCut, IsAfter, CutAt, CutsAll, WillCut, IsEnd}
 use Rattle.csplit_core.proofs.LineLemmas.{all_lines-append, bytes_between, length-all_lines, count-append, count_from, first_still, rest_more, from_further, first_further}
 use Rattle.ports_core.specs.Slot.{Slot}
 use Rattle.ports_core.specs.declared.fault.Fault.{Fault}
-use Rattle.csplit_core.specs.inner.Writer.{with_bytes, Goes, Reaches, with_section, Leaves}
-use Rattle.ports_core.specs.inner.Part.{fault_in, InTurn, LinesTo}
-use Rattle.ports_core.proofs.PartSteps.{lines_of_front}
-use Rattle.csplit_core.specs.Writer.{WriterState, Writes, IsReady, size_of}
-use Rattle.csplit_core.proofs.WriterLemmas.{lines_all, sizes_told, leaves_again, bytes_begin, leaves_lacking, leaves_still, reaches_again, reaches_as, reaches_still, where_three, section_begins, stops_wider, goes_again, goes_wider, open_part, part_none, closed_files}
+use Rattle.ports_core.specs.FileWriter.{Goes, Reaches, Leaves}
+use Rattle.ports_core.specs.FileWriter.{WriterState, Writes, IsReady, size_of}
+use Rattle.ports_core.proofs.FileWriterLemmas.{leaves_again, leaves_still, keeps_files, reaches_again, reaches_as, reaches_still, where_three, stops_wider, goes_as, goes_more, stops_among, goes_or_lacks, put_nothing}
 use Rattle.std.proofs.Math.Nat.{min-eq_left, min-eq_right}
 use Rattle.std.proofs.Math.Seq.{take-add, take-append-add}
 use Rattle.seg_core.specs.Window.{Window, without_first}
 use Rattle.seg_core.proofs.FirstLines.{first_lines-is_take, first_lines-zero, first_lines_then_rest}
 use Rattle.seg_core.proofs.Carried.{left_after, left_alone, but_last_lines-last, over-le-length}
-use Rattle.ports_core.specs.Part.{Begins, Part}
-use Rattle.ports_core.specs.declared.fault.Fault.TheVariants.{Memory}
-use Rattle.ports_core.proofs.PartLemmas.{part_begins_itself, turn_last, turn_next, part_trans}
+use Rattle.ports_core.specs.Part.{Begins, File, Part, gets_none, gets_lines, lines_for}
+use Rattle.ports_core.proofs.PartLemmas.{part_trans}
+use Rattle.ports_core.specs.declared.file_writer.Opening.{Opening}
+use Rattle.ports_core.specs.declared.file_writer.Opening.TheVariants.{Never}
+use Rattle.ports_core.specs.declared.slot.State.TheVariants.{Open, Closed}
 use Rattle.csplit_core.specs.declared.line_cutter.Cut.{Cut}
 use Rattle.csplit_core.proofs.WholeLemmas.{after_within}
 
@@ -46,27 +49,54 @@ pub last_kept : (suppress : Bool) (lines : List Line) (state : State) (ending : 
 last_kept suppress lines state ending none = grind (arith, common_steps)
 
 -- the sections of the plan, and of the last one what stands before the line that this says
-abbrev pub draft_to : (ℕ → Ending → ℕ) → Bool → List Operand → List Line → Draft
-draft_to past suppress operands lines =
-    let p = plan suppress operands lines in
-    draft_by lines p.steps (is_last_kept p.ending) (bytes_of (lines_between p.last.current (past (length lines) p.ending) lines))
+abbrev pub draft_to : (ℕ → Ending → ℕ) → Style → List Operand → List Line → Draft
+draft_to past style operands lines =
+    let p = plan style.suppress operands lines in
+    draft_by style lines p.steps (is_last_kept p.ending) (bytes_of (lines_between p.last.current (past (length lines) p.ending) lines))
 
 -- it is the draft of these steps, where the plan ends after them
-pub draft_is : (past : ℕ → Ending → ℕ) {suppress : Bool} (operands : List Operand) (x : List ℕ) {steps : List Step} {state : State} {ending : Ending} (taken : ℕ) {written : List ℕ} → Runs suppress (all_lines x) (start operands) steps state ending
+pub draft_is : (past : ℕ → Ending → ℕ) (style : Style) (operands : List Operand) (x : List ℕ) {steps : List Step} {state : State} {ending : Ending} (taken : ℕ) {written : List ℕ} → Runs style.suppress (all_lines x) (start operands) steps state ending
     → taken ≡ past (line_count newline x) ending - state.current → written ≡ first_lines newline taken (text_from state.current x)
-    → draft_by (all_lines x) steps (kept_by state.operands) written ≡ draft_to past suppress operands (all_lines x)
-draft_is past {suppress} operands x {steps} {state} {ending} taken {written} runs taken_is written_is = search (rules, last_kept, ends_as, length-all_lines, taken_is, bytes_between, plan_once)
+    → draft_by style (all_lines x) steps (kept_by state.operands) written ≡ draft_to past style operands (all_lines x)
+draft_is past style operands x {steps} {state} {ending} taken {written} runs taken_is written_is = search (rules, last_kept, ends_as, length-all_lines, taken_is, bytes_between, plan_once)
+
+-- what standard output has of sections is the sizes of the files that are closed
+pub sizes_are : (style : Style) → style.quiet ≡ false → (files : List File) → told_of_files (sizes_wanted style) files ≡ lines_for size_of_file files
+sizes_are style loud files = ap (λ quiet. told_of_files (cond quiet gets_none (gets_lines size_of_file)) files) loud
+
+-- the sections of steps are closed
+closed_shares : (style : Style) (lines : List Line) (steps : List Step) → shares_in style (map (section_of lines) steps) ≡ map (share Closed) (flat_map (file_in style) (map (section_of lines) steps))
+closed_shares style lines [] = refl
+closed_shares style lines (step ∷ steps) =
+    ap (λ rest. map (share Closed) (file_in style (section_of lines step)) ++ rest) (closed_shares style lines steps) ∙ sym (map-append (share Closed) (file_in style (section_of lines step)) (flat_map (file_in style) (map (section_of lines) steps)))
+
+-- what they make, and the last section
+shares_to : (style : Style) (lines : List Line) (steps : List Step) (last : Section) → shares_in style (map (section_of lines) steps ++ last ∷ []) ≡ map (share Closed) (flat_map (file_in style) (map (section_of lines) steps)) ++ shares_in style (last ∷ [])
+shares_to style lines steps last = shares-append style (map (section_of lines) steps) (last ∷ []) ∙ ap (λ front. front ++ shares_in style (last ∷ [])) (closed_shares style lines steps)
+
+-- what is written of sections that ended, and of an open one
+draft_shares : (style : Style) (lines : List Line) (steps : List Step) (kept : Bool) (last : List Line) → shares_of (draft_by style lines steps kept (bytes_of last)) ≡ shares_in style (map (section_of lines) steps ++ section kept false last ∷ [])
+draft_shares style lines steps kept last =
+    ap (λ rest. map (share Closed) (flat_map (file_in style) (map (section_of lines) steps)) ++ rest) (sym (append-nil (map (share Open) (made_of (opening_of style kept) (bytes_of last))))) ∙ sym (shares_to style lines steps (section kept false last))
 
 -- and what is written of it is what is settled
-pub settled_part_is : (style : Style) (operands : List Operand) (lines : List Line) → draft_part style (settled_draft style.suppress operands lines) ≡ settled_of style operands lines
-settled_part_is style operands lines = grind (arith, common_steps)
+pub settled_part_is : (style : Style) (operands : List Operand) (lines : List Line) → draft_part (manner_of style) (settled_draft style operands lines) ≡ settled_of style operands lines
+settled_part_is style operands lines =
+    let p = plan style.suppress operands lines in
+    ap (part_by (manner_of style)) (draft_shares style lines p.steps (is_last_kept p.ending) (lines_between p.last.current (settled_end (length lines) p.ending) lines))
+
+-- once the last section ended it is the whole
+pub whole_part_is : (style : Style) (operands : List Operand) (lines : List Line) → draft_part (manner_of style) (with_next Never (draft_to whole_end style operands lines)) ≡ whole_of style operands lines
+whole_part_is style operands lines =
+    let p = plan style.suppress operands lines in
+    ap (part_by (manner_of style)) (next_shares Never (draft_to whole_end style operands lines) ∙ sym (shares_to style lines p.steps (section (is_last_kept p.ending) true (lines_between p.last.current (whole_end (length lines) p.ending) lines))))
 
 pub final_count : (total current : ℕ) (ending : Ending) → is_final ending ≡ true → 0 ≡ settled_end total ending - current
 final_count total current ending past = grind (arith, common_steps)
 
 -- the sections that ended stay, whatever comes
 pub ended_still : (style : Style) (operands : List Operand) {x : List ℕ} (t : List ℕ) {steps : List Step} {state : State} {ending : Ending} (kept : Bool) (written : List ℕ) → Joins x t → Runs style.suppress (all_lines x) (start operands) steps state ending
-    → draft_by (all_lines x) steps kept written ≡ draft_by (all_lines (x ++ t)) steps kept written
+    → draft_by style (all_lines x) steps kept written ≡ draft_by style (all_lines (x ++ t)) steps kept written
 ended_still style operands {x} t {steps} {state} {ending} kept written whole runs = search (rules, are_within, all_lines-append, closed_still)
 
 -- as many lines may wait as the next operand says
@@ -79,10 +109,15 @@ aims_live aim ending aims differs = grind (arith, common_steps)
 
 -- one call after another
 pub keeps_on : {one two three : CutterState} {old mid new : List Slot} {fault : Option Fault} → Keeps one two old mid None → Keeps two three mid new fault → Keeps one three old new fault
-keeps_on first second = record { operands = second.operands ∙ first.operands; writer = leaves_again first.writer second.writer }
+keeps_on first second = record { operands = second.operands ∙ first.operands; style = second.style ∙ first.style; writer = leaves_again first.writer second.writer }
+
+-- what is written of the sections, where the style stays
+pub reaches_then : {told : Bool} {style other : Style} {low middle high : Part} {old mid new : List Slot} {fault : Option Fault} {one two three : WriterState} → other ≡ style → Begins low middle → Reaches (sizes_wanted style) told one two low middle old mid None
+    → Reaches (sizes_wanted other) told two three middle high mid new fault → Reaches (sizes_wanted style) told one three low high old new fault
+reaches_then {told} {low = low} {middle} {high} {mid = mid} {new} {fault} {two = two} {three} same begins first second = reaches_again begins first (subst (λ style. Reaches (sizes_wanted style) told two three middle high mid new fault) same second)
 
 -- what style and operands decide stays
-pub same_by : {A : Type 0} {cutter next : CutterState} {old new : List Slot} {fault : Option Fault} (f : Style → List Operand → A) → Keeps cutter next old new fault → f next.writer.style next.operands ≡ f cutter.writer.style cutter.operands
+pub same_by : {A : Type 0} {cutter next : CutterState} {old new : List Slot} {fault : Option Fault} (f : Style → List Operand → A) → Keeps cutter next old new fault → f next.style next.operands ≡ f cutter.style cutter.operands
 same_by {cutter = cutter} {next} f keeps = grind (arith, common_steps)
 
 pub settled_same : {cutter next : CutterState} {old new : List Slot} {fault : Option Fault} (x : List ℕ) → Keeps cutter next old new fault → settled_part next x ≡ settled_part cutter x
@@ -106,14 +141,14 @@ at_more cutter lines aim x t left whole some at ends count =
       few = (let f : cutter.progress.current + at.taken ≤ line_count newline x + 1 = at.few in let all = count-append t whole in omega (arith, f, all));
       written_is = at.written_is ∙ sym (first_still at.taken cutter.progress.current t whole some at.few);
       left_is = ap (λ those. those ++ t) at.left_is ∙ rest_more (cutter.progress.current + at.taken) t whole (omega (arith, some)) at.few;
-      writes = subst (Writes cutter.writer) (ended_still cutter.writer.style cutter.operands t (kept_by (state_in cutter).operands) at.written whole (runs_to at ends)) at.writes;
+      writes = subst (Writes (manner_of cutter.style) cutter.writer) (ended_still cutter.style cutter.operands t (kept_by (state_in cutter).operands) at.written whole (runs_to at ends)) at.writes;
     }
 
 pub part_more : {cutter : CutterState} {lines : ℕ} (aim : Turn) {x : List ℕ} (t : List ℕ) {left : List ℕ} (whole : Joins x t) (some : 1 ≤ cutter.progress.current) (at : IsAt cutter x left) (ends : EndsNow cutter x) (count : lines ≡ line_count newline (x ++ t))
     → part_at cutter x left at ≡ part_at (record cutter { lines = lines; aim = aim }) (x ++ t) (left ++ t) (at_more cutter lines aim x t left whole some at ends count)
 unfolding at_more
 part_more {cutter} aim t whole some at ends count =
-    ap (draft_part cutter.writer.style) (ended_still cutter.writer.style cutter.operands t (kept_by (state_in cutter).operands) at.written whole (runs_to at ends))
+    ap (draft_part (manner_of cutter.style)) (ended_still cutter.style cutter.operands t (kept_by (state_in cutter).operands) at.written whole (runs_to at ends))
 
 -- where the plan isn't final, all lines of the last section are settled but the last ones
 
@@ -123,8 +158,8 @@ live_taken live = grind (arith, common_steps)
 
 pub live_part : {cutter : CutterState} {x : List ℕ} (live : IsLive cutter x) → part_at cutter x cutter.window.held live.at ≡ settled_part cutter x
 live_part {cutter} {x} live =
-    ap (draft_part cutter.writer.style) (draft_is settled_end cutter.operands x live.at.taken (runs_to live.at live.ends) (live_taken live) live.at.written_is)
-    ∙ settled_part_is cutter.writer.style cutter.operands (all_lines x)
+    ap (draft_part (manner_of cutter.style)) (draft_is settled_end cutter.style cutter.operands x live.at.taken (runs_to live.at live.ends) (live_taken live) live.at.written_is)
+    ∙ settled_part_is cutter.style cutter.operands (all_lines x)
 
 -- how many lines are left
 pub left_count : {cutter : CutterState} {x left : List ℕ} (at : IsAt cutter x left) → line_count newline left ≡ cutter.lines - (cutter.progress.current + at.taken - 1)
@@ -134,13 +169,13 @@ pub few_taken : {cutter : CutterState} {x left : List ℕ} (at : IsAt cutter x l
 few_taken {cutter} {x} at = grind (arith, common_steps)
 
 -- some lines of those that were left are written, and the others wait
-unfoldable pub at_held : (cutter : CutterState) (writer : WriterState) (x left bytes held : List ℕ) (n : ℕ) → 1 ≤ cutter.progress.current → (at : IsAt cutter x left) → writer.style ≡ cutter.writer.style → n ≤ line_count newline left
-    → bytes ≡ first_lines newline n left → held ≡ after_lines newline n left → ((draft : Draft) → Writes cutter.writer draft → Writes writer (with_bytes bytes draft))
+unfoldable pub at_held : (cutter : CutterState) (writer : WriterState) (x left bytes held : List ℕ) (n : ℕ) → 1 ≤ cutter.progress.current → (at : IsAt cutter x left) → n ≤ line_count newline left
+    → bytes ≡ first_lines newline n left → held ≡ after_lines newline n left → ((draft : Draft) → Writes (manner_of cutter.style) cutter.writer draft → Writes (manner_of cutter.style) writer (with_bytes bytes draft))
     → IsAt (record cutter { writer = writer; window = record cutter.window { held = held } }) x held
-at_held cutter writer x left bytes held n some at same within bytes_is held_is writes =
+at_held cutter writer x left bytes held n some at within bytes_is held_is writes =
     let count : line_count newline left ≡ line_count newline x - (cutter.progress.current + at.taken - 1) = ap (line_count newline) at.left_is ∙ count_from (cutter.progress.current + at.taken) x in record {
       steps = at.steps;
-      leads = subst (λ (style : Style). Rattle.csplit_core.specs.Cutter.Leads style.suppress (all_lines x) cutter.operands at.steps (state_in cutter)) (sym same) at.leads;
+      leads = at.leads;
       counted = at.counted;
       taken = at.taken + n;
       written = at.written ++ bytes;
@@ -150,50 +185,12 @@ at_held cutter writer x left bytes held n some at same within bytes_is held_is w
           ∙ sym (first_further cutter.progress.current at.taken n x some);
       left_is = held_is ∙ ap (after_lines newline n) at.left_is ∙ from_further (cutter.progress.current + at.taken) n x (omega (arith, some))
           ∙ ap (λ k. text_from k x) (let e : cutter.progress.current + at.taken + n ≡ cutter.progress.current + (at.taken + n) = omega arith in e);
-      writes = writes (draft_by (all_lines x) at.steps (kept_by (state_in cutter).operands) at.written) at.writes;
+      writes = writes (draft_by cutter.style (all_lines x) at.steps (kept_by (state_in cutter).operands) at.written) at.writes;
     }
 
 -- how many lines are taken once as many wait as may
 
 -- Writing lines that wait to the open section.
-
--- want of memory leaves the outputs as they are
-
-pub in_turn : {told : Bool} {part : Part} (place : ℕ) {slots : List Slot} {writer next : WriterState} → InTurn part.files place → LinesTo (sizes_wanted writer.style) part place Memory → Reaches told writer next part part slots slots (Some Memory)
-in_turn {part = part} place {slots} turn lines = search (rules, part_begins_itself)
-
-draft_turn : (style : Style) (draft : Draft) → AreClosed draft.ended → (makes : Bool) → makes_file style (last_contents false draft) ≡ makes → (place : ℕ) × InTurn (draft_part style draft).files place
-    × LinesTo (sizes_wanted style) (draft_part style draft) place Memory
-draft_turn style draft closed true is = (
-  length (files_of style 0 draft.ended),
-  subst (λ (part : Part). InTurn part.files (length (files_of style 0 draft.ended))) (sym (open_part style draft is)) (turn_last (files_of style 0 draft.ended) _ _ refl (closed_files style 0 draft.ended closed)),
-  subst (λ (part : Part). LinesTo (sizes_wanted style) part (length (files_of style 0 draft.ended)) Memory) (sym (open_part style draft is)) (lines_of_front (sizes_wanted style) _ (files_of style 0 draft.ended) _ Memory (sizes_told style 0 draft.ended)),
-)
-draft_turn style draft closed false is = (
-  length (files_of style 0 draft.ended),
-  subst (λ (part : Part). InTurn part.files (length (files_of style 0 draft.ended))) (sym (part_none style draft.ended (last_contents false draft) is)) (turn_next (files_of style 0 draft.ended) (closed_files style 0 draft.ended closed)),
-  subst (λ (part : Part). LinesTo (sizes_wanted style) part (length (files_of style 0 draft.ended)) Memory) (sym (part_none style draft.ended (last_contents false draft) is)) (lines_all (sizes_wanted style) true _ (files_of style 0 draft.ended) (sizes_told style 0 draft.ended) Memory),
-)
-
-pub lacks_memory : {told : Bool} (style : Style) {writer next : WriterState} → writer.style ≡ style → (draft : Draft) {slots : List Slot} → AreClosed draft.ended → Reaches told writer next (draft_part style draft) (draft_part style draft) slots slots (Some Memory)
-lacks_memory style same draft closed =
-    let turn = draft_turn style draft closed (makes_file style (last_contents false draft)) refl in in_turn turn.0 turn.1 (subst (λ (those : Style). LinesTo (sizes_wanted those) (draft_part style draft) turn.0 Memory) (sym same) turn.2)
-
--- bytes that are written after others
-
-again : (draft : Draft) (a b : List ℕ) → with_bytes b (with_bytes a draft) ≡ with_bytes (a ++ b) draft
-again draft a b = grind (arith, common_steps)
-
-goes_more : {told : Bool} {one two three : WriterState} (a b : List ℕ) {old mid new : List Slot} {fault : Option Fault} → Goes told one (with_bytes a) old mid two None → Goes told two (with_bytes b) mid new three fault → Goes told one (with_bytes (a ++ b)) old new three fault
-goes_more {one = one} a b first second = goes_again (with_bytes (a ++ b)) (λ draft. again draft a b) (bytes_begin one.style a) first second
-
--- it was stopped among them
-pub stops_among : {told : Bool} {writer next : WriterState} (a b : List ℕ) {old new : List Slot} {fault : Fault} → Goes told writer (with_bytes a) old new next (Some fault) → Goes told writer (with_bytes (a ++ b)) old new next (Some fault)
-stops_among {writer = writer} a b stopped = goes_wider (with_bytes (a ++ b))
-    (λ draft. subst (λ those. Begins (draft_part writer.style (with_bytes a draft)) (draft_part writer.style those)) (again draft a b) (bytes_begin writer.style b (with_bytes a draft))) stopped
-
-pub goes_as : {told : Bool} {writer next : WriterState} {a b : List ℕ} {old new : List Slot} {fault : Option Fault} → a ≡ b → Goes told writer (with_bytes a) old new next fault → Goes told writer (with_bytes b) old new next fault
-goes_as {told} {writer} {next} {old = old} {new} {fault} is goes = grind (arith, common_steps)
 
 -- A beginning of what waited was written and dropped, and `left` bytes are still to go.
 pub record Emptying (told : Bool) (writer now : WriterState) (window left_in : Window) (n left : ℕ) (old new : List Slot) : Type 0 where
@@ -201,6 +198,15 @@ pub record Emptying (told : Bool) (writer now : WriterState) (window left_in : W
   pub rest : left_in ≡ without_first window (n - left)
   pub went : Goes told writer (with_bytes (take (n - left) window.held)) old new now None
   pub size : size_of now.current + length left_in.held ≤ size_of writer.current + length window.held
+
+pub all_held : {told : Bool} {writer : WriterState} {window : Window} {n : ℕ} {slots : List Slot} → IsReady writer slots → Emptying told writer writer window window n n slots slots
+all_held {told} {writer} {window} {n} {slots} ready =
+    let none : n - n ≡ 0 = omega arith in record {
+      few = omega arith;
+      rest = ap (without_first window) (sym none);
+      went = put_nothing (ap (λ k. take k window.held) none) ready;
+      size = omega arith;
+    }
 
 -- the first bytes of what stands at the front are the first of all
 
@@ -282,19 +288,6 @@ module _ {delim most over front : ℕ} {held text : List ℕ} (parts : Parted de
       → Goes told writer (with_bytes (but_last_lines delim most (held ++ text))) old new next fault
   hold_on piece_is first second = goes_as parts.goes (goes_more (take front held) (take (over - front) text) first (goes_as piece_is second))
 
--- the last call only wants memory
-pub goes_or_lacks : {told : Bool} {writer next : WriterState} {bytes : List ℕ} {old new : List Slot} (result : Result (Unit {0}) Fault) → Goes told writer (with_bytes bytes) old new next None → IfErr result (λ fault. fault ≡ Memory)
-    → Goes told writer (with_bytes bytes) old new next (fault_in result)
-goes_or_lacks (Ok done) went lacks = went
-goes_or_lacks {told} {writer} {next} {bytes} {old} {new} (Err fault) went lacks = subst (λ why. Goes told writer (with_bytes bytes) old new next (Some why)) (sym lacks) (record {
-  leaves = leaves_again went.leaves leaves_lacking;
-  reaches = λ draft writes. reaches_again went.leaves.style (bytes_begin writer.style bytes draft) (went.reaches draft writes) (lacks_memory writer.style went.leaves.style (with_bytes bytes draft) writes.closed);
-  writes = tt;
-})
-
-pub goes_lacking : {told : Bool} {writer : WriterState} {bytes : List ℕ} {slots : List Slot} {fault : Fault} → IsReady writer slots → fault ≡ Memory → Goes told writer (with_bytes bytes) slots slots writer (Some fault)
-goes_lacking {bytes = bytes} {fault = fault} ready lacks = stops_among [] bytes (goes_or_lacks (Err fault) (grind (arith, common_steps)) lacks)
-
 pub kept_window : {window mid : Window} (new : Window) {over front : ℕ} {text : List ℕ} (result : Result (Unit {0}) Fault) → Parted window.delim window.most over front window.held text → mid ≡ without_first window front
     → OnOk result (new ≡ record { most = mid.most; delim = mid.delim; held = mid.held ++ drop (over - front) text }) → OnOk result (new ≡ record { most = window.most; delim = window.delim; held = last_lines window.delim window.most (window.held ++ text) })
 kept_window new result parts dropped put = grind (arith, common_steps)
@@ -319,21 +312,21 @@ taken_is {cutter} {x} {at} arrives fit live =
 
 -- and what is written is what is settled
 held_part : {cutter : CutterState} {x left bytes : List ℕ} {at : IsAt cutter x left} (arrives : Arrives cutter x left at) → IsFit cutter → is_final arrives.ends.ending ≡ false → bytes ≡ first_lines newline (over_of cutter left) left
-    → draft_part cutter.writer.style (with_bytes bytes (draft_by (all_lines x) at.steps (kept_by (state_in cutter).operands) at.written)) ≡ settled_part cutter x
+    → draft_part (manner_of cutter.style) (with_bytes bytes (draft_by cutter.style (all_lines x) at.steps (kept_by (state_in cutter).operands) at.written)) ≡ settled_part cutter x
 held_part {cutter} {x} {left} {bytes} {at} arrives fit live bytes_is =
     let written : at.written ++ bytes ≡ first_lines newline (at.taken + over_of cutter left) (text_from cutter.progress.current x) =
     ap (λ those. those ++ bytes) at.written_is
     ∙ ap (λ those. first_lines newline at.taken (text_from cutter.progress.current x) ++ those) (bytes_is ∙ ap (first_lines newline (over_of cutter left)) at.left_is)
     ∙ sym (first_further cutter.progress.current at.taken (over_of cutter left) x fit.fits.some) in
-    ap (draft_part cutter.writer.style) (draft_is settled_end cutter.operands x (at.taken + over_of cutter left) (runs_to at arrives.ends)
+    ap (draft_part (manner_of cutter.style)) (draft_is settled_end cutter.style cutter.operands x (at.taken + over_of cutter left) (runs_to at arrives.ends)
     (taken_is arrives fit live ∙ (grind (arith, common_steps))) written)
-    ∙ settled_part_is cutter.writer.style cutter.operands (all_lines x)
+    ∙ settled_part_is cutter.style cutter.operands (all_lines x)
 
-held_live : {cutter : CutterState} {writer : WriterState} {x left bytes held : List ℕ} {at : IsAt cutter x left} (arrives : Arrives cutter x left at) → IsFit cutter → is_final arrives.ends.ending ≡ false → writer.style ≡ cutter.writer.style
-    → bytes ≡ first_lines newline (over_of cutter left) left → held ≡ after_lines newline (over_of cutter left) left → ((draft : Draft) → Writes cutter.writer draft → Writes writer (with_bytes bytes draft)) → IsLive (holding cutter writer held) x
+held_live : {cutter : CutterState} {writer : WriterState} {x left bytes held : List ℕ} {at : IsAt cutter x left} (arrives : Arrives cutter x left at) → IsFit cutter → is_final arrives.ends.ending ≡ false
+    → bytes ≡ first_lines newline (over_of cutter left) left → held ≡ after_lines newline (over_of cutter left) left → ((draft : Draft) → Writes (manner_of cutter.style) cutter.writer draft → Writes (manner_of cutter.style) writer (with_bytes bytes draft)) → IsLive (holding cutter writer held) x
 unfolding at_held
-held_live {cutter} {writer} {x} {left} {bytes} {held} {at} arrives fit live same bytes_is held_is writes = record {
-  at = at_held cutter writer x left bytes held (over_of cutter left) fit.fits.some at same (omega arith) bytes_is held_is writes;
+held_live {cutter} {writer} {x} {left} {bytes} {held} {at} arrives fit live bytes_is held_is writes = record {
+  at = at_held cutter writer x left bytes held (over_of cutter left) fit.fits.some at (omega arith) bytes_is held_is writes;
   ends = (grind (arith, common_steps));
   live = live;
   settled = taken_is arrives fit live;
@@ -344,16 +337,16 @@ pub hold_goes : {told : Bool} {cutter : CutterState} {writer : WriterState} {win
     → IfNone fault (window ≡ record { most = cutter.window.most; delim = cutter.window.delim; held = last_lines cutter.window.delim cutter.window.most left })
     → IfNone fault (size_of writer.current + length window.held ≤ size_of cutter.writer.current + length left) → Holds told cutter left old new (record cutter { writer = writer; window = window }) fault
 hold_goes {cutter = cutter} {writer} {window} {left} {fault = fault} fit differs goes waits fewer = record {
-  keeps = record { operands = refl; writer = goes.leaves };
+  keeps = record { operands = refl; style = refl; writer = goes.leaves };
   reaches = λ x at arrives. reaches_as refl (sym (held_part arrives fit (aims_live cutter.aim arrives.ends.ending arrives.ends.aims differs) bytes_is))
-      (goes.reaches (draft_by (all_lines x) at.steps (kept_by (state_in cutter).operands) at.written) at.writes);
+      (goes.reaches (manner_of cutter.style) (draft_by cutter.style (all_lines x) at.steps (kept_by (state_in cutter).operands) at.written) at.writes);
   went = where_three fault goes.writes waits fewer (λ writes kept size.
       let held_is : window.held ≡ after_lines newline (over_of cutter left) left = ap (λ (w : Window). w.held) kept ∙ ap (λ d. last_lines d cutter.window.most left) fit.delim in
       let window_is : window ≡ record cutter.window { held = window.held } = kept ∙ ap (λ held. record cutter.window { held = held }) (sym (ap (λ (w : Window). w.held) kept)) in record {
         same = refl;
         window = window_is;
         stands = λ x at arrives. subst (λ w. Stands (record cutter { writer = writer; window = w }) x) (sym window_is)
-            (inl (held_live arrives fit (aims_live cutter.aim arrives.ends.ending arrives.ends.aims differs) goes.leaves.style bytes_is held_is writes));
+            (inl (held_live arrives fit (aims_live cutter.aim arrives.ends.ending arrives.ends.aims differs) bytes_is held_is (writes (manner_of cutter.style))));
         size = size;
       });
 } where
@@ -363,16 +356,16 @@ hold_goes {cutter = cutter} {writer} {window} {left} {fault = fault} fit differs
 -- where the cut is below the current line, none waits
 
 past_draft : {cutter : CutterState} {x left : List ℕ} {at : IsAt cutter x left} (arrives : Arrives cutter x left at) → is_final arrives.ends.ending ≡ true
-    → draft_by (all_lines x) at.steps (kept_by (state_in cutter).operands) at.written ≡ settled_draft (suppress_in cutter) cutter.operands (all_lines x)
+    → draft_by cutter.style (all_lines x) at.steps (kept_by (state_in cutter).operands) at.written ≡ settled_draft cutter.style cutter.operands (all_lines x)
 past_draft {cutter} {x} {at} arrives past =
-    draft_is settled_end cutter.operands x at.taken (runs_to at arrives.ends)
+    draft_is settled_end cutter.style cutter.operands x at.taken (runs_to at arrives.ends)
     (arrives.low past ∙ final_count (line_count newline x) cutter.progress.current arrives.ends.ending past) at.written_is
 
 pub hold_past : {told : Bool} {cutter : CutterState} {window : Window} {left : List ℕ} {slots : List Slot} {n : ℕ} → cutter.aim ≡ Below → IsReady cutter.writer slots → n ≡ length cutter.window.held → length cutter.window.held ≤ length left
     → window ≡ without_first cutter.window n → Holds told cutter left slots slots (record cutter { window = window }) None
 hold_past {cutter = cutter} {window} {left} {slots} {n} aim ready all less dropped = record {
-  keeps = record { operands = refl; writer = leaves_still ready };
-  reaches = λ x at arrives. reaches_still (ap (draft_part cutter.writer.style) (past_draft arrives (past x at arrives)) ∙ settled_part_is cutter.writer.style cutter.operands (all_lines x));
+  keeps = record { operands = refl; style = refl; writer = leaves_still ready };
+  reaches = λ x at arrives. reaches_still keeps_files (ap (draft_part (manner_of cutter.style)) (past_draft arrives (past x at arrives)) ∙ settled_part_is cutter.style cutter.operands (all_lines x));
   went = record {
     same = refl;
     window = dropped ∙ ap (λ held. record cutter.window { held = held }) (sym (ap (λ (w : Window). w.held) dropped));
@@ -381,7 +374,7 @@ hold_past {cutter = cutter} {window} {left} {slots} {n} aim ready all less dropp
       past = ap (λ (p : Plan). is_final p.ending) is ∙ past x at arrives;
       last = sym (ap (λ (p : Plan). p.last) is);
       none = none;
-      writes = subst (Writes cutter.writer) (past_draft arrives (past x at arrives)) at.writes;
+      writes = subst (Writes (manner_of cutter.style) cutter.writer) (past_draft arrives (past x at arrives)) at.writes;
     });
     size = (let e : length window.held ≡ 0 = ap length none in omega (arith, e));
   };
@@ -397,22 +390,23 @@ hold_past {cutter = cutter} {window} {left} {slots} {n} aim ready all less dropp
 first_kept : {suppress : Bool} {lines : List Line} {state : State} {step : Step} {steps : List Step} {last : State} {ending : Ending} → Runs suppress lines state (step ∷ steps) last ending → kept_by state.operands ≡ is_kept step.operand.target
 first_kept (cuts state' operand operands matched cut steps' last' ending' are at from within rest) = ap kept_by are
 
+-- one section, and those after it
+begins_with : (style : Style) (lines : List Line) (steps : List Step) (one : Section) (more : List Section) (kept : Bool) → kept ≡ one.is_kept
+    → Begins (draft_part (manner_of style) (draft_by style lines steps kept [])) (part_of style (map (section_of lines) steps ++ one ∷ more))
+begins_with style lines steps one more kept same =
+    subst (λ shares. Begins (part_by (manner_of style) shares) (part_of style (map (section_of lines) steps ++ one ∷ more))) (sym (draft_shares style lines steps kept []))
+    (section_grows style (map (section_of lines) steps) (section kept false []) one more refl same (bytes_of one.lines) refl)
+
 settled_by_plan : (style : Style) (operands : List Operand) {lines : List Line} {steps : List Step} {last : State} {ending : Ending} → Runs style.suppress lines (start operands) steps last ending
-    → settled_of style operands lines ≡ part_by style (map contents_of (map (section_of lines) steps ++ section (is_last_kept ending) false (lines_between last.current (settled_end (length lines) ending) lines) ∷ []))
+    → settled_of style operands lines ≡ part_of style (map (section_of lines) steps ++ section (is_last_kept ending) false (lines_between last.current (settled_end (length lines) ending) lines) ∷ [])
 settled_by_plan style operands {lines} {steps} {last} {ending} runs = grind (arith, common_steps, plan_once, runs)
 
--- one section, and those after it
-begins_with : (style : Style) (front : List Section) (one : Section) (more : List Section) (kept : Bool) → kept ≡ one.is_kept → Begins (draft_part style (record { ended = map contents_of front; is_kept = kept; bytes = [] })) (part_by style (map contents_of (front ++ one ∷ more)))
-begins_with style front one more kept same =
-    subst (λ those. Begins (draft_part style (record { ended = map contents_of front; is_kept = kept; bytes = [] })) (part_by style those)) (sym (map-append contents_of front (one ∷ more)))
-    (part_grows style (map contents_of front) (record { is_kept = kept; is_closed = false; bytes = [] }) (contents_of one) (map contents_of more) refl same (bytes_of one.lines) refl)
-
 begun_by : (style : Style) (operands : List Operand) {lines : List Line} (steps : List Step) {state : State} (more : List Step) {last : State} {ending : Ending} → Runs style.suppress lines state more last ending → Runs style.suppress lines (start operands) (steps ++ more) last ending
-    → Begins (draft_part style (draft_by lines steps (kept_by state.operands) [])) (settled_of style operands lines)
+    → Begins (draft_part (manner_of style) (draft_by style lines steps (kept_by state.operands) [])) (settled_of style operands lines)
 begun_by style operands {lines} steps {state} [] {last} {ending} rest all =
-    subst (Begins (draft_part style (draft_by lines steps (kept_by state.operands) []))) (sym (settled_by_plan style operands all))
-    (subst (λ those. Begins (draft_part style (draft_by lines steps (kept_by state.operands) [])) (part_by style (map contents_of (map (section_of lines) those ++ section (is_last_kept ending) false (lines_between last.current (settled_end (length lines) ending) lines) ∷ [])))) (sym (append-nil steps))
-    (begins_with style (map (section_of lines) steps) (section (is_last_kept ending) false (lines_between last.current (settled_end (length lines) ending) lines)) [] (kept_by state.operands) (at_end state last ending rest))) where
+    subst (Begins (draft_part (manner_of style) (draft_by style lines steps (kept_by state.operands) []))) (sym (settled_by_plan style operands all))
+    (subst (λ those. Begins (draft_part (manner_of style) (draft_by style lines steps (kept_by state.operands) [])) (part_of style (map (section_of lines) those ++ section (is_last_kept ending) false (lines_between last.current (settled_end (length lines) ending) lines) ∷ []))) (sym (append-nil steps))
+    (begins_with style lines steps (section (is_last_kept ending) false (lines_between last.current (settled_end (length lines) ending) lines)) [] (kept_by state.operands) (at_end state last ending rest))) where
       at_end : (state last : State) (ending : Ending) → Runs style.suppress lines state [] last ending → kept_by state.operands ≡ is_last_kept ending
       at_end state last ending (is_used_up state' none) = last_kept style.suppress lines state' ending (ends_as style.suppress lines state' [] state' ending (is_used_up state' none))
       at_end state last ending (misses state' operand those is none) = ap kept_by is
@@ -420,10 +414,10 @@ begun_by style operands {lines} steps {state} [] {last} {ending} rest all =
       at_end state last ending (is_below state' operand those matched cut is at within low) = ap kept_by is
 begun_by style operands {lines} steps {state} (step ∷ more) {last} {ending} rest all =
     let tail = map (section_of lines) more ++ section (is_last_kept ending) false (lines_between last.current (settled_end (length lines) ending) lines) ∷ [] in
-    subst (Begins (draft_part style (draft_by lines steps (kept_by state.operands) []))) (sym (settled_by_plan style operands all
-    ∙ ap (λ those. part_by style (map contents_of (those ++ section (is_last_kept ending) false (lines_between last.current (settled_end (length lines) ending) lines) ∷ []))) (map-append (section_of lines) steps (step ∷ more))
-    ∙ ap (λ those. part_by style (map contents_of those)) (append_assoc (map (section_of lines) steps) (section_of lines step ∷ map (section_of lines) more) _)))
-    (begins_with style (map (section_of lines) steps) (section_of lines step) tail (kept_by state.operands) (first_kept rest))
+    subst (Begins (draft_part (manner_of style) (draft_by style lines steps (kept_by state.operands) []))) (sym (settled_by_plan style operands all
+    ∙ ap (λ those. part_of style (those ++ section (is_last_kept ending) false (lines_between last.current (settled_end (length lines) ending) lines) ∷ [])) (map-append (section_of lines) steps (step ∷ more))
+    ∙ ap (part_of style) (append_assoc (map (section_of lines) steps) (section_of lines step ∷ map (section_of lines) more) _)))
+    (begins_with style lines steps (section_of lines step) tail (kept_by state.operands) (first_kept rest))
 
 -- The sections once one more ended
 
@@ -433,7 +427,7 @@ step_at cutter operand cut = step_of (state_in cutter) operand cut.matched cut.l
 
 cut_draft : {cutter : CutterState} {x left before : List ℕ} (at : IsAt cutter x left) (cut : Cut) {operand : Operand} {operands : List Operand} (kept : Bool) → (state_in cutter).operands ≡ operand ∷ operands → 1 ≤ cutter.progress.current
     → cutter.progress.current + at.taken ≤ cut.line → before ≡ first_lines newline (cut.line - (cutter.progress.current + at.taken)) left
-    → with_section kept (with_bytes before (draft_by (all_lines x) at.steps (kept_by (state_in cutter).operands) at.written)) ≡ draft_by (all_lines x) (at.steps ++ step_at cutter operand cut ∷ []) kept []
+    → with_next (opening_of cutter.style kept) (with_bytes before (draft_by cutter.style (all_lines x) at.steps (kept_by (state_in cutter).operands) at.written)) ≡ draft_by cutter.style (all_lines x) (at.steps ++ step_at cutter operand cut ∷ []) kept []
 cut_draft {cutter} {x} {before} at cut {operand} kept are some on before_is =
     let bytes : at.written ++ before ≡ bytes_of (lines_between cutter.progress.current cut.line (all_lines x)) =
     ap (λ those. those ++ before) at.written_is
@@ -441,10 +435,11 @@ cut_draft {cutter} {x} {before} at cut {operand} kept are some on before_is =
     ∙ sym (first_further cutter.progress.current at.taken (cut.line - (cutter.progress.current + at.taken)) x some)
     ∙ ap (λ n. first_lines newline n (text_from cutter.progress.current x)) (let e : at.taken + (cut.line - (cutter.progress.current + at.taken)) ≡ cut.line - cutter.progress.current = omega (arith, on) in e)
     ∙ sym (bytes_between cutter.progress.current cut.line x) in
-    ap (λ k. record { ended = map contents_of (map (section_of (all_lines x)) at.steps) ++ record { is_kept = k; is_closed = true; bytes = at.written ++ before } ∷ []; is_kept = kept; bytes = [] }) (ap kept_by are)
-    ∙ ap (λ bytes. record { ended = map contents_of (map (section_of (all_lines x)) at.steps) ++ record { is_kept = is_kept operand.target; is_closed = true; bytes = bytes } ∷ []; is_kept = kept; bytes = [] }) bytes
-    ∙ ap (λ ended. record { ended = ended; is_kept = kept; bytes = [] })
-    (sym (ap (map contents_of) (map-append (section_of (all_lines x)) at.steps (step_at cutter operand cut ∷ [])) ∙ map-append contents_of (map (section_of (all_lines x)) at.steps) (section_of (all_lines x) (step_at cutter operand cut) ∷ [])))
+    let ended = flat_map (file_in cutter.style) (map (section_of (all_lines x)) at.steps) in
+    let next = section_of (all_lines x) (step_at cutter operand cut) in
+    ap (λ one. record { ended = ended ++ one; opening = opening_of cutter.style kept; bytes = [] }) (ap (λ k. made_of (opening_of cutter.style k) (at.written ++ before)) (ap kept_by are) ∙ ap (made_of (opening_of cutter.style (is_kept operand.target))) bytes)
+    ∙ ap (λ those. record { ended = those; opening = opening_of cutter.style kept; bytes = [] })
+    (sym (ap (flat_map (file_in cutter.style)) (map-append (section_of (all_lines x)) at.steps (step_at cutter operand cut ∷ [])) ∙ flat_map-append (file_in cutter.style) (map (section_of (all_lines x)) at.steps) (next ∷ []) ∙ ap (λ one. ended ++ one) (append-nil (file_in cutter.style next))))
 
 leads_on : {cutter : CutterState} {x left : List ℕ} (at : IsAt cutter x left) (cut : Cut) (goes : GoesPast (suppress_in cutter) (all_lines x) (state_in cutter) cut.matched cut.line)
     → Leads (suppress_in cutter) (all_lines x) cutter.operands (at.steps ++ step_at cutter goes.operand cut ∷ []) (state_after (suppress_in cutter) goes.operand goes.operands cutter.progress.repetition cut.matched cut.line)
@@ -454,26 +449,26 @@ leads_on {cutter} {x} at cut goes more last ending run =
 
 -- what is settled begins with the sections after the cut
 pub cut_begins : {cutter : CutterState} {x left : List ℕ} (line : List ℕ) {before : List ℕ} {at : IsAt cutter x left} (cut : Cut) {place : ℕ} (now : CutsNow cutter x left line cut place at) → IsFit cutter → WillCut cutter cut → before ≡ first_lines newline (cut.line - place) left
-    → Begins (draft_part cutter.writer.style (with_section (kept_by (state_after (suppress_in cutter) now.goes.operand now.goes.operands cutter.progress.repetition cut.matched cut.line).operands)
-    (with_bytes before (draft_by (all_lines x) at.steps (kept_by (state_in cutter).operands) at.written)))) (settled_part cutter x)
+    → Begins (draft_part (manner_of cutter.style) (with_next (opening_of cutter.style (kept_by (state_after (suppress_in cutter) now.goes.operand now.goes.operands cutter.progress.repetition cut.matched cut.line).operands))
+    (with_bytes before (draft_by cutter.style (all_lines x) at.steps (kept_by (state_in cutter).operands) at.written)))) (settled_part cutter x)
 cut_begins {cutter} {x} {left} line {at} cut now fit will before_is =
     let state = state_after (suppress_in cutter) now.goes.operand now.goes.operands cutter.progress.repetition cut.matched cut.line in
     let on : cutter.progress.current + at.taken ≤ cut.line = (let p = now.place_is in let b = now.before in omega (arith, p, b)) in
     let some : 1 ≤ state.current = (let least = Rattle.csplit_core.specs.laws.PlanLaws.line_some (suppress_in cutter) cut.line in let s = fit.fits.some in let f = will.from in omega (arith, least, s, f)) in
-    subst (λ draft. Begins (draft_part cutter.writer.style draft) (settled_part cutter x))
+    subst (λ draft. Begins (draft_part (manner_of cutter.style) draft) (settled_part cutter x))
     (sym (cut_draft at cut (kept_by state.operands) now.goes.are fit.fits.some on (before_is ∙ ap (λ n. first_lines newline (cut.line - n) left) now.place_is)))
-    (let p = plan_within (needed (length (all_lines x)) state) cutter.writer.style.suppress (all_lines x) state in let rest = runs (needed (length (all_lines x)) state) cutter.writer.style.suppress (all_lines x) state (omega arith) some in begun_by cutter.writer.style cutter.operands {lines = (all_lines x)} (at.steps ++ step_at cutter now.goes.operand cut ∷ []) {state = state} p.steps {last = p.last} {ending = p.ending} rest ((leads_on at cut now.goes) p.steps p.last p.ending rest))
+    (let p = plan_within (needed (length (all_lines x)) state) cutter.style.suppress (all_lines x) state in let rest = runs (needed (length (all_lines x)) state) cutter.style.suppress (all_lines x) state (omega arith) some in begun_by cutter.style cutter.operands {lines = (all_lines x)} (at.steps ++ step_at cutter now.goes.operand cut ∷ []) {state = state} p.steps {last = p.last} {ending = p.ending} rest ((leads_on at cut now.goes) p.steps p.last p.ending rest))
 
 -- What `cut_at` owes, by how far it came. First the lines before the cut are written; then the run goes on; then the next section begins.
 
 -- the sections, where a cut is due
 abbrev draft_at : (cutter : CutterState) (x left : List ℕ) → IsAt cutter x left → Draft
-draft_at cutter x left at = draft_by (all_lines x) at.steps (kept_by (state_in cutter).operands) at.written
+draft_at cutter x left at = draft_by cutter.style (all_lines x) at.steps (kept_by (state_in cutter).operands) at.written
 
-pub cut_stopped : {told : Bool} {cutter next : CutterState} {cut : Cut} {place : ℕ} {left line : List ℕ} {old new : List Slot} {fault : Fault} → next.operands ≡ cutter.operands → Leaves cutter.writer next.writer old new (Some fault)
-    → ((x : List ℕ) (at : IsAt cutter x left) → CutsNow cutter x left line cut place at → Reaches told cutter.writer next.writer (part_at cutter x left at) (settled_part cutter x) old new (Some fault))
+pub cut_stopped : {told : Bool} {cutter next : CutterState} {cut : Cut} {place : ℕ} {left line : List ℕ} {old new : List Slot} {fault : Fault} → next.operands ≡ cutter.operands → next.style ≡ cutter.style → Leaves cutter.writer next.writer old new (Some fault)
+    → ((x : List ℕ) (at : IsAt cutter x left) → CutsNow cutter x left line cut place at → Reaches (sizes_wanted cutter.style) told cutter.writer next.writer (part_at cutter x left at) (settled_part cutter x) old new (Some fault))
     → CutsAll told cutter cut place left line [] old new next (Some fault)
-cut_stopped {cutter = cutter} operands leaves reaches = grind (arith, common_steps)
+cut_stopped {cutter = cutter} operands style leaves reaches = grind (arith, common_steps)
 
 -- where the run stands after the cut
 passed_state : {told : Bool} {cutter mid : CutterState} {writer : WriterState} {cut : Cut} {before : List ℕ} {old new : List Slot} → Goes told cutter.writer (with_bytes before) old new writer None → WentOn (record cutter { writer = writer }) cut mid
@@ -481,32 +476,36 @@ passed_state : {told : Bool} {cutter mid : CutterState} {writer : WriterState} {
 passed_state {cutter = cutter} {cut = cut} goes passed {operand} {operands} are = grind (arith, common_steps)
 
 -- the writer is as it was before
-began_there : {told : Bool} (cutter : CutterState) {mid : CutterState} {writer next : WriterState} {cut : Cut} {kept : Bool} {old new : List Slot} {fault : Option Fault} → WentOn (record cutter { writer = writer }) cut mid → Goes told mid.writer (with_section kept) old new next fault → Goes told writer (with_section kept) old new next fault
-began_there {told} cutter {next = next} {kept = kept} {old} {new} {fault} passed began = grind (arith, common_steps)
+began_there : {told : Bool} (cutter : CutterState) {mid : CutterState} {writer next : WriterState} {cut : Cut} {opening : Opening} {old new : List Slot} {fault : Option Fault} → WentOn (record cutter { writer = writer }) cut mid → opening ≡ opening_of mid.style (kept_by (state_in mid).operands) → Goes told mid.writer (with_next opening) old new next fault
+    → Goes told writer (with_next (opening_of cutter.style (kept_by (state_in mid).operands))) old new next fault
+began_there {told} cutter {mid} {writer} {next} {old = old} {new} {fault} passed opening_is began =
+    let style : mid.style ≡ cutter.style = ap (λ (c : CutterState). c.style) passed.same in
+    subst (λ w. Goes told w (with_next (opening_of cutter.style (kept_by (state_in mid).operands))) old new next fault) (ap (λ (c : CutterState). c.writer) passed.same)
+    (subst (λ those. Goes told mid.writer (with_next those) old new next fault) (opening_is ∙ ap (λ (s : Style). opening_of s (kept_by (state_in mid).operands)) style) began)
 
 -- a cut of this cutter is due, and stands after these bytes of the lines that are left
 module _ {cutter : CutterState} {cut : Cut} {place : ℕ} {left before : List ℕ} (fit : IsFit cutter) (will : WillCut cutter cut) (before_is : before ≡ first_lines newline (cut.line - place) left) where
-  pub cut_put_stopped : {told : Bool} {next : CutterState} {old new : List Slot} {fault : Fault} (line : List ℕ) → next.operands ≡ cutter.operands → Goes told cutter.writer (with_bytes before) old new next.writer (Some fault)
+  pub cut_put_stopped : {told : Bool} {next : CutterState} {old new : List Slot} {fault : Fault} (line : List ℕ) → next.operands ≡ cutter.operands → next.style ≡ cutter.style → Goes told cutter.writer (with_bytes before) old new next.writer (Some fault)
       → CutsAll told cutter cut place left line [] old new next (Some fault)
-  cut_put_stopped line operands goes = cut_stopped operands goes.leaves (λ x at now. stops_wider (goes.reaches (draft_at cutter x left at) at.writes)
-      (part_trans _ _ _ (section_begins cutter.writer.style _ (with_bytes before (draft_at cutter x left at))) (cut_begins line cut now fit will before_is)))
+  cut_put_stopped line operands style goes = cut_stopped operands style goes.leaves (λ x at now. stops_wider (goes.reaches (manner_of cutter.style) (draft_at cutter x left at) at.writes)
+      (part_trans _ _ _ (next_begins (manner_of cutter.style) _ (with_bytes before (draft_at cutter x left at))) (cut_begins line cut now fit will before_is)))
 
   pub cut_pass_stopped : {told : Bool} {mid : CutterState} {writer : WriterState} {old new : List Slot} {fault : Fault} (line : List ℕ) → Goes told cutter.writer (with_bytes before) old new writer None
       → PassesCut (record cutter { writer = writer }) cut mid (Some fault) → CutsAll told cutter cut place left line [] old new mid (Some fault)
-  cut_pass_stopped {told} {old = old} {new} {fault} line goes (is_memory, same_writer, same_operands) =
-      cut_put_stopped line same_operands (subst (λ w. Goes told cutter.writer (with_bytes before) old new w (Some fault)) (sym same_writer) (goes_or_lacks (Err fault) goes is_memory))
+  cut_pass_stopped {told} {old = old} {new} {fault} line goes (is_memory, same_writer, same_operands, same_style) =
+      cut_put_stopped line same_operands same_style (subst (λ w. Goes told cutter.writer (with_bytes before) old new w (Some fault)) (sym same_writer) (goes_or_lacks (Err fault) goes is_memory))
 
-  pub cut_next_stopped : {told : Bool} {mid : CutterState} {writer next : WriterState} {kept : Bool} {old between new : List Slot} {fault : Fault} (line : List ℕ) → Goes told cutter.writer (with_bytes before) old between writer None → WentOn (record cutter { writer = writer }) cut mid
-      → kept ≡ kept_by (state_in mid).operands → Goes told mid.writer (with_section kept) between new next (Some fault) → CutsAll told cutter cut place left line [] old new (record mid { writer = next }) (Some fault)
-  cut_next_stopped {told} {mid} {writer} {next} {kept} {between = between} {new} {fault} line went passed kept_is stops =
-      let stopped = began_there cutter passed stops in
-      cut_stopped (ap (λ (c : CutterState). c.operands) passed.same) (leaves_again went.leaves stopped.leaves)
+  pub cut_next_stopped : {told : Bool} {mid : CutterState} {writer next : WriterState} {opening : Opening} {old between new : List Slot} {fault : Fault} (line : List ℕ) → Goes told cutter.writer (with_bytes before) old between writer None → WentOn (record cutter { writer = writer }) cut mid
+      → opening ≡ opening_of mid.style (kept_by (state_in mid).operands) → Goes told mid.writer (with_next opening) between new next (Some fault) → CutsAll told cutter cut place left line [] old new (record mid { writer = next }) (Some fault)
+  cut_next_stopped {told} {mid} {writer} {next} line went passed opening_is stops =
+      let stopped = began_there cutter passed opening_is stops in
+      cut_stopped (ap (λ (c : CutterState). c.operands) passed.same) (ap (λ (c : CutterState). c.style) passed.same) (leaves_again went.leaves stopped.leaves)
       (λ x at due.
+      let manner = manner_of cutter.style in
       let draft = draft_at cutter x left at in
-      reaches_again went.leaves.style (bytes_begin cutter.writer.style before draft) (went.reaches draft at.writes)
-      (stops_wider
-      (reaches_as (ap (λ (s : Style). draft_part s (with_bytes before draft)) (sym went.leaves.style)) (ap (λ (s : Style). draft_part s (with_section kept (with_bytes before draft))) (sym went.leaves.style)) (stopped.reaches (with_bytes before draft) (went.writes draft at.writes)))
-      (subst (λ k. Begins (draft_part cutter.writer.style (with_section k (with_bytes before draft))) (settled_part cutter x)) (sym (kept_is ∙ ap (λ (s : State). kept_by s.operands) (passed_state went passed due.goes.are)))
+      reaches_again (bytes_begin manner before draft) (went.reaches manner draft at.writes)
+      (stops_wider (stopped.reaches manner (with_bytes before draft) (went.writes manner draft at.writes))
+      (subst (λ k. Begins (draft_part manner (with_next (opening_of cutter.style k) (with_bytes before draft))) (settled_part cutter x)) (sym (ap (λ (s : State). kept_by s.operands) (passed_state went passed due.goes.are)))
       (cut_begins line cut due fit will before_is))))
 
 -- the next section began
@@ -525,14 +524,16 @@ end_of true left {rest} all n all_is skipped whole = (
 )
 end_of false left all n all_is skipped whole = (first_lines newline n left, sym (first_lines_then_rest newline n left) ∙ ap (λ those. first_lines newline n left ++ those) (sym all_is ∙ sym (whole refl)))
 
-module _ {told : Bool} {cutter mid : CutterState} {writer next : WriterState} {cut : Cut} {place : ℕ} {left before rest : List ℕ} (all : List ℕ) {kept : Bool} {old between new : List Slot} (fit : IsFit cutter) (will : WillCut cutter cut)
-    (before_is : before ≡ first_lines newline (cut.line - place) left) (all_is : all ≡ after_lines newline (cut.line - place) left) (skipped : next.style.suppress ≡ true → rest ≡ after_lines newline 1 all) (whole : next.style.suppress ≡ false → rest ≡ all)
-    (went : Goes told cutter.writer (with_bytes before) old between writer None) (passed : WentOn (record cutter { writer = writer }) cut mid) (kept_is : kept ≡ kept_by (state_in mid).operands) (began : Goes told mid.writer (with_section kept) between new next None) where
+module _ {told : Bool} {cutter mid : CutterState} {writer next : WriterState} {cut : Cut} {place : ℕ} {left before rest : List ℕ} (all : List ℕ) {opening : Opening} {old between new : List Slot} (fit : IsFit cutter) (will : WillCut cutter cut)
+    (before_is : before ≡ first_lines newline (cut.line - place) left) (all_is : all ≡ after_lines newline (cut.line - place) left) (skipped : mid.style.suppress ≡ true → rest ≡ after_lines newline 1 all) (whole : mid.style.suppress ≡ false → rest ≡ all)
+    (went : Goes told cutter.writer (with_bytes before) old between writer None) (passed : WentOn (record cutter { writer = writer }) cut mid) (opening_is : opening ≡ opening_of mid.style (kept_by (state_in mid).operands)) (began : Goes told mid.writer (with_next opening) between new next None) where
   after_at : {x : List ℕ} (line : List ℕ) {at : IsAt cutter x left} (now : CutsNow cutter x left line cut place at) → IsAfter told cutter x line (record mid { writer = next }) rest (part_at cutter x left at) old new
   after_at {x} line {at} now =
-      let second = began_there cutter passed began in
-      let style_is : next.style ≡ cutter.writer.style = second.leaves.style ∙ went.leaves.style in
-      let suppress_is : next.style.suppress ≡ suppress_in cutter = ap (λ (s : Style). s.suppress) style_is in
+      let second = began_there cutter passed opening_is began in
+      let manner = manner_of cutter.style in
+      let kept = kept_by (state_in mid).operands in
+      let style_is : mid.style ≡ cutter.style = ap (λ (c : CutterState). c.style) passed.same in
+      let suppress_is : mid.style.suppress ≡ suppress_in cutter = ap (λ (s : Style). s.suppress) style_is in
       let state = passed_state went passed now.goes.are in
       let current : mid.progress.current ≡ line_after (suppress_in cutter) cut.line = ap (λ (s : State). s.current) state in
       let lines_is : mid.lines ≡ cutter.lines = ap (λ (c : CutterState). c.lines) passed.same in
@@ -544,10 +545,11 @@ module _ {told : Bool} {cutter mid : CutterState} {writer next : WriterState} {c
       ∙ ap (λ n. text_from n x) (let e : cutter.progress.current + at.taken + (cut.line - (cutter.progress.current + at.taken)) ≡ cut.line = omega (arith, on) in e) in
       let draft = draft_at cutter x left at in
       let steps = at.steps ++ step_at cutter now.goes.operand cut ∷ [] in
-      let draft_is : with_section kept (with_bytes before draft) ≡ draft_by (all_lines x) steps (kept_by (state_in mid).operands) [] =
-      cut_draft at cut kept now.goes.are fit.fits.some on (before_is ∙ ap (λ n. first_lines newline n left) same_count) ∙ ap (λ k. draft_by (all_lines x) steps k []) kept_is in
-      let near : mid.lines ≤ search_line next.style.suppress (state_in mid) =
-      (let e : search_line next.style.suppress (state_in mid) ≡ search_after (suppress_in cutter) cut = ap (λ b. search_line b (state_in mid)) suppress_is
+      let draft_is : with_next (opening_of cutter.style kept) (with_bytes before draft) ≡ draft_by cutter.style (all_lines x) steps kept [] =
+      cut_draft at cut kept now.goes.are fit.fits.some on (before_is ∙ ap (λ n. first_lines newline n left) same_count) in
+      let now_part : draft_part manner (draft_by cutter.style (all_lines x) steps kept []) ≡ draft_part (manner_of mid.style) (draft_by mid.style (all_lines x) steps kept []) = ap (λ (s : Style). draft_part (manner_of s) (draft_by s (all_lines x) steps kept [])) (sym style_is) in
+      let near : mid.lines ≤ search_line mid.style.suppress (state_in mid) =
+      (let e : search_line mid.style.suppress (state_in mid) ≡ search_after (suppress_in cutter) cut = ap (λ b. search_line b (state_in mid)) suppress_is
       ∙ (grind (arith, common_steps)) in let n = now.near in omega (arith, e, n, lines_is)) in record {
         now = record {
           steps = steps;
@@ -557,9 +559,9 @@ module _ {told : Bool} {cutter mid : CutterState} {writer next : WriterState} {c
           written = [];
           few = (let w : line_after (suppress_in cutter) cut.line ≤ suc cutter.lines = after_within (suppress_in cutter) cut.line cutter.lines will.within in let c = at.counted in omega (arith, current, w, c));
           written_is = sym (first_lines-zero newline (text_from mid.progress.current x));
-          left_is = rest_from next.style.suppress all cut.line x first left_after skipped whole
+          left_is = rest_from mid.style.suppress all cut.line x first left_after skipped whole
               ∙ ap (λ n. text_from n x) (ap (λ b. line_after b cut.line) suppress_is ∙ sym current ∙ (let e : mid.progress.current ≡ mid.progress.current + 0 = omega arith in e));
-          writes = subst (Writes next) draft_is (second.writes (with_bytes before draft) (went.writes draft at.writes));
+          writes = subst (λ (s : Style). Writes (manner_of s) next (draft_by s (all_lines x) steps kept [])) (sym style_is) (subst (Writes manner next) draft_is (second.writes manner (with_bytes before draft) (went.writes manner draft at.writes)));
         };
         looked = record {
           counted = lines_is ∙ at.counted;
@@ -568,25 +570,22 @@ module _ {told : Bool} {cutter mid : CutterState} {writer next : WriterState} {c
         };
         near = near;
         none = refl;
-        grows = subst (Begins (part_at cutter x left at))
-            (ap (draft_part cutter.writer.style) draft_is ∙ ap (λ (s : Style). draft_part s (draft_by (all_lines x) steps (kept_by (state_in mid).operands) [])) (sym style_is))
-            (part_trans (part_at cutter x left at) (draft_part cutter.writer.style (with_bytes before draft)) _ (bytes_begin cutter.writer.style before draft) (section_begins cutter.writer.style kept (with_bytes before draft)));
-        reaches = reaches_again went.leaves.style (bytes_begin cutter.writer.style before draft) (went.reaches draft at.writes)
-            (reaches_as (ap (λ (s : Style). draft_part s (with_bytes before draft)) (sym went.leaves.style))
-            (ap (λ (s : Style). draft_part s (draft_by (all_lines x) steps (kept_by (state_in mid).operands) [])) second.leaves.style ∙ ap (draft_part writer.style) (sym draft_is))
-            (second.reaches (with_bytes before draft) (went.writes draft at.writes)));
+        grows = subst (Begins (part_at cutter x left at)) (ap (draft_part manner) draft_is ∙ now_part)
+            (part_trans (part_at cutter x left at) (draft_part manner (with_bytes before draft)) _ (bytes_begin manner before draft) (next_begins manner (opening_of cutter.style kept) (with_bytes before draft)));
+        reaches = reaches_again (bytes_begin manner before draft) (went.reaches manner draft at.writes)
+            (reaches_as refl (sym (ap (draft_part manner) draft_is ∙ now_part)) (second.reaches manner (with_bytes before draft) (went.writes manner draft at.writes)));
       }
 
   pub cut_done : size_of next.current ≡ 0 → length rest ≤ length left → CutAt told cutter cut place left old new (record mid { writer = next }) rest
-  cut_done empty shorter = let second = began_there cutter passed began in record {
+  cut_done empty shorter = let second = began_there cutter passed opening_is began in record {
     fewer = passed.fewer;
     spreading = λ line. record {
-      keeps = record { operands = ap (λ (c : CutterState). c.operands) passed.same; writer = leaves_again went.leaves second.leaves };
+      keeps = record { operands = ap (λ (c : CutterState). c.operands) passed.same; style = ap (λ (c : CutterState). c.style) passed.same; writer = leaves_again went.leaves second.leaves };
       lines = ap (λ (c : CutterState). c.lines) passed.same;
       fit = record { fits = passed.fit.fits; most = passed.fit.most; delim = passed.fit.delim; sought = passed.fit.sought };
       held = passed.held;
       after = λ x at now. after_at line now;
       size = omega (arith, empty, shorter);
-      end = end_of next.style.suppress left all (cut.line - place) all_is skipped whole;
+      end = end_of mid.style.suppress left all (cut.line - place) all_is skipped whole;
     };
   }

@@ -2,7 +2,6 @@ pub mod AgreedLemmas
 pub mod WholeLemmas
 pub mod CutterLemmas
 pub mod LineLemmas
-pub mod WriterLemmas
 pub mod TryLemmas
 pub mod TakeLemmas
 pub mod StageLemmas

@@ -1,34 +1,42 @@
 -- What opening the cutter leaves, what ending it does, and what the stage that takes in bytes owes.
-use Rattle.std.proofs.Common.{◌≡◌, inl, ◌+◌, ◌-◌, ◌≤◌, length, max, Bool, true, false, List, [], ◌∷◌, None, Option, Some, refl, sym, ◌∙◌, ap, subst, arith, ℕ, suc, ◌++◌, take, ◌<◌, nat_lt, get_or, rules, cond, drop, inr, ◌^◌, min, length-append, ◌⊎◌, map, Result, Ok, Err, IfErr, eqb, OnOk, not, IsTrue}
+use Rattle.std.proofs.Common.{◌≡◌, inl, ◌+◌, ◌-◌, ◌≤◌, length, max, Bool, true, false, List, [], ◌∷◌, None, Option, Some, refl, sym, ◌∙◌, ap, subst, arith, ℕ, suc, ◌++◌, take, ◌<◌, nat_lt, get_or, rules, cond, drop, inr, ◌^◌, min, length-append, ◌⊎◌, Result, Ok, Err, IfErr, eqb, OnOk, not, IsTrue}
 use Rattle.bre_core.specs.Pattern.{Pattern}
 use Rattle.seg_core.specs.Window.{Window}
 use Rattle.ports_core.specs.Slot.{Slot, is_writable}
 use Rattle.ports_core.specs.declared.fault.Fault.{Fault}
 use Rattle.ports_core.specs.declared.fault.Fault.TheVariants.{Memory}
 use Rattle.ports_core.proofs.PartLemmas.{nothing_begins_part, outputs_count, stopped_in_turn, lines_before}
-use Rattle.ports_core.specs.inner.Part.{HasLines, LinesTo}
-use Rattle.csplit_core.proofs.CutterLemmas.{in_turn, draft_is, settled_part_is, draft_to, runs_to, live_part, goes_as, live_taken, lacks_memory, keeps_on, same_by, settled_same}
+use Rattle.ports_core.specs.Turn.{LinesTo}
+use Rattle.ports_core.specs.inner.Part.{HasLines}
+use Rattle.csplit_core.proofs.CutterLemmas.{draft_is, settled_part_is, whole_part_is, runs_to, live_part, live_taken, keeps_on, reaches_then, same_by, settled_same}
 use Rattle.csplit_core.specs.Csplit.{settled_of, whole_of, verdict_of, waiting, waiting_of, csplit_work, settled_by, verdict_by}
-use Rattle.csplit_core.specs.Draft.{draft_part, Draft, AreClosed}
-use Rattle.csplit_core.specs.inner.Writer.{first_draft, with_kept, new_writer, paused, BegunNot, Goes, with_bytes, with_section, Reaches, At, KeepsFiles}
+use Rattle.ports_core.specs.Draft.{Draft, draft_part, with_bytes, with_next}
+use Rattle.ports_core.specs.inner.FileWriter.{nothing_yet}
+use Rattle.ports_core.specs.declared.file_writer.Opening.{Opening}
+use Rattle.ports_core.specs.declared.file_writer.Opening.TheVariants.{Never}
+use Rattle.ports_core.specs.FileWriter.{new_writer, paused, Goes, Reaches, At, KeepsFiles}
+use Rattle.ports_core.proofs.ShareLemmas.{bytes_begin, next_begins, has_told, nothing_part, nothing_told}
 use Rattle.csplit_core.specs.Input.{newline, all_lines, open_line}
 use Rattle.csplit_core.specs.Operand.{Operand, Line}
-use Rattle.csplit_core.specs.Output.{Style, contents_of, part_of, sizes_wanted}
+use Rattle.csplit_core.specs.Output.{Style, manner_of, naming_of, opening_of, part_of, sizes_wanted}
 use Rattle.csplit_core.specs.Plan.{State, start, Step, Ending, below, Runs, missed, above}
 use Rattle.csplit_core.specs.Planned.{plan, Plan}
 use Rattle.csplit_core.specs.laws.PlanLaws.{plan_runs, plan_once}
 use Rattle.csplit_core.specs.Progress.{state_of, AimsAt, EndsHere}
-use Rattle.csplit_core.specs.inner.Cutter.{AreSeen, Turns, MovesOn, Opened, settled_part, whole_part, IsJudged, EndsAll, IsWhole, Takes, IsLine, Clears, Keeps, Closed, Closes, ended_so, Judges, Passes, Sweeps, ended_well, ended_short}
-use Rattle.csplit_core.specs.Section.{settled_sections, settled_end, is_final, whole_end, bytes_of, waiting_lines, section_of, whole_sections}
+use Rattle.csplit_core.specs.inner.Cutter.{BegunNot, tells_by, writer_for, AreSeen, Turns, MovesOn, Opened, settled_part, whole_part, IsJudged, EndsAll, IsWhole, Takes, IsLine, Clears, Keeps, Closed, Closes, ended_so, Judges, Passes, Sweeps, ended_well, ended_short}
+use Rattle.csplit_core.specs.Section.{settled_end, is_final, whole_end, bytes_of, waiting_lines, whole_sections}
 use Rattle.csplit_core.specs.declared.progress.Progress.{Progress}
 use Rattle.csplit_core.specs.declared.progress.Turn.{Turn}
 use Rattle.csplit_core.specs.declared.progress.Turn.TheVariants.{Below, Missed, Above}
-use Rattle.csplit_core.specs.Writer.{WriterState, Writes, size_of, IsReady as CanWrite, Breaks, OwnsFiles}
+use Rattle.ports_core.specs.FileWriter.{WriterState, Writes, size_of, IsReady as CanWrite, Breaks, OwnsFiles, CanTell, manner_in}
+use Rattle.ports_core.specs.Draft.{Manner, size_of_file, output_of}
+use Rattle.ports_core.specs.Name.{name_at}
+use Rattle.ports_core.specs.declared.file_writer.Tells.TheVariants.{Nothing, Sizes}
 use Rattle.csplit_core.specs.Cutter.{CutterState, most_next, pattern_next, kept_next, next_of, most_by, pattern_by, kept_by, settled_draft, IsFit, Stands, suppress_in, state_in, text_from, draft_by, IsLive, IsPast, IsSound, load}
 use Rattle.csplit_core.proofs.TryLemmas.{turn_ends, left_is}
 use Rattle.ports_core.proofs.SlotSteps.{none_past}
-use Rattle.csplit_core.proofs.WriterLemmas.{sizes_told, begun_not, new_owns, new_writes, no_draft, ended_part, files_left, reaches_as, stops_wider, bytes_begin, section_begins, in_any, leaves_again, reaches_again, leaves_lacking, where_well}
-use Rattle.std.proofs.lemmas.List.{map-append, drop_all, drop-map, append-nil, take-append-drop}
+use Rattle.ports_core.proofs.FileWriterLemmas.{new_owns, in_turn, lacks_memory, files_left, goes_as, reaches_as, stops_wider, in_any, leaves_again, reaches_again, leaves_lacking, where_well}
+use Rattle.std.proofs.lemmas.List.{drop_all, drop-map, append-nil, take-append-drop}
 use Rattle.seg_core.specs.Line.{line_count, first_lines, after_lines, delimiters, ends_with, LastEndsAt}
 use Rattle.seg_core.proofs.FirstLines.{first_lines-all, first_lines_then_rest, lines_of-after_lines}
 use Rattle.csplit_core.specs.inner.PlanLaws.{EndsAs, AreWithin}
@@ -40,10 +48,10 @@ use Rattle.std.proofs.lemmas.Grind.{common_steps}
 use Rattle.std.proofs.Math.Nat.{min-eq_left}
 use Rattle.csplit_core.specs.CsplitState.{CsplitState, Holds, whole_lines, IsReady, Owns, files, work}
 use Rattle.csplit_core.proofs.TakeLemmas.{past_plan, past_part, is_past, still_past, more_settled, takes_again, takes_none, takes_wider, took_past, none_there}
-use Rattle.ports_core.specs.Part.{Begins, OutputsAt, StoppedBetween, nothing, writes}
-use Rattle.ports_core.specs.inner.Part.{fault_in}
+use Rattle.ports_core.specs.Part.{Begins, OutputsAt, StoppedBetween, nothing, writes, Output, gets_none, gets_lines}
+use Rattle.ports_core.specs.Turn.{fault_in}
 use Rattle.ports_core.specs.Engine.{is_verdict, TakesIn, PutsOut, CutsOff, EndsShort, EndsWith, EndsThere, Finishes, StandsAt, IsMet, KeepsOwn}
-use Rattle.ports_core.specs.Swept.{AreThere, Swept}
+use Rattle.ports_core.specs.Swept.{AreThere, Swept, is_among}
 use Rattle.ports_core.proofs.SweepLemmas.{all_cleared}
 use Rattle.ports_core.specs.Engine as engine
 
@@ -55,12 +63,32 @@ first_only : {suppress : Bool} {first : State} {steps : List Step} {last : State
 first_only run some = grind (arith, common_steps)
 
 -- the first section, without a byte, is what is settled
-first_settled : (suppress : Bool) (operands : List Operand) → first_draft (kept_by operands) ≡ settled_draft suppress operands []
-first_settled suppress operands =
-    draft_is settled_end operands [] 0 (first_only (plan_runs suppress operands []) (omega arith)) (grind (arith, common_steps)) refl
 
-first_part : (style : Style) (operands : List Operand) → draft_part style (first_draft (kept_by operands)) ≡ settled_of style operands []
-first_part style operands = ap (draft_part style) (first_settled style.suppress operands) ∙ settled_part_is style operands []
+abbrev first_draft : Style → Bool → Draft
+first_draft style kept = with_next (opening_of style kept) nothing_yet
+
+first_settled : (style : Style) (operands : List Operand) → first_draft style (kept_by operands) ≡ settled_draft style operands []
+first_settled style operands =
+    draft_is settled_end style operands [] 0 (first_only (plan_runs style.suppress operands []) (omega arith)) (grind (arith, common_steps)) refl
+
+first_part : (style : Style) (operands : List Operand) → draft_part (manner_of style) (first_draft style (kept_by operands)) ≡ settled_of style operands []
+first_part style operands = ap (draft_part (manner_of style)) (first_settled style operands) ∙ settled_part_is style operands []
+
+-- the first writer has been given nothing
+first_writes : (style : Style) → Writes (manner_of style) (writer_for style) nothing_yet
+first_writes style = record { same = manner_is style.quiet; made = refl; current = refl } where
+  manner_is : (quiet : Bool) → manner_in (new_writer (naming_of style) (cond quiet Nothing Sizes)) ≡ record { has_name = λ place. true; name = name_at (naming_of style); output = cond quiet gets_none (gets_lines size_of_file) }
+  manner_is true = refl
+  manner_is false = refl
+
+pub first_ready : (style : Style) {writer : WriterState} {slots : List Slot} → writer ≡ writer_for style → 2 ≤ length slots → IsTrue (is_writable slots 0) → CanWrite writer slots
+first_ready style {slots = slots} is two can = rw is (record { named = named; streams = two; output = can_tell style.quiet; files = tt; current = tt }) where
+  named : (place : ℕ) → place < 2 ^ 64 → nat_lt place (2 ^ 64) ≡ true
+  named place less = grind (arith, common_steps)
+
+  can_tell : (quiet : Bool) → CanTell (cond quiet Nothing Sizes) slots
+  can_tell true = tt
+  can_tell false = can
 
 -- The first turn, before any line came in.
 
@@ -76,17 +104,17 @@ first_ends {suppress} operands {turn} says moves =
 
 -- The cutter that was opened
 
-abbrev pub opened : List Operand → WriterState → Progress → Turn → Window → Option Pattern → CutterState
-opened operands writer progress aim window sought = record { operands = operands; writer = writer; progress = progress; aim = aim; lines = 0; window = window; sought = sought }
+abbrev pub opened : List Operand → Style → WriterState → Progress → Turn → Window → Option Pattern → CutterState
+opened operands style writer progress aim window sought = record { operands = operands; style = style; writer = writer; progress = progress; aim = aim; lines = 0; window = window; sought = sought }
 
 abbrev first_window : List Operand → Window
 first_window operands = record { most = most_by operands; delim = newline; held = [] }
 
-abbrev first_cutter : List Operand → WriterState → Turn → CutterState
-first_cutter operands writer aim = opened operands writer first_progress aim (first_window operands) (pattern_by operands)
+abbrev first_cutter : List Operand → Style → WriterState → Turn → CutterState
+first_cutter operands style writer aim = opened operands style writer first_progress aim (first_window operands) (pattern_by operands)
 
-first_stands : (operands : List Operand) {writer : WriterState} {aim : Turn} → Writes writer (first_draft (kept_by operands)) → (ends : EndsHere writer.style.suppress [] (start operands) aim) → (final : Bool) → is_final ends.ending ≡ final → Stands (first_cutter operands writer aim) []
-first_stands operands writes ends false live = inl (record {
+first_stands : (operands : List Operand) (style : Style) {writer : WriterState} {aim : Turn} → Writes (manner_of style) writer (first_draft style (kept_by operands)) → (ends : EndsHere style.suppress [] (start operands) aim) → (final : Bool) → is_final ends.ending ≡ final → Stands (first_cutter operands style writer aim) []
+first_stands operands style writes ends false live = inl (record {
   at = record {
     steps = [];
     leads = λ more last ending run. run;
@@ -102,63 +130,69 @@ first_stands operands writes ends false live = inl (record {
   live = live;
   settled = omega arith;
 })
-first_stands operands {writer} {aim} writes ends true past = grind (arith, common_steps, plan_once, first_settled)
+first_stands operands style {writer} {aim} writes ends true past = grind (arith, common_steps, plan_once, first_settled)
 
-first_opened : (told : Bool) {style : Style} {operands : List Operand} {old new : List Slot} {writer : WriterState} (aim : Turn) → 2 ≤ length old → Goes told (new_writer style) (with_kept (kept_by operands)) old new writer None → size_of writer.current ≡ 0 → SaysFirst style.suppress operands aim → MovesOn operands 0 first_progress aim
-    → Opened told style operands old new (first_cutter operands writer aim)
+first_opened : (told : Bool) {style : Style} {operands : List Operand} {old new : List Slot} {writer : WriterState} (aim : Turn) → 2 ≤ length old → Goes told (writer_for style) (with_next (opening_of style (kept_by operands))) old new writer None → size_of writer.current ≡ 0 → SaysFirst style.suppress operands aim → MovesOn operands 0 first_progress aim
+    → Opened told style operands old new (first_cutter operands style writer aim)
 first_opened told {style} {operands} {old} {new} {writer} aim two begun none says moves =
-    let ends = first_ends operands (subst (λ (s : Style). SaysFirst s.suppress operands aim) (sym begun.leaves.style) says) moves in
+    let ends = first_ends operands says moves in
     let none' : size_of writer.current + 0 ≡ 0 = omega (arith, none) in record {
-      asked = begun.leaves.style;
+      asked = refl;
       operands_are = refl;
-      stands = first_stands operands (begun.writes no_draft (new_writes style)) ends (is_final ends.ending) refl;
-      reaches = reaches_as refl (sym (first_part style operands)) (begun.reaches no_draft (new_writes style));
-      owns = begun.leaves.owns.owns (length old) (new_owns style two);
+      stands = first_stands operands style (begun.writes (manner_of style) nothing_yet (first_writes style)) ends (is_final ends.ending) refl;
+      reaches = reaches_as (sym (nothing_part (sizes_wanted style))) (sym (first_part style operands)) (begun.reaches (manner_of style) nothing_yet (first_writes style));
+      owns = begun.leaves.owns.owns (length old) (new_owns (naming_of style) (tells_by style) two);
       ready = begun.leaves.ready;
+      output = begun.leaves.output;
+      tells = ap output_of begun.leaves.tells ∙ ap (λ (manner : Manner). manner.output) (first_writes style).same;
       sound = record { fit = (grind (arith, common_steps)); aim = (grind (arith, common_steps)) };
       size = ap (max 0) none';
     }
 
 -- What `open` returns, where the next operand was looked up.
 
-pub opened_at : (told : Bool) {style : Style} {suppress : Bool} {operands : List Operand} {next : Option Operand} {kept : Bool} {old new : List Slot} {first writer : WriterState} {progress : Progress} {aim : Turn} {window : Window} {sought : Option Pattern}
-    → next ≡ next_of operands → window ≡ record { most = most_next next; delim = newline; held = [] } → sought ≡ pattern_next next → kept ≡ kept_next next
-    → suppress ≡ style.suppress → first ≡ new_writer style → 2 ≤ length old → Goes told (paused first) (with_kept kept) old new writer None
+pub opened_at : (told : Bool) {style : Style} {suppress : Bool} {operands : List Operand} {next : Option Operand} {opening : Opening} {old new : List Slot} {first writer : WriterState} {progress : Progress} {aim : Turn} {window : Window} {sought : Option Pattern}
+    → next ≡ next_of operands → window ≡ record { most = most_next next; delim = newline; held = [] } → sought ≡ pattern_next next → opening ≡ opening_of style (kept_next next)
+    → suppress ≡ style.suppress → first ≡ writer_for style → 2 ≤ length old → Goes told (paused first) (with_next opening) old new writer None
     → size_of writer.current ≡ 0 → progress ≡ first_progress
     → ((lines : List Line) → AreSeen suppress lines 0 (state_of operands progress) false → Turns suppress lines (state_of operands progress) aim) → (progress.matched ≤ 0 → MovesOn operands 0 progress aim)
-    → Opened told style operands old new (opened operands writer progress aim window sought)
-opened_at told {style} {suppress} {operands} {kept = kept} {old} {new} {writer = writer} {aim = aim} {window} {sought} next_is window_is sought_is kept_is suppress_is made two begun none start_is says moves =
+    → Opened told style operands old new (opened operands style writer progress aim window sought)
+opened_at told {style} {suppress} {operands} {opening = opening} {old} {new} {writer = writer} {aim = aim} {window} {sought} next_is window_is sought_is opening_is suppress_is made two begun none start_is says moves =
     let window_first : first_window operands ≡ window = sym (window_is ∙ ap (λ (o : Option Operand). record { most = most_next o; delim = newline; held = [] }) next_is) in
     let sought_first : pattern_by operands ≡ sought = sym (sought_is ∙ ap pattern_next next_is) in
-    let kept_first : kept ≡ kept_by operands = kept_is ∙ ap kept_next next_is in
+    let opening_first : opening ≡ opening_of style (kept_by operands) = opening_is ∙ ap (λ o. opening_of style (kept_next o)) next_is in
     let says_first : SaysFirst style.suppress operands aim = subst (λ s. SaysFirst s operands aim) suppress_is
     (subst (λ (p : Progress). (lines : List Line) → AreSeen suppress lines 0 (state_of operands p) false → Turns suppress lines (state_of operands p) aim) start_is says) in
     let moves_first : MovesOn operands 0 first_progress aim = subst (λ (p : Progress). p.matched ≤ 0 → MovesOn operands 0 p aim) start_is moves (omega arith) in
-    subst (λ (p : Progress). Opened told style operands old new (opened operands writer p aim window sought)) (sym start_is)
-    (subst (λ w. Opened told style operands old new (opened operands writer first_progress aim w sought)) window_first
-    (subst (λ s. Opened told style operands old new (opened operands writer first_progress aim (first_window operands) s)) sought_first
-    (first_opened told aim two (subst (λ k. Goes told (new_writer style) (with_kept k) old new writer None) kept_first (subst (λ w. Goes told (paused w) (with_kept kept) old new writer None) made begun)) none says_first moves_first)))
+    subst (λ (p : Progress). Opened told style operands old new (opened operands style writer p aim window sought)) (sym start_is)
+    (subst (λ w. Opened told style operands old new (opened operands style writer first_progress aim w sought)) window_first
+    (subst (λ s. Opened told style operands old new (opened operands style writer first_progress aim (first_window operands) s)) sought_first
+    (first_opened told aim two (subst (λ those. Goes told (writer_for style) (with_next those) old new writer None) opening_first (subst (λ w. Goes told (paused w) (with_next opening) old new writer None) made begun)) none says_first moves_first)))
 
-pub opened_not : (told : Bool) {style : Style} (operands : List Operand) {next : Option Operand} {kept : Bool} {old new : List Slot}
-    {first writer : WriterState} {fault : Fault} → next ≡ next_of operands → kept ≡ kept_next next → first ≡ new_writer style → 2 ≤ length old
-    → Goes told (paused first) (with_kept kept) old new writer (Some fault) → writer.files ≡ first.files
+begun_not : {told : Bool} {style : Style} {opening : Opening} {old new : List Slot} {next : WriterState} {f : Fault} → 2 ≤ length old → Goes told (writer_for style) (with_next opening) old new next (Some f) → next.files ≡ []
+    → BegunNot told style (draft_part (manner_of style) (with_next opening nothing_yet)) old new f
+begun_not {style = style} {old = old} {new} {f = f} two goes none = record {
+  reaches = reaches_as (sym (nothing_part (sizes_wanted style))) refl (record { there = (goes.reaches (manner_of style) nothing_yet (first_writes style)).there });
+  breaks = subst (λ output. Breaks output old new f) (ap (λ (manner : Manner). manner.output) (first_writes style).same) goes.leaves.slots;
+  none = λ place past. (goes.leaves.owns.owns (length old) (new_owns (naming_of style) (tells_by style) two)).own place past ∙ ap (is_among place) none;
+}
+
+pub opened_not : (told : Bool) {style : Style} (operands : List Operand) {next : Option Operand} {opening : Opening} {old new : List Slot}
+    {first writer : WriterState} {fault : Fault} → next ≡ next_of operands → opening ≡ opening_of style (kept_next next) → first ≡ writer_for style → 2 ≤ length old
+    → Goes told (paused first) (with_next opening) old new writer (Some fault) → writer.files ≡ first.files
     → BegunNot told style (settled_of style operands []) old new fault
-opened_not told {style} operands {kept = kept} {old} {new} {writer = writer} {fault} next_is kept_is made two begun same =
-    subst (λ part. BegunNot told style part old new fault) (first_part style operands)
-    (subst (λ k. BegunNot told style (draft_part style (first_draft k)) old new fault) (kept_is ∙ ap kept_next next_is)
-    (begun_not two (subst (λ w. Goes told (paused w) (with_kept kept) old new writer (Some fault)) made begun) (same ∙ ap (λ (w : WriterState). w.files) made)))
+opened_not told {style} operands {opening = opening} {old} {new} {writer = writer} {fault} next_is opening_is made two begun same =
+    subst (λ part. BegunNot told style part old new fault) (ap (λ those. draft_part (manner_of style) (with_next those nothing_yet)) (opening_is ∙ ap (λ o. opening_of style (kept_next o)) next_is) ∙ first_part style operands)
+    (begun_not two (subst (λ w. Goes told (paused w) (with_next opening) old new writer (Some fault)) made begun) (same ∙ ap (λ (w : WriterState). w.files) made))
 
 none_told : (style : Style) → LinesTo (sizes_wanted style) nothing 0 Memory
-none_told style = lines_before (sizes_wanted style) nothing 0 Memory (sizes_told style 0 [])
+none_told style = lines_before (sizes_wanted style) nothing 0 Memory (nothing_told (sizes_wanted style))
 
 -- where there is no memory, nothing was done
 pub opened_lacks : (told : Bool) {style : Style} (operands : List Operand) {slots : List Slot} {fault : Fault} → fault ≡ Memory → BegunNot told style (settled_of style operands []) slots slots fault
 opened_lacks told {style} operands {slots} lacks = search (rules, stops_wider, in_turn, none_told, nothing_begins_part, none_past)
 
 -- What ending the cutter leaves: all lines that waited belong to the last section, which ends; and the fault with which the work ends.
-
-whole_part_is : (style : Style) (operands : List Operand) (lines : List Line) → draft_part style (with_section false (draft_to whole_end style.suppress operands lines)) ≡ whole_of style operands lines
-whole_part_is style operands lines = search (rules, ended_part, draft_to, map-append)
 
 -- The last section has all lines that are left, and none where the cut is below the current line.
 
@@ -175,18 +209,18 @@ all_written x {held} current taken ending some live written_is held_is =
 -- What is written before the end, and with the lines that wait, is what is settled and the whole.
 record LastDraft (cutter : CutterState) (x : List ℕ) : Type 0 where
   draft : Draft
-  writes : Writes cutter.writer draft
-  settled : draft_part cutter.writer.style draft ≡ settled_part cutter x
-  whole : draft_part cutter.writer.style (with_section false (with_bytes cutter.window.held draft)) ≡ whole_part cutter x
+  writes : Writes (manner_of cutter.style) cutter.writer draft
+  settled : draft_part (manner_of cutter.style) draft ≡ settled_part cutter x
+  whole : draft_part (manner_of cutter.style) (with_next Never (with_bytes cutter.window.held draft)) ≡ whole_part cutter x
 
 live_draft : {cutter : CutterState} {x : List ℕ} → IsFit cutter → IsLive cutter x → LastDraft cutter x
 live_draft {cutter} {x} fit live = record {
-  draft = draft_by (all_lines x) live.at.steps (kept_by (state_in cutter).operands) live.at.written;
+  draft = draft_by cutter.style (all_lines x) live.at.steps (kept_by (state_in cutter).operands) live.at.written;
   writes = live.at.writes;
   settled = live_part live;
-  whole = ap (λ draft. draft_part cutter.writer.style (with_section false draft)) (draft_is whole_end cutter.operands x _ (runs_to live.at live.ends) refl
+  whole = ap (λ draft. draft_part (manner_of cutter.style) (with_next Never draft)) (draft_is whole_end cutter.style cutter.operands x _ (runs_to live.at live.ends) refl
       (all_written x cutter.progress.current live.at.taken live.ends.ending fit.fits.some live.live live.at.written_is live.at.left_is))
-      ∙ whole_part_is cutter.writer.style cutter.operands (all_lines x);
+      ∙ whole_part_is cutter.style cutter.operands (all_lines x);
 }
 
 past_draft : {cutter : CutterState} {x : List ℕ} → IsPast cutter x → LastDraft cutter x
@@ -206,23 +240,22 @@ all_held : (cutter : CutterState) {n : ℕ} → n ≡ length cutter.window.held 
 all_held cutter {n} all = grind (arith, common_steps)
 
 pub end_goes : {told : Bool} {cutter : CutterState} {between next : WriterState} (window : Window) {n : ℕ} {old mid new : List Slot} {fault : Option Fault} → IsFit cutter → n ≡ length cutter.window.held
-    → Goes told cutter.writer (with_bytes (take n cutter.window.held)) old mid between None → Goes told between (with_section false) mid new next fault → EndsAll told cutter old new (record cutter { writer = next; window = window }) fault
+    → Goes told cutter.writer (with_bytes (take n cutter.window.held)) old mid between None → Goes told between (with_next Never) mid new next fault → EndsAll told cutter old new (record cutter { writer = next; window = window }) fault
 end_goes {told} {cutter} {between = between} {next} window {mid = mid} {new} {fault} fit all goes ends =
     let went = goes_as (all_held cutter all) goes in record {
-      keeps = record { operands = refl; writer = leaves_again went.leaves ends.leaves };
-      reaches = λ x stands. let last = last_draft fit stands in let all = with_bytes cutter.window.held last.draft in
-          reaches_as (sym last.settled) (sym last.whole) (reaches_again went.leaves.style (bytes_begin cutter.writer.style cutter.window.held last.draft) (went.reaches last.draft last.writes)
-          (subst (λ (style : Style). Reaches told between next (draft_part style all) (draft_part style (with_section false all)) mid new fault) went.leaves.style (ends.reaches all (went.writes last.draft last.writes))));
-      judged = in_any fault (λ x stands. (grind (arith, common_steps, judged_now, (ends.leaves.style ∙ went.leaves.style), stands)));
+      keeps = record { operands = refl; style = refl; writer = leaves_again went.leaves ends.leaves };
+      reaches = λ x stands. let last = last_draft fit stands in let manner = manner_of cutter.style in
+          reaches_as (sym last.settled) (sym last.whole) (reaches_again (bytes_begin manner cutter.window.held last.draft) (went.reaches manner last.draft last.writes) (ends.reaches manner (with_bytes cutter.window.held last.draft) (went.writes manner last.draft last.writes)));
+      judged = in_any fault (λ x stands. (grind (arith, common_steps, judged_now, stands)));
     }
 
 pub end_short : {told : Bool} {cutter : CutterState} {next : WriterState} {window : Window} {n : ℕ} {old new : List Slot} {fault : Fault} → IsFit cutter → n ≡ length cutter.window.held
     → Goes told cutter.writer (with_bytes (take n cutter.window.held)) old new next (Some fault) → EndsAll told cutter old new (record cutter { writer = next; window = window }) (Some fault)
 end_short {cutter = cutter} fit all goes =
     let stopped = goes_as (all_held cutter all) goes in record {
-      keeps = record { operands = refl; writer = stopped.leaves };
+      keeps = record { operands = refl; style = refl; writer = stopped.leaves };
       reaches = λ x stands. let last = last_draft fit stands in
-          reaches_as (sym last.settled) (sym last.whole) (stops_wider (stopped.reaches last.draft last.writes) (section_begins cutter.writer.style false (with_bytes cutter.window.held last.draft)));
+          reaches_as (sym last.settled) (sym last.whole) (stops_wider (stopped.reaches (manner_of cutter.style) last.draft last.writes) (next_begins (manner_of cutter.style) Never (with_bytes cutter.window.held last.draft)));
       judged = tt;
     }
 
@@ -272,12 +305,12 @@ held_within {cutter} {x} live =
     let long : length x ≡ length (first_lines newline (cutter.progress.current + live.at.taken - 1) x) + length (text_from (cutter.progress.current + live.at.taken) x) = ap length (sym both) ∙ length-append (first_lines newline (cutter.progress.current + live.at.taken - 1) x) (text_from (cutter.progress.current + live.at.taken) x) in
     let same : length cutter.window.held ≡ length (text_from (cutter.progress.current + live.at.taken) x) = ap length live.at.left_is in omega (arith, long, same)
 
-live_waiting : (stage : CsplitState) (x : List ℕ) (live : IsLive stage.cutter (whole_lines x)) → stage.rest ≡ open_line x → waiting stage.cutter.writer.style stage.cutter.operands x ≡ stage.cutter.window.held ++ stage.rest
+live_waiting : (stage : CsplitState) (x : List ℕ) (live : IsLive stage.cutter (whole_lines x)) → stage.rest ≡ open_line x → waiting stage.cutter.style stage.cutter.operands x ≡ stage.cutter.window.held ++ stage.rest
 live_waiting stage x live rest_is = grind (arith, common_steps, all_complete, plan_once, runs_to, are_within, length-all_lines, live_taken, drop-map, bytes_marked, lines_of-after_lines, from_further)
 
-pub held_is : {stage : CsplitState} {x : List ℕ} {result : ℕ} → Holds stage x → length x < 2 ^ 63 → result ≡ min (length stage.cutter.window.held + length stage.rest) (2 ^ 64 - 1) → result ≡ length (waiting stage.cutter.writer.style stage.cutter.operands x)
+pub held_is : {stage : CsplitState} {x : List ℕ} {result : ℕ} → Holds stage x → length x < 2 ^ 63 → result ≡ min (length stage.cutter.window.held + length stage.rest) (2 ^ 64 - 1) → result ≡ length (waiting stage.cutter.style stage.cutter.operands x)
 held_is {stage} {x} {result} holds few is = by holds.stands where
-  by : Stands stage.cutter (whole_lines x) → result ≡ length (waiting stage.cutter.writer.style stage.cutter.operands x)
+  by : Stands stage.cutter (whole_lines x) → result ≡ length (waiting stage.cutter.style stage.cutter.operands x)
   by (inl live) =
       let rest_is = holds.live (λ below. (grind (arith, common_steps))) in
       let within = held_within live in
@@ -295,14 +328,10 @@ held_is {stage} {x} {result} holds few is = by holds.stands where
 
 -- Want of memory
 
-closed_steps : (lines : List Line) (steps : List Step) → AreClosed (map contents_of (map (section_of lines) steps))
-closed_steps lines [] = tt
-closed_steps lines (step ∷ steps) = (refl, closed_steps lines steps)
-
 pub takes_lacking : {told : Bool} {cutter next : CutterState} {t : List ℕ} {old new : List Slot} → Takes told cutter t old new next None → Takes told cutter t old new next (Some Memory)
 takes_lacking {cutter = cutter} {t = t} took = record {
-  keeps = keeps_on took.keeps (record { operands = refl; writer = leaves_lacking });
-  reaches = λ x whole stands. reaches_again took.keeps.writer.style (more_settled cutter t whole) (took.reaches x whole stands) (let is = sym (settled_part_is cutter.writer.style cutter.operands (all_lines (x ++ t))) in reaches_as is is (lacks_memory cutter.writer.style took.keeps.writer.style (settled_draft (suppress_in cutter) cutter.operands (all_lines (x ++ t))) (closed_steps (all_lines (x ++ t)) (plan (suppress_in cutter) cutter.operands (all_lines (x ++ t))).steps)));
+  keeps = keeps_on took.keeps (record { operands = refl; style = refl; writer = leaves_lacking });
+  reaches = λ x whole stands. reaches_again (more_settled cutter t whole) (took.reaches x whole stands) (let is = sym (settled_part_is cutter.style cutter.operands (all_lines (x ++ t))) in reaches_as is is (lacks_memory (manner_of cutter.style) (settled_draft cutter.style cutter.operands (all_lines (x ++ t))) (λ place less. refl)));
   went = tt;
 }
 
@@ -316,14 +345,14 @@ takes_or_lacks {told} {cutter} {next} {t} {old} {new} (Err fault) took lacks = s
 pub closed_on : {told : Bool} {stage : CsplitState} (last : CsplitState) {next : CsplitState} {two : CutterState} {old mid new : List Slot} {fault : Option Fault} → two ≡ last.cutter → Takes told stage.cutter stage.rest old mid last.cutter None → EndsAll told two mid new next.cutter fault → Closed told stage old new next fault
 closed_on {told} {stage} last {old = old} {mid} {fault = fault} is took second = let first = subst (λ c. Takes told stage.cutter stage.rest old mid c None) (sym is) took in record {
   keeps = keeps_on first.keeps second.keeps;
-  reaches = λ x front stands. reaches_again first.keeps.writer.style (more_settled stage.cutter stage.rest front) (first.reaches x front stands)
+  reaches = λ x front stands. reaches_then first.keeps.style (more_settled stage.cutter stage.rest front) (first.reaches x front stands)
       (reaches_as (sym (settled_same (x ++ stage.rest) first.keeps)) (sym (same_by (λ style operands. whole_of style operands (all_lines (x ++ stage.rest))) first.keeps)) (second.reaches (x ++ stage.rest) (first.went.stands x front stands)));
   judged = where_well fault second.judged (λ judged x front stands. judged (x ++ stage.rest) (first.went.stands x front stands));
 }
 
 -- the open line could not be taken in
 pub closed_short : {told : Bool} {stage next : CsplitState} {old new : List Slot} {fault : Fault} → Takes told stage.cutter stage.rest old new next.cutter (Some fault) → Closed told stage old new next (Some fault)
-closed_short {stage = stage} stopped = record { keeps = stopped.keeps; reaches = λ x front stands. stops_wider (stopped.reaches x front stands) (subst (λ lines. Begins (settled_part stage.cutter (x ++ stage.rest)) (whole_of stage.cutter.writer.style stage.cutter.operands lines)) (append-nil (all_lines (x ++ stage.rest))) (whole_grows stage.cutter.writer.style stage.cutter.operands (all_lines (x ++ stage.rest)) [])); judged = tt }
+closed_short {stage = stage} stopped = record { keeps = stopped.keeps; reaches = λ x front stands. stops_wider (stopped.reaches x front stands) (subst (λ lines. Begins (settled_part stage.cutter (x ++ stage.rest)) (whole_of stage.cutter.style stage.cutter.operands lines)) (append-nil (all_lines (x ++ stage.rest))) (whole_grows stage.cutter.style stage.cutter.operands (all_lines (x ++ stage.rest)) [])); judged = tt }
 
 -- Where later input goes nowhere, it changes nothing of the end either.
 
@@ -333,9 +362,9 @@ final_sections a b p within final = grind (arith, common_steps, closed_still)
 pub past_end : {cutter : CutterState} {x : List ℕ} (t : List ℕ) → IsWhole x → IsPast cutter x → whole_part cutter (x ++ t) ≡ whole_part cutter x
 past_end {cutter} {x} t whole past =
     let same = past_plan (suppress_in cutter) cutter.operands t whole past.past in
-    ap (λ (p : Plan). part_of cutter.writer.style (whole_sections (all_lines (x ++ t)) p)) same
-    ∙ ap (λ lines. part_of cutter.writer.style (whole_sections lines (plan (suppress_in cutter) cutter.operands (all_lines x)))) (all_lines-append t (inl whole))
-    ∙ ap (part_of cutter.writer.style) (final_sections (all_lines x) (all_lines t) (plan (suppress_in cutter) cutter.operands (all_lines x))
+    ap (λ (p : Plan). part_of cutter.style (whole_sections (all_lines (x ++ t)) p)) same
+    ∙ ap (λ lines. part_of cutter.style (whole_sections lines (plan (suppress_in cutter) cutter.operands (all_lines x)))) (all_lines-append t (inl whole))
+    ∙ ap (part_of cutter.style) (final_sections (all_lines x) (all_lines t) (plan (suppress_in cutter) cutter.operands (all_lines x))
     (are_within (suppress_in cutter) (all_lines x) (start cutter.operands) _ _ _ (plan_runs (suppress_in cutter) cutter.operands (all_lines x)) (omega arith)).0 past.past)
 
 pub past_verdict : {cutter : CutterState} {x : List ℕ} (t : List ℕ) → IsWhole x → IsPast cutter x → verdict_of (plan (suppress_in cutter) cutter.operands (all_lines (x ++ t))).ending ≡ verdict_of (plan (suppress_in cutter) cutter.operands (all_lines x)).ending
@@ -467,7 +496,7 @@ judged_by {mid = mid} {reached} {fault = fault} closed is verdict_is kind swept 
 -- what is settled of the bytes
 
 settled_is : (stage : CsplitState) (x : List ℕ) → settled_part stage.cutter (whole_lines x) ≡ (work stage).settled x
-settled_is stage x = ap (settled_of stage.cutter.writer.style stage.cutter.operands) (all_complete x)
+settled_is stage x = ap (settled_of stage.cutter.style stage.cutter.operands) (all_complete x)
 
 lines_in : (rest x piece : List ℕ) → rest ≡ open_line x → whole_lines x ++ whole_lines (rest ++ piece) ≡ whole_lines (x ++ piece)
 lines_in rest x piece is = ap (λ those. whole_lines x ++ whole_lines (those ++ piece)) is ∙ sym (lines_more x piece)
@@ -488,8 +517,12 @@ stands_so told {before} {stage} {x} {now} at = grind (arith, common_steps, settl
 
 -- faults
 
-not_verdict : (style : Style) (old new : List Slot) (fault : Fault) → Breaks style old new fault → is_verdict fault ≡ false
-not_verdict style old new fault breaks = grind (arith, common_steps)
+not_verdict : (output : Output) (old new : List Slot) (fault : Fault) → Breaks output old new fault → is_verdict fault ≡ false
+not_verdict output old new fault breaks = grind (arith, common_steps)
+
+met_by : {Lacks : Type 0} → Lacks → (Ends : Fault → Type 0) {output other : Output} (old new : List Slot) (fault : Fault) → output ≡ other → Breaks output old new fault
+    → IsMet (record { output = other; files = true; feeding = record { memory = true; files = true }; closing = record { memory = true; files = true } }) (record { memory = true; files = true }) Lacks Ends old new fault
+met_by lacks Ends old new fault same breaks = grind (arith, common_steps)
 
 -- a piece
 
@@ -506,8 +539,8 @@ holds_by {stage = stage} {next} {piece} {x} passed holds (inr differs) = record 
 }
 
 -- standard output has the sizes of what is settled
-has_settled : (stage : CsplitState) (x : List ℕ) → HasLines (sizes_wanted stage.cutter.writer.style) (settled_part stage.cutter x).out (settled_part stage.cutter x).files
-has_settled stage x = sizes_told stage.cutter.writer.style 0 (map contents_of (settled_sections (all_lines x) (plan (suppress_in stage.cutter) stage.cutter.operands (all_lines x))))
+has_settled : (stage : CsplitState) (x : List ℕ) → HasLines (sizes_wanted stage.cutter.style) (settled_part stage.cutter x).out (settled_part stage.cutter x).files
+has_settled stage x = has_told (sizes_wanted stage.cutter.style) _
 
 -- why a fault came
 
@@ -523,16 +556,26 @@ module _ (told : Bool) (stage next : CsplitState) (piece : List ℕ) (old new : 
 
   pub cuts_off : (result : Result (Unit {0}) Fault) → Passes told stage piece old new next result → IfErr result (CutsOff Holds Owns work stage piece told old new)
   cuts_off (Ok done) passed = tt
-  cuts_off (Err fault) stopped = λ before x at. engine.cut (not_verdict stage.cutter.writer.style old new fault stopped.took.keeps.writer.slots)
+  cuts_off (Err fault) stopped = λ before x at. engine.cut (not_verdict _ old new fault stopped.took.keeps.writer.slots)
       (subst (λ low. StoppedBetween (work stage).means.output told before low ((work stage).settled (x ++ piece)) fault new) (settled_is stage x)
       (subst (λ high. StoppedBetween (work stage).means.output told before (settled_part stage.cutter (whole_lines x)) high fault new) (settled_then piece at.holds)
       (stopped_in_turn (work stage).means.output told before _ _ fault new (has_settled stage (whole_lines x)) ((stopped.took.reaches (whole_lines x) (lines_whole x) at.holds.stands).there before (stands_so told at)))))
 
   pub pass_ready : (result : Result (Unit {0}) Fault) → Passes told stage piece old new next result → IsReady stage old → next.taken ≡ stage.taken + length piece → stage.taken + length piece < 2 ^ 63 → OnOk result (IsReady next new)
-  pass_ready result passes ready taken fits = grind (arith, common_steps)
+  pass_ready (Ok done) passes ready taken fits = record {
+    writer = passes.took.keeps.writer.ready;
+    output = passes.took.keeps.writer.output ready.output;
+    tells = ap output_of passes.took.keeps.writer.tells ∙ ready.tells ∙ ap sizes_wanted (sym passes.took.keeps.style);
+    sound = passes.took.went.sound;
+    unbroken = passes.passed.unbroken;
+    room = (let size = passes.passed.size in let room = ready.room in omega (arith, size, room, taken));
+    few = omega (arith, taken, fits);
+  }
+  pass_ready (Err fault) passes ready taken fits = tt
 
-  pub pass_met : (result : Result (Unit {0}) Fault) → Passes told stage piece old new next result → IfErr result (IsMet (work stage).means (work stage).means.feeding (true ≡ true) (EndsWith Holds work stage piece) old new)
-  pass_met result passed = grind (arith, common_steps)
+  pub pass_met : (result : Result (Unit {0}) Fault) → Passes told stage piece old new next result → IsReady stage old → IfErr result (IsMet (work stage).means (work stage).means.feeding (true ≡ true) (EndsWith Holds work stage piece) old new)
+  pass_met (Ok done) passed ready = tt
+  pass_met (Err fault) passed ready = met_by refl (EndsWith Holds work stage piece) old new fault ready.tells passed.took.keeps.writer.slots
 
 -- the end
 
@@ -563,7 +606,7 @@ module _ (told : Bool) (stage next : CsplitState) (old new : List Slot) where
   ends_there closed judges is x holds = sym (judged_then closed judges holds) ∙ is
 
   pub ends_short : {fault : Fault} → Closed told stage old new next (Some fault) → EndsShort Holds Owns work stage told old new fault
-  ends_short {fault} stopped before x at = engine.cut (not_verdict stage.cutter.writer.style old new fault stopped.keeps.writer.slots)
+  ends_short {fault} stopped before x at = engine.cut (not_verdict _ old new fault stopped.keeps.writer.slots)
       (subst (λ low. StoppedBetween (work stage).means.output told before low ((work stage).whole x) fault new) (settled_is stage x)
       (subst (λ high. StoppedBetween (work stage).means.output told before (settled_part stage.cutter (whole_lines x)) high fault new) (whole_then stage x at.holds)
       (stopped_in_turn (work stage).means.output told before _ _ fault new (has_settled stage (whole_lines x)) ((stopped.reaches (whole_lines x) (lines_whole x) at.holds.stands).there before (stands_so told at)))))
@@ -573,7 +616,7 @@ module _ (told : Bool) (stage next : CsplitState) (old new : List Slot) where
       → EndsShort Holds Owns work stage told old cleared fault
   ends_judged closed judges is kind cleared swept before x at =
       engine.judged kind new (whole_out closed at)
-      (subst (λ (style : Style). Swept (not style.keep) (length before) new cleared) closed.keeps.writer.style (swept (length before) (closed.keeps.writer.owns.owns (length before) at.owns)))
+      (subst (λ (style : Style). Swept (not style.keep) (length before) new cleared) closed.keeps.style (swept (length before) (closed.keeps.writer.owns.owns (length before) at.owns)))
 
   met_there : (fault : Fault) → is_verdict fault ≡ true → (slots : List Slot) → EndsThere Holds work stage fault → IsMet (work stage).means (work stage).means.closing (Unit {0}) (EndsThere Holds work stage) old slots fault
   met_there fault kind slots ends = grind (arith, common_steps)
@@ -590,8 +633,9 @@ module _ (told : Bool) (stage next : CsplitState) (old new : List Slot) where
       (sym (judged_then told stage next old new closed none at.holds), whole_out told stage next old new closed at)
   end_outputs closes = tt
 
-  pub end_writable : {result : Result (Unit {0}) Fault} → Closes told stage old new next result → OnOk result (writes (work stage).means.output ≡ true → IsTrue (is_writable new 0))
-  end_writable closes = grind (arith, common_steps)
+  pub end_writable : {result : Result (Unit {0}) Fault} → Closes told stage old new next result → IsReady stage old → OnOk result (writes (work stage).means.output ≡ true → IsTrue (is_writable new 0))
+  end_writable (ended_well closed none) ready = λ told. closed.keeps.writer.output ready.output
+  end_writable closes ready = tt
 
   pub end_own : {result : Result (Unit {0}) Fault} → Closes told stage old new next result → KeepsOwn Owns stage next old new
   end_own (ended_well closed none) first own = closed.keeps.writer.owns.owns first own
@@ -606,20 +650,20 @@ module _ (told : Bool) (stage next : CsplitState) (old new : List Slot) where
   end_cut (ended_short fault stopped) = ends_short told stage next old new stopped
   end_cut (ended_so fault mid reached closed some kind swept) = ends_judged told stage mid old reached closed some refl kind new swept.swept
 
-  pub end_met : {result : Result (Unit {0}) Fault} → Closes told stage old new next result → IfErr result (IsMet (work stage).means (work stage).means.closing (Unit {0}) (EndsThere Holds work stage) old new)
-  end_met (ended_well closed none) = tt
-  end_met (ended_short fault stopped) = grind (arith, common_steps)
-  end_met (ended_so fault mid reached closed some kind swept) =
+  pub end_met : {result : Result (Unit {0}) Fault} → Closes told stage old new next result → IsReady stage old → IfErr result (IsMet (work stage).means (work stage).means.closing (Unit {0}) (EndsThere Holds work stage) old new)
+  end_met (ended_well closed none) ready = tt
+  end_met (ended_short fault stopped) ready = met_by tt (EndsThere Holds work stage) old new fault ready.tells stopped.keeps.writer.slots
+  end_met (ended_so fault mid reached closed some kind swept) ready =
       met_there told stage mid old reached fault kind new (ends_there told stage mid old reached closed some refl)
 
 -- where nothing was written yet, the outputs are a new writer's
-none_stands : (told : Bool) (style : Style) {before slots : List Slot} → 2 ≤ length slots → OutputsAt told before nothing slots → At told (new_writer style) before nothing slots
+none_stands : (told : Bool) (style : Style) {before slots : List Slot} → 2 ≤ length slots → OutputsAt told before nothing slots → At told (writer_for style) before nothing slots
 none_stands told style {before} {slots} two at =
     let size : length slots ≡ length before + 0 = outputs_count told before nothing slots at in
-    record { owns = subst (λ n. OwnsFiles (new_writer style) n slots) (let e : length slots ≡ length before = omega (arith, size) in e) (new_owns style two); outputs = at }
+    record { owns = subst (λ n. OwnsFiles (writer_for style) n slots) (let e : length slots ≡ length before = omega (arith, size) in e) (new_owns (naming_of style) (tells_by style) two); outputs = at }
 
 -- the first section began, or could not; the operands are as they are handed over
-pub begins_at : (told : Bool) (style : Style) {given operands : List Operand} {writer : WriterState} {old new : List Slot} → given ≡ operands → 2 ≤ length old → Reaches told (new_writer style) writer nothing (settled_of style given []) old new None
+pub begins_at : (told : Bool) (style : Style) {given operands : List Operand} {writer : WriterState} {old new : List Slot} → given ≡ operands → 2 ≤ length old → Reaches (sizes_wanted style) told (writer_for style) writer nothing (settled_of style given []) old new None
     → (before : List Slot) → OutputsAt told before nothing old → OutputsAt told before (settled_by style operands []) new
 begins_at told style {new} same two reaches before at =
     subst (λ those. OutputsAt told before (settled_of style those []) new) same (reaches.there before (none_stands told style two at)).outputs
@@ -628,7 +672,7 @@ pub cannot_begin : (told : Bool) {style : Style} {given operands : List Operand}
     → (before : List Slot) → OutputsAt told before nothing old → StoppedBetween (sizes_wanted style) told before nothing (settled_by style operands []) fault new
 cannot_begin told {style} {given} {new} {fault} same two stopped before at =
     subst (λ those. StoppedBetween (sizes_wanted style) told before nothing (settled_of style those []) fault new) same
-    (stopped_in_turn (sizes_wanted style) told before nothing (settled_of style given []) fault new (sizes_told style 0 []) (stopped.reaches.there before (none_stands told style two at)))
+    (stopped_in_turn (sizes_wanted style) told before nothing (settled_of style given []) fault new (nothing_told (sizes_wanted style)) (stopped.reaches.there before (none_stands told style two at)))
 
 -- The files are removed.
 

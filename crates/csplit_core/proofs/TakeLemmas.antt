@@ -17,25 +17,29 @@ use Rattle.seg_core.proofs.EndLines.{line_count-grows}
 use Rattle.csplit_core.specs.inner.Cutter.{GoesPast, IsFound, settled_part, part_at, IsWhole, IsLine, Joins, Arrives, Held, Holds, CutsNow, CutsAll, WillCut, TriesNext, search_after, Takes, IsNextFound, Stretches, IsEnd, Tries, IsAfter, CutAt, Spreading, Spread, PassesOver, StopsAt, CutsOn, GoesOn}
 use Rattle.csplit_core.specs.Section.{is_final, most_waiting, settled_end}
 use Rattle.csplit_core.specs.laws.SectionLaws.{ends_as, cuts_from, grows}
-use Rattle.csplit_core.specs.Writer.{IsReady, size_of}
+use Rattle.ports_core.specs.FileWriter.{IsReady, size_of}
 use Rattle.csplit_core.specs.declared.line_cutter.Cut.{Cut}
 use Rattle.csplit_core.specs.declared.progress.Turn.{Turn}
 use Rattle.csplit_core.specs.declared.progress.Turn.TheVariants.{Below}
+use Rattle.ports_core.specs.Draft.{draft_part}
+use Rattle.csplit_core.specs.Output.{manner_of}
 use Rattle.csplit_core.specs.Cutter.{CutterState, suppress_in, state_in, settled_draft, draft_by, IsFit, IsSound, IsAt, IsLive, IsPast, Stands, EndsNow, kept_by, load}
-use Rattle.csplit_core.proofs.CutterLemmas.{at_more, part_more, live_part, left_count, few_taken, live_taken, settled_part_is, most_is, draft_is, final_count, ended_still, keeps_on, settled_same}
+use Rattle.csplit_core.proofs.CutterLemmas.{at_more, part_more, live_part, left_count, few_taken, live_taken, settled_part_is, most_is, draft_is, final_count, ended_still, keeps_on, reaches_then, settled_same}
 use Rattle.csplit_core.proofs.LineLemmas.{all_lines-append, all_lines-line, length-all_lines, count-line, whole_count, whole_from, whole-append, whole_drop, rest_all}
-use Rattle.csplit_core.proofs.WriterLemmas.{leaves_still, reaches_as, reaches_still, where_well, reaches_again, stops_wider}
+use Rattle.ports_core.proofs.FileWriterLemmas.{keeps_files, leaves_still, reaches_as, reaches_still, where_well, stops_wider}
 use Rattle.csplit_core.proofs.TryLemmas.{stays}
 use Rattle.csplit_core.specs.declared.line_cutter.Passed.{Passed}
 use Rattle.ports_core.proofs.PartLemmas.{part_trans}
 use Rattle.csplit_core.specs.inner.PlanLaws.{needed}
-use Rattle.ports_core.specs.inner.Part.{fault_in}
+use Rattle.ports_core.specs.Turn.{fault_in}
 
 -- The lines that were left begin no later than a cut.
 
 live_before : {cutter : CutterState} {x : List ℕ} (t : List ℕ) (live : IsLive cutter x) {operand : Operand} {operands : List Operand} (matched cut : ℕ) → (state_in cutter).operands ≡ operand ∷ operands
     → CutsAt (suppress_in cutter) (all_lines x ++ all_lines t) (state_in cutter) operand operand.target matched cut → settled_end (line_count newline x) live.ends.ending ≤ cut
-live_before {cutter} {x} t live matched cut are at = grind (arith, common_steps, cuts_from, ends_as, length-all_lines)
+live_before {cutter} {x} t live matched cut are at =
+    let so = cuts_from (suppress_in cutter) (all_lines x) (all_lines t) (state_in cutter) live.ends.ending (ends_as _ _ _ _ _ _ live.ends.runs) are in
+    subst (λ n. settled_end n live.ends.ending ≤ cut) (length-all_lines x) (so.1 matched cut at)
 
 pub place_before : {cutter : CutterState} {x : List ℕ} (t : List ℕ) {matched : ℕ} (cut : ℕ) (live : IsLive cutter x) → IsWhole x → (goes : GoesPast (suppress_in cutter) (all_lines (x ++ t)) (state_in cutter) matched cut) → IsFit cutter → cutter.progress.current ≤ cut → cutter.progress.current + live.at.taken ≤ cut
 place_before {cutter} {x} t {matched} cut live whole goes fit from =
@@ -90,7 +94,7 @@ pub took_held : {told : Bool} {cutter next : CutterState} {lines : ℕ} {aim : T
     → ((x : List ℕ) → IsWhole x → IsLive cutter x → (lines ≡ line_count newline (x ++ t)) × EndsNow (more_lines cutter lines aim) (x ++ t)) → Holds told (more_lines cutter lines aim) (cutter.window.held ++ t) old new next fault
     → Takes told cutter t old new next fault
 took_held {cutter = cutter} {next} {lines} {aim} {t} {fault = fault} sound fit differs few ends held = record {
-  keeps = record { operands = held.keeps.operands; writer = held.keeps.writer };
+  keeps = record { operands = held.keeps.operands; style = held.keeps.style; writer = held.keeps.writer };
   reaches = λ x whole stands. let there = reached x whole stands in reaches_as there.same refl (held.reaches (x ++ t) there.at there.arrives);
   went = where_well fault held.went (λ went. record {
     stands = λ x whole stands. let there = reached x whole stands in went.stands (x ++ t) there.at there.arrives;
@@ -140,7 +144,7 @@ took_cut : {told : Bool} {cutter next : CutterState} {lines : ℕ} {aim : Turn} 
     → TriesNext cutter line (more_lines cutter lines aim) (Some cut) → CutsAll told (more_lines cutter lines aim) cut (lines - delimiters newline cutter.window.held) (cutter.window.held ++ line) line more old new next fault
     → Takes told cutter (line ++ more) old new next fault
 took_cut {cutter = cutter} {next} {lines} {aim} line more {cut} {fault = fault} fit differs one counted will tries all = record {
-  keeps = record { operands = all.keeps.operands; writer = all.keeps.writer };
+  keeps = record { operands = all.keeps.operands; style = all.keeps.style; writer = all.keeps.writer };
   reaches = λ x whole stands. let there = reached x whole stands in reaches_as there.same (ap (settled_part cutter) (sym (append_assoc x line more))) (all.reaches (x ++ line) there.at there.now);
   went = where_well fault all.went (λ went. record {
     stands = λ x whole stands. let there = reached x whole stands in subst (Stands next) (append_assoc x line more) (went.stands (x ++ line) there.at there.now);
@@ -172,22 +176,22 @@ take_cut {told} {cutter} {next = next} line more {cut} {old} {new} {fault} fit d
 pub past_plan : (suppress : Bool) (operands : List Operand) {x : List ℕ} (t : List ℕ) → IsWhole x → is_final (plan suppress operands (all_lines x)).ending ≡ true → plan suppress operands (all_lines (x ++ t)) ≡ plan suppress operands (all_lines x)
 past_plan suppress operands {x} t whole final = grind (arith, common_steps, all_lines-append, stays)
 
-final_draft : (suppress : Bool) (operands : List Operand) (x : List ℕ) → is_final (plan suppress operands (all_lines x)).ending ≡ true
-    → draft_by (all_lines x) (plan suppress operands (all_lines x)).steps (kept_by (plan suppress operands (all_lines x)).last.operands) [] ≡ settled_draft suppress operands (all_lines x)
-final_draft suppress operands x final =
-    draft_is settled_end operands x 0 (plan_runs suppress operands (all_lines x)) (final_count (line_count newline x) _ (plan suppress operands (all_lines x)).ending final) refl
+final_draft : (style : Style) (operands : List Operand) (x : List ℕ) → is_final (plan style.suppress operands (all_lines x)).ending ≡ true
+    → draft_by style (all_lines x) (plan style.suppress operands (all_lines x)).steps (kept_by (plan style.suppress operands (all_lines x)).last.operands) [] ≡ settled_draft style operands (all_lines x)
+final_draft style operands x final =
+    draft_is settled_end style operands x 0 (plan_runs style.suppress operands (all_lines x)) (final_count (line_count newline x) _ (plan style.suppress operands (all_lines x)).ending final) refl
 
 past_draft : (style : Style) (operands : List Operand) {x : List ℕ} (t : List ℕ) → IsWhole x → is_final (plan style.suppress operands (all_lines x)).ending ≡ true
-    → settled_draft style.suppress operands (all_lines x) ≡ settled_draft style.suppress operands (all_lines (x ++ t))
+    → settled_draft style operands (all_lines x) ≡ settled_draft style operands (all_lines (x ++ t))
 past_draft style operands {x} t whole final =
     let same = past_plan style.suppress operands t whole final in
-    sym (final_draft style.suppress operands x final)
+    sym (final_draft style operands x final)
     ∙ ended_still style operands t (kept_by (plan style.suppress operands (all_lines x)).last.operands) [] (inl whole) (plan_runs style.suppress operands (all_lines x))
-    ∙ ap (λ (p : Plan). draft_by (all_lines (x ++ t)) p.steps (kept_by p.last.operands) []) (sym same)
-    ∙ final_draft style.suppress operands (x ++ t) (ap (λ (p : Plan). is_final p.ending) same ∙ final)
+    ∙ ap (λ (p : Plan). draft_by style (all_lines (x ++ t)) p.steps (kept_by p.last.operands) []) (sym same)
+    ∙ final_draft style operands (x ++ t) (ap (λ (p : Plan). is_final p.ending) same ∙ final)
 
 pub past_part : {cutter : CutterState} {x : List ℕ} (t : List ℕ) → IsWhole x → IsPast cutter x → settled_part cutter x ≡ settled_part cutter (x ++ t)
-past_part {cutter} {x} t whole past = grind (arith, common_steps, settled_part_is, past_draft)
+past_part {cutter} {x} t whole past = sym (settled_part_is cutter.style cutter.operands (all_lines x)) ∙ ap (draft_part (manner_of cutter.style)) (past_draft cutter.style cutter.operands t whole past.past) ∙ settled_part_is cutter.style cutter.operands (all_lines (x ++ t))
 
 pub is_past : {cutter : CutterState} {x : List ℕ} → cutter.aim ≡ Below → Stands cutter x → IsPast cutter x
 is_past aim fact = grind (arith, common_steps)
@@ -196,7 +200,7 @@ pub still_past : {cutter : CutterState} {x : List ℕ} (t : List ℕ) → IsWhol
 still_past {cutter} t whole past = search (rules, past_plan, past_draft)
 
 pub took_past : {told : Bool} {cutter : CutterState} {t : List ℕ} {slots : List Slot} → cutter.aim ≡ Below → IsSound cutter → IsReady cutter.writer slots → Takes told cutter t slots slots cutter None
-took_past {t = t} aim sound ready = search (rules, leaves_still, reaches_still, past_part, is_past, still_past)
+took_past {t = t} aim sound ready = search (rules, keeps_files, leaves_still, reaches_still, past_part, is_past, still_past)
 
 -- Taking a text of complete lines in, stretch by stretch.
 
@@ -205,14 +209,14 @@ pub found_first : {cutter : CutterState} (left : List ℕ) {size : ℕ} (found :
 found_first left found is known sure = grind (arith, common_steps)
 
 pub more_settled : (cutter : CutterState) {x : List ℕ} (t : List ℕ) → IsWhole x → Begins (settled_part cutter x) (settled_part cutter (x ++ t))
-more_settled cutter {x} t whole = subst (λ lines. Begins (settled_part cutter x) (Rattle.csplit_core.specs.Csplit.settled_of cutter.writer.style cutter.operands lines)) (sym (all_lines-append t (inl whole))) (grows cutter.writer.style cutter.operands (all_lines x) (all_lines t))
+more_settled cutter {x} t whole = subst (λ lines. Begins (settled_part cutter x) (Rattle.csplit_core.specs.Csplit.settled_of cutter.style cutter.operands lines)) (sym (all_lines-append t (inl whole))) (grows cutter.style cutter.operands (all_lines x) (all_lines t))
 
 -- one text after another
 
 pub takes_again : {told : Bool} {one two three : CutterState} {a b : List ℕ} {old mid new : List Slot} {fault : Option Fault} → IsWhole a → Takes told one a old mid two None → Takes told two b mid new three fault → Takes told one (a ++ b) old new three fault
 takes_again {one = one} {three = three} {a} {b} {fault = fault} whole first second = record {
   keeps = keeps_on first.keeps second.keeps;
-  reaches = λ x before stands. reaches_again first.keeps.writer.style (more_settled one a before) (first.reaches x before stands)
+  reaches = λ x before stands. reaches_then first.keeps.style (more_settled one a before) (first.reaches x before stands)
       (reaches_as (sym (settled_same (x ++ a) first.keeps)) (ap (settled_part one) (sym (append_assoc x a b)) ∙ sym (settled_same ((x ++ a) ++ b) first.keeps))
       (second.reaches (x ++ a) (whole-append a before whole) (first.went.stands x before stands)));
   went = where_well fault second.went (λ went. record {
@@ -303,7 +307,7 @@ unfolding at_alike
 spread_more {told} {cutter} {now} {mid} {next} {cut} {cut'} {waiting = waiting} {line} {left} {rest} {between = between} {new} so_far is tries will at_cut =
     let tried = subst (λ (m : CutterState). Tries now line m (Some cut')) is tries in
     let once = (subst (λ (m : CutterState). CutAt told m cut' m.progress.current left between new next rest) is at_cut).spreading line in record {
-      keeps = keeps_on so_far.keeps (record { operands = once.keeps.operands; writer = once.keeps.writer });
+      keeps = keeps_on so_far.keeps (record { operands = once.keeps.operands; style = once.keeps.style; writer = once.keeps.writer });
       lines = once.lines ∙ so_far.lines;
       fit = once.fit;
       held = once.held;
@@ -315,7 +319,7 @@ spread_more {told} {cutter} {now} {mid} {next} {cut} {cut'} {waiting = waiting} 
             near = again.near;
             none = again.none;
             grows = part_trans (part_at cutter x waiting at) (part_at now x left after.now) (part_at next x rest again.now) after.grows again.grows;
-            reaches = reaches_again so_far.keeps.writer.style after.grows after.reaches again.reaches;
+            reaches = reaches_then so_far.keeps.style after.grows after.reaches again.reaches;
           };
       size = (let one = once.size in let two = so_far.size in omega (arith, one, two));
       end = (so_far.end.0 ++ once.end.0, so_far.end.1 ∙ ap (λ those. so_far.end.0 ++ those) once.end.1 ∙ sym (append_assoc so_far.end.0 once.end.0 rest));
@@ -327,8 +331,8 @@ unfolding at_alike
 spread_stopped {told} {now = now} {mid} {next} {cut' = cut'} {line = line} {left} {between = between} {new} {fault} so_far is tries will stops =
     let tried = subst (λ (m : CutterState). Tries now line m (Some cut')) is tries in
     let stopped = subst (λ (m : CutterState). CutsAll told m cut' m.progress.current left line [] between new next (Some fault)) is stops in record {
-      keeps = keeps_on so_far.keeps (record { operands = stopped.keeps.operands; writer = stopped.keeps.writer });
-      reaches = λ x at here. let after = so_far.after x at here in reaches_again so_far.keeps.writer.style after.grows after.reaches
+      keeps = keeps_on so_far.keeps (record { operands = stopped.keeps.operands; style = stopped.keeps.style; writer = stopped.keeps.writer });
+      reaches = λ x at here. let after = so_far.after x at here in reaches_then so_far.keeps.style after.grows after.reaches
           (reaches_as refl (sym (settled_same (x ++ []) so_far.keeps)) (stopped.reaches x (at_alike now mid.aim now.window x left after.now) (cuts_again cut' line after tried will)));
       went = tt;
     }
@@ -340,9 +344,9 @@ pub spread_on : {told : Bool} {cutter now next : CutterState} {lines : ℕ} {aim
     → ((x : List ℕ) (at : IsAt cutter x waiting) (here : CutsNow cutter x waiting line cut place at) → Reached (part_at now x left (so_far.after x at here).now) (more_lines now lines aim) (x ++ more) (left ++ more))
     → Holds told (more_lines now lines aim) (left ++ more) between new next fault → CutsAll told cutter cut place waiting line more old new next fault
 spread_on {cutter = cutter} {next = next} {lines} {left = left} {more} {fault = fault} so_far sound few reached held = record {
-  keeps = keeps_on so_far.keeps (record { operands = held.keeps.operands; writer = held.keeps.writer });
+  keeps = keeps_on so_far.keeps (record { operands = held.keeps.operands; style = held.keeps.style; writer = held.keeps.writer });
   reaches = λ x at here. let after = so_far.after x at here in let there = reached x at here in
-      reaches_again so_far.keeps.writer.style after.grows after.reaches (reaches_as there.same (sym (settled_same (x ++ more) so_far.keeps)) (held.reaches (x ++ more) there.at there.arrives));
+      reaches_then so_far.keeps.style after.grows after.reaches (reaches_as there.same (sym (settled_same (x ++ more) so_far.keeps)) (held.reaches (x ++ more) there.at there.arrives));
   went = where_well fault held.went (λ went. record {
     lines = (let l : next.lines ≡ lines = ap (λ (c : CutterState). c.lines) went.same in omega (arith, l, few));
     sound = sound_held went sound;
@@ -392,7 +396,7 @@ all_alike : {told : Bool} (cutter : CutterState) {next : CutterState} (window : 
     → CutsAll told cutter cut place left line [] old new next fault
 unfolding at_alike
 all_alike cutter window {cut} {left = left} {line} {fault = fault} all = record {
-  keeps = record { operands = all.keeps.operands; writer = all.keeps.writer };
+  keeps = record { operands = all.keeps.operands; style = all.keeps.style; writer = all.keeps.writer };
   reaches = λ x at now. all.reaches x (at_alike cutter cutter.aim window x left at) (cuts_alike window line cut now);
   went = where_well fault all.went (λ went. record { lines = went.lines; sound = went.sound; stands = λ x at now. went.stands x (at_alike cutter cutter.aim window x left at) (cuts_alike window line cut now); size = went.size });
 }

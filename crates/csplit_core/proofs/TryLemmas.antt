@@ -1,5 +1,5 @@
 -- What stays of a plan when more lines come, what a turn says of it, what trying the next operand says, and over which lines it stands as it does.
-use Rattle.std.proofs.Common.{◌≡◌, inl, inr, ℕ, suc, ◌+◌, ◌-◌, ◌<◌, ◌≤◌, Bool, true, false, List, [], ◌∷◌, ◌++◌, length, get_or, refl, ◌∙◌, ap, arith, length-append, zero, ◌*◌, ◌^◌, drop, sym, subst, None, Result, OnOk, IfErr, Option, Some, rules, append-nil, min, cond, take, append_assoc}
+use Rattle.std.proofs.Common.{◌≡◌, inl, inr, ℕ, suc, ◌+◌, ◌-◌, ◌<◌, ◌≤◌, Bool, true, false, List, [], ◌∷◌, ◌++◌, length, get_or, refl, ◌∙◌, ap, arith, length-append, zero, ◌*◌, ◌^◌, drop, sym, subst, None, Result, Ok, Err, OnOk, IfErr, Option, Some, rules, append-nil, min, cond, take, append_assoc}
 use Rattle.csplit_core.specs.Operand.{Target, Number, Search, Operand, Line, unmarked, is_match, Offset, moved, has_more}
 use Rattle.csplit_core.specs.Plan.{State, Step, Ending, missed, above, search_line, MatchesNone, Misses, line_after, Runs, is_used_up, misses, is_above, is_below, cuts, below, CutsAt, operands_after, repetition_after, state_after}
 use Rattle.csplit_core.specs.Planned.{plan}
@@ -18,7 +18,7 @@ use Rattle.ports_core.specs.declared.fault.Fault.{Fault}
 use Rattle.csplit_core.specs.Input.{newline, without_newline, marked, all_lines, is_match_of}
 use Rattle.csplit_core.specs.declared.line_cutter.Cut.{Cut}
 use Rattle.csplit_core.specs.Cutter.{CutterState, state_in, most_by, pattern_by, suppress_in, IsFit, pattern_in, AimHolds, IsLive, EndsNow, IsSound}
-use Rattle.ports_core.specs.inner.Part.{fault_in}
+use Rattle.ports_core.specs.Turn.{fault_in}
 use Rattle.ports_core.specs.declared.fault.Fault.TheVariants.{Memory}
 use Rattle.seg_core.specs.Line.{line_count, lines_of, delimiters, ends_with, EndsAt, FallsShort, joined, HasNone, IsComplete, AreLines}
 use Rattle.csplit_core.proofs.LineLemmas.{all_lines-append, all_lines-line, length-all_lines, count-append, count-line, whole-append, whole_drop, whole_count, whole_by, line_by}
@@ -178,8 +178,9 @@ module _ {cutter : CutterState} {cut : Cut} {operand : Operand} (progress : Prog
   -- the next operand has got what it needs
   pub passes_next : (new : CutterState) (result : Result (Unit {0}) Fault)
       → OnOk result (new ≡ record cutter { progress = progress; window = record { most = most_by (drop progress.done cutter.operands); delim = newline; held = [] }; sought = pattern_by (drop progress.done cutter.operands) })
-      → IfErr result (λ fault. (fault ≡ Memory) × (new.writer ≡ cutter.writer) × (new.operands ≡ cutter.operands)) → PassesCut cutter cut new (fault_in result)
-  passes_next new result is lacks = grind (arith, common_steps, fits, fewer, state)
+      → IfErr result (λ fault. (fault ≡ Memory) × (new.writer ≡ cutter.writer) × (new.operands ≡ cutter.operands) × (new.style ≡ cutter.style)) → PassesCut cutter cut new (fault_in result)
+  passes_next new (Ok done) is lacks = grind (arith, common_steps, fits, fewer, state)
+  passes_next new (Err fault) is lacks = lacks
 
 -- What trying the next operand with the last line says.
 

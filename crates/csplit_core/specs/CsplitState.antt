@@ -1,12 +1,14 @@
 -- What contracts see of the stage that takes in bytes, and what its calls do.
-use Rattle.std.specs.Prelude.{◌≡◌, ◌≢◌, ℕ, ◌+◌, ◌<◌, ◌≤◌, ◌^◌, List, [], length}
+use Rattle.std.specs.Prelude.{◌≡◌, ◌≢◌, ℕ, ◌+◌, ◌<◌, ◌≤◌, ◌^◌, List, [], length, IsTrue}
 use Rattle.seg_core.specs.Line.{delimiters, first_lines}
-use Rattle.ports_core.specs.Slot.{Slot}
+use Rattle.ports_core.specs.Draft.{output_of}
+use Rattle.ports_core.specs.FileWriter.{OwnsFiles, IsReady as CanWrite}
+use Rattle.ports_core.specs.Slot.{Slot, is_writable}
 use Rattle.ports_core.specs.Work.{Work}
 use Rattle.csplit_core.specs.Csplit.{csplit_work}
 use Rattle.csplit_core.specs.Cutter.{CutterState, IsSound, Stands, load}
+use Rattle.csplit_core.specs.Output.{sizes_wanted}
 use Rattle.csplit_core.specs.Input.{newline, open_line}
-use Rattle.csplit_core.specs.Writer.{OwnsFiles, IsReady as CanWrite}
 use Rattle.csplit_core.specs.declared.progress.Turn.TheVariants.{Below}
 
 pub record CsplitState : Type 0 where
@@ -21,7 +23,7 @@ abbrev pub whole_lines : List ℕ → List ℕ
 whole_lines x = first_lines newline (delimiters newline x) x
 
 abbrev pub work : CsplitState → Work
-work stage = csplit_work stage.cutter.writer.style stage.cutter.operands
+work stage = csplit_work stage.cutter.style stage.cutter.operands
 
 -- It can have been fed x: the cutter has the complete lines, and the open line waits for its end. None waits once later
 -- input goes nowhere.
@@ -33,6 +35,9 @@ pub record Holds (stage : CsplitState) (x : List ℕ) : Type 0 where
 -- the outputs that it goes on with can be written, and its numbers are small
 pub record IsReady (stage : CsplitState) (slots : List Slot) : Type 0 where
   pub writer : CanWrite stage.cutter.writer slots
+  pub output : IsTrue (is_writable slots 0)
+  -- it tells sizes just where they are wanted
+  pub tells : output_of stage.cutter.writer.tells ≡ sizes_wanted stage.cutter.style
   pub sound : IsSound stage.cutter
   pub unbroken : delimiters newline stage.rest ≡ 0
   pub room : load stage.cutter + length stage.rest ≤ stage.taken

@@ -1,18 +1,19 @@
 -- What contracts see of the cutter of lines, and what its calls do.
 use Rattle.std.specs.Prelude.{◌≡◌, ◌⊎◌, ℕ, ◌+◌, ◌-◌, ◌≤◌, max, Bool, true, false, List, [], ◌∷◌, ◌++◌, length, map, Option, Some, None}
+use Rattle.std.specs.List.{flat_map}
 use Rattle.bre_core.specs.Pattern.{Pattern}
 use Rattle.seg_core.specs.Line.{line_count, after_lines, first_lines}
 use Rattle.seg_core.specs.Window.{Window}
-use Rattle.csplit_core.specs.Draft.{Draft}
+use Rattle.ports_core.specs.Draft.{Draft}
+use Rattle.ports_core.specs.FileWriter.{WriterState, Writes, seen_writer, size_of}
 use Rattle.csplit_core.specs.Input.{newline, all_lines}
 use Rattle.csplit_core.specs.Measure.{Fits}
 use Rattle.csplit_core.specs.Operand.{Target, Number, Search, Operand, Line, is_kept, most_held}
-use Rattle.csplit_core.specs.Output.{contents_of}
+use Rattle.csplit_core.specs.Output.{Style, manner_of, opening_of, file_in}
 use Rattle.csplit_core.specs.Plan.{State, start, Step, Ending, Runs}
 use Rattle.csplit_core.specs.Planned.{plan}
 use Rattle.csplit_core.specs.Progress.{state_of, EndsHere, WillMove}
 use Rattle.csplit_core.specs.Section.{section_of, lines_between, is_last_kept, settled_end, is_final, most_waiting, bytes_of}
-use Rattle.csplit_core.specs.Writer.{WriterState, Writes, seen_writer, size_of}
 use Rattle.csplit_core.specs.declared.line_cutter.LineCutter.{LineCutter}
 use Rattle.csplit_core.specs.declared.progress.Progress.{Progress}
 use Rattle.csplit_core.specs.declared.progress.Turn.{Turn}
@@ -20,6 +21,8 @@ use Rattle.csplit_core.specs.declared.progress.Turn.TheVariants.{UsedUp, Missed,
 
 pub record CutterState : Type 0 where
   pub operands : List Operand
+  -- how sections are made into files
+  pub style : Style
   pub writer : WriterState
   pub progress : Progress
   -- what the next operand did when it was last tried
@@ -35,6 +38,7 @@ pub record CutterState : Type 0 where
 abbrev pub seen : LineCutter → CutterState
 seen cutter = record {
   operands = cutter.operands.now;
+  style = cutter.style;
   writer = seen_writer cutter.writer;
   progress = cutter.progress;
   aim = cutter.aim;
@@ -44,7 +48,7 @@ seen cutter = record {
 }
 
 abbrev pub suppress_in : CutterState → Bool
-suppress_in cutter = cutter.writer.style.suppress
+suppress_in cutter = cutter.style.suppress
 
 abbrev pub state_in : CutterState → State
 state_in cutter = state_of cutter.operands cutter.progress
@@ -113,19 +117,18 @@ Leads suppress lines operands steps state = (more : List Step) (last : State) (e
     → Runs suppress lines state more last ending → Runs suppress lines (start operands) (steps ++ more) last ending
 
 -- the sections of these steps, and an open one with these bytes
-abbrev pub draft_by : List Line → List Step → Bool → List ℕ → Draft
-draft_by lines steps kept bytes = record {
-  ended = map contents_of (map (section_of lines) steps);
-  is_kept = kept;
+abbrev pub draft_by : Style → List Line → List Step → Bool → List ℕ → Draft
+draft_by style lines steps kept bytes = record {
+  ended = flat_map (file_in style) (map (section_of lines) steps);
+  opening = opening_of style kept;
   bytes = bytes;
 }
 
 -- what is settled of complete lines
-abbrev pub settled_draft : Bool → List Operand → List Line → Draft
-settled_draft suppress operands lines =
-    draft_by lines (plan suppress operands lines).steps (is_last_kept (plan suppress operands lines).ending)
-    (bytes_of (lines_between (plan suppress operands lines).last.current
-    (settled_end (length lines) (plan suppress operands lines).ending) lines))
+abbrev pub settled_draft : Style → List Operand → List Line → Draft
+settled_draft style operands lines = let p = plan style.suppress operands lines in
+    draft_by style lines p.steps (is_last_kept p.ending)
+    (bytes_of (lines_between p.last.current (settled_end (length lines) p.ending) lines))
 
 -- The lines x came in. Of those from the current line on, the first ones are written, and these are left.
 pub record IsAt (cutter : CutterState) (x left : List ℕ) : Type 0 where
@@ -138,7 +141,8 @@ pub record IsAt (cutter : CutterState) (x left : List ℕ) : Type 0 where
   pub few : cutter.progress.current + taken ≤ line_count newline x + 1
   pub written_is : written ≡ first_lines newline taken (text_from cutter.progress.current x)
   pub left_is : left ≡ text_from (cutter.progress.current + taken) x
-  pub writes : Writes cutter.writer (draft_by (all_lines x) steps (kept_by (state_in cutter).operands) written)
+  pub writes : Writes (manner_of cutter.style) cutter.writer
+      (draft_by cutter.style (all_lines x) steps (kept_by (state_in cutter).operands) written)
 
 -- the plan ends where the cutter stands, as its aim says
 abbrev pub EndsNow : CutterState → List ℕ → Type 0
@@ -158,7 +162,8 @@ pub record IsPast (cutter : CutterState) (x : List ℕ) : Type 0 where
   pub past : is_final (plan (suppress_in cutter) cutter.operands (all_lines x)).ending ≡ true
   pub last : state_in cutter ≡ (plan (suppress_in cutter) cutter.operands (all_lines x)).last
   pub none : cutter.window.held ≡ []
-  pub writes : Writes cutter.writer (settled_draft (suppress_in cutter) cutter.operands (all_lines x))
+  pub writes : Writes (manner_of cutter.style) cutter.writer
+      (settled_draft cutter.style cutter.operands (all_lines x))
 
 -- the lines x can have come in
 abbrev pub Stands : CutterState → List ℕ → Type 0

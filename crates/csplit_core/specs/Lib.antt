@@ -9,8 +9,6 @@ pub mod Csplit
 pub mod Progress
 pub mod Agreed
 pub mod Place
-pub mod Draft
-pub mod Writer
 pub mod Cutter
 pub mod CsplitState
 pub mod inner

@@ -1,3 +1,2 @@
 pub mod Cutter
-pub mod Writer
 pub mod PlanLaws

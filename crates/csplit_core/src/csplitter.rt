@@ -10,10 +10,10 @@ ghost use Rattle.csplit_core.specs.Output.{sizes_wanted};
 ghost use Rattle.csplit_core.specs.inner.Cutter.{Closes, Passes, IsLine, Takes};
 ghost use Rattle.csplit_core.specs.CsplitState.{Holds, IsReady, Owns, files, work};
 ghost use Rattle.csplit_core.specs.Cutter.{IsSound, load};
-ghost use Rattle.ports_core.specs.inner.Part.{fault_in};
+ghost use Rattle.ports_core.specs.Turn.{fault_in};
 ghost use Rattle.csplit_core.specs.Input.{newline};
 ghost use Rattle.csplit_core.specs.laws.InputLaws.{lawful};
-ghost use Rattle.csplit_core.specs.Writer.{Breaks, IsReady as CanWrite};
+ghost use Rattle.ports_core.specs.FileWriter.{Breaks, IsReady as CanWrite};
 ghost use Rattle.csplit_core.specs.declared.progress.Turn.TheVariants as turn_is;
 
 use crate::line_cutter::LineCutter;
@@ -72,7 +72,7 @@ impl<'o> Csplitter<'o> {
         ensures there { IfOk result (λ engine. AreThere (files engine.stage) (O.slots outs.new)) }
         ensures outputs { OnOk result ((before : List Slot) → OutputsAt O.told before nothing (O.slots outs.old) → OutputsAt O.told before (settled_by style operands.now []) (O.slots outs.new)) }
         ensures cut { IfErr result (λ fault. (before : List Slot) → OutputsAt O.told before nothing (O.slots outs.old) → StoppedBetween (sizes_wanted style) O.told before nothing (settled_by style operands.now []) fault (O.slots outs.new)) }
-        ensures refused { IfErr result (Breaks style (O.slots outs.old) (O.slots outs.new)) }
+        ensures refused { IfErr result (Breaks (sizes_wanted style) (O.slots outs.old) (O.slots outs.new)) }
         ensures none { IfErr result (λ fault. HasNoFiles (length (O.slots outs.old)) (O.slots outs.new)) }
     {
         let cutter = LineCutter::open(alloc, operands.as_slice(), style, outs)?;
@@ -213,7 +213,7 @@ impl<'o> Stage for Csplitter<'o> {
         0
     }
 
-    ghost lawful = { λ stage. lawful stage.cutter.writer.style stage.cutter.operands };
+    ghost lawful = { λ stage. lawful stage.cutter.style stage.cutter.operands };
 
     ghost there = { λ stage first slots owns. owns.there };
 }

@@ -2,12 +2,12 @@
 ghost use Rattle.std.specs.Prelude.{◌≡◌, ◌+◌, ◌<◌, ◌≤◌, ◌^◌, ◌++◌, [], length, take, IfOk, IfErr, OnOk};
 ghost use Rattle.seg_core.specs.Line.{but_last_lines, last_lines};
 ghost use Rattle.seg_core.specs.Window.{without_first};
-ghost use Rattle.csplit_core.specs.inner.Writer.{with_bytes, Goes};
-ghost use Rattle.ports_core.specs.inner.Part.{fault_in};
-ghost use Rattle.csplit_core.specs.Writer.{IsReady, seen_writer, size_of};
+ghost use Rattle.ports_core.specs.Draft.{with_bytes};
+ghost use Rattle.ports_core.specs.FileWriter.{IsReady, seen_writer, size_of};
+ghost use Rattle.ports_core.specs.FileWriter.{Goes};
+ghost use Rattle.ports_core.specs.Turn.{fault_in};
 
-use crate::section_writer::SectionWriter;
-use ports_core::{Fault, Outs};
+use ports_core::{Fault, FileWriter, Outs};
 use seg_core::line_window::LineWindow;
 use std::alloc::Global;
 
@@ -16,11 +16,11 @@ use std::alloc::Global;
 ///
 /// # Errors
 ///
-/// Those of `SectionWriter::put`, and `Memory` where there is no room for what waits.
+/// Those of `FileWriter::put`, and `Memory` where there is no room for what waits.
 pub(crate) fn hold_last<O: Outs>(
     window: &mut LineWindow,
     text: &[u8],
-    writer: &mut SectionWriter,
+    writer: &mut FileWriter,
     outs: &mut O,
 ) -> Result<(), Fault>
     requires fits { size_of writer.old.current + length window.old.held + length text.now < 2 ^ 64 }
@@ -41,7 +41,7 @@ pub(crate) fn hold_last<O: Outs>(
 pub(crate) fn write_front<O: Outs>(
     window: &mut LineWindow,
     n: u64,
-    writer: &mut SectionWriter,
+    writer: &mut FileWriter,
     outs: &mut O,
 ) -> Result<(), Fault>
     requires held { n ≤ length window.old.held }

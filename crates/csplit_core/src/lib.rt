@@ -2,6 +2,7 @@
 #![tactic(auto)]
 
 mod csplitter;
+mod files;
 mod holding;
 pub mod laws;
 mod line_cutter;
@@ -9,7 +10,6 @@ mod lines;
 mod matcher;
 mod next_operand;
 mod progress;
-mod section_writer;
 
 pub use csplitter::Csplitter;
 pub use operand_core::{

@@ -13,19 +13,19 @@ ghost use Rattle.csplit_core.specs.inner.Cutter.{AreClear, Clears, CutAt, CutsAl
 ghost use Rattle.csplit_core.specs.Input.{all_lines, newline, without_newline};
 ghost use Rattle.csplit_core.specs.Measure.{Fits};
 ghost use Rattle.csplit_core.specs.Operand.{Line};
-ghost use Rattle.ports_core.specs.inner.Part.{fault_in};
-ghost use Rattle.csplit_core.specs.Writer.{IsReady, size_of};
+ghost use Rattle.ports_core.specs.Turn.{fault_in};
+ghost use Rattle.ports_core.specs.FileWriter.{IsReady, size_of};
 ghost use Rattle.csplit_core.specs.declared.progress.Turn.TheVariants as turn_is;
 
+use crate::files::{opening_of, writer_of};
 use crate::holding::{drain, hold_last, write_front};
 use crate::lines::{skip_line, split_lines};
 use crate::matcher::{Matcher, text_of};
 use crate::next_operand::{find_matcher, find_window, is_kept, next_operand};
 use crate::progress::{Progress, Turn};
-use crate::section_writer::SectionWriter;
 use crate::{Operand, Style, Target, Times};
 use memchr::memchr;
-use ports_core::{Fault, Outs};
+use ports_core::{Fault, FileWriter, Outs};
 use seg_core::line::{NEWLINE, count_delimiters, next_line, reach};
 use seg_core::line_reach::Reach;
 use seg_core::line_window::LineWindow;
@@ -54,7 +54,8 @@ pub struct Passed {
 pub struct LineCutter<'o> {
     alloc: Global,
     operands: &'o [Operand],
-    writer: SectionWriter,
+    style: Style,
+    writer: FileWriter,
     progress: Progress,
     /// What the next operand did when it was last tried; never a cut.
     aim: Turn,
@@ -86,14 +87,14 @@ impl<'o> LineCutter<'o> {
         let next = next_operand(operands, 0);
         let matcher = find_matcher(alloc, next)?;
         let window = find_window(alloc, next)?;
-        let suppress = style.suppress;
-        let mut writer = SectionWriter::new(alloc, style);
-        writer.begin(is_kept(next), outs)?;
+        let mut writer = writer_of(alloc, &style)?;
+        writer.begin(opening_of(&style, is_kept(next)), outs)?;
         let progress = Progress::start();
-        let aim = progress.turn(suppress, operands, 0, false);
+        let aim = progress.turn(style.suppress, operands, 0, false);
         Ok(LineCutter {
             alloc,
             operands,
+            style,
             writer,
             progress,
             aim,
@@ -105,9 +106,9 @@ impl<'o> LineCutter<'o> {
 
     /// How files are made.
     pub(crate) fn style(&self) -> &Style
-        ensures { result.now ≡ self.now.writer.style }
+        ensures { result.now ≡ self.now.style }
     {
-        self.writer.style()
+        &self.style
     }
 
     /// How many bytes wait.
@@ -435,12 +436,10 @@ impl<'o> LineCutter<'o> {
         ensures cuts { IfSome result (WillCut (seen self.old)) }
         ensures tries { (line : List ℕ) → IsFound (seen self.old) (without_newline line) self.old.lines found → Tries (seen self.old) line (seen self.new) result }
     {
-        let turn = self.progress.turn(
-            self.writer.style().suppress,
-            self.operands,
-            self.lines,
-            found,
-        );
+        let suppress = self.style().suppress;
+        let turn = self
+            .progress
+            .turn(suppress, self.operands, self.lines, found);
         match cut_of(turn) {
             Some(cut) => Some(cut),
             None => {
@@ -458,7 +457,7 @@ impl<'o> LineCutter<'o> {
         ensures same { seen self.new ≡ seen self.old }
         ensures found { IsFound (seen self.old) text.now line result }
     {
-        if line < self.progress.search_line(self.writer.style().suppress) {
+        if line < self.progress.search_line(self.style().suppress) {
             return false;
         }
         match &mut self.matcher {
@@ -533,8 +532,10 @@ impl<'o> LineCutter<'o> {
         self.writer.put(before, outs)?;
         self.pass(cut)?;
         let is_kept = is_kept(next_operand(self.operands, self.progress.done));
-        self.writer.next(is_kept, outs)?;
-        Ok(skip_line(self.writer.style().suppress, rest))
+        let style = self.style();
+        let (opening, suppress) = (opening_of(style, is_kept), style.suppress);
+        self.writer.next(opening, outs)?;
+        Ok(skip_line(suppress, rest))
     }
 
     /// Goes on after a cut of the next operand, where no line waits.
@@ -546,7 +547,7 @@ impl<'o> LineCutter<'o> {
         ensures { PassesCut (seen self.old) cut (seen self.new) (fault_in result) }
     {
         let done = self.progress.done;
-        let suppress = self.writer.style().suppress;
+        let suppress = self.style().suppress;
         let operands = self.operands;
         self.progress
             .pass(suppress, &operands[done], cut.matched, cut.line);
@@ -559,7 +560,7 @@ impl<'o> LineCutter<'o> {
     /// Gets what the next operand needs.
     fn equip(&mut self) -> Result<(), Fault>
         ensures same { OnOk result (seen self.new ≡ record (seen self.old) { window = record { most = most_by (state_in (seen self.old)).operands; delim = newline; held = [] }; sought = pattern_by (state_in (seen self.old)).operands }) }
-        ensures err { IfErr result (λ fault. (fault ≡ Fault.Memory) × ((seen self.new).writer ≡ (seen self.old).writer) × ((seen self.new).operands ≡ (seen self.old).operands)) }
+        ensures err { IfErr result (λ fault. (fault ≡ Fault.Memory) × ((seen self.new).writer ≡ (seen self.old).writer) × ((seen self.new).operands ≡ (seen self.old).operands) × ((seen self.new).style ≡ (seen self.old).style)) }
     {
         let next = next_operand(self.operands, self.progress.done);
         self.matcher = find_matcher(self.alloc, next)?;

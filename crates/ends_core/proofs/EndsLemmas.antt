@@ -15,16 +15,17 @@ use Rattle.ports_core.specs.declared.fault.Fault.{Fault}
 use Rattle.seg_core.specs.declared.unit.Unit.{Unit as Counted}
 use Rattle.seg_core.specs.declared.unit.Unit.TheVariants.{Bytes, Lines}
 use Rattle.ends_core.specs.declared.ends.Ends.{Ends}
+use Rattle.ends_core.specs.declared.front.Front.{Front}
 use Rattle.ends_core.specs.declared.ends.Ends.TheVariants.{First, ButLast, FromNth, Last}
 use Rattle.ends_core.specs.Ends.{measure, first_of, after_of, last_of, but_last_of}
 use Rattle.ends_core.specs.Head.{head_work, IsDone, ahead_of}
 use Rattle.ends_core.specs.Stage.{Stretch, the_first, from_the_nth, the_last, keeps, work_in, stretch_of, delim_of, unit_of, count_of, left_of, waiting_of, waiting, past_in, past_of, may_lack, work, Holds, is_done, all_but_last}
-use Rattle.ends_core.specs.inner.Stage.{is_last, due, due_at_end, left_waiting, is_full, unused_of, FullLacksNone, SameAsked, piece_for, wanted_by}
+use Rattle.ends_core.specs.inner.Stage.{IsSilent, due, due_at_end, left_waiting, is_full, unused_of, FullLacksNone, SameAsked, piece_for, wanted_by}
 use Rattle.ends_core.specs.Kept.{most_of, delim_of as kept_delim, unit_of as kept_unit}
 use Rattle.ends_core.specs.inner.Kept.{Passes, Stops}
 use Rattle.ends_core.specs.laws.WorkLaws.{full_head}
 use Rattle.ends_core.specs.laws.EndsLaws.{ends_together, first_then_after, measure-append, first_of-append, first_of-short, after_of-append, last_of-append, but_last_of-append, first_of-full}
-use Rattle.ends_core.proofs.KeptLemmas.{measure-delimiters, first_of-more, but_last_grows, first_of-nil, last_none, after-past}
+use Rattle.ends_core.proofs.KeptLemmas.{measure-delimiters, first_of-more, but_last_grows, first_of-nil, last_none, after-past, stays}
 use Rattle.ends_core.proofs.KeptLemmas as stop
 use Rattle.ports_core.specs.Guard.{GuardState, HoldsIn}
 use Rattle.ports_core.proofs.SpareLemmas.{all_used}
@@ -174,41 +175,47 @@ waits_within the_first delim unit n x = omega arith
 waits_within from_the_nth delim unit n x = omega arith
 waits_within s delim unit n x = omega (arith, sym (length-append (but_last_of delim unit n x) (last_of delim unit n x)) ∙ ap length (ends_together delim unit n x))
 
--- only where the last are asked for is a front taken in, and of these nothing is written before the end
+-- what is taken in of an input is as a piece with which nothing is written
 
-settled_same : (s : Stretch) (delim : ℕ) (unit : Counted) (n : ℕ) {x : List ℕ} → (is_last s ≡ false → x ≡ []) → (work_in s delim unit n).settled x ≡ (work_in s delim unit n).settled []
-settled_same the_last delim unit n none = refl
-settled_same s delim unit n none = ap (work_in s delim unit n).settled (none refl)
+-- of nothing nothing is written
+pub silent_none : (ends : Ends) → IsSilent ends ends []
+silent_none (First count front) = (refl, refl)
+silent_none (ButLast kept) = (refl, refl)
+silent_none (FromNth count front) = let none = stays front front.unit in (none.0, ap (λ (those : Front). those.left) none.1)
+silent_none (Last kept) = refl
 
-goes_on : (s : Stretch) (delim : ℕ) (unit : Counted) (n : ℕ) {x : List ℕ} → (is_last s ≡ false → x ≡ []) → (x ≡ []) ⊎ ((work_in s delim unit n).is_complete x ≡ false)
-goes_on the_last delim unit n none = inr refl
-goes_on s delim unit n none = inl (none refl)
+as_piece : (ends next : Ends) (x : List ℕ) → Holds ends [] → waiting_of next ≡ waiting ends x → past_of next ≡ past_of ends → IsSilent ends next x
+    → (past_of next ≡ past_of ends + length (unused_of ends x)) × (left_of next ≡ left_of ends - measure (delim_of ends) (unit_of ends) x) × (waiting_of next ≡ left_waiting ends x)
+as_piece (FromNth count front) next x fresh waits past silent = (past, silent.1, waits)
+as_piece (Last kept) next x fresh waits past silent = (past, silent ∙ omega arith, waits ∙ ap (λ held. last_of (kept_delim kept) (kept_unit kept) (most_of kept) (held ++ x)) (sym (fresh.waits ∙ last_none (kept_delim kept) (kept_unit kept) (most_of kept))))
+as_piece ends next x fresh waits past silent = grind (arith, common_steps)
 
-not_last : (s : Stretch) → keeps s ≡ false → is_last s ≡ false
-not_last the_last none = cc
-not_last s none = refl
+silent_out : (ends next : Ends) (x : List ℕ) → Holds ends [] → IsSilent ends next x → (work ends).settled x ≡ (work ends).settled []
+silent_out (FromNth count front) next x fresh silent =
+    sym (went_out (FromNth count front) x fresh) ∙ ap (λ bytes. record ((work (FromNth count front)).settled []) { out = ((work (FromNth count front)).settled []).out ++ bytes }) silent.0 ∙ ap only_out (append-nil _)
+silent_out (Last kept) next x fresh silent = refl
+silent_out ends next x fresh silent = ap (work ends).settled silent.0
 
-past_same : (s : Stretch) (delim : ℕ) (unit : Counted) (n : ℕ) {x : List ℕ} → (is_last s ≡ false → x ≡ []) → past_in s delim unit n [] ≡ past_in s delim unit n x
-past_same the_first delim unit n none = grind (arith, common_steps)
-past_same s delim unit n none = refl
+goes_on : (ends next : Ends) (x : List ℕ) → IsSilent ends next x → (x ≡ []) ⊎ ((work ends).is_complete x ≡ false)
+goes_on (FromNth count front) next x silent = inr refl
+goes_on (Last kept) next x silent = inr refl
+goes_on ends next x silent = inl silent.0
 
-pub loads : (told : Bool) (most slot count : ℕ) (ends next : Ends) (old new : List Source) → Holds ends [] → SameAsked ends next → left_of next ≡ left_of ends → past_of next ≡ past_of ends → (is_last (stretch_of ends) ≡ false → count ≡ 0)
-    → Passes told most slot count (λ x. waiting_of next ≡ waiting ends x) old new → FullLacksNone next → Loads Holds (λ (those : Ends) slots. IsTrue (is_writable slots 0)) OwnsNone work told most slot count ends next old new
-loads told most slot count ends next old new fresh same left past others passes full =
-    let none : is_last (stretch_of ends) ≡ false → passes.front ≡ [] = λ is. nil_from_length passes.front (sym passes.long ∙ others is) in
-    let waits = passes.keeps ∙ sym (same_for (λ s d u n. (work_in s d u n).waiting passes.front) same) in
-    record {
+pub loads : (told : Bool) (most slot count : ℕ) (ends next : Ends) (old new : List Source) → Holds ends [] → SameAsked ends next → past_of next ≡ past_of ends
+    → Passes told most slot count (λ x. (waiting_of next ≡ waiting ends x) × IsSilent ends next x) old new → FullLacksNone next → Loads Holds (λ (those : Ends) slots. IsTrue (is_writable slots 0)) OwnsNone work told most slot count ends next old new
+loads told most slot count ends next old new fresh same past passes full =
+    let piece = as_piece ends next passes.front fresh passes.keeps.0 past passes.keeps.1 in record {
       front = passes.front;
       long = passes.long;
       there = passes.there;
       mid = passes.mid;
       looked = passes.looked;
       passed = passes.passed;
-      holds = grind (arith, common_steps, fresh, same, left, past, waits, full, none, same_for, not_last, past_same, none_lacks, full_lacks);
+      holds = takes_in ends passes.front same piece.0 piece.1 piece.2 full [] fresh;
       ready = λ slots is. is;
       owns = λ first slots is. is;
-      idle = settled_same (stretch_of ends) (delim_of ends) (unit_of ends) (count_of ends) none;
-      going = goes_on (stretch_of ends) (delim_of ends) (unit_of ends) (count_of ends) none;
+      idle = silent_out ends next passes.front fresh passes.keeps.1;
+      going = goes_on ends next passes.front passes.keeps.1;
     }
 
 -- What waits in an engine that was fed a text.

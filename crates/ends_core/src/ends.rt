@@ -7,7 +7,7 @@ ghost use Rattle.ports_core.specs.Guard.{HoldsIn};
 ghost use Rattle.ends_core.specs.Ends.{measure};
 ghost use Rattle.ends_core.specs.Head.{head_work};
 ghost use Rattle.ends_core.specs.Tail.{tail_work};
-ghost use Rattle.ends_core.specs.inner.Stage.{FullLacksNone, SameAsked, due, due_at_end, is_full, is_last, left_waiting, unused_of, wanted_by};
+ghost use Rattle.ends_core.specs.inner.Stage.{FullLacksNone, IsSilent, SameAsked, due, due_at_end, is_full, left_waiting, unused_of, wanted_by};
 ghost use Rattle.ends_core.specs.Stage.{is_done, Holds, IsAsked, all_but_last, delim_of, from_the_nth, left_of, may_lack, past_of, stretch_of, the_first, the_last, unit_of, waiting, waiting_of, work};
 ghost use Rattle.ends_core.specs.laws.WorkLaws.{lawful};
 ghost use Rattle.ends_core.specs.inner.Kept.{Passes, Writes};
@@ -173,26 +173,25 @@ impl Stage for Ends {
         }
     }
 
-    /// Takes in all that an input has left before any piece, where the last are asked for, and returns how many bytes
-    /// these are.
+    /// Takes in what an input has left before any piece, without reading all of it, and returns how many bytes these are:
+    /// where the last are asked for all of them, and where all from the nth byte on, those before it.
     fn load<I: Inputs>(&mut self, slot: usize, buffer: &mut [u8], inputs: &mut I) -> u64
         requires room { 0 < length buffer.old }
         requires input { IsTrue (is_readable (I.sources inputs.old) slot) }
         requires none { waiting_of self.old ≡ [] }
         requires full { FullLacksNone self.old }
         ensures same { SameAsked self.old self.new }
-        ensures left { left_of self.new ≡ left_of self.old }
         ensures past { past_of self.new ≡ past_of self.old }
-        ensures others { is_last (stretch_of self.old) ≡ false → result ≡ 0 }
-        ensures passes { Passes I.told (length buffer.old) slot result (λ x. waiting_of self.new ≡ waiting self.old x) (I.sources inputs.old) (I.sources inputs.new) }
+        ensures passes { Passes I.told (length buffer.old) slot result (λ x. (waiting_of self.new ≡ waiting self.old x) × IsSilent self.old self.new x) (I.sources inputs.old) (I.sources inputs.new) }
         ensures full { FullLacksNone self.new }
         ensures laid { I.laid inputs.new ≡ I.laid inputs.old }
         ensures bound { result < 2 ^ 63 }
     {
-        let Ends::Last(kept) = self else {
-            return 0;
-        };
-        kept.load(slot, buffer, inputs)
+        match self {
+            Ends::Last(kept) => kept.load(slot, buffer, inputs),
+            Ends::FromNth(_, front) => front.pass_over(slot, buffer, inputs),
+            Ends::First(_, _) | Ends::ButLast(_) => 0,
+        }
     }
 
     /// Writes what waits, where the last are asked for.

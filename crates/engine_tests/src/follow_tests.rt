@@ -8,7 +8,7 @@ ghost use Rattle.follow_core.specs.Look.{unopened, unread};
 ghost use Rattle.follow_core.specs.inner.Placing.{looks_after};
 
 use ends_core::Unit;
-use follow_core::{Follow, Start};
+use follow_core::{Follow, Limits, Start, follow_files};
 use mem_core::{Edit, MemOut, MemWatch};
 use ports_core::Fault;
 use std::alloc::Global;
@@ -18,43 +18,43 @@ use watch_core::Watch;
 
 /// `tail -F -n 1 f`: what is appended, a truncation, and a replacement after more was appended.
 fn by_name()
-    ensures { followed (record { first = 0; by_name = true; start = tail_of 10 Unit.Lines false 1 }) false (codes "f" ∷ []) (looks_after ((replace (codes "f") (codes "a\nb\n") ∷ []) ∷ (append (codes "f") (codes "c") ∷ []) ∷ (truncate (codes "f") 0 ∷ []) ∷ (append (codes "f") (codes "z\n") ∷ []) ∷ (append (codes "f") (codes "w") ∷ replace (codes "f") (codes "q\n") ∷ []) ∷ []))
+    ensures { followed (record { first = 0; by_name = true; start = tail_of 10 Unit.Lines false 1; seeks = true }) false (codes "f" ∷ []) (looks_after ((replace (codes "f") (codes "a\nb\n") ∷ []) ∷ (append (codes "f") (codes "c") ∷ []) ∷ (truncate (codes "f") 0 ∷ []) ∷ (append (codes "f") (codes "z\n") ∷ []) ∷ (append (codes "f") (codes "w") ∷ replace (codes "f") (codes "q\n") ∷ []) ∷ []))
         ≡ record { out = codes "b\ncz\nwq\n"; messages = codes "tail: 'f': file truncated\n" ∷ codes "tail: 'f': file replaced\n" ∷ []; has_failed = false } }
 {}
 
 /// `tail -F f`, where the file comes after the first look.
 fn that_appears()
-    ensures { followed (record { first = 0; by_name = true; start = tail_of 10 Unit.Lines false 10 }) false (codes "f" ∷ []) (looks_after ([] ∷ (replace (codes "f") (codes "x\n") ∷ []) ∷ []))
+    ensures { followed (record { first = 0; by_name = true; start = tail_of 10 Unit.Lines false 10; seeks = true }) false (codes "f" ∷ []) (looks_after ([] ∷ (replace (codes "f") (codes "x\n") ∷ []) ∷ []))
         ≡ record { out = codes "x\n"; messages = codes "tail: cannot open 'f'\n" ∷ codes "tail: 'f': file appeared\n" ∷ []; has_failed = true } }
 {}
 
 /// `tail -F f`, where the file is removed and another one comes.
 fn that_comes_again()
-    ensures { followed (record { first = 0; by_name = true; start = tail_of 10 Unit.Lines false 10 }) false (codes "f" ∷ []) (looks_after ((replace (codes "f") (codes "a\n") ∷ []) ∷ (remove (codes "f") ∷ []) ∷ (replace (codes "f") (codes "b\n") ∷ []) ∷ []))
+    ensures { followed (record { first = 0; by_name = true; start = tail_of 10 Unit.Lines false 10; seeks = true }) false (codes "f" ∷ []) (looks_after ((replace (codes "f") (codes "a\n") ∷ []) ∷ (remove (codes "f") ∷ []) ∷ (replace (codes "f") (codes "b\n") ∷ []) ∷ []))
         ≡ record { out = codes "a\nb\n"; messages = codes "tail: 'f': file inaccessible\n" ∷ codes "tail: 'f': file appeared\n" ∷ []; has_failed = false } }
 {}
 
 /// `tail -f f`, where the file is removed and another one comes: the one that was opened is followed.
 fn that_is_left()
-    ensures { followed (record { first = 0; by_name = false; start = tail_of 10 Unit.Lines false 10 }) false (codes "f" ∷ []) (looks_after ((replace (codes "f") (codes "a\n") ∷ []) ∷ (remove (codes "f") ∷ []) ∷ (replace (codes "f") (codes "b\n") ∷ []) ∷ []))
+    ensures { followed (record { first = 0; by_name = false; start = tail_of 10 Unit.Lines false 10; seeks = true }) false (codes "f" ∷ []) (looks_after ((replace (codes "f") (codes "a\n") ∷ []) ∷ (remove (codes "f") ∷ []) ∷ (replace (codes "f") (codes "b\n") ∷ []) ∷ []))
         ≡ record { out = codes "a\n"; messages = []; has_failed = false } }
 {}
 
 /// `tail -f g`, where there is no such file.
 fn that_is_missing()
-    ensures { followed (record { first = 0; by_name = false; start = tail_of 10 Unit.Lines false 10 }) false (codes "g" ∷ []) (looks_after ([] ∷ []))
+    ensures { followed (record { first = 0; by_name = false; start = tail_of 10 Unit.Lines false 10; seeks = true }) false (codes "g" ∷ []) (looks_after ([] ∷ []))
         ≡ record { out = []; messages = codes "tail: cannot open 'g'\n" ∷ []; has_failed = true } }
 {}
 
 /// `tail -f -c 2 f`, where the file is truncated.
 fn that_is_truncated()
-    ensures { followed (record { first = 0; by_name = false; start = tail_of 10 Unit.Bytes false 2 }) false (codes "f" ∷ []) (looks_after ((replace (codes "f") (codes "abc") ∷ []) ∷ (truncate (codes "f") 1 ∷ []) ∷ (append (codes "f") (codes "d") ∷ []) ∷ []))
+    ensures { followed (record { first = 0; by_name = false; start = tail_of 10 Unit.Bytes false 2; seeks = false }) false (codes "f" ∷ []) (looks_after ((replace (codes "f") (codes "abc") ∷ []) ∷ (truncate (codes "f") 1 ∷ []) ∷ (append (codes "f") (codes "d") ∷ []) ∷ []))
         ≡ record { out = codes "bcad"; messages = codes "tail: 'f': file truncated\n" ∷ []; has_failed = false } }
 {}
 
 /// `tail -f -n 1 f g`: a header stands where the text of another name begins.
 fn of_two_names()
-    ensures { followed (record { first = 0; by_name = false; start = tail_of 10 Unit.Lines false 1 }) true (codes "f" ∷ codes "g" ∷ []) (looks_after ((replace (codes "f") (codes "a\n") ∷ replace (codes "g") (codes "b\n") ∷ []) ∷ (append (codes "f") (codes "c\n") ∷ []) ∷ (append (codes "f") (codes "d\n") ∷ []) ∷ (append (codes "g") (codes "e\n") ∷ []) ∷ []))
+    ensures { followed (record { first = 0; by_name = false; start = tail_of 10 Unit.Lines false 1; seeks = true }) true (codes "f" ∷ codes "g" ∷ []) (looks_after ((replace (codes "f") (codes "a\n") ∷ replace (codes "g") (codes "b\n") ∷ []) ∷ (append (codes "f") (codes "c\n") ∷ []) ∷ (append (codes "f") (codes "d\n") ∷ []) ∷ (append (codes "g") (codes "e\n") ∷ []) ∷ []))
         ≡ record { out = codes "==> f <==\na\n\n==> g <==\nb\n\n==> f <==\nc\nd\n\n==> g <==\ne\n"; messages = []; has_failed = false } }
 {}
 
@@ -62,14 +62,14 @@ fn of_two_names()
 fn of_one_that_breaks()
     ensures { let first = replace (codes "f") (codes "a\n") ∷ replace (codes "g") (codes "b\n") ∷ [] in
         let later = (append (codes "f") (codes "c\n") ∷ []) ∷ (append (codes "f") (codes "d\n") ∷ []) ∷ (append (codes "g") (codes "e\n") ∷ []) ∷ [] in
-        followed (record { first = 0; by_name = false; start = tail_of 10 Unit.Lines false 1 }) true (codes "f" ∷ codes "g" ∷ []) (record { snapshot = seen_in (edited_by first empty_world); fates = unopened ∷ [] } ∷ drop 1 (looks_after (first ∷ later)))
+        followed (record { first = 0; by_name = false; start = tail_of 10 Unit.Lines false 1; seeks = true }) true (codes "f" ∷ codes "g" ∷ []) (record { snapshot = seen_in (edited_by first empty_world); fates = unopened ∷ [] } ∷ drop 1 (looks_after (first ∷ later)))
         ≡ record { out = codes "==> g <==\nb\ne\n"; messages = codes "tail: cannot open 'f'\n" ∷ []; has_failed = true } }
 {}
 
 /// `tail -F f`, where another file comes that can't be opened: what came to the open one is written, and that it was replaced is told.
 fn that_cannot_be_opened()
     ensures { let first = replace (codes "f") (codes "a\n") ∷ [] in let later = append (codes "f") (codes "c\n") ∷ replace (codes "f") (codes "q\n") ∷ [] in
-        followed (record { first = 0; by_name = true; start = tail_of 10 Unit.Lines false 1 }) false (codes "f" ∷ [])
+        followed (record { first = 0; by_name = true; start = tail_of 10 Unit.Lines false 1; seeks = true }) false (codes "f" ∷ [])
         (record { snapshot = seen_in (edited_by first empty_world); fates = [] } ∷ record { snapshot = seen_in (edited_by later (edited_by first empty_world)); fates = unopened ∷ [] } ∷ [])
         ≡ record { out = codes "a\nc\n"; messages = codes "tail: 'f': file replaced\n" ∷ codes "tail: cannot open 'f'\n" ∷ []; has_failed = true } }
 {}
@@ -77,7 +77,7 @@ fn that_cannot_be_opened()
 /// `tail -f -c 2 f`, where a read of its sixth byte fails: what stands before it is written.
 fn that_cannot_be_read()
     ensures { let first = replace (codes "f") (codes "abc") ∷ [] in let later = append (codes "f") (codes "defg") ∷ [] in
-        followed (record { first = 0; by_name = false; start = tail_of 10 Unit.Bytes false 2 }) false (codes "f" ∷ [])
+        followed (record { first = 0; by_name = false; start = tail_of 10 Unit.Bytes false 2; seeks = false }) false (codes "f" ∷ [])
         (record { snapshot = seen_in (edited_by first empty_world); fates = [] } ∷ record { snapshot = seen_in (edited_by later (edited_by first empty_world)); fates = unread (Some 0) 5 ∷ [] } ∷ [])
         ≡ record { out = codes "bcde"; messages = codes "tail: cannot read 'f'\n" ∷ []; has_failed = true } }
 {}
@@ -135,6 +135,51 @@ fn look_twice(rt: &impl Abort, alloc: Global, row: &Row<'_>) -> Result<(), Fault
     follow.look(&mut watch, &mut outs)?;
     assert_eq!(rt; (outs.bytes(0), outs.bytes(1)), (row.2, row.3));
     assert_eq!(rt; watch.open_id(0), opened);
+    Ok(())
+}
+
+/// A process that is waited for, in how many looks at most, and what is written.
+type Waited = (Option<u32>, u64, &'static [u8]);
+
+/// Process 7 ends before the third of four looks, of which that is the last.
+const WAITED: &[Waited] = &[
+    (Some(7), 4, b"a\nb\nc\n"),
+    (Some(7), 2, b"a\nb\n"),
+    (Some(8), 4, b"a\nb\nc\nd\n"),
+    (None, 4, b"a\nb\nc\nd\n"),
+];
+
+#[test]
+fn ends_with_a_process(rt: HostRuntime) -> Result<(), Fail> {
+    for row in WAITED {
+        wait_for(&rt, rt.alloc(), row)?;
+    }
+    Ok(())
+}
+
+/// A run writes this, and its status is 0.
+fn wait_for(rt: &impl Abort, alloc: Global, row: &Waited) -> Result<(), Fault> {
+    let mut watch = MemWatch::new(alloc)?;
+    watch.then(&[Edit::Replace("f", b"a\n")])?;
+    watch.then(&[Edit::Append("f", b"b\n")])?;
+    watch.then(&[Edit::Append("f", b"c\n"), Edit::End(7)])?;
+    watch.then(&[Edit::Append("f", b"d\n")])?;
+    let mut outs = MemOut::new(alloc)?;
+    let limits = Limits {
+        looks: row.1,
+        process: row.0,
+    };
+    let status = follow_files(
+        alloc,
+        &["f"],
+        LAST_LINE,
+        true,
+        false,
+        limits,
+        &mut watch,
+        &mut outs,
+    );
+    assert_eq!(rt; (status, outs.bytes(0)), (0, row.2));
     Ok(())
 }
 

@@ -16,7 +16,7 @@ use ends_core::{Ends, Unit};
 use follow_core::{Follow, Notice, Start, notice_line};
 use mem_core::{Edit, MemOut, MemWatch};
 use ports_core::{Alphabet, Fault, Guarded, Mode, Names, Outs, Stage};
-use split_core::{Cut, Splitter};
+use split_core::{Cut, Limit, Splitter};
 use std::alloc::Global;
 use std::process::Abort;
 use std::test::Fail;
@@ -71,25 +71,25 @@ const ROWS: &[Row<'static>] = &[
         &[],
     ),
     (
-        Job::Split(Cut::Lines(1)),
+        Job::Split(Cut::Parts(Limit::Lines(1, b'\n'))),
         &[b"a\nb", b"\n"],
         b"",
         &[b"a\n", b"b\n"],
     ),
     (
-        Job::Split(Cut::Bytes(2)),
+        Job::Split(Cut::Parts(Limit::Bytes(2))),
         &[b"a", b"bc"],
         b"",
         &[b"ab", b"c"],
     ),
     (
-        Job::Split(Cut::LineBytes(4)),
+        Job::Split(Cut::Parts(Limit::LineBytes(4, b'\n'))),
         &[b"a\nb", b"c"],
         b"",
         &[b"a\n", b"bc"],
     ),
     (
-        Job::Split(Cut::Round(2)),
+        Job::Split(Cut::Round(2, b'\n')),
         &[b"a\nb", b"\nc"],
         b"",
         &[b"a\nc", b"b\n"],
@@ -169,25 +169,9 @@ fn open_cut(alloc: Global, cut: Cut, outs: &mut MemOut) -> Result<Guarded<Splitt
 {
     let names = Names::new(alloc, "x", Alphabet::Letters, 2, true, "")?;
     match cut {
-        Cut::Lines(count) => {
-            open_splitter(alloc, Cut::Lines(count.max(1)), names, false, b'\n', outs)
-        }
-        Cut::Bytes(count) => {
-            open_splitter(alloc, Cut::Bytes(count.max(1)), names, false, b'\n', outs)
-        }
-        Cut::LineBytes(count) => {
-            open_splitter(
-                alloc,
-                Cut::LineBytes(count.max(1)),
-                names,
-                false,
-                b'\n',
-                outs,
-            )
-        }
-        Cut::Round(count) => {
-            open_splitter(alloc, Cut::Round(count.max(1)), names, false, b'\n', outs)
-        }
+        Cut::Parts(limit) if limit.most() > 0 => open_splitter(alloc, cut, names, false, outs),
+        Cut::Round(count, _) if count > 0 => open_splitter(alloc, cut, names, false, outs),
+        _ => Err(Fault::Failed),
     }
 }
 

@@ -1,4 +1,4 @@
-//! What a tail takes in of an input from its end, by blocks that are shorter than the texts.
+//! What a tail takes in of an input without reading all of it, by blocks that are shorter than the texts.
 ghost use Rattle.std.specs.Prelude.{[]};
 ghost use Rattle.ends_core.specs.Stage.{Holds};
 ghost use Rattle.ports_core.specs.Guard.{HoldsIn};
@@ -24,7 +24,7 @@ const TEXT: &[u8] = b"ab\ncd\nef\ngh\nij\nkl\nmn\nop\nqr\nst\n";
 
 #[test]
 fn last_lines_are_taken_in(rt: HostRuntime) -> Result<(), Fail> {
-    load_rows(&rt, rt.alloc(), LINES)
+    load_rows(&rt, rt.alloc(), Side::Last, LINES)
 }
 
 const LINES: &[Row<'static>] = &[
@@ -112,7 +112,7 @@ const LINES: &[Row<'static>] = &[
 
 #[test]
 fn last_bytes_are_taken_in(rt: HostRuntime) -> Result<(), Fail> {
-    load_rows(&rt, rt.alloc(), BYTES)
+    load_rows(&rt, rt.alloc(), Side::Last, BYTES)
 }
 
 const BYTES: &[Row<'static>] = &[
@@ -155,18 +155,87 @@ const BYTES: &[Row<'static>] = &[
     ),
 ];
 
+#[test]
+fn front_bytes_are_passed_over(rt: HostRuntime) -> Result<(), Fail> {
+    load_rows(&rt, rt.alloc(), Side::FromNth, FRONTS)
+}
+
+/// From which byte or line on all is wanted, as `Row`.
+const FRONTS: &[Row<'static>] = &[
+    (
+        Unit::Bytes,
+        25,
+        b'\n',
+        TEXT,
+        24,
+        &[
+            Step::Feed(b"qr\nst\n"),
+            Step::Wrote(b"qr\nst\n"),
+            Step::Close,
+        ],
+    ),
+    (
+        Unit::Bytes,
+        31,
+        b'\n',
+        TEXT,
+        30,
+        &[Step::Feed(b"u"), Step::Wrote(b"u"), Step::Close],
+    ),
+    (
+        Unit::Bytes,
+        33,
+        b'\n',
+        TEXT,
+        30,
+        &[Step::Feed(b"uvw"), Step::Wrote(b"w"), Step::Close],
+    ),
+    (
+        Unit::Bytes,
+        u64::MAX,
+        b'\n',
+        TEXT,
+        30,
+        &[Step::Feed(b"u"), Step::Wrote(b""), Step::Close],
+    ),
+    // What one block holds is fed.
+    (
+        Unit::Bytes,
+        5,
+        b'\n',
+        TEXT,
+        0,
+        &[Step::Feed(b"abcde"), Step::Wrote(b"e"), Step::Close],
+    ),
+    // Lines are counted as they come.
+    (
+        Unit::Lines,
+        9,
+        b'\n',
+        TEXT,
+        0,
+        &[Step::Feed(TEXT), Step::Wrote(b"qr\nst\n"), Step::Close],
+    ),
+];
+
 /// Lets a tail take in what it can of an input, and takes the steps that follow.
-fn load_rows(rt: &impl Abort, alloc: Global, rows: &[Row<'_>]) -> Result<(), Fail> {
+fn load_rows(rt: &impl Abort, alloc: Global, side: Side, rows: &[Row<'_>]) -> Result<(), Fail> {
     for (number, row) in rows.iter().enumerate() {
-        load_row(rt, alloc, number, row)?;
+        load_row(rt, alloc, side, number, row)?;
     }
     Ok(())
 }
 
-fn load_row(rt: &impl Abort, alloc: Global, number: usize, row: &Row<'_>) -> Result<(), Fail> {
+fn load_row(
+    rt: &impl Abort,
+    alloc: Global,
+    side: Side,
+    number: usize,
+    row: &Row<'_>,
+) -> Result<(), Fail> {
     let (unit, count, delim, text, taken, steps) = *row;
     let asked = Asked {
-        side: Side::Last,
+        side,
         unit,
         count,
         delim,

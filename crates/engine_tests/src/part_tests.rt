@@ -1,7 +1,7 @@
 //! Cutting into parts that follow one another: what each file gets, row by row, and each short text, cut into
 //! pieces in each way, beside the plain program.
 ghost use Rattle.std.specs.Prelude.{◌≡◌, ◌<◌, ◌≤◌, false, length, IfOk};
-ghost use Rattle.split_core.specs.Parts.{most};
+ghost use Rattle.seg_core.specs.Cut.{most};
 ghost use Rattle.split_core.specs.Ways.{Ready};
 
 use crate::part_plain::plain_parts;
@@ -312,7 +312,7 @@ fn ends_where_no_name_is_left(rt: HostRuntime) -> Result<(), Fail> {
 
 const NAMES: &[NamesRow<'static>] = &[
     (
-        Cut::Bytes(1),
+        Cut::Parts(Limit::Bytes(1)),
         Alphabet::Digits,
         false,
         &[
@@ -328,13 +328,13 @@ const NAMES: &[NamesRow<'static>] = &[
         ],
     ),
     (
-        Cut::Bytes(1),
+        Cut::Parts(Limit::Bytes(1)),
         Alphabet::Digits,
         false,
         &[Step::Feed(b"0123456789"), Step::Close, TEN_FILES],
     ),
     (
-        Cut::Lines(1),
+        Cut::Parts(Limit::Lines(1, b'\n')),
         Alphabet::Letters,
         true,
         &[
@@ -346,7 +346,7 @@ const NAMES: &[NamesRow<'static>] = &[
         ],
     ),
     (
-        Cut::Lines(1),
+        Cut::Parts(Limit::Lines(1, b'\n')),
         Alphabet::Digits,
         true,
         &[
@@ -386,27 +386,12 @@ fn open_with(
     names: Names,
     outs: &mut MemOut,
 ) -> Result<Guarded<Splitter>, Fault>
-    requires fresh { names.drawn ≡ 0 }
     requires streams { 2 ≤ length outs.old }
     ensures { IfOk result (λ splitter. Ready splitter.stage outs.new) }
 {
     match cut {
-        Cut::Lines(most) if most > 0 => {
-            open_splitter(alloc, Cut::Lines(most), names, false, b'\n', outs)
-        }
-        Cut::Bytes(most) if most > 0 => {
-            open_splitter(alloc, Cut::Bytes(most), names, false, b'\n', outs)
-        }
+        Cut::Parts(limit) if limit.most() > 0 => open_splitter(alloc, cut, names, false, outs),
         _ => Err(Fault::Failed),
-    }
-}
-
-/// The number of a limit.
-fn most_of(limit: Limit) -> u64
-    ensures { result ≡ most limit }
-{
-    match limit {
-        Limit::Lines(most, _) | Limit::Bytes(most) | Limit::LineBytes(most, _) => most,
     }
 }
 
@@ -415,19 +400,11 @@ fn open(alloc: Global, limit: Limit, outs: &mut MemOut) -> Result<Guarded<Splitt
     requires { 2 ≤ length outs.old }
     ensures { IfOk result (λ splitter. Ready splitter.stage outs.new) }
 {
-    if most_of(limit) == 0 {
+    if limit.most() == 0 {
         return Err(Fault::Failed);
     }
     let names = Names::new(alloc, "x", Alphabet::Letters, 2, true, "")?;
-    match limit {
-        Limit::Lines(most, delim) => {
-            open_splitter(alloc, Cut::Lines(most), names, false, delim, outs)
-        }
-        Limit::Bytes(most) => { open_splitter(alloc, Cut::Bytes(most), names, false, b'\n', outs) }
-        Limit::LineBytes(most, delim) => {
-            open_splitter(alloc, Cut::LineBytes(most), names, false, delim, outs)
-        }
-    }
+    open_splitter(alloc, Cut::Parts(limit), names, false, outs)
 }
 
 /// What the number of a limit counts.

@@ -2,7 +2,8 @@
 ghost use Rattle.std.specs.Prelude.{◌≡◌, ◌≤◌, [], false, length, IfOk};
 ghost use Rattle.ends_core.specs.Stage.{Holds};
 ghost use Rattle.ports_core.specs.Guard.{HoldsIn};
-ghost use Rattle.split_core.specs.Splitter.{IsPositive, HasNames};
+ghost use Rattle.seg_core.specs.Cut.{IsPositive};
+ghost use Rattle.split_core.specs.Split.{HasNames};
 ghost use Rattle.split_core.specs.Ways.{Ready};
 
 use crate::ends_plain::{Asked, Side};
@@ -96,16 +97,14 @@ pub(crate) fn open_splitter(
     cut: Cut,
     names: Names,
     elide: bool,
-    delim: u8,
     outs: &mut MemOut,
 ) -> Result<Guarded<Splitter>, Fault>
     requires some { IsPositive cut }
-    requires fresh { names.drawn ≡ 0 }
-    requires enough { HasNames cut names }
+    requires enough { HasNames cut names.naming }
     requires streams { 2 ≤ length outs.old }
     ensures { IfOk result (λ splitter. Ready splitter.stage outs.new) }
 {
-    Splitter::open(alloc, cut, names, elide, delim, outs)
+    Splitter::open(alloc, cut, names, elide, outs)
 }
 
 /// Feeds an engine a piece, also one that is over.

@@ -268,5 +268,5 @@ fn start(
     ensures ready { IfOk result (λ engine. Ready engine.stage outs.new) }
 {
     let names = Names::new(alloc, "x", Alphabet::Letters, 2, true, "")?;
-    open_splitter(alloc, Cut::Round(count), names, elide, delim, outs)
+    open_splitter(alloc, Cut::Round(count, delim), names, elide, outs)
 }

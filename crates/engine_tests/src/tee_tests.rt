@@ -6,7 +6,7 @@ ghost use Rattle.tee_core.specs.Outputs.{IsReady};
 
 use crate::play::has_files;
 use mem_core::{MemIn, MemOut};
-use ports_core::{Fault, Inputs, Mode, Outs};
+use ports_core::{Fault, Inputs, Mode, OnBroken, Outs};
 use std::alloc::Global;
 use std::process::Abort;
 use std::test::Fail;
@@ -61,6 +61,8 @@ struct Case<'a> {
     limits: &'a [(usize, usize)],
     /// Which of the calls for outputs is refused; 0 where none is.
     refused: u64,
+    /// What is done once an output is broken.
+    on_broken: OnBroken,
     left: Left<'a>,
 }
 
@@ -70,17 +72,24 @@ fn check(rt: &impl Abort, alloc: Global, case: &Case<'_>) -> Result<(), Fault> {
     plan_break(&mut inputs, case.breaks_at)?;
     let mut outs = outs_of(alloc, case.limits)?;
     plan_refusal(&mut outs, case.refused);
-    let status = run(alloc, case.names, Mode::Fresh, &mut inputs, &mut outs);
+    let status = run_tee(
+        alloc,
+        case.names,
+        Mode::Fresh,
+        case.on_broken,
+        &mut inputs,
+        &mut outs,
+    );
     check_left(rt, &outs, case, status);
     Ok(())
 }
 
-/// Runs `tee`.
+/// Runs `tee`, which goes on once an output is broken.
 fn run(alloc: Global, names: &[&str], mode: Mode, inputs: &mut MemIn, outs: &mut MemOut) -> u8
     requires inputs { IsFresh inputs.old.sources }
     requires outputs { outs.old ≡ streams }
 {
-    run_tee(alloc, names, mode, inputs, outs)
+    run_tee(alloc, names, mode, OnBroken::GoOn, inputs, outs)
 }
 
 /// Has standard input break off there, if it is to.
@@ -132,6 +141,7 @@ const SOUND: Case<'static> = Case {
     breaks_at: None,
     limits: &[],
     refused: 0,
+    on_broken: OnBroken::GoOn,
     left: ALL,
 };
 
@@ -305,6 +315,107 @@ const VAIN: &[Case<'static>] = &[
             status: 1,
         },
         ..SOUND
+    },
+];
+
+/// Where it stops, the run ends after the piece in which the first output broke, and the others have what was read.
+#[test]
+fn stops_where_an_output_broke(rt: HostRuntime) -> Result<(), Fail> {
+    check_each(&rt, rt.alloc(), STOPPED)
+}
+
+/// The same as `SOUND`, in pieces of two bytes, and it stops.
+const STOPS: Case<'static> = Case {
+    piece: 2,
+    on_broken: OnBroken::Stop,
+    ..SOUND
+};
+
+const STOPPED: &[Case<'static>] = &[
+    STOPS,
+    Case {
+        limits: &[(2, 3)],
+        left: Left {
+            output: b"abcd",
+            files: &[b"abc", b"abcd"],
+            messages: b"tee: cannot write 's'\n",
+            status: 1,
+        },
+        ..STOPS
+    },
+    Case {
+        limits: &[(0, 3), (3, 2)],
+        left: Left {
+            output: b"abc",
+            files: &[b"abcd", b"ab"],
+            messages: b"tee: cannot write 'standard output'\ntee: cannot write 't'\n",
+            status: 1,
+        },
+        ..STOPS
+    },
+    Case {
+        limits: &[(0, 1), (3, 3)],
+        left: Left {
+            output: b"a",
+            files: &[b"ab", b"ab"],
+            messages: b"tee: cannot write 'standard output'\n",
+            status: 1,
+        },
+        ..STOPS
+    },
+    Case {
+        piece: 6,
+        limits: &[(3, 0)],
+        left: Left {
+            files: &[b"abcdef", b""],
+            messages: b"tee: cannot write 't'\n",
+            status: 1,
+            ..ALL
+        },
+        ..STOPS
+    },
+    Case {
+        names: &[],
+        piece: 1,
+        breaks_at: Some(3),
+        limits: &[(0, 2)],
+        left: Left {
+            output: b"ab",
+            files: &[],
+            messages: b"tee: cannot write 'standard output'\n",
+            status: 1,
+        },
+        ..STOPS
+    },
+    Case {
+        breaks_at: Some(4),
+        limits: &[(2, 4)],
+        left: Left {
+            output: b"abcd",
+            files: &[b"abcd", b"abcd"],
+            messages: b"tee: cannot read 'standard input'\n",
+            status: 1,
+        },
+        ..STOPS
+    },
+    Case {
+        refused: 2,
+        left: Left {
+            output: b"",
+            files: &[b"", b""],
+            messages: b"tee: cannot open 't'\n",
+            status: 1,
+        },
+        ..STOPS
+    },
+    Case {
+        refused: 12,
+        left: Left {
+            messages: b"tee: cannot write 's'\n",
+            status: 1,
+            ..ALL
+        },
+        ..STOPS
     },
 ];
 

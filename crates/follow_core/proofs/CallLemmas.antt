@@ -1,6 +1,6 @@
 -- What a call on a name gives, by what the calls in it give: bytes under headers, and lines; the open file, and where the name leads.
 use Rattle.std.proofs.lemmas.Grind.{common_steps}
-use Rattle.std.proofs.Common.{subst₂, ◌≡◌, ℕ, Bool, List, [], ◌∷◌, ◌++◌, ◌⊎◌, inl, inr, ◌∙◌, ap, subst, ◌+◌, ◌<◌, length, take, true, false, not, if◌then◌else◌, Some, None, Option, refl, sym, arith, append_assoc, length-append, ◌-◌, ◌≤◌, drop, bytes_eq, is_none, option_map, suc, zero, IsTrue, is_some, rules}
+use Rattle.std.proofs.Common.{subst₂, ◌≡◌, ℕ, Bool, List, [], ◌∷◌, ◌++◌, ◌⊎◌, inl, inr, ◌∙◌, ap, subst, ◌+◌, ◌<◌, length, take, true, false, not, if◌then◌else◌, Some, None, Option, refl, sym, arith, append_assoc, length-append, ◌-◌, ◌≤◌, drop, bytes_eq, nat_lt, is_none, option_map, suc, zero, IsTrue, is_some, rules}
 use Rattle.ports_core.specs.Slot.{Slot, with_written, with_broken, told_of, is_open, changed_at}
 use Rattle.ports_core.specs.Message.{Says, PrintsOn}
 use Rattle.ports_core.specs.declared.tool.Tool.TheVariants.{Tail}
@@ -16,8 +16,11 @@ use Rattle.ports_core.specs.declared.fault.Fault.{Fault}
 use Rattle.ports_core.proofs.WriteLemmas.{broke_later, none_written, written_both}
 use Rattle.follow_core.specs.Followed.{has_header, is_empty, is_last}
 use Rattle.follow_core.specs.Printing.{PrinterState, Short, broke as short_broke, no_room}
-use Rattle.follow_core.specs.inner.Giving.{IsFront, AreGiven, ArePut, BrokeAt, Came, CanGoOn, Copies, Ends, FailsToRead, Follows, IfBroke, Keeps, IsLong, Noted, Puts, Starts, WereFound, change_between, fault_by, over_by, printer_under, text_under}
+use Rattle.std.proofs.lemmas.Bool.Decides.{nat_tests}
+use Rattle.follow_core.specs.declared.notice.Notice.TheVariants.{Truncated}
+use Rattle.follow_core.specs.inner.Giving.{IsFront, AreGiven, ArePut, BrokeAt, Came, CanGoOn, Copies, Ends, FailsToRead, Follows, IfBroke, Keeps, HoldsMany, IsPast, Noted, Puts, Starts, WereFound, change_between, fault_by, notes_past, over_by, printer_under, text_under}
 use Rattle.follow_core.specs.declared.visitor.Stop.{Stop}
+use Rattle.follow_core.specs.Standing.{IsLong}
 use Rattle.follow_core.specs.Reading.{AllGive, AreRead, IsRead, IsWhole, none_read, one_more}
 use Rattle.follow_core.specs.Event.{Begins, begins_none, Event, all_but, bytes_in, gives, notes}
 use Rattle.follow_core.specs.Look.{Fate, sound, unmeasured, unsought, unread, failed_by}
@@ -267,20 +270,22 @@ untold ends = record { events = ends.events; are = λ t. ends.are refl; found = 
 
 -- what reads gave
 
-noted_gives : (Is : List ℕ → Type 0) (events : List Event) → Noted events → AllGive Is events
-noted_gives Is [] noted = tt
-noted_gives Is (notes notice ∷ events) noted = noted_gives Is events noted
-noted_gives Is (gives bytes ∷ events) noted = absurd noted.0
+pub all_give : {Tells Told : Notice → Type 0} {Is Other : List ℕ → Type 0} (events : List Event) → ((notice : Notice) → Tells notice → Told notice)
+    → ((bytes : List ℕ) → Is bytes → Other bytes) → AllGive Tells Is events → AllGive Told Other events
+all_give [] told so all = tt
+all_give (notes notice ∷ events) told so all = (told notice all.0, all_give events told so all.1)
+all_give (gives bytes ∷ events) told so all = (so bytes all.0, all_give events told so all.1)
 
-all_give : {Is Other : List ℕ → Type 0} (events : List Event) → ((bytes : List ℕ) → Is bytes → Other bytes) → AllGive Is events → AllGive Other events
-all_give [] so all = tt
-all_give (notes notice ∷ events) so all = all_give events so all
-all_give (gives bytes ∷ events) so all = (so bytes all.0, all_give events so all.1)
+noted_gives : (Tells : Notice → Type 0) (Is : List ℕ → Type 0) (events : List Event) → Noted Tells events → AllGive Tells Is events
+noted_gives Tells Is events noted = all_give events (λ notice tells. tells) (λ bytes none. absurd none) noted
 
-give_both : (Is : List ℕ → Type 0) (events more : List Event) → AllGive Is events → AllGive Is more → AllGive Is (events ++ more)
-give_both Is [] more first second = second
-give_both Is (notes notice ∷ events) more first second = give_both Is events more first second
-give_both Is (gives bytes ∷ events) more first second = (first.0, give_both Is events more first.1 second)
+pub noted_as : {One Other : Notice → Type 0} (events : List Event) → ((notice : Notice) → One notice → Other notice) → Noted One events → Noted Other events
+noted_as events so = all_give events so (λ bytes none. none)
+
+give_both : (Tells : Notice → Type 0) (Is : List ℕ → Type 0) (events more : List Event) → AllGive Tells Is events → AllGive Tells Is more → AllGive Tells Is (events ++ more)
+give_both Tells Is [] more first second = second
+give_both Tells Is (notes notice ∷ events) more first second = (first.0, give_both Tells Is events more first.1 second)
+give_both Tells Is (gives bytes ∷ events) more first second = (first.0, give_both Tells Is events more first.1 second)
 
 -- from places among others
 read_from : {One Other : Option ℕ → ℕ → Type 0} {snapshot : Snapshot} {name bytes : List ℕ} → ((file : Option ℕ) (from : ℕ) → One file from → Other file from)
@@ -305,24 +310,25 @@ sound_whole fate whole = record {
   ];
 }
 
-pub found_from : {One Other : Option ℕ → ℕ → Type 0} (snapshot : Snapshot) (name : List ℕ) (fate : Fate) (stop : Option Stop) → ((file : Option ℕ) (from : ℕ) → One file from → Other file from)
-    → (events : List Event) → WereFound One snapshot name fate stop events → WereFound Other snapshot name fate stop events
-found_from snapshot name fate None so events found = all_give events (λ bytes. whole_from so) found
-found_from snapshot name fate (Some (Broke why)) so events found = all_give events (λ bytes. whole_from so) found
-found_from snapshot name fate (Some (Over why)) so events (all, begins, found) = (all, begins, all_give all (λ bytes. read_from so) found)
+pub found_from : {Tells Told : Notice → Type 0} {One Other : Option ℕ → ℕ → Type 0} (snapshot : Snapshot) (name : List ℕ) (fate : Fate) (stop : Option Stop)
+    → ((notice : Notice) → Tells notice → Told notice) → ((file : Option ℕ) (from : ℕ) → One file from → Other file from)
+    → (events : List Event) → WereFound Tells One snapshot name fate stop events → WereFound Told Other snapshot name fate stop events
+found_from snapshot name fate None told so events found = all_give events told (λ bytes. whole_from so) found
+found_from snapshot name fate (Some (Broke why)) told so events found = all_give events told (λ bytes. whole_from so) found
+found_from snapshot name fate (Some (Over why)) told so events (all, begins, found) = (all, begins, all_give all told (λ bytes. read_from so) found)
 
-pub noted_found : (Begin : Option ℕ → ℕ → Type 0) (snapshot : Snapshot) (name : List ℕ) (fate : Fate) (stop : Option Stop) (events : List Event) → Noted events → WereFound Begin snapshot name fate stop events
-noted_found Begin snapshot name fate None events noted = noted_gives (IsWhole Begin snapshot name sound) events noted
-noted_found Begin snapshot name fate (Some (Broke why)) events noted = noted_gives (IsWhole Begin snapshot name fate) events noted
-noted_found Begin snapshot name fate (Some (Over why)) events noted = (events, begins_all events, noted_gives (IsRead Begin snapshot name) events noted)
+pub noted_found : (Tells : Notice → Type 0) (Begin : Option ℕ → ℕ → Type 0) (snapshot : Snapshot) (name : List ℕ) (fate : Fate) (stop : Option Stop) (events : List Event) → Noted Tells events → WereFound Tells Begin snapshot name fate stop events
+noted_found Tells Begin snapshot name fate None events noted = noted_gives Tells (IsWhole Begin snapshot name sound) events noted
+noted_found Tells Begin snapshot name fate (Some (Broke why)) events noted = noted_gives Tells (IsWhole Begin snapshot name fate) events noted
+noted_found Tells Begin snapshot name fate (Some (Over why)) events noted = (events, begins_all events, noted_gives Tells (IsRead Begin snapshot name) events noted)
 
 -- two steps, of which the first was done
-pub found_both : (Begin : Option ℕ → ℕ → Type 0) (snapshot : Snapshot) (name : List ℕ) (one fate : Fate) (stop : Option Stop) (events more : List Event)
-    → WereFound Begin snapshot name one None events → WereFound Begin snapshot name fate stop more → WereFound Begin snapshot name fate stop (events ++ more)
-found_both Begin snapshot name one fate None events more first second = give_both (IsWhole Begin snapshot name sound) events more first second
-found_both Begin snapshot name one fate (Some (Broke why)) events more first second = give_both (IsWhole Begin snapshot name fate) events more (all_give events (λ bytes. sound_whole fate) first) second
-found_both Begin snapshot name one fate (Some (Over why)) events more first (all, begins, second) =
-    (events ++ all, begins_after events begins, give_both (IsRead Begin snapshot name) events all (all_give events (λ bytes whole. whole.is) first) second)
+pub found_both : (Tells : Notice → Type 0) (Begin : Option ℕ → ℕ → Type 0) (snapshot : Snapshot) (name : List ℕ) (one fate : Fate) (stop : Option Stop) (events more : List Event)
+    → WereFound Tells Begin snapshot name one None events → WereFound Tells Begin snapshot name fate stop more → WereFound Tells Begin snapshot name fate stop (events ++ more)
+found_both Tells Begin snapshot name one fate None events more first second = give_both Tells (IsWhole Begin snapshot name sound) events more first second
+found_both Tells Begin snapshot name one fate (Some (Broke why)) events more first second = give_both Tells (IsWhole Begin snapshot name fate) events more (all_give events (λ notice tells. tells) (λ bytes. sound_whole fate) first) second
+found_both Tells Begin snapshot name one fate (Some (Over why)) events more first (all, begins, second) =
+    (events ++ all, begins_after events begins, give_both Tells (IsRead Begin snapshot name) events all (all_give events (λ notice tells. tells) (λ bytes whole. whole.is) first) second)
 
 -- bytes that were put are one event
 
@@ -413,17 +419,25 @@ ends_can {stop} ends can = came_can stop ends.came can
 
 -- a line was told
 pub tells : {told_in told : Bool} {printer : PrinterState} {name text : List ℕ} {found : Notice} {before : List Event} {old new : List Slot} → text ≡ notice_of found name → PrintsOn told text old new
-    → Ends told_in Noted told false printer name (notes found ∷ []) before old printer new None
+    → Ends told_in (Noted (λ notice. notice ≡ found)) told false printer name (notes found ∷ []) before old printer new None
 tells {printer} {found} is prints = record {
   events = notes found ∷ [];
   are = λ t. refl;
-  found = tt;
+  found = (refl, tt);
   came = record {
     printer_is = λ none. rw (and-false printer.headers) refl;
     slots = rw (and-false printer.headers) (wrote_line (λ output error others are. let said = prints output error others are in
         (said.0, record { said = _; is = inl is; printed = said.1 }, said.2)));
   };
 }
+
+-- that a file is shorter was told
+pub past_noted : {told_in told : Bool} {printer after : PrinterState} {name : List ℕ} {position len : ℕ} {before : List Event} {old new : List Slot} (stop : Option Stop)
+    → len < position → Ends told_in (Noted (λ notice. notice ≡ Truncated)) told false printer name (notes Truncated ∷ []) before old after new stop
+    → Ends told_in (Noted (IsPast position len)) told false printer name (notes_past position len) before old after new stop
+past_noted {position} {len} stop short ends =
+    let is : nat_lt len position ≡ true = grind (arith, nat_tests) in
+    rw is (found_as (λ events noted. noted_as events (λ notice same. (same, short)) noted) ends)
 
 pub opens_same : (names : List Watched) (place : ℕ) → changed_at place (opens (watched_at names place).opened) names ≡ names
 opens_same [] place = refl
@@ -497,8 +511,17 @@ pub found_at : {seen seen_old : List Snapshot} {now old : List Watched} (place f
     → Found (latest seen) (watched_at now place).name (reads_as (watched_at now place).opened from bytes) → Found (latest seen_old) (watched_at old place).name (reads_as (watched_at old place).opened from bytes)
 found_at place from bytes saw same = subst₂ (λ (those : List Snapshot) (names : List Watched). Found (latest those) (watched_at names place).name (reads_as (watched_at names place).opened from bytes)) saw same
 
-pub long_at : {seen seen_old : List Snapshot} {now old : List Watched} (place len : ℕ) → seen_old ≡ seen → old ≡ now → IsLong (latest seen_old) (watched_at old place) len → IsLong (latest seen) (watched_at now place) len
-long_at place len saw same = subst₂ (λ (those : List Snapshot) (names : List Watched). IsLong (latest those) (watched_at names place) len) saw same
+pub long_at : {seen seen_old : List Snapshot} {now old : List Watched} (place len : ℕ) → seen_old ≡ seen → old ≡ now → HoldsMany (latest seen_old) (watched_at old place) len → HoldsMany (latest seen) (watched_at now place) len
+long_at place len saw same = subst₂ (λ (those : List Snapshot) (names : List Watched). HoldsMany (latest those) (watched_at names place) len) saw same
+
+-- of an open file it says how much it was found to hold
+pub is_held : (snapshot : Snapshot) (name : List ℕ) (len : ℕ) (opened : Option ℕ) → Found snapshot name (holds_many opened len) → IsLong false snapshot name opened len
+is_held snapshot name len None found = λ no. absurd (false≢true no)
+is_held snapshot name len (Some file) found = found
+
+pub held_many : (by_name : Bool) (snapshot : Snapshot) (name : List ℕ) (len : ℕ) (opened : Option ℕ) → is_some opened ≡ true → IsLong by_name snapshot name opened len → Found snapshot name (holds_many opened len)
+held_many by_name snapshot name len None some long = absurd (false≢true some)
+held_many by_name snapshot name len (Some file) some long = long
 
 pub opened_is : (names : List Watched) (place : ℕ) → IsTrue (is_readable names place) → is_some (watched_at names place).opened ≡ true
 opened_is names place readable = (and_parts (is_some (watched_at names place).opened) (is_watchable names place) readable).0
@@ -588,35 +611,42 @@ module _ {told_in told : Bool} {snapshot : Snapshot} {name : List ℕ} {from pla
 
 -- ways out of the start part
 
-module _ {told_in told : Bool} {snapshot : Snapshot} {start : List ℕ → List ℕ} {place : ℕ} {name : List ℕ} {watched : List Watched} {printer : PrinterState} {slots : List Slot} where
+module _ {told_in told seeks : Bool} {snapshot : Snapshot} {start : List ℕ → List ℕ} {place : ℕ} {name : List ℕ} {watched : List Watched} {printer : PrinterState} {slots : List Slot} where
   pub starts_unmeasured : {watched_new : List Watched} {why : Fault} → why ≡ fault.Read place → watched_new ≡ changed_at place (breaks (λ file. Len file)) watched
-      → Starts told_in told snapshot start place name watched printer slots watched_new printer slots (Some (Broke why))
+      → Starts told_in told seeks snapshot start place name watched printer slots watched_new printer slots (Some (Broke why))
   starts_unmeasured fault broken = record {
     fate = unmeasured (watched_at watched place).opened;
     ends = broke_first tt;
     keeps = (broke_at (λ file. Len file) refl refl fault broken, refl);
+    met = λ by_name. refl;
   }
 
-  pub starts_unsought : {now watched_new : List Watched} {inside : PrinterState} {why : Fault} → inside ≡ printer → now ≡ watched → why ≡ fault.Read place → FailsToRead place now watched_new
-      → Starts told_in told snapshot start place name watched printer slots watched_new inside slots (Some (Broke why))
-  starts_unsought viewed same fault (from, broken) = rw viewed (record {
+  pub starts_unsought : {now watched_new : List Watched} {inside : PrinterState} {why : Fault} → inside ≡ printer → now ≡ watched → why ≡ fault.Read place → FailsToRead place now watched_new → seeks ≡ true
+      → Starts told_in told seeks snapshot start place name watched printer slots watched_new inside slots (Some (Broke why))
+  starts_unsought viewed same fault (from, broken) sought = rw viewed (record {
     fate = unsought (watched_at watched place).opened from;
     ends = broke_first tt;
     keeps = (broke_at (λ file. Read file from) refl same fault broken, refl);
+    met = λ by_name. sought;
   })
 
   pub starts_copied : {seen : Snapshot} {now watched_new : List Watched} {from : ℕ} {inside after : PrinterState} {slots_new : List Slot} (stop : Option Stop) → inside ≡ printer → seen ≡ snapshot → now ≡ watched
       → (told_in ≡ true → drop from (open_contents snapshot (watched_at watched place)) ≡ start (open_contents snapshot (watched_at watched place)))
       → Copies told_in told seen from place name now inside slots watched_new after slots_new stop
-      → Starts told_in told snapshot start place name watched printer slots watched_new after slots_new stop
+      → Starts told_in told seeks snapshot start place name watched printer slots watched_new after slots_new stop
   starts_copied {from} stop viewed saw same part copied = let copies = rw (viewed, saw, same) at copied in let contents = open_contents snapshot (watched_at watched place) in
       let holds = contents_open snapshot (watched_at watched place) in record {
         fate = unread (watched_at watched place).opened copies.at;
-        ends = found_as (found_from snapshot (watched_at watched place).name (unread (watched_at watched place).opened copies.at) stop (λ file from begins. tt))
+        ends = found_as (found_from snapshot (watched_at watched place).name (unread (watched_at watched place).opened copies.at) stop (λ notice told. told) (λ file from begins. tt))
             (due_as (λ t. let due = ap (λ those. gives those ∷ []) (part t ∙ ap start holds) in
             (due, ap (all_but (length contents - copies.at)) due ∙ ap (λ those. all_but (length those - copies.at) (gives (start (held_at snapshot (watched_at watched place).opened)) ∷ [])) holds)) copies.ends);
         keeps = copies.keeps;
-      }
+        met = unread_meets stop;
+      } where
+        unread_meets : (stop : Option Stop) → IfBroke stop ((by_name : Bool) → true ≡ true)
+        unread_meets None = tt
+        unread_meets (Some (Broke why)) = λ by_name. refl
+        unread_meets (Some (Over why)) = tt
 
 -- what was found to have changed is what changed
 pub change_seen : {told : Bool} (snapshot : Snapshot) {old now : List Watched} (place : ℕ) {name : List ℕ} {found : Option Seen} {id : Option ℕ} {result : Option Notice} → result ≡ change_between id (option_map (λ (file : Seen). file.id) found) → id ≡ (watched_at now place).opened → now ≡ old

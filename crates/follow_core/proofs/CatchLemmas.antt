@@ -3,7 +3,7 @@ use Rattle.std.proofs.Common.{◌≡◌, ℕ, Bool, List, [], ◌∷◌, ◌++�
 use Rattle.ports_core.specs.Slot.{Slot, changed_at}
 use Rattle.ports_core.specs.declared.fault.Fault.{Fault}
 use Rattle.follow_core.specs.Printing.{PrinterState}
-use Rattle.follow_core.specs.inner.Giving.{Adds, Copies, Ends, Follows, IfBroke, Keeps, Leads, FromEither, FromFront, IsLong, Noted, ReadsOf, WereFound, change_between, notes_past, stop_in}
+use Rattle.follow_core.specs.inner.Giving.{Adds, Copies, Ends, Follows, IfBroke, Keeps, Leads, FromEither, FromFront, HoldsMany, IsPast, Noted, ReadsOf, ToldLed, ToldShort, WereFound, change_between, notes_past, stop_in}
 use Rattle.follow_core.specs.declared.visitor.Stop.{Stop}
 use Rattle.follow_core.specs.Share.{Due, came_before, due_later, given_by, is_kept, led_before, left_from}
 use Rattle.follow_core.specs.Event.{Event, all_but, events_later, gives, notes, notes_in}
@@ -13,17 +13,18 @@ use Rattle.watch_core.specs.Watched.{Watched, breaks, is_watchable, open_content
 use Rattle.follow_core.specs.declared.visitor.Stop.TheVariants.{Broke, Over}
 use Rattle.std.proofs.lemmas.Bool.{le-leb, false≢true, eqb-true, eq-eqb}
 use Rattle.follow_core.specs.declared.notice.Notice.TheVariants.{Appeared, Inaccessible, Replaced, Truncated}
-use Rattle.watch_core.specs.Snapshot.{Snapshot, Found, holds_many}
+use Rattle.watch_core.specs.Snapshot.{Snapshot, Found, holds_many, leads_to, opens_as}
 use Rattle.follow_core.specs.declared.notice.Notice.{Notice}
 use Rattle.follow_core.specs.Version.{Entry, version, gap, version_in, entries_at_look, entries_led, entries_open, held_at, is_same, open_after_look}
 use Rattle.follow_core.specs.Gain.{file_of, last_from}
 use Rattle.std.proofs.lemmas.Bool.Decides.{nat_tests}
 use Rattle.std.proofs.lemmas.Option.{none-some, same_Some}
 use Rattle.std.proofs.lemmas.Result.{IfOk-weaker}
-use Rattle.follow_core.specs.Standing.{StandsAt}
+use Rattle.follow_core.specs.Reading.{IsSeen, LeftOpen}
+use Rattle.follow_core.specs.Standing.{IsLong, StandsAt}
 use Rattle.follow_core.proofs.RunLemmas.{last_from-append}
 use Rattle.ports_core.specs.declared.fault.Fault.TheVariants as fault
-use Rattle.follow_core.proofs.CallLemmas.{broke_at, broke_first, contents_open, due_as, due_by, follows_from, follows_stop, found_as, found_both, found_from, goes_after, if_broke, noted_found, nothing_due, opened_there, opens_same, stops_early, untold}
+use Rattle.follow_core.proofs.CallLemmas.{broke_at, broke_first, contents_open, due_as, due_by, follows_from, follows_stop, found_as, found_both, found_from, goes_after, if_broke, is_held, noted_as, noted_found, nothing_due, opened_there, opens_same, stops_early, untold}
 
 -- what came to the open file
 
@@ -62,6 +63,10 @@ begins_so : (test : Bool) {from start position : ℕ} → from ≡ (if test then
 begins_so true is at = inl (at ∙ is)
 begins_so false is at = inr (at ∙ is)
 
+told_short : (snapshot : Snapshot) (name : List ℕ) (opened : Option ℕ) (position len : ℕ) → is_some opened ≡ true → Found snapshot name (holds_many opened len)
+    → (notice : Notice) → IsPast position len notice → ToldShort snapshot name opened position notice
+told_short snapshot name opened position len some found notice (is, short) = (is, (some, len, found, short))
+
 module _ {told_in told : Bool} {snapshot : Snapshot} {place : ℕ} {name : List ℕ} {position : ℕ} {watched : List Watched} {printer : PrinterState} {slots : List Slot} where
   -- ways out of catching up
 
@@ -70,7 +75,7 @@ module _ {told_in told : Bool} {snapshot : Snapshot} {place : ℕ} {name : List 
     fate = sound;
     ends = λ last stands. due_as (λ t. let none = ap (λ file. events_later last (entries_open snapshot file)) (sym is) in (none, none)) (nothing_due tt);
     stands = λ t last stands. subst (λ file. StandsAt (last_from last (entries_open snapshot file)) (watched_at watched place).opened position) (sym is) stands;
-    long = λ some. absurd (false≢true (sym (ap is_some is) ∙ some));
+    long = rw is (λ no. absurd (false≢true no));
     keeps = refl;
     reads = tt;
   }
@@ -88,11 +93,13 @@ module _ {told_in told : Bool} {snapshot : Snapshot} {place : ℕ} {name : List 
 
   pub adds_untold : {file len : ℕ} {after : PrinterState} {watched_new : List Watched} {slots_new : List Slot} {before : List Event} {why : Fault} → (watched_at watched place).opened ≡ Some file
       → (told_in ≡ true → len ≡ length (held_at snapshot (watched_at watched place).opened))
-      → Ends told_in Noted told false printer name (notes_past position len) before slots after slots_new (Some (Over why)) → watched_new ≡ watched
+      → Found snapshot (watched_at watched place).name (holds_many (watched_at watched place).opened len)
+      → Ends told_in (Noted (IsPast position len)) told false printer name (notes_past position len) before slots after slots_new (Some (Over why)) → watched_new ≡ watched
       → Adds told_in told snapshot place name position watched printer slots watched_new after slots_new (Err (Over why))
-  adds_untold {file} {why} is long line same = record {
+  adds_untold {file} {len} {why} is long found line same = record {
     fate = sound;
-    ends = λ last stands. due_by (λ t. (caught_open snapshot last is (stands t) (long t), tt)) (stops_early (gives _ ∷ []) (found_as (noted_found _ snapshot (watched_at watched place).name sound (Some (Over why))) line));
+    ends = λ last stands. due_by (λ t. (caught_open snapshot last is (stands t) (long t), tt)) (stops_early (gives _ ∷ []) (found_as (λ events noted. noted_found _ (FromEither (watched_at watched place).opened position) snapshot (watched_at watched place).name sound (Some (Over why)) events
+        (noted_as events (told_short snapshot (watched_at watched place).name (watched_at watched place).opened position len (ap is_some is) found) noted)) line));
     stands = tt;
     long = tt;
     keeps = same;
@@ -104,17 +111,17 @@ module _ {told_in told : Bool} {snapshot : Snapshot} {place : ℕ} {name : List 
       → inside ≡ printer → (watched_at watched place).opened ≡ Some file → (told_in ≡ true → len ≡ length (held_at snapshot (watched_at watched place).opened))
       → Found snapshot (watched_at watched place).name (holds_many (watched_at watched place).opened len)
       → seen ≡ snapshot → watched_mid ≡ watched
-      → from ≡ (if nat_lt len position then 0 else position) → Ends true Noted told false inside name (notes_past position len) none slots inside mid None
+      → from ≡ (if nat_lt len position then 0 else position) → Ends true (Noted (IsPast position len)) told false inside name (notes_past position len) none slots inside mid None
       → Copies told_in told seen from place name watched_mid inside mid watched_new after slots_new (stop_in result) → IfOk result (λ n. n ≡ len)
       → Adds told_in told snapshot place name position watched printer slots watched_new after slots_new result
   adds_copied {file} {len} {from} {watched_new} {inside} {after} {mid} {slots_new} {result} viewed is long found saw unchanged begins line copied count = rw (← viewed) (record {
     fate = unread opened copies.at;
-    ends = λ last stands. due_as (λ t. due last (stands t) (long t)) (goes_after (WereFound (FromEither opened position) snapshot known (unread opened copies.at) (stop_in result))
-        (λ events more noted gave. found_both (FromEither opened position) snapshot known sound (unread opened copies.at) (stop_in result) events more
-        (noted_found (FromEither opened position) snapshot known sound None events noted)
-        (found_from snapshot known (unread opened copies.at) (stop_in result) (λ file start those. (those.0, ap is_some is, begins_so (nat_lt len position) begins those.1)) more gave)) (untold line) copies.ends);
+    ends = λ last stands. due_as (λ t. due last (stands t) (long t)) (goes_after (WereFound (ToldShort snapshot known opened position) (FromEither opened position) snapshot known (unread opened copies.at) (stop_in result))
+        (λ events more noted gave. found_both (ToldShort snapshot known opened position) (FromEither opened position) snapshot known sound (unread opened copies.at) (stop_in result) events more
+        (noted_found (ToldShort snapshot known opened position) (FromEither opened position) snapshot known sound None events (noted_as events (told_short snapshot known opened position len (ap is_some is) found) noted))
+        (found_from snapshot known (unread opened copies.at) (stop_in result) (λ notice none. absurd none) (λ file start those. (those.0, ap is_some is, begins_so (nat_lt len position) begins those.1)) more gave)) (untold line) copies.ends);
     stands = IfOk-weaker result (λ n. n ≡ len) _ (λ n whole t last stands. rw is (record { file = refl; seen = whole ∙ long t ∙ ap (λ file. length (held_at snapshot file)) is })) count;
-    long = IfOk-weaker result (λ n. n ≡ len) _ (λ n whole some. rw whole found) count;
+    long = IfOk-weaker result (λ n. n ≡ len) _ (λ n whole. rw whole (is_held snapshot known len opened found)) count;
     keeps = copies.keeps;
     reads = read (stop_in result);
   }) where
@@ -216,19 +223,49 @@ other_file opened file unled reads same other = absurd reads
 other_file opened file unopened reads same other = absurd reads
 other_file opened file (unsought those from) reads same other = absurd reads
 
-reads_meet : (by_name : Bool) (file : Option ℕ) (fate : Fate) → ReadsOf file fate → can_meet false by_name fate ≡ true
-reads_meet by_name file (unmeasured those) reads = refl
-reads_meet by_name file (unread those from) reads = refl
-reads_meet by_name file sound reads = absurd reads
-reads_meet by_name file unled reads = absurd reads
-reads_meet by_name file unopened reads = absurd reads
-reads_meet by_name file (unsought those from) reads = absurd reads
+reads_meet : (by_name : Bool) (file : Option ℕ) (fate : Fate) → ReadsOf file fate → (seeks : Bool) → can_meet false by_name seeks fate ≡ true
+reads_meet by_name file (unmeasured those) reads seeks = refl
+reads_meet by_name file (unread those from) reads seeks = refl
+reads_meet by_name file sound reads seeks = absurd reads
+reads_meet by_name file unled reads seeks = absurd reads
+reads_meet by_name file unopened reads seeks = absurd reads
+reads_meet by_name file (unsought those from) reads seeks = absurd reads
 
-module _ {told_in told : Bool} {snapshot : Snapshot} {led : Option ℕ} {place : ℕ} {name : List ℕ} {position : ℕ} {watched : List Watched} {printer : PrinterState} {slots : List Slot} where
+-- what was found to have changed is told
+told_led : (snapshot : Snapshot) (name : List ℕ) (opened led : Option ℕ) {change : Notice} → Found snapshot name (leads_to led) → change_between opened led ≡ Some change → (held : ℕ) → IsSeen snapshot name opened held change
+told_led snapshot name None None {change} found is held = absurd (cc)
+told_led snapshot name (Some file) None {change} found is held = let those : Inaccessible ≡ change = cc in rw (← those) (refl, found)
+told_led snapshot name None (Some file) {change} found is held = let those : Appeared ≡ change = cc in rw (← those) (refl, file, found)
+told_led snapshot name (Some other) (Some file) {change} found is held = other_led (file == other) refl is where
+  other_led : (same : Bool) → (file == other) ≡ same → (if same then None else Some Replaced) ≡ Some change → IsSeen snapshot name (Some other) held change
+  other_led true same is = absurd (cc)
+  other_led false same is = let those : Replaced ≡ change = cc in rw (← those) (refl, file, found, same)
+
+pub told_now : (snapshot : Snapshot) {old now : List Watched} (place : ℕ) {led id : Option ℕ} {result : Option Notice} {change : Notice} → result ≡ change_between id led → id ≡ (watched_at now place).opened → now ≡ old
+    → Found snapshot (watched_at old place).name (leads_to led) → result ≡ Some change → (held : ℕ) → IsSeen snapshot (watched_at old place).name (watched_at old place).opened held change
+told_now snapshot {old} place {led} is opened same found changed = told_led snapshot (watched_at old place).name (watched_at old place).opened led found
+    (ap (λ file. change_between file led) (sym (opened ∙ ap (λ those. (watched_at those place).opened) same)) ∙ sym is ∙ changed)
+
+-- where nothing changed of a name without a file, it leads nowhere
+pub none_seen : (snapshot : Snapshot) {old now : List Watched} (place : ℕ) {led id : Option ℕ} {result : Option Notice} → result ≡ change_between id led → id ≡ (watched_at now place).opened → now ≡ old
+    → Found snapshot (watched_at old place).name (leads_to led) → result ≡ None → (watched_at old place).opened ≡ None → LeftOpen snapshot (watched_at old place).name None 0
+none_seen snapshot {old} place {led} is opened same found unchanged none = inl (nowhere led found
+    (ap (λ file. change_between file led) (sym (opened ∙ ap (λ those. (watched_at those place).opened) same ∙ none)) ∙ sym is ∙ unchanged)) where
+      nowhere : (led : Option ℕ) → Found snapshot (watched_at old place).name (leads_to led) → change_between None led ≡ None → Found snapshot (watched_at old place).name (leads_to None)
+      nowhere None found unchanged = found
+      nowhere (Some file) found unchanged = absurd (cc)
+
+-- what is known of a name: where names are followed, of one without a file that it leads nowhere
+pub long_by : (snapshot : Snapshot) (name : List ℕ) (held : ℕ) (by_name : Bool) (opened : Option ℕ) → (opened ≡ None → by_name ≡ true → LeftOpen snapshot name None 0)
+    → IsLong false snapshot name opened held → IsLong by_name snapshot name opened held
+long_by snapshot name held by_name None lost long = lost refl
+long_by snapshot name held by_name (Some file) lost long = long
+
+module _ {told_in told by_name : Bool} {snapshot : Snapshot} {led : Option ℕ} {place : ℕ} {name : List ℕ} {position : ℕ} {watched : List Watched} {printer : PrinterState} {slots : List Slot} where
   -- ways out of following a name
 
   pub leads_unled : {watched_new : List Watched} {why : Fault} → why ≡ fault.Open place → watched_new ≡ changed_at place (breaks (λ file. Look)) watched
-      → Leads told_in told snapshot led place name position watched printer slots watched_new printer slots (Err (Broke why))
+      → Leads told_in told by_name snapshot led place name position watched printer slots watched_new printer slots (Err (Broke why))
   leads_unled fault broken = record {
     fate = unled;
     ends = λ last stands. broke_first tt;
@@ -236,29 +273,30 @@ module _ {told_in told : Bool} {snapshot : Snapshot} {led : Option ℕ} {place :
     long = λ known. tt;
     follows = broke_at (λ file. Look) refl refl fault broken;
     other = λ t. refl;
-    met = refl;
+    met = λ seeks. refl;
   }
 
-  pub leads_same : {watched_new : List Watched} → (told_in ≡ true → change_between (watched_at watched place).opened led ≡ None) → watched_new ≡ watched
-      → Leads told_in told snapshot led place name position watched printer slots watched_new printer slots (Ok position)
-  leads_same none same = record {
+  pub leads_same : {watched_new : List Watched} → (told_in ≡ true → change_between (watched_at watched place).opened led ≡ None)
+      → ((watched_at watched place).opened ≡ None → by_name ≡ true → LeftOpen snapshot (watched_at watched place).name None 0) → watched_new ≡ watched
+      → Leads told_in told by_name snapshot led place name position watched printer slots watched_new printer slots (Ok position)
+  leads_same none lost same = record {
     fate = sound;
     ends = λ last stands. due_as (λ t. let due = (nothing_led snapshot last led (stands t).file (none t)).0 in (sym due, sym due)) (nothing_due tt);
     stands = λ t last stands. let (due, still, same) = nothing_led snapshot last led stands.file (none t) in rw (still, same) stands;
-    long = λ known. rw same known;
+    long = λ long. rw same (long_by snapshot (watched_at watched place).name position by_name (watched_at watched place).opened lost long);
     follows = ((watched_at watched place).opened, same ∙ sym (opens_same watched place), λ t. sym (nothing_led snapshot (fresh _) led (fresh_stands _).file (none t)).2);
     other = tt;
     met = tt;
   }
 
   pub leads_unsaid : {watched_new : List Watched} {after : PrinterState} {slots_new : List Slot} {before : List Event} {change : Notice} {why : Fault}
-      → (told_in ≡ true → change_between (watched_at watched place).opened led ≡ Some change)
-      → Ends told_in Noted told false printer name (notes change ∷ []) before slots after slots_new (Some (Over why)) → watched_new ≡ watched
-      → Leads told_in told snapshot led place name position watched printer slots watched_new after slots_new (Err (Over why))
-  leads_unsaid {why} changed line same = record {
+      → (told_in ≡ true → change_between (watched_at watched place).opened led ≡ Some change) → ToldLed by_name snapshot (watched_at watched place).name (watched_at watched place).opened change
+      → Ends told_in (Noted (λ notice. notice ≡ change)) told false printer name (notes change ∷ []) before slots after slots_new (Some (Over why)) → watched_new ≡ watched
+      → Leads told_in told by_name snapshot led place name position watched printer slots watched_new after slots_new (Err (Over why))
+  leads_unsaid {why} changed seen line same = record {
     fate = sound;
     ends = λ last stands. due_by (λ t. (sym (change_led snapshot last led (stands t).file (changed t)).0, tt))
-        (stops_early (all_held snapshot led) (found_as (noted_found FromFront snapshot (watched_at watched place).name sound (Some (Over why))) line));
+        (stops_early (all_held snapshot led) (found_as (λ events noted. noted_found (ToldLed by_name snapshot (watched_at watched place).name (watched_at watched place).opened) FromFront snapshot (watched_at watched place).name sound (Some (Over why)) events (noted_as events (λ notice is. rw is seen) noted)) line));
     stands = tt;
     long = λ known. tt;
     follows = ((watched_at watched place).opened, same ∙ sym (opens_same watched place));
@@ -268,21 +306,21 @@ module _ {told_in told : Bool} {snapshot : Snapshot} {led : Option ℕ} {place :
 
   -- it was told, and what the name leads to couldn't be opened
   pub leads_unopened : {now watched_new : List Watched} {mid : List Slot} {before : List Event} {change : Notice} {why : Fault}
-      → (told_in ≡ true → change_between (watched_at watched place).opened led ≡ Some change)
-      → Ends told_in Noted told false printer name (notes change ∷ []) before slots printer mid None → now ≡ watched → why ≡ fault.Open place
+      → (told_in ≡ true → change_between (watched_at watched place).opened led ≡ Some change) → ToldLed by_name snapshot (watched_at watched place).name (watched_at watched place).opened change
+      → Ends told_in (Noted (λ notice. notice ≡ change)) told false printer name (notes change ∷ []) before slots printer mid None → now ≡ watched → why ≡ fault.Open place
       → watched_new ≡ changed_at place (breaks (λ file. Open)) now
-      → Leads told_in told snapshot led place name position watched printer slots watched_new printer mid (Err (Broke why))
-  leads_unopened {change} {why} changed line same fault broken = record {
+      → Leads told_in told by_name snapshot led place name position watched printer slots watched_new printer mid (Err (Broke why))
+  leads_unopened {change} {why} changed seen line same fault broken = record {
     fate = unopened;
     ends = λ last stands. due_as (λ t. let due = (change_led snapshot last led (stands t).file (changed t)).0 in
         (sym due, sym (ap notes_in due ∙ held_notes snapshot led change)))
-        (goes_after (WereFound FromFront snapshot known unopened (Some (Broke why))) (λ events more noted none. found_both FromFront snapshot known sound unopened (Some (Broke why)) events more
-        (noted_found FromFront snapshot known sound None events noted) (noted_found FromFront snapshot known unopened (Some (Broke why)) more none)) line (broke_first {due = all_held snapshot led} tt));
+        (goes_after (WereFound (ToldLed by_name snapshot known (watched_at watched place).opened) FromFront snapshot known unopened (Some (Broke why))) (λ events more noted none. found_both (ToldLed by_name snapshot (watched_at watched place).name (watched_at watched place).opened) FromFront snapshot known sound unopened (Some (Broke why)) events more
+        (noted_found (ToldLed by_name snapshot (watched_at watched place).name (watched_at watched place).opened) FromFront snapshot known sound None events (noted_as events (λ notice is. rw is seen) noted)) (noted_found (ToldLed by_name snapshot (watched_at watched place).name (watched_at watched place).opened) FromFront snapshot known unopened (Some (Broke why)) more none)) line (broke_first {due = all_held snapshot led} tt));
     stands = tt;
     long = λ those. tt;
     follows = broke_at (λ file. Open) refl same fault broken;
     other = λ t. refl;
-    met = refl;
+    met = λ seeks. refl;
   } where
     known : List ℕ
     known = (watched_at watched place).name
@@ -290,16 +328,17 @@ module _ {told_in told : Bool} {snapshot : Snapshot} {led : Option ℕ} {place :
   -- it was told, and all that the file holds was given, or a beginning
   pub leads_opened : {now : Snapshot} {mid slots_new : List Slot} {after : PrinterState} {watched_mid watched_new : List Watched} {file : Option ℕ} {before : List Event} {change : Notice} {result : Result ℕ Stop}
       → IsTrue (is_watchable watched place) → (told_in ≡ true → change_between (watched_at watched place).opened led ≡ Some change)
-      → Ends told_in Noted told false printer name (notes change ∷ []) before slots printer mid None → now ≡ snapshot
+      → ToldLed by_name snapshot (watched_at watched place).name (watched_at watched place).opened change → Found snapshot (watched_at watched place).name (opens_as file)
+      → Ends told_in (Noted (λ notice. notice ≡ change)) told false printer name (notes change ∷ []) before slots printer mid None → now ≡ snapshot
       → watched_mid ≡ changed_at place (opens file) watched → (told_in ≡ true → file ≡ led) → (told_in ≡ true → (watched_at watched_mid place).opened ≡ led)
       → Adds told_in told now place name 0 watched_mid printer mid watched_new after slots_new result
-      → Leads told_in told snapshot led place name position watched printer slots watched_new after slots_new result
-  leads_opened {mid} {slots_new} {after} {watched_mid} {watched_new} {file} {change} {result} can changed line same opened leads is adding = record {
+      → Leads told_in told by_name snapshot led place name position watched printer slots watched_new after slots_new result
+  leads_opened {mid} {slots_new} {after} {watched_mid} {watched_new} {file} {change} {result} can changed seen opening line same opened leads is adding = record {
     fate = adds.fate;
-    ends = λ last stands. due_by (λ t. dues last (stands t) t) (goes_after (WereFound FromFront snapshot known adds.fate (stop_in result))
-        (λ events more noted gave. found_both FromFront snapshot known sound adds.fate (stop_in result) events more
-        (noted_found FromFront snapshot known sound None events noted)
-        (found_from snapshot known adds.fate (stop_in result) (λ file start those. at_front those.2) more (rw named at gave))) line (adds.ends (fresh now_open) (λ t. fresh_stands now_open)));
+    ends = λ last stands. due_by (λ t. dues last (stands t) t) (goes_after (WereFound (ToldLed by_name snapshot known (watched_at watched place).opened) FromFront snapshot known adds.fate (stop_in result))
+        (λ events more noted gave. found_both (ToldLed by_name snapshot (watched_at watched place).name (watched_at watched place).opened) FromFront snapshot known sound adds.fate (stop_in result) events more
+        (noted_found (ToldLed by_name snapshot (watched_at watched place).name (watched_at watched place).opened) FromFront snapshot known sound None events (noted_as events (λ notice is. rw is seen) noted))
+        (found_from snapshot known adds.fate (stop_in result) (λ notice those. absurd (none_short those.1)) (λ file start those. at_front those.2) more (rw named at gave))) line (adds.ends (fresh now_open) (λ t. fresh_stands now_open)));
     stands = IfOk-weaker result _ _ (λ len at t last stands. rw ((change_led snapshot last led stands.file (changed t)).1)
         (subst (λ o. StandsAt (last_from (fresh o) (entries_open snapshot o)) o len) (is t) (at t (fresh now_open) (fresh_stands now_open)))) adds.stands;
     long = λ those. still_long result adds.long adds.keeps;
@@ -323,8 +362,17 @@ module _ {told_in told : Bool} {snapshot : Snapshot} {led : Option ℕ} {place :
     at_front (inl at) = at
     at_front (inr at) = at
 
-    still_long : (result : Result ℕ Stop) → IfOk result (IsLong snapshot (watched_at watched_mid place)) → Keeps place watched_mid watched_new adds.fate (stop_in result) → IfOk result (IsLong snapshot (watched_at watched_new place))
-    still_long (Ok len) long keeps = rw keeps long
+    none_short : IsSeen snapshot known now_open 0 Truncated → ⊥
+    none_short (some, len, found, short) = omega (arith, short)
+
+    lost : (watched_at watched_mid place).opened ≡ None → LeftOpen snapshot (watched_at watched_mid place).name None 0
+    lost none = inr (rw (named, ← is_now none) opening) where
+      is_now : (watched_at watched_mid place).opened ≡ None → file ≡ None
+      is_now none = sym (ap (λ those. (watched_at those place).opened) opened ∙ ap (λ (w : Watched). w.opened) (opened_there watched place can)) ∙ none
+
+    still_long : (result : Result ℕ Stop) → IfOk result (HoldsMany snapshot (watched_at watched_mid place)) → Keeps place watched_mid watched_new adds.fate (stop_in result)
+        → IfOk result (IsLong by_name snapshot (watched_at watched_new place).name (watched_at watched_new place).opened)
+    still_long (Ok len) long keeps = rw keeps (long_by snapshot (watched_at watched_mid place).name len by_name now_open (λ none by. lost none) long)
     still_long (Err stop) long keeps = tt
 
     dues : (last : Entry) → StandsAt last (watched_at watched place).opened position → told_in ≡ true
@@ -377,18 +425,25 @@ from_either : {opened : Option ℕ} {position : ℕ} (file : Option ℕ) (from :
 from_either file from (same, some, inl at) = inl at
 from_either file from (same, some, inr at) = inr (same, some, at)
 
+-- what is told then; of a name without a file only where names are followed
+abbrev pub ToldAgain : (by_name : Bool) → Snapshot → List ℕ → Option ℕ → ℕ → Notice → Type 0
+ToldAgain by_name snapshot name opened position notice = (opened ≡ None → by_name ≡ true) × IsSeen snapshot name opened position notice
+
+seen_short : (by_name : Bool) (snapshot : Snapshot) (name : List ℕ) (opened : Option ℕ) (position : ℕ) (notice : Notice) → ToldShort snapshot name opened position notice → ToldAgain by_name snapshot name opened position notice
+seen_short by_name snapshot name opened position notice (is, seen) = (λ none. absurd (false≢true (sym (ap is_some none) ∙ seen.0)), rw is seen)
+
 -- before it is told what failed
 pub record LooksAgain (told_in told by_name : Bool) (snapshot : Snapshot) (place : ℕ) (name : List ℕ) (position : ℕ) (watched : List Watched)
     (printer : PrinterState) (slots : List Slot) (watched_new : List Watched) (after : PrinterState) (slots_new : List Slot) (result : Result ℕ Stop) : Type 0 where
   pub fate : Fate
   pub ends : let opened = (watched_at watched place).opened in (last : Entry) → (told_in ≡ true → StandsAt last opened position)
       → let due = due_later by_name name opened last snapshot in
-      Ends told_in (WereFound (FromFrontOr opened position) snapshot (watched_at watched place).name fate (stop_in result)) told false printer name (due.came ++ due.led) (given_by due snapshot opened fate) slots after slots_new (stop_in result)
-  pub long : IfOk result (IsLong snapshot (watched_at watched_new place))
+      Ends told_in (WereFound (ToldAgain by_name snapshot (watched_at watched place).name opened position) (FromFrontOr opened position) snapshot (watched_at watched place).name fate (stop_in result)) told false printer name (due.came ++ due.led) (given_by due snapshot opened fate) slots after slots_new (stop_in result)
+  pub long : IfOk result (IsLong by_name snapshot (watched_at watched_new place).name (watched_at watched_new place).opened)
   pub stands : let opened = (watched_at watched place).opened in IfOk result (λ len. told_in ≡ true → (last : Entry) → StandsAt last opened position
       → StandsAt (last_from last (entries_at_look by_name name opened snapshot)) (open_after_look by_name name opened snapshot) len)
   pub follows : Follows told_in (open_after_look by_name name (watched_at watched place).opened snapshot) place watched watched_new fate (stop_in result)
-  pub met : IfBroke (stop_in result) (can_meet false by_name fate ≡ true)
+  pub met : IfBroke (stop_in result) ((seeks : Bool) → can_meet false by_name seeks fate ≡ true)
 
 module _ {told_in told : Bool} {snapshot : Snapshot} {place : ℕ} {name : List ℕ} {position : ℕ} {watched : List Watched} {printer : PrinterState} {slots : List Slot} where
   pub stopped_looks : (by_name : Bool) {watched_new : List Watched} {after : PrinterState} {slots_new : List Slot} {stop : Stop}
@@ -398,7 +453,7 @@ module _ {told_in told : Bool} {snapshot : Snapshot} {place : ℕ} {name : List 
     fate = adds.fate;
     ends = λ last stands. let due = due_later by_name name (watched_at watched place).opened last snapshot in
         due_by (λ t. (refl, if_broke (Some stop) (kept_given snapshot due (watched_at watched place).opened adds.fate) adds.reads))
-        (stops_early due.led (found_as (found_from snapshot (watched_at watched place).name adds.fate (Some stop) from_either) (adds.ends last stands)));
+        (stops_early due.led (found_as (found_from snapshot (watched_at watched place).name adds.fate (Some stop) (seen_short by_name snapshot (watched_at watched place).name (watched_at watched place).opened position) from_either) (adds.ends last stands)));
     long = tt;
     stands = tt;
     follows = follows_stop told_in (open_after_look by_name name (watched_at watched place).opened snapshot) _ place watched watched_new adds.fate stop (sym (opens_same watched place)) adds.keeps;
@@ -408,17 +463,18 @@ module _ {told_in told : Bool} {snapshot : Snapshot} {place : ℕ} {name : List 
   -- one call after another
   looks_both : {by_name : Bool} {watched_new : List Watched} {mid after : PrinterState} {slots_mid slots_new : List Slot} {len : ℕ} {result : Result ℕ Stop}
       → Adds told_in told snapshot place name position watched printer slots watched mid slots_mid (Ok len)
-      → (leads : Leads told_in told snapshot (open_after_look by_name name (watched_at watched place).opened snapshot) place name len watched mid slots_mid watched_new after slots_new result)
-      → IfBroke (stop_in result) (can_meet false by_name leads.fate ≡ true)
+      → (leads : Leads told_in told by_name snapshot (open_after_look by_name name (watched_at watched place).opened snapshot) place name len watched mid slots_mid watched_new after slots_new result)
+      → IfBroke (stop_in result) ((seeks : Bool) → can_meet false by_name seeks leads.fate ≡ true)
       → LooksAgain told_in told by_name snapshot place name position watched printer slots watched_new after slots_new result
   looks_both {by_name} {result} adds leads met =
       let known = (watched_at watched place).name in let opened = (watched_at watched place).opened in record {
         fate = leads.fate;
         ends = λ last stands. let due = due_later by_name name opened last snapshot in
             due_by (λ t. (refl, if_broke (stop_in result) (λ other. led_given snapshot due opened leads.fate (other t)) leads.other))
-            (goes_after (WereFound (FromFrontOr opened position) snapshot known leads.fate (stop_in result))
-            (λ events more one two. found_both (FromFrontOr opened position) snapshot known adds.fate leads.fate (stop_in result) events more
-            (found_from snapshot known adds.fate None from_either events one) (found_from snapshot known leads.fate (stop_in result) (λ file from at. inl at) more two))
+            (goes_after (WereFound (ToldAgain by_name snapshot known opened position) (FromFrontOr opened position) snapshot known leads.fate (stop_in result))
+            (λ events more one two. found_both (ToldAgain by_name snapshot known opened position) (FromFrontOr opened position) snapshot known adds.fate leads.fate (stop_in result) events more
+            (found_from snapshot known adds.fate None (seen_short by_name snapshot known opened position) from_either events one)
+            (found_from snapshot known leads.fate (stop_in result) (λ notice those. (λ none. those.0, those.1 position)) (λ file from at. inl at) more two))
             (adds.ends last stands) (leads.ends _ (λ t. adds.stands t last (stands t))));
         long = leads.long adds.long;
         stands = IfOk-weaker result _ _ (λ len at t last stands. rw (← at_look by_name name opened snapshot, last_from-append last (entries_open snapshot opened) _)
@@ -430,12 +486,12 @@ module _ {told_in told : Bool} {snapshot : Snapshot} {place : ℕ} {name : List 
   pub caught_looks : {by_name : Bool} {watched_new : List Watched} {after : PrinterState} {slots_new : List Slot} {len : ℕ} → by_name ≡ false
       → Adds told_in told snapshot place name position watched printer slots watched_new after slots_new (Ok len)
       → LooksAgain told_in told by_name snapshot place name position watched printer slots watched_new after slots_new (Ok len)
-  caught_looks is adding = let adds = rw adding.keeps at adding in rw (is, adding.keeps) (looks_both adds (leads_same (λ t. unchanged (watched_at watched place).opened) refl) tt)
+  caught_looks is adding = let adds = rw adding.keeps at adding in rw (is, adding.keeps) (looks_both adds (leads_same (λ t. unchanged (watched_at watched place).opened) (λ none by. absurd (false≢true by)) refl) tt)
 
   pub led_looks : {by_name : Bool} {now : Snapshot} {watched_mid watched_new : List Watched} {mid after : PrinterState} {slots_mid slots_new : List Slot}
       {len : ℕ} {result : Result ℕ Stop} → by_name ≡ true → now ≡ snapshot
       → Adds told_in told snapshot place name position watched printer slots watched_mid mid slots_mid (Ok len)
-      → Leads told_in told now (now.leads name) place name len watched_mid mid slots_mid watched_new after slots_new result
+      → Leads told_in told true now (now.leads name) place name len watched_mid mid slots_mid watched_new after slots_new result
       → LooksAgain told_in told by_name snapshot place name position watched printer slots watched_new after slots_new result
   led_looks is seen adding leading =
       let adds = rw adding.keeps at adding in let leads = rw (seen, adding.keeps) at leading in

@@ -1,5 +1,5 @@
 -- A look at all names: at one after another, one look more, and one that was stopped; and one look after another.
-use Rattle.std.proofs.Common.{◌≡◌, ℕ, zero, suc, ◌<◌, ◌≤◌, ◌+◌, Bool, true, false, ◌||◌, List, [], ◌∷◌, ◌++◌, length, take, set, replicate, get_or, slice_index_or, refl, sym, ◌∙◌, ap, subst, arith, append_assoc, inl, inr, ◌⊎◌, Option, Some, subst₂, Err, not, ◌&&◌, map, Ok, Result, None, is_some, rules}
+use Rattle.std.proofs.Common.{◌≡◌, ℕ, zero, suc, ◌<◌, ◌≤◌, ◌+◌, ◌-◌, Bool, true, false, IsTrue, if◌then◌else◌, ◌||◌, List, [], ◌∷◌, ◌++◌, length, take, set, replicate, get_or, slice_index_or, refl, sym, ◌∙◌, ap, subst, arith, append_assoc, inl, inr, ◌⊎◌, Option, Some, subst₂, Err, not, ◌&&◌, map, Ok, Result, None, is_some, rules}
 use Rattle.std.proofs.Math.Bool.{or-false, or-false as or_none, and-false as and_none}
 use Rattle.std.proofs.lemmas.Bool.{or_parts, cases_eq, cases_lt, and_parts, false≢true, not-true}
 use Rattle.std.proofs.lemmas.List.{append-nil, get_or-map, get_or-set_other, get_or-set_same, length-append, length-map, length-replicate, length-set, length-take-le, take_all, get_or_past, get_or-append-add, get_or_append_left, map-append, take-append-le}
@@ -28,7 +28,7 @@ use Rattle.follow_core.specs.declared.follow.Stage.TheVariants.{Fresh, Looking, 
 use Rattle.follow_core.specs.Version.{open_after}
 use Rattle.watch_core.proofs.NameLemmas.{latest-last}
 use Rattle.follow_core.specs.declared.start.Start.{Start}
-use Rattle.follow_core.specs.Ending.{Made, StoppedIn, seen_first}
+use Rattle.follow_core.specs.Ending.{AreMost, FollowEndsAs, FollowEndsBy, is_over, until_over, Made, StoppedIn, seen_first}
 use Rattle.ports_core.specs.declared.fault.Fault.TheVariants as fault
 
 -- A look at one name after another.
@@ -716,7 +716,99 @@ module _ {told_in told : Bool} {ways : Ways} {headers : Bool} {names : List (Lis
     holds = p.holds;
   }
 
+-- as long as no look begins
+pub still_made : {told_in told : Bool} {ways : Ways} {headers : Bool} {names : List (List ℕ)} {shows : ℕ → Snapshot} {first : List Slot} {made : ℕ} {going : Bool} {follow : FollowState} {seen now : List Snapshot}
+    {watched watched_now : List Watched} {slots : List Slot} → watched_now ≡ watched → now ≡ seen → Progress told_in told ways headers names shows first made going follow seen watched slots
+    → Progress told_in told ways headers names shows first made going follow now watched_now slots
+still_made {told_in} {told} {ways} {headers} {names} {shows} {first} {made} {going} {follow} {slots} same saw so_far =
+    subst₂ (λ those names_now. Progress told_in told ways headers names shows first made going follow those names_now slots) (sym saw) (sym same) so_far
+
+-- before the first look none was made
+pub none_made : {told_in told : Bool} {ways : Ways} {headers : Bool} {names : List (List ℕ)} {shows : ℕ → Snapshot} {first : List Slot} {follow : FollowState} {seen : List Snapshot} {watched : List Watched}
+    {slots : List Slot} → seen ≡ [] → Holds told_in told ways headers names [] first follow watched slots → Progress told_in told ways headers names shows first 0 true follow seen watched slots
+none_made unseen holds = record {
+  looks = [];
+  count = refl;
+  observed = unseen;
+  is_made = record { saw = refl; alive = λ t n above below. absurd (omega (arith, below)) };
+  alive = λ t above. absurd (omega (arith, above));
+  ends = λ over. absurd (false≢true (sym over));
+  holds = holds;
+}
+
+-- how many looks there are until a process is gone
+
+pub until_step : (process : Option ℕ) (shows : ℕ → Snapshot) (from left : ℕ) → 0 < left → is_over process (shows from) ≡ false
+    → until_over process shows from left ≡ 1 + until_over process shows (from + 1) (left - 1)
+until_step process shows from zero some runs = absurd (omega (arith, some))
+until_step process shows from (suc left) some runs = let less : suc left - 1 ≡ left = omega arith in rw (runs, less) refl
+
+until_least : (process : Option ℕ) (shows : ℕ → Snapshot) (from left : ℕ) → 0 < left → 0 < until_over process shows from left
+until_least process shows from zero some = some
+until_least process shows from (suc left) some = by (is_over process (shows from)) where
+  by : (over : Bool) → 0 < (if over then 1 else 1 + until_over process shows (from + 1) left)
+  by true = omega arith
+  by false = omega arith
+
+until_within : (process : Option ℕ) (shows : ℕ → Snapshot) (from left : ℕ) → until_over process shows from left ≤ left
+until_within process shows from zero = omega arith
+until_within process shows from (suc left) = by (is_over process (shows from)) (until_within process shows (from + 1) left) where
+  by : (over : Bool) → until_over process shows (from + 1) left ≤ left → (if over then 1 else 1 + until_over process shows (from + 1) left) ≤ suc left
+  by true rest = omega arith
+  by false rest = omega (arith, rest)
+
+until_found : (process : Option ℕ) (shows : ℕ → Snapshot) (from left : ℕ) → until_over process shows from left < left
+    → (last : ℕ) × (from + until_over process shows from left ≡ suc last) × IsTrue (is_over process (shows last))
+until_found process shows from zero fewer = absurd (omega (arith, fewer))
+until_found process shows from (suc left) fewer = by (is_over process (shows from)) (until_found process shows (from + 1) left) refl fewer where
+  by : (over : Bool) → (until_over process shows (from + 1) left < left → (last : ℕ) × (from + 1 + until_over process shows (from + 1) left ≡ suc last) × IsTrue (is_over process (shows last))) → is_over process (shows from) ≡ over → (if over then 1 else 1 + until_over process shows (from + 1) left) < suc left
+      → (last : ℕ) × (from + (if over then 1 else 1 + until_over process shows (from + 1) left) ≡ suc last) × IsTrue (is_over process (shows last))
+  by true rest is fewer = (from, omega arith, is)
+  by false rest is fewer = let (last, at, over) = rest (omega (arith, fewer)) in (last, omega (arith, at), over)
+
+-- so many were made, and there may be more
+pub most_made : (told : Bool) (process : Option ℕ) (shows : ℕ → Snapshot) (count made : ℕ) → made ≤ count → (told ≡ true → made ≤ until_over process shows 0 count)
+    → (most : ℕ) × AreMost told process shows count most × (made ≤ most)
+most_made false process shows count made within left = (count, record { are = λ t. absurd (false≢true t); within = omega arith; found = λ fewer. absurd (omega (arith, fewer)) }, within)
+most_made true process shows count made within left =
+    (until_over process shows 0 count, record { are = λ t. refl; within = until_within process shows 0 count; found = λ fewer. let (last, at, over) = until_found process shows 0 count fewer in (last, omega (arith, at), over) }, left refl)
+
+pub until_some : (process : Option ℕ) (shows : ℕ → Snapshot) {made count : ℕ} → until_over process shows 0 count ≡ made + until_over process shows made (count - made) → made < count
+    → made + 1 ≤ until_over process shows 0 count
+until_some process shows {made} {count} is below = let some = until_least process shows made (count - made) (omega (arith, below)) in omega (arith, is, some)
+
+-- one more, before which the process isn't gone
+pub until_more : (process : Option ℕ) {shows now : ℕ → Snapshot} {made count seen : ℕ} {gone : Bool} → until_over process shows 0 count ≡ made + until_over process shows made (count - made) → made < count
+    → gone ≡ is_over process (now seen) → gone ≡ false → now ≡ shows → seen ≡ made → until_over process shows 0 count ≡ made + 1 + until_over process shows (made + 1) (count - (made + 1))
+until_more process {shows} {now} {made} {count} {seen} is below told runs same at =
+    let next = until_step process shows made (count - made) (omega (arith, below)) (ap (is_over process) (sym ((λ i. same i (at i)))) ∙ sym told ∙ runs) in
+    let less : count - made - 1 ≡ count - (made + 1) = omega arith in
+    let rest = ap (until_over process shows (made + 1)) less in omega (arith, is, next, rest)
+
+-- the last one, before which it is gone
+pub until_last : {told : Bool} {process : Option ℕ} {shows now : ℕ → Snapshot} {made count seen : ℕ} {gone : Bool} → (told ≡ true → until_over process shows 0 count ≡ made + until_over process shows made (count - made)) → made < count
+    → (IsTrue gone → IsTrue (is_over process (now seen))) → gone ≡ true → now ≡ shows → seen ≡ made → AreMost told process shows count (made + 1)
+until_last {process} {shows} {now} {made} {count} {seen} is below found gone same at =
+    let over : is_over process (shows made) ≡ true = ap (is_over process) (sym (λ i. same i (at i))) ∙ found gone in record {
+      are = λ t. let all = is t in let one = last_is (count - made) (omega (arith, below)) over in omega (arith, all, one);
+      within = omega (arith, below);
+      found = λ fewer. (made, omega arith, over);
+    } where
+      last_is : (left : ℕ) → 0 < left → is_over process (shows made) ≡ true → until_over process shows made left ≡ 1
+      last_is zero some over = absurd (omega (arith, some))
+      last_is (suc left) some over = rw over refl
+
 -- a whole run
+
+pub ends_by : {told_in told : Bool} {ways : Ways} {headers : Bool} {names : List (List ℕ)} {count : ℕ} {shows : ℕ → Snapshot} {first : List Slot} {seen : List Snapshot} {watched : List Watched} {new : List Slot} {status : ℕ}
+    (process : Option ℕ) (most : ℕ) → AreMost told_in process shows count most → FollowEndsAs told_in told ways headers names most shows first seen watched new status
+    → FollowEndsBy process told_in told ways headers names count shows first seen watched new status
+ends_by (Some process) most are ends = (most, are, ends)
+ends_by {told_in} {told} {ways} {headers} {names} {count} {shows} {first} {seen} {watched} {new} {status} None most are ends =
+    subst (λ n. FollowEndsAs told_in told ways headers names n shows first seen watched new status) (no_fewer (cases_lt most count)) ends where
+      no_fewer : (most < count) ⊎ (count ≤ most) → most ≡ count
+      no_fewer (inl fewer) = absurd (false≢true (are.found fewer).2)
+      no_fewer (inr all) = let within = are.within in omega (arith, all, within)
 
 texts_of_new : (names : List (List ℕ)) → texts (map new_state names) ≡ names
 texts_of_new [] = refl

@@ -1,19 +1,20 @@
 -- A look at a name: what it gives, from where the looks before left it, what is told of it, and how it stands then.
-use Rattle.follow_core.specs.Standing.{BrokeIn, StandsAt, CanVisit, IsFollowed, IsLeft, IsMissed, Stands}
-use Rattle.follow_core.proofs.CallLemmas.{broke_at, came_none, contents_open, failure_said, found_as, found_both, found_from, goes_after, keeps_others, none_of, nothing_due, opened_led, opened_there, some_of, wrote_after, wrote_line}
-use Rattle.follow_core.proofs.CatchLemmas.{FromFrontOr, LooksAgain, at_look}
+use Rattle.follow_core.specs.Standing.{BrokeIn, StandsAt, CanVisit, IsFollowed, IsLong, IsLeft, IsMissed, Stands}
+use Rattle.follow_core.proofs.CallLemmas.{broke_at, came_none, contents_open, failure_said, found_as, found_both, found_from, goes_after, held_many, if_broke, keeps_others, none_of, nothing_due, opened_led, opened_there, some_of, wrote_after, wrote_line}
+use Rattle.follow_core.proofs.CatchLemmas.{FromFrontOr, LooksAgain, long_by, ToldAgain, at_look}
 use Rattle.follow_core.proofs.EventLemmas.{bytes_later, events-append}
 use Rattle.std.proofs.Common.{◌⊎◌, ◌≡◌, ℕ, ◌==◌, Bool, true, false, not, List, [], ◌∷◌, ◌++◌, length, Option, Some, None, refl, sym, ◌∙◌, ap, if◌then◌else◌, subst, inl, inr, append_assoc, ◌&&◌, eqb-true, Result, Ok, Err, IsTrue, IfOk, subst₂, is_none, is_some, rules}
 use Rattle.std.proofs.lemmas.List.{append-nil, map-append}
 use Rattle.std.proofs.Math.Bool.{and-false, and-true}
-use Rattle.watch_core.specs.Snapshot.{Snapshot, Found, holds_many, latest, opens_as}
-use Rattle.follow_core.specs.Reading.{IsFound, IsMissing, StartsIn}
+use Rattle.watch_core.specs.Snapshot.{Snapshot, Found, latest, opens_as}
+use Rattle.follow_core.specs.declared.notice.Notice.{Notice}
+use Rattle.follow_core.specs.Reading.{IsFound, IsMissing, IsTold, LeftOpen, StartsIn}
 use Rattle.watch_core.specs.declared.watch.Broken.{Broken}
 use Rattle.watch_core.specs.declared.watch.Broken.TheVariants as broken
 use Rattle.follow_core.specs.Event.{Event, bytes_in, events_later, gives, lines_in}
 use Rattle.follow_core.specs.Version.{Entry, gap, version_in, entries_at_look, entries_led, entries_later, entries_open, held_at, open_after, open_after_later, open_after_look, version}
 use Rattle.follow_core.specs.Gain.{file_of, last_from, last_of, gains_later, gains_after}
-use Rattle.follow_core.specs.inner.Giving.{Anywhere, BrokeAt, Came, IsLong, WereFound, Ends, Follows, IfBroke, Keeps, Shared, Starts, fault_by, is_read, stop_in, text_under}
+use Rattle.follow_core.specs.inner.Giving.{Anywhere, BrokeAt, Came, Nothing, WereFound, Ends, Follows, IfBroke, Keeps, Shared, Starts, fault_by, is_read, stop_in, text_under}
 use Rattle.follow_core.specs.Look.{Fate, Look, Ways, can_meet, are_met, entries_in, failed_by, failed_in, fate_at, is_dropped, snapshots, sound, unled, unopened, unmeasured, unsought, unread, is_first}
 use Rattle.follow_core.specs.Run.{AreKept, name_text}
 use Rattle.follow_core.specs.Notice.{is_missing}
@@ -165,38 +166,38 @@ failed_sound place (first ∷ looks) look fine = ap (failed_by (fate_at place fi
 
 -- the fates that looks can meet
 
-met_none : (is_first by_name : Bool) (place : ℕ) (looks : List Look) → failed_in place looks ≡ None → are_met is_first by_name place looks ≡ true
-met_none is_first by_name place [] none = refl
-met_none is_first by_name place (look ∷ looks) none =
+met_none : (is_first by_name seeks : Bool) (place : ℕ) (looks : List Look) → failed_in place looks ≡ None → are_met is_first by_name seeks place looks ≡ true
+met_none is_first by_name seeks place [] none = refl
+met_none is_first by_name seeks place (look ∷ looks) none =
     let through = came_through (fate_at place look) (failed_in place looks) none in
-    rw through (met_none false by_name place looks (rw through at none))
+    rw through (met_none false by_name seeks place looks (rw through at none))
 
-met_more : (first by_name : Bool) (place : ℕ) (looks : List Look) (look : Look) → are_met first by_name place looks ≡ true
-    → can_meet (is_first looks && first) by_name (fate_at place look) ≡ true → are_met first by_name place (looks ++ look ∷ []) ≡ true
-met_more first by_name place [] look so_far met = rw met refl
-met_more first by_name place (one ∷ looks) look so_far met =
-    let both = and_parts (can_meet first by_name (fate_at place one)) (are_met false by_name place looks) so_far in
-    rw both.0 (met_more false by_name place looks look both.1 (rw (and-false (is_first looks)) met))
+met_more : (first by_name seeks : Bool) (place : ℕ) (looks : List Look) (look : Look) → are_met first by_name seeks place looks ≡ true
+    → can_meet (is_first looks && first) by_name seeks (fate_at place look) ≡ true → are_met first by_name seeks place (looks ++ look ∷ []) ≡ true
+met_more first by_name seeks place [] look so_far met = rw met refl
+met_more first by_name seeks place (one ∷ looks) look so_far met =
+    let both = and_parts (can_meet first by_name seeks (fate_at place one)) (are_met false by_name seeks place looks) so_far in
+    rw both.0 (met_more false by_name seeks place looks look both.1 (rw (and-false (is_first looks)) met))
 
 -- a name that is not dropped is not broken
 pub unbroken_in : {ways : Ways} {looks : List Look} {place : ℕ} {failed : Option Broken} → failed ≡ None → is_dropped place looks ≡ false → BrokeIn ways looks place failed
 unbroken_in {ways} {looks} {place} unbroken kept =
-    let none = none_of (failed_in place looks) kept in record { call = unbroken ∙ sym none; met = met_none true ways.by_name place looks none }
+    let none = none_of (failed_in place looks) kept in record { call = unbroken ∙ sym none; met = met_none true ways.by_name ways.seeks place looks none }
 
 -- one look more, through which it comes
 pub broken_sound : {ways : Ways} (looks : List Look) (look : Look) {place : ℕ} {failed : Option Broken} → fate_at place look ≡ sound → BrokeIn ways looks place failed → BrokeIn ways (looks ++ look ∷ []) place failed
 broken_sound {ways} looks look {place} fine so_far = record {
   call = so_far.call ∙ sym (failed_sound place looks look fine);
-  met = met_more true ways.by_name place looks look so_far.met (rw fine refl);
+  met = met_more true ways.by_name ways.seeks place looks look so_far.met (rw fine refl);
 }
 
 -- or it broke at that look
 pub broken_more : {ways : Ways} (looks : List Look) (look : Look) {place : ℕ} {failed : Option Broken} {fate : Fate} → failed ≡ failed_by fate None
-    → is_dropped place looks ≡ false → fate_at place look ≡ fate → can_meet (is_first looks) ways.by_name fate ≡ true → BrokeIn ways (looks ++ look ∷ []) place failed
+    → is_dropped place looks ≡ false → fate_at place look ≡ fate → can_meet (is_first looks) ways.by_name ways.seeks fate ≡ true → BrokeIn ways (looks ++ look ∷ []) place failed
 broken_more {ways} looks look {place} {fate} broke kept at met =
     let none = none_of (failed_in place looks) kept in record {
       call = broke ∙ sym (failed_more place looks look none at);
-      met = met_more true ways.by_name place looks look (met_none true ways.by_name place looks none) (rw (and-true (is_first looks), at) met);
+      met = met_more true ways.by_name ways.seeks place looks look (met_none true ways.by_name ways.seeks place looks none) (rw (and-true (is_first looks), at) met);
     }
 
 -- what a look gives a name
@@ -255,9 +256,9 @@ abbrev shared_as : (opened : Bool) → List ℕ → List Event → Option Fault 
 shared_as opened name events failure = record { name = name; is_opened = opened; events = events; failure = failure }
 
 -- of a name that came through, whatever its fate was to be
-sound_found : {told_in told opened : Bool} (Begin : Option ℕ → ℕ → Type 0) (snapshot : Snapshot) (known : List ℕ) (fate : Fate) {printer after : PrinterState} {name : List ℕ} {due before : List Event} {old new : List Slot}
-    → Ends told_in (WereFound Begin snapshot known fate None) told opened printer name due before old after new None
-    → Ends told_in (WereFound Begin snapshot known sound None) told opened printer name due before old after new None
+sound_found : {told_in told opened : Bool} {Tells : Notice → Type 0} (Begin : Option ℕ → ℕ → Type 0) (snapshot : Snapshot) (known : List ℕ) (fate : Fate) {printer after : PrinterState} {name : List ℕ} {due before : List Event} {old new : List Slot}
+    → Ends told_in (WereFound Tells Begin snapshot known fate None) told opened printer name due before old after new None
+    → Ends told_in (WereFound Tells Begin snapshot known sound None) told opened printer name due before old after new None
 sound_found Begin snapshot known fate ends = record { events = ends.events; are = ends.are; found = ends.found; came = ends.came }
 
 -- what a name that came through is due is its share
@@ -267,7 +268,7 @@ due_share {before} {name} dues t fates = let is = dues.is t fates in rw is.0 (ap
 
 module _ {told_in told : Bool} {ways : Ways} {before : List Look} {snapshot : Snapshot} {name : List ℕ} {due : Due} {opened : Option ℕ} {printer after : PrinterState} {old mid : List Slot} (dues : IsDue told_in ways before snapshot name due opened) where
   -- all that is due was given
-  pub looked_whole : {none : List Event} → Ends told_in (WereFound (StartsIn before name) snapshot name sound None) told (is_first before) printer name (due.came ++ due.led) none old after mid None
+  pub looked_whole : {none : List Event} → Ends told_in (WereFound (IsTold before snapshot name) (StartsIn before name) snapshot name sound None) told (is_first before) printer name (due.came ++ due.led) none old after mid None
       → (is_first before ≡ true → (file : ℕ) × Found snapshot name (opens_as (Some file)))
       → Looked told_in told ways before snapshot name printer old after mid false sound
   looked_whole ends there = record {
@@ -281,7 +282,7 @@ module _ {told_in told : Bool} {ways : Ways} {before : List Look} {snapshot : Sn
   -- a call failed: what comes before was given, and the message follows
   pub looked_broke : (place : ℕ) {new : List Slot} {why : Fault} (fate : Fate) → is_some (failed_by fate None) ≡ true → why ≡ fault_by place fate
       → (not (is_unopened fate) && is_first before) ≡ is_first before
-      → Ends told_in (WereFound (StartsIn before name) snapshot name fate (Some (Broke why))) told (is_first before) printer name (due.came ++ due.led) (given_by due snapshot opened fate) old after mid (Some (Broke why))
+      → Ends told_in (WereFound (IsTold before snapshot name) (StartsIn before name) snapshot name fate (Some (Broke why))) told (is_first before) printer name (due.came ++ due.led) (given_by due snapshot opened fate) old after mid (Some (Broke why))
       → (is_first before ≡ true → (file : ℕ) × Found snapshot name (opens_as (Some file))) → SaysOn told Tail (message_of Tail why name) mid new
       → Looked told_in told ways before snapshot name printer old after new true fate
   looked_broke place {new} {why} fate broke fault openly ends there says =
@@ -329,11 +330,11 @@ pub record Gave (told_in told : Bool) (ways : Ways) (looks : List Look) (snapsho
   pub due : Due
   pub opened : Option ℕ
   pub is_due : IsDue told_in ways looks snapshot name due opened
-  pub ends : Ends told_in (WereFound (StartsIn looks name) snapshot name fate (stop_in result)) told (is_first looks) printer name (due.came ++ due.led) (given_by due snapshot opened fate) slots after slots_new (stop_in result)
+  pub ends : Ends told_in (WereFound (IsTold looks snapshot name) (StartsIn looks name) snapshot name fate (stop_in result)) told (is_first looks) printer name (due.came ++ due.led) (given_by due snapshot opened fate) slots after slots_new (stop_in result)
   pub there : is_first looks ≡ true → (file : ℕ) × Found snapshot name (opens_as (Some file))
   pub last : IfOk result (λ len. told_in ≡ true → (ways.by_name ≡ false → is_some led ≡ true)
       × ((fates : List Fate) → StandsAt (last_of (entries_in ways name (looks ++ seeing snapshot fates ∷ []))) led len))
-  pub met : IfBroke (stop_in result) (can_meet (is_first looks) ways.by_name fate ≡ true)
+  pub met : IfBroke (stop_in result) (can_meet (is_first looks) ways.by_name ways.seeks fate ≡ true)
   pub openly : IfBroke (stop_in result) ((not (is_unopened fate) && is_first looks) ≡ is_first looks)
 
 -- this file of it is open now
@@ -367,8 +368,8 @@ through_stands : {told : Bool} {ways : Ways} (looks : List Look) (look : Look) {
     (old : List Watched) {new : List Watched} → (watched_at old place).name ≡ name → IsTrue (is_watchable old place) → is_dropped place looks ≡ false
     → new ≡ changed_at place (opens file) old → fate_at place look ≡ sound → (told ≡ true → file ≡ led)
     → (told ≡ true → (ways.by_name ≡ false → is_some led ≡ true) × StandsAt (last_of (entries_in ways name (looks ++ look ∷ []))) led len)
-    → IsLong look.snapshot (watched_at new place) len → IsFollowed told ways (looks ++ look ∷ []) place name (watched_at new place) len
-through_stands looks look {place} {name} {len} old {new} named can kept is at leads last long =
+    → IsLong ways.by_name look.snapshot (watched_at new place).name (watched_at new place).opened len → IsFollowed told ways (looks ++ look ∷ []) place name (watched_at new place) len
+through_stands {ways} looks look {place} {name} {len} old {new} named can kept is at leads last long =
     let now = opened_now place old is can in
     record {
       named = ap (λ (w : Watched). w.name) now ∙ named;
@@ -377,7 +378,7 @@ through_stands looks look {place} {name} {len} old {new} named can kept is at le
       begun = begun_more looks look;
       stands = λ t. record { file = ap (λ (w : Watched). w.opened) now ∙ leads t ∙ (last t).1.file; seen = (last t).1.seen };
       there = λ t way. ap (λ (w : Watched). is_some w.opened) now ∙ ap is_some (leads t) ∙ (last t).0 way;
-      long = λ some. subst₂ (λ (s : Snapshot) those. Found s those (holds_many (watched_at new place).opened len)) (sym (last_seen looks look)) (ap (λ (w : Watched). w.name) now ∙ named) (long some);
+      long = subst₂ (λ (s : Snapshot) those. IsLong ways.by_name s those (watched_at new place).opened len) (sym (last_seen looks look)) (ap (λ (w : Watched). w.name) now ∙ named) long;
     }
 
 -- what a look gave, and how the name stands then
@@ -407,7 +408,7 @@ module _ {told_in told : Bool} {ways : Ways} {snapshot : Snapshot} {place : ℕ}
   -- it broke
   drops : (fate : Fate) (why : Fault) → (watched_at old place).name ≡ name → IsTrue (is_watchable old place) → BrokeAt place old new fate why
       → ((looks : List Look) → Stands told_in ways looks place name (watched_at old place) standing → (is_dropped place looks ≡ false)
-      × Looked told_in told ways looks snapshot name printer slots after slots_new true fate × (can_meet (is_first looks) ways.by_name fate ≡ true))
+      × Looked told_in told ways looks snapshot name printer slots after slots_new true fate × (can_meet (is_first looks) ways.by_name ways.seeks fate ≡ true))
       → Visits told_in told ways snapshot place name standing old printer slots Left new after slots_new (Ok true)
   drops fate why named can broke gave = visits_by Left _ broke.names tt (λ looks stands.
       let (kept, looked, met) = gave looks stands in
@@ -427,7 +428,7 @@ module _ {told_in told : Bool} {ways : Ways} {snapshot : Snapshot} {place : ℕ}
       → IsTrue (is_watchable old place) → Follows told_in led place old new fate None
       → ((looks : List Look) → Stands told_in ways looks place name (watched_at old place) standing
       → Gave told_in told ways looks snapshot place name led printer slots after slots_new fate (Ok len))
-      → IsLong snapshot (watched_at new place) len → Visits told_in told ways snapshot place name standing old printer slots (Followed len) new after slots_new (Ok false)
+      → IsLong ways.by_name snapshot (watched_at new place).name (watched_at new place).opened len → Visits told_in told ways snapshot place name standing old printer slots (Followed len) new after slots_new (Ok false)
   gave_through {len} fate named can (file, is, leads) gave long =
       visits_by (Followed len) (opens file) is (rw (opened_now place old is can) (named, none_there (watched_at old place).failed can)) (λ looks stands.
       let made = gave looks stands in looked_visited sound made.kept (looked_whole made.is_due (sound_found (StartsIn looks name) snapshot name fate made.ends) made.there)
@@ -479,6 +480,9 @@ first_missing {told_in} {told} {ways} {snapshot} {place} {name} {printer} {slots
         shared = said_after came_none (name, inl refl) says;
       }
 
+      lost : Found snapshot (watched_at new place).name (opens_as None)
+      lost = rw (ap (λ (w : Watched). w.name) (opened_now place old reopens.names can)) (rw (none_of reopens.file (reopens.found ∙ gone)) at reopens.opens)
+
       unbroken : (watched_at new place).failed ≡ None
       unbroken = ap (λ (w : Watched). w.failed) (opened_now place old reopens.names can) ∙ none_there (watched_at old place).failed can
 
@@ -492,7 +496,7 @@ first_missing {told_in} {told} {ways} {snapshot} {place} {name} {printer} {slots
         λ other. absurd (false≢true (sym other ∙ way)),
         subst (λ len. StandsAt (last_of (entries_in ways name (seeing snapshot fates ∷ []))) (snapshot.leads name) len)
             (ap (λ led. length (held_at snapshot led)) (nowhere t)) (first_last ways (seeing snapshot fates)),
-      )) (λ some. absurd (false≢true (sym (ap (λ (w : Watched). is_some w.opened) (opened_now place old reopens.names can) ∙ reopens.found ∙ gone) ∙ some)))
+      )) (rw (ap (λ (w : Watched). w.opened) (opened_now place old reopens.names can) ∙ none_of reopens.file (reopens.found ∙ gone)) (λ by. inr lost))
       stands fates at false way = record { begun = refl; named = ap (λ (w : Watched). w.name) (opened_now place old reopens.names can) ∙ named; why = inr (record { way = way; unbroken = unbroken; kept = kept_more place [] (seeing snapshot fates) refl at; closed = ap (λ (w : Watched). w.opened) (opened_now place old reopens.names can) ∙ none_of reopens.file (reopens.found ∙ gone); unopened = nowhere }) }
 
 pub first_unopened : {told_in told : Bool} {ways : Ways} {snapshot : Snapshot} {place : ℕ} {name : List ℕ} {printer : PrinterState}
@@ -525,24 +529,25 @@ none_kept (unsought file from) = refl
 none_kept (unread None from) = refl
 none_kept (unread (Some file) from) = refl
 
-first_meets : (by_name : Bool) (fate : Fate) → is_read fate ≡ true → (can_meet true by_name fate ≡ true) × ((not (is_unopened fate) && true) ≡ true)
-first_meets by_name sound read = absurd (false≢true read)
-first_meets by_name unled read = absurd (false≢true read)
-first_meets by_name unopened read = absurd (false≢true read)
-first_meets by_name (unmeasured file) read = (refl, refl)
-first_meets by_name (unsought file from) read = (refl, refl)
-first_meets by_name (unread file from) read = (refl, refl)
+first_opens : (fate : Fate) → is_read fate ≡ true → (not (is_unopened fate) && true) ≡ true
+first_opens sound read = absurd (false≢true read)
+first_opens unled read = absurd (false≢true read)
+first_opens unopened read = absurd (false≢true read)
+first_opens (unmeasured file) read = refl
+first_opens (unsought file from) read = refl
+first_opens (unread file from) read = refl
 
 -- the file was opened: its start part was given under its header, or what comes before a call that failed
 pub first_gave : {told_in told : Bool} {ways : Ways} {snapshot : Snapshot} {place : ℕ} {name contents : List ℕ} {printer inside after : PrinterState}
     {slots slots_new : List Slot} {old mid : List Watched} (new : List Watched) {is_there : Bool} {fate : Fate} {result : Result ℕ Stop} → inside ≡ printer
     → Reopens told_in snapshot old mid place is_there → is_there ≡ true → (watched_at old place).name ≡ name
     → (told_in ≡ true → contents ≡ held_at snapshot (snapshot.leads name)) → Keeps place mid new fate (stop_in result)
+    → IfBroke (stop_in result) (can_meet true ways.by_name ways.seeks fate ≡ true)
     → IfOk result (λ len. told_in ≡ true → len ≡ length contents)
-    → Ends told_in (WereFound Anywhere snapshot name fate (stop_in result)) told true inside name (gives (ways.start contents) ∷ []) (led_before snapshot fate (gives (ways.start contents) ∷ [])) slots after slots_new (stop_in result)
+    → Ends told_in (WereFound Nothing Anywhere snapshot name fate (stop_in result)) told true inside name (gives (ways.start contents) ∷ []) (led_before snapshot fate (gives (ways.start contents) ∷ [])) slots after slots_new (stop_in result)
     → (looks : List Look) → Stands told_in ways looks place name (watched_at old place) New
     → Gave told_in told ways looks snapshot place name (snapshot.leads name) printer slots after slots_new fate result
-first_gave {told_in} {told} {ways} {snapshot} {place} {name} {contents} {after} {slots} {slots_new} {mid} new {fate} {result} viewed reopens there named same keeps long ends looks fresh =
+first_gave {told_in} {told} {ways} {snapshot} {place} {name} {contents} {after} {slots} {slots_new} {mid} new {fate} {result} viewed reopens there named same keeps met long ends looks fresh =
     subst₂ (λ (p : PrinterState) those. Gave told_in told ways those snapshot place name (snapshot.leads name) p slots after slots_new fate result) viewed (sym fresh.0) (record {
       kept = refl;
       due = record { came = []; led = gives (ways.start contents) ∷ [] };
@@ -557,34 +562,35 @@ first_gave {told_in} {told} {ways} {snapshot} {place} {name} {contents} {after} 
               refl,
             );
       };
-      ends = rw (none_kept fate) (found_as (found_from snapshot name fate (stop_in result) (λ file from begins. inl refl)) ends);
+      ends = rw (none_kept fate) (found_as (found_from snapshot name fate (stop_in result) (λ notice none. absurd none) (λ file from begins. inl refl)) ends);
       there = λ first. let (id, is) = some_of reopens.file (reopens.found ∙ there) in (id, rw (is, named) at reopens.opens);
       last = IfOk-weaker result (λ len. told_in ≡ true → len ≡ length contents) _ (λ len is t. (
         λ way. ap is_some (found t).1,
         λ fates. subst (λ n. StandsAt (last_of (entries_in ways name (seeing snapshot fates ∷ []))) (snapshot.leads name) n)
             (sym (is t ∙ ap length (same t))) (first_last ways (seeing snapshot fates)),
       )) long;
-      met = meets result keeps;
+      met = met;
       openly = opens_so result keeps;
     }) where
       found : told_in ≡ true → (id : ℕ) × (snapshot.leads name ≡ Some id)
       found t = some_of (snapshot.leads name) (ap is_some (sym (reopens.leads t ∙ ap snapshot.leads named)) ∙ reopens.found ∙ there)
 
-      meets : (result : Result ℕ Stop) → Keeps place mid new fate (stop_in result) → IfBroke (stop_in result) (can_meet true ways.by_name fate ≡ true)
-      meets (Ok len) keeps = tt
-      meets (Err (Broke why)) keeps = (first_meets ways.by_name fate keeps.1).0
-      meets (Err (Over why)) keeps = tt
-
       opens_so : (result : Result ℕ Stop) → Keeps place mid new fate (stop_in result) → IfBroke (stop_in result) ((not (is_unopened fate) && true) ≡ true)
       opens_so (Ok len) keeps = tt
-      opens_so (Err (Broke why)) keeps = (first_meets ways.by_name fate keeps.1).1
+      opens_so (Err (Broke why)) keeps = first_opens fate keeps.1
       opens_so (Err (Over why)) keeps = tt
+
+pub first_long : {told_in : Bool} {snapshot : Snapshot} {place : ℕ} {old mid new : List Watched} {is_there : Bool} (seen : Snapshot) (len : ℕ) (by_name : Bool) → Reopens told_in snapshot old mid place is_there
+    → is_there ≡ true → IsTrue (is_watchable old place) → new ≡ mid → IsLong false seen (watched_at new place).name (watched_at new place).opened len
+    → IsLong by_name seen (watched_at new place).name (watched_at new place).opened len
+first_long {place} {old} {new} seen len by_name reopens there can same long =
+    long_by seen (watched_at new place).name len by_name (watched_at new place).opened (λ none by. absurd (false≢true (sym (ap is_some none) ∙ (ap (λ those. is_some (watched_at those place).opened) same ∙ ap (λ (w : Watched). is_some w.opened) (opened_now place old reopens.names can) ∙ reopens.found ∙ there)))) long
 
 pub first_started : {told_in told : Bool} {ways : Ways} {snapshot now : Snapshot} {place : ℕ} {name : List ℕ} {printer inside middle after : PrinterState}
     {slots slots_mid slots_new : List Slot} {old mid : List Watched} (new : List Watched) {is_there : Bool} {none : List Event} {result : Result ℕ Stop} → inside ≡ printer
     → Reopens told_in snapshot old mid place is_there → is_there ≡ true → (watched_at old place).name ≡ name → IsTrue (is_watchable old place) → now ≡ snapshot
     → ((Is : List Event → Type 0) → Is [] → Ends told_in Is told true inside name [] none slots middle slots_mid None)
-    → (starts : Starts told_in told now ways.start place name mid middle slots_mid new after slots_new (stop_in result))
+    → (starts : Starts told_in told ways.seeks now ways.start place name mid middle slots_mid new after slots_new (stop_in result))
     → IfOk result (λ len. told_in ≡ true → len ≡ length (open_contents now (watched_at mid place)))
     → (looks : List Look) → Stands told_in ways looks place name (watched_at old place) New
     → Gave told_in told ways looks snapshot place name (snapshot.leads name) printer slots after slots_new starts.fate result
@@ -592,10 +598,11 @@ first_started {told_in} {told} {ways} {snapshot} {now} {place} {name} {inside} {
     let contents = held_at now (watched_at mid place).opened in
     first_gave new viewed reopens there named
     (λ t. ap (held_at now) (opened_led can reopens named t) ∙ ap (λ (s : Snapshot). held_at s (snapshot.leads name)) same) starts.keeps
+    (if_broke (stop_in result) (λ met. met ways.by_name) starts.met)
     (IfOk-weaker result (λ len. told_in ≡ true → len ≡ length (open_contents now (watched_at mid place))) (λ len. told_in ≡ true → len ≡ length contents) (λ len is t. is t ∙ ap length (contents_open now (watched_at mid place))) long)
-    (subst (λ s. Ends told_in (WereFound Anywhere s name starts.fate (stop_in result)) told true inside name (gives (ways.start contents) ∷ []) (led_before s starts.fate (gives (ways.start contents) ∷ [])) slots after slots_new (stop_in result)) same
-    (goes_after (WereFound Anywhere now name starts.fate (stop_in result)) (λ events more none found. found_both Anywhere now name sound starts.fate (stop_in result) events more none (rw known at found))
-    (header (WereFound Anywhere now name sound None) tt) starts.ends)) where
+    (subst (λ s. Ends told_in (WereFound Nothing Anywhere s name starts.fate (stop_in result)) told true inside name (gives (ways.start contents) ∷ []) (led_before s starts.fate (gives (ways.start contents) ∷ [])) slots after slots_new (stop_in result)) same
+    (goes_after (WereFound Nothing Anywhere now name starts.fate (stop_in result)) (λ events more none found. found_both Nothing Anywhere now name sound starts.fate (stop_in result) events more none (rw known at found))
+    (header (WereFound Nothing Anywhere now name sound None) tt) starts.ends)) where
       known : (watched_at mid place).name ≡ name
       known = ap (λ (w : Watched). w.name) (opened_now place old reopens.names can) ∙ named
 
@@ -611,13 +618,13 @@ later_gave {told_in} {ways} {snapshot} {place} {name} {position} {old} {result} 
   due = due_later ways.by_name name opened (last_in ways name before looks) snapshot;
   opened = opened;
   is_due = later_due followed.stands;
-  ends = found_as (found_from snapshot name again.fate (stop_in result) begins) (rw followed.named at (again.ends (last_in ways name before looks) followed.stands));
+  ends = found_as (found_from snapshot name again.fate (stop_in result) tells begins) (rw followed.named at (again.ends (last_in ways name before looks) followed.stands));
   there = λ first. absurd (false≢true first);
   last = IfOk-weaker result _ _ (λ n is t. (
     λ way. ap (λ by_name. is_some (open_after_look by_name name opened snapshot)) way ∙ followed.there t way,
     λ fates. rw (at_last t fates) (is t (last_in ways name before looks) (followed.stands t)),
   )) again.stands;
-  met = again.met;
+  met = if_broke (stop_in result) (λ met. met ways.seeks) again.met;
   openly = never_first (stop_in result);
 } where
   opened : Option ℕ
@@ -630,7 +637,14 @@ later_gave {told_in} {ways} {snapshot} {place} {name} {position} {old} {result} 
 
   begins : (file : Option ℕ) (from : ℕ) → FromFrontOr opened position file from → StartsIn (before ∷ looks) name file from
   begins file from (inl front) = inr (inl front)
-  begins file from (inr (same, some, at)) = inr (inr (rw (same, at) (followed.long some)))
+  begins file from (inr (same, some, at)) = inr (inr (rw (same, at) (held_many ways.by_name (latest (snapshots (before ∷ looks))) name position opened some followed.long)))
+
+  left_open : (opened : Option ℕ) (by_name : Bool) → (opened ≡ None → by_name ≡ true) → IsLong by_name (latest (snapshots (before ∷ looks))) name opened position → LeftOpen (latest (snapshots (before ∷ looks))) name opened position
+  left_open None by_name can long = long (can refl)
+  left_open (Some file) by_name can long = long
+
+  tells : (notice : Notice) → ToldAgain ways.by_name snapshot name opened position notice → IsTold (before ∷ looks) snapshot name notice
+  tells notice (can, seen) = (refl, opened, position, left_open opened ways.by_name can followed.long, seen)
 
   never_first : (stop : Option Stop) → IfBroke stop ((not (is_unopened again.fate) && false) ≡ false)
   never_first None = tt

@@ -1,5 +1,5 @@
 -- How a run of following ends, by what its looks saw.
-use Rattle.std.specs.Prelude.{◌≡◌, ◌<◌, ◌≤◌, ◌++◌, ◌∷◌, ℕ, zero, suc, Bool, true, false, List, [], length, take, if◌then◌else◌}
+use Rattle.std.specs.Prelude.{◌≡◌, ◌<◌, ◌≤◌, ◌+◌, ◌++◌, ◌∷◌, ℕ, zero, suc, Bool, true, false, IsTrue, List, [], length, take, Option, Some, None, if◌then◌else◌}
 use Rattle.ports_core.specs.Message.{SaysOn, output_named}
 use Rattle.ports_core.specs.Slot.{Slot}
 use Rattle.ports_core.specs.Text.{message_of}
@@ -43,6 +43,25 @@ pub record Leaves (told : Bool) (followed : Followed) (first new : List Slot) (s
   pub wrote : Wrote told followed.out followed.messages first new
   pub status_is : status ≡ (if followed.has_failed then 1 else 0)
 
+-- before a look that sees this it is found that the process is gone, where one is waited for
+abbrev pub is_over : (process : Option ℕ) → Snapshot → Bool
+is_over None snapshot = false
+is_over (Some process) snapshot = snapshot.lacks process
+
+-- how many looks are made from that of this number on, of as many that are left: the first of them before which the
+-- process is gone is the last
+abbrev pub until_over : (process : Option ℕ) → (ℕ → Snapshot) → (from left : ℕ) → ℕ
+until_over process shows from zero = 0
+until_over process shows from (suc left) =
+    if is_over process (shows from) then 1 else 1 + until_over process shows (from + 1) left
+
+-- At most as many looks are made of those that are asked for. Whatever is watched, there are fewer only where it was
+-- found before the last of them that the process is gone.
+pub record AreMost (told_in : Bool) (process : Option ℕ) (shows : ℕ → Snapshot) (count most : ℕ) : Type 0 where
+  pub are : told_in ≡ true → most ≡ until_over process shows 0 count
+  pub within : most ≤ count
+  pub found : most < count → (last : ℕ) × (most ≡ suc last) × IsTrue (is_over process (shows last))
+
 -- A run ended so: these looks and no others were made, as many as were asked for, or those after which nothing more can
 -- come, and the outputs have exactly what they give; or a look was stopped, and the outputs have all of the looks
 -- before it, a beginning of it, and the message; or there was no memory to begin, and no look was made.
@@ -62,3 +81,12 @@ pub data FollowEndsAs (told_in told : Bool) (ways : Ways) (headers : Bool) (name
       → FollowEndsAs told_in told ways headers names count shows first seen watched new status
   no_room : seen ≡ [] → watched ≡ [] → SaysOn told Tail (message_of Tail Memory []) first new → status ≡ 1
       → FollowEndsAs told_in told ways headers names count shows first seen watched new status
+
+-- a run that ends once this process is gone, where one is waited for
+abbrev pub FollowEndsBy : Option ℕ → (told_in told : Bool) → Ways → Bool → List (List ℕ) → (count : ℕ)
+    → (ℕ → Snapshot) → List Slot → List Snapshot → List Watched → List Slot → (status : ℕ) → Type 0
+FollowEndsBy None told_in told ways headers names count shows first seen watched new status =
+    FollowEndsAs told_in told ways headers names count shows first seen watched new status
+FollowEndsBy (Some process) told_in told ways headers names count shows first seen watched new status = (most : ℕ)
+    × AreMost told_in (Some process) shows count most
+    × FollowEndsAs told_in told ways headers names most shows first seen watched new status

@@ -1,6 +1,8 @@
 -- The looks that were made, and how each name came through them.
 use Rattle.std.specs.Prelude.{is_some, ℕ, Bool, true, false, not, ◌&&◌, ◌||◌, List, [], ◌∷◌, Option, Some, None, map, slice_index_or}
 use Rattle.ends_core.specs.Ends.{tail_of}
+use Rattle.seg_core.specs.declared.unit.Unit.{Unit}
+use Rattle.seg_core.specs.declared.unit.Unit.TheVariants.{Lines, Bytes}
 use Rattle.watch_core.specs.Snapshot.{Snapshot}
 use Rattle.watch_core.specs.declared.watch.Broken.{Broken}
 use Rattle.watch_core.specs.declared.watch.Broken.TheVariants as broken
@@ -47,21 +49,21 @@ failed_in place (look ∷ looks) = failed_by (fate_at place look) (failed_in pla
 abbrev pub is_dropped : ℕ → List Look → Bool
 is_dropped place looks = is_some (failed_in place looks)
 
--- A look can meet this fate. Only the first one seeks, and none but it opens a file or asks where the name leads where
--- names aren't followed; it opens at once.
-abbrev pub can_meet : (is_first by_name : Bool) → Fate → Bool
-can_meet is_first by_name sound = true
-can_meet is_first by_name unled = not is_first && by_name
-can_meet is_first by_name unopened = is_first || by_name
-can_meet is_first by_name (unmeasured file) = true
-can_meet is_first by_name (unsought file from) = is_first
-can_meet is_first by_name (unread file from) = true
+-- A look can meet this fate. Only the first one seeks, and only lines; and none but it opens a file or asks where the
+-- name leads where names aren't followed; it opens at once.
+abbrev pub can_meet : (is_first by_name seeks : Bool) → Fate → Bool
+can_meet is_first by_name seeks sound = true
+can_meet is_first by_name seeks unled = not is_first && by_name
+can_meet is_first by_name seeks unopened = is_first || by_name
+can_meet is_first by_name seeks (unmeasured file) = true
+can_meet is_first by_name seeks (unsought file from) = is_first && seeks
+can_meet is_first by_name seeks (unread file from) = true
 
 -- each of these looks can meet the fate that it has for the name of this number
-abbrev pub are_met : (is_first by_name : Bool) → ℕ → List Look → Bool
-are_met is_first by_name place [] = true
-are_met is_first by_name place (look ∷ looks) =
-    can_meet is_first by_name (fate_at place look) && are_met false by_name place looks
+abbrev pub are_met : (is_first by_name seeks : Bool) → ℕ → List Look → Bool
+are_met is_first by_name seeks place [] = true
+are_met is_first by_name seeks place (look ∷ looks) =
+    can_meet is_first by_name seeks (fate_at place look) && are_met false by_name seeks place looks
 
 abbrev pub snapshots : List Look → List Snapshot
 snapshots looks = map (λ look. look.snapshot) looks
@@ -72,11 +74,17 @@ is_first [] = true
 is_first (look ∷ looks) = false
 
 -- how the names are followed: from which number on they are watched, one after another; by name, or by the file that
--- was opened; and what is written of a file when it is opened first
+-- was opened; what is written of a file when it is opened first, and whether reads seek where that begins
 pub record Ways : Type 0 where
   pub first : ℕ
   pub by_name : Bool
   pub start : List ℕ → List ℕ
+  pub seeks : Bool
+
+-- lines are looked for; where bytes begin is known
+abbrev pub is_sought : Unit → Bool
+is_sought Lines = true
+is_sought Bytes = false
 
 -- as they are asked for
 abbrev pub ways_of : (first : ℕ) → Bool → Start → Ways
@@ -84,6 +92,7 @@ ways_of first by_name start = record {
   first = first;
   by_name = by_name;
   start = tail_of start.delim start.unit start.from_nth start.count;
+  seeks = is_sought start.unit;
 }
 
 -- the versions of a name in these looks

@@ -1,9 +1,12 @@
 -- What comes of a name whatever is watched, also where files don't tell their bytes: what the calls on it found.
-use Rattle.std.specs.Prelude.{◌≡◌, ◌⊎◌, ◌≤◌, ◌+◌, ℕ, true, false, not, ◌&&◌, List, [], ◌∷◌, ◌++◌, Option, Some, None, length}
-use Rattle.watch_core.specs.Snapshot.{Snapshot, Found, latest, holds_many, opens_as, reads_as}
+use Rattle.std.specs.Prelude.{◌≡◌, ◌⊎◌, ◌<◌, ◌≤◌, ◌+◌, ℕ, true, false, not, ◌&&◌, List, [], ◌∷◌, ◌++◌, Option, Some, None, is_some, length}
+use Rattle.watch_core.specs.Snapshot.{Snapshot, Found, latest, holds_many, leads_to, opens_as, reads_as}
+use Rattle.follow_core.specs.declared.notice.Notice.{Notice}
+use Rattle.follow_core.specs.declared.notice.Notice.TheVariants.{Truncated, Replaced, Inaccessible, Appeared}
 use Rattle.follow_core.specs.Event.{Begins, Event, gives, notes}
 use Rattle.follow_core.specs.Look.{Fate, Look, Ways, sound, unread, fate_at, is_dropped, is_first, snapshots}
 use Rattle.follow_core.specs.Share.{Share, failure_of, is_unopened, missing_share, no_share}
+use Rattle.follow_core.specs.Version.{is_file}
 
 -- reads of this file, each from where the one before it ended, gave these bytes, from one place on up to another
 pub data AreRead (snapshot : Snapshot) (name : List ℕ) (file : Option ℕ) (from : ℕ) : List ℕ → ℕ → Type 0 where
@@ -27,11 +30,30 @@ pub record IsWhole (Starts : Option ℕ → ℕ → Type 0) (snapshot : Snapshot
   pub ends : ((len : ℕ) × Found snapshot name (holds_many is.file len) × (len ≤ is.end))
       ⊎ Found snapshot name (reads_as is.file is.end []) ⊎ (fate ≡ unread is.file is.end)
 
--- this is so of the bytes of each event
-abbrev pub AllGive : (List ℕ → Type 0) → List Event → Type 0
-AllGive Is [] = Unit {0}
-AllGive Is (notes notice ∷ events) = AllGive Is events
-AllGive Is (gives bytes ∷ events) = Is bytes × AllGive Is events
+-- a look left this file of a name open, which it found to hold so much; or none, and found that the name leads nowhere
+abbrev pub LeftOpen : Snapshot → List ℕ → Option ℕ → (held : ℕ) → Type 0
+LeftOpen snapshot name None held = Found snapshot name (leads_to None) ⊎ Found snapshot name (opens_as None)
+LeftOpen snapshot name (Some file) held = Found snapshot name (holds_many (Some file) held)
+
+-- what a look found by which this is told, where this file was left open, which held so much
+abbrev pub IsSeen : Snapshot → List ℕ → Option ℕ → (held : ℕ) → Notice → Type 0
+IsSeen snapshot name opened held Truncated = (is_some opened ≡ true)
+    × (len : ℕ) × Found snapshot name (holds_many opened len) × (len < held)
+IsSeen snapshot name opened held Replaced = (is_some opened ≡ true)
+    × (file : ℕ) × Found snapshot name (leads_to (Some file)) × (is_file file opened ≡ false)
+IsSeen snapshot name opened held Inaccessible = (is_some opened ≡ true) × Found snapshot name (leads_to None)
+IsSeen snapshot name opened held Appeared = (opened ≡ None) × (file : ℕ) × Found snapshot name (leads_to (Some file))
+
+-- A look after these tells it for what it found, and the one before it: the first look tells nothing.
+abbrev pub IsTold : List Look → Snapshot → List ℕ → Notice → Type 0
+IsTold before snapshot name notice = (is_first before ≡ false) × (opened : Option ℕ) × (held : ℕ)
+    × LeftOpen (latest (snapshots before)) name opened held × IsSeen snapshot name opened held notice
+
+-- each event tells what is so, or gives bytes of which this is so
+abbrev pub AllGive : (Notice → Type 0) → (List ℕ → Type 0) → List Event → Type 0
+AllGive Tells Is [] = Unit {0}
+AllGive Tells Is (notes notice ∷ events) = Tells notice × AllGive Tells Is events
+AllGive Tells Is (gives bytes ∷ events) = Is bytes × AllGive Tells Is events
 
 -- Where reads begin: at the first look, where the start part is found to begin; later at the front, or after as many
 -- bytes as the look before found the file to have.
@@ -45,7 +67,7 @@ pub record IsFound (before : List Look) (snapshot : Snapshot) (name : List ℕ) 
   pub named : share.name ≡ name
   pub opened : share.is_opened ≡ (not (is_unopened fate) && is_first before)
   pub failed : share.failure ≡ failure_of fate
-  pub events : AllGive (IsWhole (StartsIn before name) snapshot name fate) share.events
+  pub events : AllGive (IsTold before snapshot name) (IsWhole (StartsIn before name) snapshot name fate) share.events
   -- at the first look a file was opened
   pub there : share.is_opened ≡ true → (file : ℕ) × Found snapshot name (opens_as (Some file))
 
@@ -83,4 +105,4 @@ pub record IsBegun (before : List Look) (snapshot : Snapshot) (name : List ℕ) 
   pub unfailed : share.failure ≡ None
   pub all : List Event
   pub begins : Begins share.events all
-  pub events : AllGive (IsRead (StartsIn before name) snapshot name) all
+  pub events : AllGive (IsTold before snapshot name) (IsRead (StartsIn before name) snapshot name) all

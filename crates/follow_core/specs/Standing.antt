@@ -1,12 +1,13 @@
 -- How a name stands between two looks.
-use Rattle.std.specs.Prelude.{◌≡◌, ◌<◌, ◌≤◌, ◌+◌, ℕ, Bool, true, false, List, [], Option, None, ◌⊎◌, length, map, slice_index_or, is_some}
+use Rattle.std.specs.Prelude.{◌≡◌, ◌<◌, ◌≤◌, ◌+◌, ℕ, Bool, true, false, List, [], Option, Some, None, ◌⊎◌, length, map, slice_index_or, is_some}
 use Rattle.watch_core.specs.declared.watch.Broken.{Broken}
-use Rattle.watch_core.specs.Snapshot.{Found, holds_many, latest}
+use Rattle.watch_core.specs.Snapshot.{Snapshot, latest}
 use Rattle.watch_core.specs.Watched.{Watched, added, watched_at}
 use Rattle.follow_core.specs.declared.name.Standing.{Standing}
 use Rattle.follow_core.specs.declared.name.Standing.TheVariants.{New, Followed, Left}
 use Rattle.follow_core.specs.Gain.{file_of, last_of, seen_length}
 use Rattle.follow_core.specs.Look.{Look, Ways, are_met, entries_in, failed_in, is_dropped, is_first, snapshots}
+use Rattle.follow_core.specs.Reading.{LeftOpen}
 use Rattle.follow_core.specs.Version.{Entry, open_after}
 
 pub record NameState : Type 0 where
@@ -40,7 +41,7 @@ pub record StandsAt (last : Entry) (opened : Option ℕ) (position : ℕ) : Type
 -- that a look makes.
 pub record BrokeIn (ways : Ways) (looks : List Look) (place : ℕ) (failed : Option Broken) : Type 0 where
   pub call : failed ≡ failed_in place looks
-  pub met : are_met true ways.by_name place looks ≡ true
+  pub met : are_met true ways.by_name ways.seeks place looks ≡ true
 
 -- The name that is watched at this number is this one. It broke just as these looks tell, if it did, and no file of it
 -- is open then.
@@ -57,6 +58,11 @@ AreWatched ways looks names watched = (length watched ≤ ways.first + length na
     × ((place : ℕ) → ways.first + place < length watched → IsWatched ways looks (ways.first + place)
     (slice_index_or names place []) (watched_at watched (ways.first + place)))
 
+-- a look left it so; of a name without a file it is known where names are followed
+abbrev pub IsLong : (by_name : Bool) → Snapshot → List ℕ → Option ℕ → (held : ℕ) → Type 0
+IsLong by_name snapshot name None held = by_name ≡ true → LeftOpen snapshot name None held
+IsLong by_name snapshot name (Some file) held = LeftOpen snapshot name (Some file) held
+
 -- It is looked at again: its open file is that of the last entry, and this much of it was seen.
 pub record IsFollowed (told : Bool) (ways : Ways) (looks : List Look) (place : ℕ) (name : List ℕ) (watched : Watched)
     (position : ℕ) : Type 0 where
@@ -66,9 +72,7 @@ pub record IsFollowed (told : Bool) (ways : Ways) (looks : List Look) (place : �
   pub begun : is_first looks ≡ false
   pub stands : told ≡ true → StandsAt (last_of (entries_in ways name looks)) watched.opened position
   pub there : told ≡ true → ways.by_name ≡ false → is_some watched.opened ≡ true
-  -- the last look found the open file to be so long
-  pub long : is_some watched.opened ≡ true
-      → Found (latest (snapshots looks)) name (holds_many watched.opened position)
+  pub long : IsLong ways.by_name (latest (snapshots looks)) name watched.opened position
 
 -- it was missing at the first look, and names aren't followed
 pub record IsMissed (told : Bool) (ways : Ways) (looks : List Look) (place : ℕ) (name : List ℕ)

@@ -13,5 +13,5 @@ mod visitor;
 pub use follow::{Follow, Stage};
 pub use laws::{looks_agree, notices_are_no_failures, one_look_more, text_goes_on};
 pub use notice::{Notice, notice_line};
-pub use run::follow_files;
+pub use run::{Limits, follow_files};
 pub use start::Start;

@@ -1,8 +1,8 @@
 //! A whole run of following.
-ghost use Rattle.std.specs.Prelude.{◌≡◌, ◌∷◌, [], ℕ, Bool, List, map, IfErr, OnOk};
+ghost use Rattle.std.specs.Prelude.{◌≡◌, ◌∷◌, [], ℕ, Bool, List, true, length, map, IfErr, IsTrue, OnOk};
 ghost use Rattle.ports_core.specs.Slot.{Slot, streams};
 ghost use Rattle.follow_core.specs.Sharing.{HasError};
-ghost use Rattle.follow_core.specs.Ending.{FollowEndsAs, StoppedIn};
+ghost use Rattle.follow_core.specs.Ending.{AreMost, FollowEndsBy, StoppedIn, is_over};
 ghost use Rattle.follow_core.specs.inner.Visits.{LookedAll};
 ghost use Rattle.follow_core.specs.FollowState.{CanLook, Holds};
 ghost use Rattle.follow_core.specs.Look.{Ways, ways_of};
@@ -13,9 +13,18 @@ use ports_core::{Fault, Outs, Tool, tell};
 use std::alloc::Global;
 use watch_core::Watch;
 
-/// A whole run of `tail` that follows these names (POSIX.1-2017, XCU tail, `-f`; GNU's `--follow=name` too): `looks` looks, one
-/// directly after another. It ends sooner where after a look no further one can give anything. Its status is 1 where a name was missing
-/// at the first look or failed, or a fault ended following, and else 0.
+/// When following ends, if it doesn't before.
+#[derive(Clone, Copy, Debug, PartialEq, Eq)]
+pub struct Limits {
+    /// After as many looks.
+    pub looks: u64,
+    /// After the first look that began once the process of this number was seen to be gone. None where no process is waited for.
+    pub process: Option<u32>,
+}
+
+/// A whole run of `tail` that follows these names (POSIX.1-2017, XCU tail, `-f`; GNU's `--follow=name` too): looks, one directly
+/// after another, up to the limits. It ends sooner where after a look no further one can give anything. Its status is 1 where a name was
+/// missing at the first look or failed, or a fault ended following, and else 0.
 ///
 /// Standard output has exactly what the looks saw: of each file the part that `start` says, then what it has past the length that the
 /// look before saw; all of a file that was truncated, that came back, or that the name leads to in place of another. Standard error has
@@ -28,14 +37,14 @@ pub fn follow_files<W: Watch, O: Outs>(
     start: Start,
     by_name: bool,
     headers: bool,
-    looks: u64,
+    limits: Limits,
     watch: &mut W,
     outs: &mut O,
 ) -> u8
     requires unseen { W.seen watch.old ≡ [] }
     requires unwatched { W.watched watch.old ≡ [] }
     requires outputs { O.slots outs.old ≡ streams }
-    ensures { FollowEndsAs W.told O.told (ways_of 0 by_name start) headers (map (λ name. name.now) names.now) looks (W.shows watch.old) (O.slots outs.old) (W.seen watch.new) (W.watched watch.new) (O.slots outs.new) result }
+    ensures { FollowEndsBy limits.process W.told O.told (ways_of 0 by_name start) headers (map (λ name. name.now) names.now) limits.looks (W.shows watch.old) (O.slots outs.old) (W.seen watch.new) (W.watched watch.new) (O.slots outs.new) result }
 {
     let mut follow = match Follow::open(alloc, names, start, by_name, headers) {
         Ok(follow) => follow,
@@ -44,7 +53,7 @@ pub fn follow_files<W: Watch, O: Outs>(
             return 1;
         }
     };
-    match make_looks(&mut follow, looks, watch, outs) {
+    match make_looks(&mut follow, limits, watch, outs) {
         Ok(()) => u8::from(follow.failed()),
         Err(fault) => {
             tell(alloc, Tool::Tail, &fault, outs);
@@ -53,30 +62,33 @@ pub fn follow_files<W: Watch, O: Outs>(
     }
 }
 
-/// Makes as many looks, or ends sooner, where after a look no further one can give anything.
+/// Makes looks up to the limits, or ends sooner, where after a look no further one can give anything.
 ///
 /// # Errors
 ///
 /// As `Follow::look`.
 fn make_looks<W: Watch, O: Outs>(
     follow: &mut Follow,
-    looks: u64,
+    limits: Limits,
     watch: &mut W,
     outs: &mut O,
 ) -> Result<(), Fault>
     requires unseen { W.seen watch.old ≡ [] }
     requires can { CanLook follow.old (W.watched watch.old) (O.slots outs.old) }
     requires error { HasError (O.slots outs.old) }
-    ensures looked { OnOk result ((ways : Ways) (headers : Bool) (names : List (List ℕ)) (first : List Slot)
+    ensures looked { OnOk result ((most : ℕ) × AreMost W.told limits.process (W.shows watch.old) limits.looks most
+        × ((ways : Ways) (headers : Bool) (names : List (List ℕ)) (first : List Slot)
         → Holds W.told O.told ways headers names [] first follow.old (W.watched watch.old) (O.slots outs.old)
-        → LookedAll W.told O.told ways headers names looks (W.shows watch.old) first follow.new (W.seen watch.new) (W.watched watch.new) (O.slots outs.new)) }
-    ensures stopped { IfErr result (λ why. (ways : Ways) (headers : Bool) (names : List (List ℕ)) (first : List Slot)
+        → LookedAll W.told O.told ways headers names most (W.shows watch.old) first follow.new (W.seen watch.new) (W.watched watch.new) (O.slots outs.new))) }
+    ensures stopped { IfErr result (λ why. (most : ℕ) × AreMost W.told limits.process (W.shows watch.old) limits.looks most
+        × ((ways : Ways) (headers : Bool) (names : List (List ℕ)) (first : List Slot)
         → Holds W.told O.told ways headers names [] first follow.old (W.watched watch.old) (O.slots outs.old)
-        → StoppedIn W.told O.told ways headers names looks (W.shows watch.old) first (W.seen watch.new) (W.watched watch.new) (O.slots outs.new) why) }
+        → StoppedIn W.told O.told ways headers names most (W.shows watch.old) first (W.seen watch.new) (W.watched watch.new) (O.slots outs.new) why)) }
     ensures error { HasError (O.slots outs.new) }
 {
     let mut made = 0;
-    while made < looks {
+    while made < limits.looks {
+        let is_last = has_ended(limits.process, watch);
         if let Err(fault) = follow.look(watch, outs) {
             return Err(fault);
         }
@@ -84,6 +96,23 @@ fn make_looks<W: Watch, O: Outs>(
         if !follow.alive() {
             return Ok(());
         }
+        if is_last {
+            return Ok(());
+        }
     }
     Ok(())
+}
+
+/// Whether the process that is waited for is gone, before the next look.
+fn has_ended<W: Watch>(process: Option<u32>, watch: &mut W) -> bool
+    ensures told { W.told ≡ true → result ≡ is_over process (W.shows watch.old (length (W.seen watch.old))) }
+    ensures found { IsTrue result → IsTrue (is_over process (W.shows watch.old (length (W.seen watch.old)))) }
+    ensures watched { W.watched watch.new ≡ W.watched watch.old }
+    ensures seen { W.seen watch.new ≡ W.seen watch.old }
+    ensures shows { W.shows watch.new ≡ W.shows watch.old }
+{
+    match process {
+        Some(process) => watch.is_gone(process),
+        None => false,
+    }
 }

@@ -4,6 +4,7 @@ ghost use Rattle.seg_core.specs.Line.{after_lines, last_lines};
 ghost use Rattle.ends_core.specs.Ends.{tail_of};
 ghost use Rattle.watch_core.specs.Snapshot.{latest};
 ghost use Rattle.watch_core.specs.Watched.{is_readable, open_contents, watched_at};
+ghost use Rattle.follow_core.specs.Look.{is_sought};
 ghost use Rattle.follow_core.specs.inner.Giving.{FailsToRead};
 
 use ends_core::Unit;
@@ -48,6 +49,7 @@ impl Start {
         ensures part { IfOk result (λ from. W.told ≡ true → let contents = open_contents (latest (W.seen watch.old)) (watched_at (W.watched watch.old) place) in drop from contents ≡ tail_of self.delim self.unit self.from_nth self.count contents) }
         ensures same { OnOk result (W.watched watch.new ≡ W.watched watch.old) }
         ensures err { IfErr result (λ fault. (fault ≡ Fault.Read place) × FailsToRead place (W.watched watch.old) (W.watched watch.new)) }
+        ensures sought { IfErr result (λ _. IsTrue (is_sought self.unit)) }
         ensures seen { W.seen watch.new ≡ W.seen watch.old }
         ensures shows { W.shows watch.new ≡ W.shows watch.old }
     {

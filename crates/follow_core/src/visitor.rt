@@ -7,10 +7,10 @@ ghost use Rattle.watch_core.specs.Watched.{is_readable, is_watchable, open_conte
 ghost use Rattle.follow_core.specs.declared.name.Standing.TheVariants.{New, Followed};
 ghost use Rattle.follow_core.specs.Event.{notes};
 ghost use Rattle.follow_core.specs.Printing.{PrinterState, fresh_printer};
-ghost use Rattle.follow_core.specs.inner.Giving.{Adds, CanGoOn, Copies, Ends, IsLong, Leads, Noted, Starts, change_between, notes_past, over_in, stop_in};
+ghost use Rattle.follow_core.specs.inner.Giving.{Adds, CanGoOn, Copies, Ends, HoldsMany, IsPast, Leads, Noted, Starts, change_between, notes_past, over_in, stop_in};
 ghost use Rattle.follow_core.specs.Sharing.{CanPrint};
 ghost use Rattle.follow_core.specs.inner.Visits.{TellsStop, Visits};
-ghost use Rattle.follow_core.specs.Look.{ways_of};
+ghost use Rattle.follow_core.specs.Look.{is_sought, ways_of};
 
 use crate::name::Standing;
 use crate::notice::{Notice, notice_line};
@@ -130,8 +130,8 @@ impl Visitor {
     ) -> Result<u64, Stop>
         requires readable { IsTrue (is_readable (W.watched watch.old) place) }
         requires can { CanPrint (O.slots outs.old) }
-        ensures starts { Starts W.told O.told (latest (W.seen watch.old)) (tail_of start.delim start.unit start.from_nth start.count) place name.now (W.watched watch.old) self.old (O.slots outs.old) (W.watched watch.new) self.new (O.slots outs.new) (stop_in result) }
-        ensures long { IfOk result (IsLong (latest (W.seen watch.old)) (watched_at (W.watched watch.old) place)) }
+        ensures starts { Starts W.told O.told (is_sought start.unit) (latest (W.seen watch.old)) (tail_of start.delim start.unit start.from_nth start.count) place name.now (W.watched watch.old) self.old (O.slots outs.old) (W.watched watch.new) self.new (O.slots outs.new) (stop_in result) }
+        ensures long { IfOk result (HoldsMany (latest (W.seen watch.old)) (watched_at (W.watched watch.old) place)) }
         ensures len { IfOk result (λ len. W.told ≡ true → len ≡ length (open_contents (latest (W.seen watch.old)) (watched_at (W.watched watch.old) place))) }
         ensures can { CanGoOn (stop_in result) (O.slots outs.new) }
         ensures seen { W.seen watch.new ≡ W.seen watch.old }
@@ -177,7 +177,7 @@ impl Visitor {
         requires watchable { IsTrue (is_watchable (W.watched watch.old) place) }
         requires name { (watched_at (W.watched watch.old) place).name ≡ name.now }
         requires can { CanPrint (O.slots outs.old) }
-        ensures visits { (first : ℕ) (start : List ℕ → List ℕ) → Visits W.told O.told (record { first = first; by_name = by_name; start = start }) (latest (W.seen watch.old)) place name.now (Followed position) (W.watched watch.old) self.old (O.slots outs.old) standing.new (W.watched watch.new) self.new (O.slots outs.new) result }
+        ensures visits { (first : ℕ) (start : List ℕ → List ℕ) (seeks : Bool) → Visits W.told O.told (record { first = first; by_name = by_name; start = start; seeks = seeks }) (latest (W.seen watch.old)) place name.now (Followed position) (W.watched watch.old) self.old (O.slots outs.old) standing.new (W.watched watch.new) self.new (O.slots outs.new) result }
         ensures can { CanGoOn (over_in result) (O.slots outs.new) }
         ensures seen { W.seen watch.new ≡ W.seen watch.old }
         ensures shows { W.shows watch.new ≡ W.shows watch.old }
@@ -216,7 +216,7 @@ impl Visitor {
         requires watchable { IsTrue (is_watchable (W.watched watch.old) place) }
         requires name { (watched_at (W.watched watch.old) place).name ≡ name.now }
         requires can { CanPrint (O.slots outs.old) }
-        ensures leads { Leads W.told O.told (latest (W.seen watch.old)) ((latest (W.seen watch.old)).leads name.now) place name.now position (W.watched watch.old) self.old (O.slots outs.old) (W.watched watch.new) self.new (O.slots outs.new) result }
+        ensures leads { Leads W.told O.told true (latest (W.seen watch.old)) ((latest (W.seen watch.old)).leads name.now) place name.now position (W.watched watch.old) self.old (O.slots outs.old) (W.watched watch.new) self.new (O.slots outs.new) result }
         ensures can { CanGoOn (stop_in result) (O.slots outs.new) }
         ensures seen { W.seen watch.new ≡ W.seen watch.old }
         ensures shows { W.shows watch.new ≡ W.shows watch.old }
@@ -327,7 +327,7 @@ fn copy<W: Watch, O: Outs>(
     requires writable { IsTrue (is_writable (O.slots outs.old) 0) }
     requires within { from ≤ len }
     requires room { 0 < length buffer.old }
-    requires found { IsLong (latest (W.seen watch.old)) (watched_at (W.watched watch.old) place) len }
+    requires found { HoldsMany (latest (W.seen watch.old)) (watched_at (W.watched watch.old) place) len }
     requires whole { W.told ≡ true → len ≡ length (open_contents (latest (W.seen watch.old)) (watched_at (W.watched watch.old) place)) }
     ensures copies { Copies W.told O.told (latest (W.seen watch.old)) from place name.now (W.watched watch.old) printer.old (O.slots outs.old) (W.watched watch.new) printer.new (O.slots outs.new) (stop_in result) }
     ensures len { IfOk result (λ n. n ≡ len) }
@@ -365,7 +365,7 @@ fn begin_at<O: Outs>(
     outs: &mut O,
 ) -> Result<u64, Fault>
     requires can { CanPrint (O.slots outs.old) }
-    ensures ends { (told_in : Bool) (printer : PrinterState) → Ends told_in Noted O.told false printer name.now (notes_past position len) [] (O.slots outs.old) printer (O.slots outs.new) (over_in result) }
+    ensures ends { (told_in : Bool) (printer : PrinterState) → Ends told_in (Noted (IsPast position len)) O.told false printer name.now (notes_past position len) [] (O.slots outs.old) printer (O.slots outs.new) (over_in result) }
     ensures from { IfOk result (λ from. from ≡ (if nat_lt len position then 0 else position)) }
     ensures can { CanGoOn (over_in result) (O.slots outs.new) }
 {
@@ -385,7 +385,7 @@ fn begin_at<O: Outs>(
 /// `Memory` where there was none for the line.
 fn tell<O: Outs>(alloc: Global, found: Notice, name: &str, outs: &mut O) -> Result<(), Fault>
     requires can { CanPrint (O.slots outs.old) }
-    ensures ends { (told_in : Bool) (printer : PrinterState) → Ends told_in Noted O.told false printer name.now (notes found ∷ []) [] (O.slots outs.old) printer (O.slots outs.new) (over_in result) }
+    ensures ends { (told_in : Bool) (printer : PrinterState) → Ends told_in (Noted (λ notice. notice ≡ found)) O.told false printer name.now (notes found ∷ []) [] (O.slots outs.old) printer (O.slots outs.new) (over_in result) }
     ensures can { CanGoOn (over_in result) (O.slots outs.new) }
 {
     match notice_line(alloc, found, name) {

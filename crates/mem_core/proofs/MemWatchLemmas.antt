@@ -1,7 +1,9 @@
 -- A watch in memory sees at each look what was planned for it.
-use Rattle.std.proofs.Common.{◌≡◌, ℕ, ◌+◌, ◌<◌, ◌≤◌, zero, suc, Bool, true, List, [], ◌∷◌, ◌++◌, Option, Some, length, refl, sym, ◌∙◌, ap, subst, arith, get_or, set, length-append, is_some}
+use Rattle.std.proofs.Common.{◌≡◌, ℕ, ◌+◌, ◌-◌, ◌<◌, ◌≤◌, ◌⊎◌, inl, inr, min, zero, suc, Bool, true, List, [], ◌∷◌, ◌++◌, Option, Some, length, refl, sym, ◌∙◌, ap, subst, arith, get_or, set, length-append, is_some}
+use Rattle.std.proofs.lemmas.Bool.{cases_lt}
+use Rattle.std.proofs.lemmas.Grind.{common_steps}
 use Rattle.watch_core.specs.Snapshot.{Snapshot, latest, Finding, Found}
-use Rattle.watch_core.specs.Edits.{World, empty_world, held_in, led_to, seen_in}
+use Rattle.watch_core.specs.Edits.{World, empty_world, held_in, is_one, led_to, seen_in}
 use Rattle.watch_core.specs.Watched.{Watched, Finds, Reopens, open_contents, opens, watched_at}
 use Rattle.watch_core.specs.declared.watch.Seen.{Seen}
 use Rattle.mem_core.specs.MemWatchState.{MemWatchState, world_at, seen_by, seen, shows}
@@ -106,6 +108,21 @@ module _ {watch : MemWatchState} {worlds : List World} (turns : ℕ) {names : Li
       ap (λ (snapshot : Snapshot). snapshot.holds file) now_seen
       ∙ sym (ap (λ those. open_contents (latest (seen watch)) (record item { opened = those })) opened)
       ∙ ap (open_contents (latest (seen watch))) (item_is place within at)
+
+-- past the last look that was planned all is as at that
+pub at_last : (worlds : List World) (n m : ℕ) → 0 < length worlds → m ≡ min n (length worlds - 1) → world_at worlds m ≡ world_at worlds n
+at_last worlds n m some is = by (cases_lt n (length worlds)) where
+  by : (n < length worlds) ⊎ (length worlds ≤ n) → world_at worlds m ≡ world_at worlds n
+  by (inl within) = ap (world_at worlds) (let same : m ≡ n = grind (arith, common_steps) in same)
+  by (inr past) = world_past worlds m (grind (arith, common_steps)) ∙ sym (world_past worlds n (omega (arith, past)))
+
+-- the processes that are gone before the next look
+pub gone_next : {watch : MemWatchState} {worlds : List World} {turns next : ℕ} {names : List Watched} {world : World} (process : ℕ) {gone : Bool}
+    → record { worlds = worlds; turns = turns; watched = names } ≡ watch → turns < length worlds → next ≡ min (turns + 1) (length worlds - 1)
+    → world ≡ world_at worlds next → gone ≡ is_one process world.ended → gone ≡ (shows watch (length (seen watch))).lacks process
+gone_next {worlds} {turns} {next} process is within at there gone = gone ∙ ap (λ (those : World). is_one process those.ended)
+    (there ∙ at_last worlds (turns + 1) next (omega (arith, within)) at ∙ ap (λ n. world_at worlds (n + 1)) (sym (length-seen worlds turns)))
+    ∙ ap (λ (those : MemWatchState). (shows those (length (seen those))).lacks process) is
 
 pub turned : {watch : MemWatchState} {worlds : List World} (new : List World) (turns : ℕ) {n : ℕ} {names : List Watched} → record { worlds = worlds; turns = turns; watched = names } ≡ watch → SameWorlds new worlds → n ≡ turns + 1
     → seen_by new n ≡ seen watch ++ shows watch (length (seen watch)) ∷ []

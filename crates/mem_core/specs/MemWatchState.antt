@@ -1,7 +1,7 @@
 -- What contracts see of a watch in memory.
 use Rattle.std.specs.Prelude.{ℕ, ◌+◌, zero, suc, List, [], ◌∷◌, ◌++◌, length}
 use Rattle.watch_core.specs.Snapshot.{Snapshot}
-use Rattle.watch_core.specs.Edits.{Edit, append, truncate, replace, remove, World, empty_world, edited_by, seen_in}
+use Rattle.watch_core.specs.Edits.{Edit, append, truncate, replace, remove, end, World, empty_world, edited_by, seen_in}
 use Rattle.watch_core.specs.Watched.{Watched}
 use Rattle.mem_core.specs.declared.edit.Edit.{Edit as Change}
 use Rattle.mem_core.specs.declared.edit.Edit.TheVariants as change
@@ -18,6 +18,7 @@ edit_of (change.Append name bytes) = append name.now bytes.now
 edit_of (change.Truncate name n) = truncate name.now n
 edit_of (change.Replace name bytes) = replace name.now bytes.now
 edit_of (change.Remove name) = remove name.now
+edit_of (change.End process) = end process
 
 -- the files at the look of this number, from 1; those at the last look that was planned stay
 abbrev pub world_at : List World → ℕ → World

@@ -1,4 +1,4 @@
-/// A change of the files between two looks. Of a name that leads nowhere only `Replace` does anything.
+/// A change of the files between two looks, or the end of a process. Of a name that leads nowhere only `Replace` does anything.
 #[derive(Clone, Copy, Debug, PartialEq, Eq)]
 pub enum Edit<'a> {
     /// These bytes come to the end of the name's file.
@@ -9,4 +9,6 @@ pub enum Edit<'a> {
     Replace(&'a str, &'a [u8]),
     /// The name leads nowhere.
     Remove(&'a str),
+    /// The process of this number ends.
+    End(u32),
 }

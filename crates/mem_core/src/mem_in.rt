@@ -101,7 +101,7 @@ impl MemSource {
         if !self.breaks_off { Some(count) } else { None }
     }
 
-    /// Notes that a look asked for so many bytes.
+    /// Notes how many bytes a look asked for.
     fn note_look(&mut self, size: usize)
         ensures { self.new ≡ looks size self.old }
     {

@@ -252,6 +252,16 @@ impl Watch for MemWatch {
         Err(Fault::Memory)
     }
 
+    fn is_gone(&mut self, process: u32) -> bool {
+        let next = (self.turns + 1).min(self.worlds.len() - 1);
+        world_in(&self.worlds, next).has_ended(process)
+    }
+
+    /// It waits for nothing.
+    fn wait_at_most(&mut self, milliseconds: u64) {
+        let _ = milliseconds;
+    }
+
     fn add(&mut self, name: &str) -> Result<usize, Fault> {
         let place = self.names.len();
         let name = MemName::new(self.alloc, name)?;

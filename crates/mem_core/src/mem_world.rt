@@ -1,6 +1,6 @@
 //! Files in memory, and names that lead to them.
 ghost use Rattle.std.specs.Prelude.{◌≡◌, ◌++◌, ◌∷◌, [], ◌<◌, ℕ, List, Some, map, take, length, string_bytes, IfOk, OnOk, IfSome, IfNone, None};
-ghost use Rattle.watch_core.specs.Edits.{Link, World, append, edited, edited_by, empty_world, held_in, led_to, remove, replace, truncate, with_file};
+ghost use Rattle.watch_core.specs.Edits.{Link, World, append, edited, edited_by, empty_world, end, held_in, is_one, led_to, remove, replace, truncate, with_file};
 ghost use Rattle.mem_core.specs.MemWatchState.{edit_of};
 
 use crate::Edit;
@@ -37,12 +37,14 @@ impl Model for MemLink {
 pub(crate) struct MemWorld {
     links: Vec<MemLink>,
     files: Vec<MemFile>,
+    /// The processes that ended.
+    ended: Vec<u32>,
 }
 
 impl Model for MemWorld {
     ghost Value = { World };
 
-    ghost view = { λ w. record { links = w.links.items; files = w.files.items } };
+    ghost view = { λ w. record { links = w.links.items; files = w.files.items; ended = w.ended.items } };
 }
 
 impl MemWorld {
@@ -53,6 +55,7 @@ impl MemWorld {
         MemWorld {
             links: Vec::new(alloc),
             files: Vec::new(alloc),
+            ended: Vec::new(alloc),
         }
     }
 
@@ -63,6 +66,7 @@ impl MemWorld {
         Ok(MemWorld {
             links: copy_links(alloc, &self.links)?,
             files: copy_files(alloc, &self.files)?,
+            ended: Vec::from_slice(alloc, &self.ended)?,
         })
     }
 
@@ -114,6 +118,7 @@ impl MemWorld {
             }
             Edit::Replace(name, bytes) => self.replace(alloc, name, bytes),
             Edit::Remove(name) => self.lead(alloc, name, None),
+            Edit::End(process) => self.end(process),
         }
     }
 
@@ -147,6 +152,27 @@ impl MemWorld {
         let bytes = Vec::from_slice(alloc, bytes)?;
         self.files.push(MemFile { bytes })?;
         self.lead(alloc, name, Some(file))
+    }
+
+    fn end(&mut self, process: u32) -> Result<(), AllocError>
+        ensures { OnOk result (self.new ≡ edited (end process) self.old) }
+    {
+        self.ended.insert(0, process)?;
+        Ok(())
+    }
+
+    /// Whether this process ended.
+    pub(crate) fn has_ended(&self, process: u32) -> bool
+        ensures { result ≡ is_one process self.now.ended }
+    {
+        let mut left: &[u32] = &self.ended;
+        while let [other, rest @ ..] = left {
+            if process == *other {
+                return true;
+            }
+            left = rest;
+        }
+        false
     }
 
     /// Makes a name lead to a file, or nowhere.

@@ -335,6 +335,12 @@ const MESSAGES: &[(Tool, Fault, &str, &[u8])] = &[
         "--additional-suffix=a/b",
         b"split: invalid suffix '--additional-suffix=a/b'\n",
     ),
+    (
+        Tool::Tee,
+        Fault::Usage(UsageKind::BadMode, 1),
+        "--output-error=later",
+        b"tee: invalid mode '--output-error=later'\n",
+    ),
     (Tool::Tail, Fault::Failed, "", b"tail: failed\n"),
     (Tool::Tail, Fault::TooLong, "", b"tail: input too long\n"),
 ];

@@ -141,8 +141,12 @@ fn a_file_that_was_emptied_breaks(rt: HostRuntime) -> Result<(), Fail> {
 /// What is asked of a file with six bytes.
 const SMALL: &[Call<'static>] = &[Call::Skip(4, 6)];
 
-/// What is asked of it once it has eight.
-const GROWN: &[Call<'static>] = &[Call::Read(4, 4, b"efgh"), Call::Read(4, 0, b"")];
+/// What is asked of it once it has eight. No read goes on over where it ended when it was opened.
+const GROWN: &[Call<'static>] = &[
+    Call::Read(4, 2, b"ef"),
+    Call::Read(4, 2, b"gh"),
+    Call::Read(4, 0, b""),
+];
 
 #[test]
 fn a_file_that_grows_is_read_on(rt: HostRuntime) -> Result<(), Fail> {

@@ -19,3 +19,5 @@ pub mod SlotSteps
 pub mod AgreedLemmas
 pub mod Runs
 pub mod PartSteps
+pub mod ShareLemmas
+pub mod FileWriterLemmas

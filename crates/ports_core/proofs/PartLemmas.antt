@@ -5,8 +5,9 @@ use Rattle.std.proofs.lemmas.List.{append-nil, take-append-drop, drop_all, lengt
 use Rattle.std.proofs.lemmas.Bool.{false≢true, and_parts, not-true}
 use Rattle.ports_core.specs.Slot.{Slot, is_open, slot_at, is_writable, with_written, with_broken, told_of}
 use Rattle.ports_core.specs.Write.{BrokeAfter}
-use Rattle.ports_core.specs.Part.{File, Part, nothing, only_out, OutputsAt, IsBeginning, FilesBegin, Begins, IsNext, Marks, IsAt, InOrder, StoppedBetween, Output, gets_none, gets_bytes, gets_lines, lines_for, LinesInOrder, AreLines}
-use Rattle.ports_core.specs.inner.Part.{AllClosed, InTurn, StoppedInTurn, HasLines, LinesTo}
+use Rattle.ports_core.specs.Part.{File, Part, nothing, only_out, OutputsAt, IsBeginning, FilesBegin, Begins, IsNext, Marks, IsAt, InOrder, StoppedBetween, Output, gets_none, gets_bytes, gets_lines, LinesInOrder}
+use Rattle.ports_core.specs.Turn.{AllClosed, InTurn, StoppedInTurn, LinesTo}
+use Rattle.ports_core.specs.inner.Part.{HasLines}
 use Rattle.ports_core.specs.declared.slot.State.{State}
 use Rattle.ports_core.specs.declared.slot.State.TheVariants as state
 use Rattle.ports_core.specs.declared.fault.Fault.{Fault}

@@ -3,7 +3,8 @@ use Rattle.std.proofs.Common.{◌≡◌, ℕ, ◌+◌, suc, Bool, false, List, [
 use Rattle.std.proofs.Math.Seq.{take-append_seam}
 use Rattle.ports_core.specs.Slot.{Slot, opened, changed_at, adds, closes, with_written, with_broken, told_of}
 use Rattle.ports_core.specs.Part.{File, Part, OutputsAt, Begins, FilesBegin, IsNext, Marks, IsAt, Output}
-use Rattle.ports_core.specs.inner.Part.{AllClosed, InTurn, IsThere, HasLines, LinesTo}
+use Rattle.ports_core.specs.Turn.{AllClosed, InTurn, IsThere, LinesTo}
+use Rattle.ports_core.specs.inner.Part.{HasLines}
 use Rattle.ports_core.specs.inner.Write as short
 use Rattle.ports_core.specs.inner.Write.{Wrote}
 use Rattle.ports_core.specs.declared.fault.Fault.{Fault}

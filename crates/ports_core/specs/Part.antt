@@ -114,6 +114,7 @@ pub data Output : Type 0 where
   gets_bytes : Output
   gets_lines : (File → List ℕ) → Output
 
+-- it writes any
 abbrev pub writes : Output → Bool
 writes gets_none = false
 writes gets_bytes = true
@@ -133,8 +134,8 @@ pub record AreLines (line : File → List ℕ) (bytes : List ℕ) (files : List 
   pub cut : (next ≡ [])
       ⊎ ((fault ≡ Write 0) × IsBeginning next (lines_for line (take 1 (drop place files))))
 
--- Where files have lines: nothing was written since the lower part; or standard output had the lines for its files, and
--- with what it got since it has those for the files before this place.
+-- Where files have lines, which stand for closed files alone: nothing was written since the lower part; or standard
+-- output had the lines for its files, and with what it got since it has those for the files before this place.
 abbrev pub LinesInOrder : Output → Part → Part → ℕ → Fault → Type 0
 LinesInOrder gets_none low part place fault = Unit {0}
 LinesInOrder gets_bytes low part place fault = Unit {0}

@@ -1,6 +1,7 @@
 pub mod Engine
+pub mod FileWriter
 pub mod Name
 pub mod Part
-pub mod Slot
+pub mod Shares
 pub mod Text
 pub mod Write

@@ -8,6 +8,21 @@ use std::io::ErrorKind;
 use std::os::unix::fs::MetadataExt;
 use std::rt::Files;
 
+/// A name that leads to standard input.
+const STANDARD_INPUT: &str = "/dev/stdin";
+
+/// A name that leads to standard output.
+const STANDARD_OUTPUT: &str = "/dev/stdout";
+
+/// What an input is that was opened.
+#[derive(Clone, Copy)]
+pub(crate) enum Opened {
+    /// A regular file, of this identity, and with this many bytes.
+    Regular { id: u128, len: u64 },
+    /// Anything else.
+    Other,
+}
+
 /// Which files are read: those that were opened as inputs, and standard input. Inputs note theirs, and outputs ask
 /// before they empty a file, so that no output is an input. A file stays noted when its input has ended.
 ///
@@ -29,12 +44,24 @@ impl InputFiles {
         }
     }
 
-    /// Notes a file that was opened as an input, and returns whether there was memory for that.
-    pub(crate) fn note(&self, file: &impl OpenFile) -> bool {
-        match file.metadata() {
-            Ok(about) => !about.is_file() || self.add(Some(id_of(&about))),
-            Err(_) => self.add(None),
+    /// Notes a file that was opened as an input, and returns what it is. None where there is no memory for that.
+    pub(crate) fn note(&self, file: &impl OpenFile) -> Option<Opened> {
+        let Ok(about) = file.metadata() else {
+            return self.keep(None, Opened::Other);
+        };
+        if !about.is_file() {
+            return Some(Opened::Other);
         }
+        let id = id_of(&about);
+        let len = about.len();
+        self.keep(Some(id), Opened::Regular { id, len })
+    }
+
+    fn keep(&self, id: Option<u128>, opened: Opened) -> Option<Opened> {
+        if self.add(id) {
+            return Some(opened);
+        }
+        None
     }
 
     fn add(&self, id: Option<u128>) -> bool {
@@ -47,7 +74,7 @@ impl InputFiles {
     /// Whether this regular file is an input, or may be one for all that the system tells.
     pub(crate) fn have(&self, files: &impl Files, about: &Metadata) -> bool {
         let id = id_of(about);
-        self.has(id) || is_standard_input(files, id)
+        self.has(id) || is_stream(files, STANDARD_INPUT, id)
     }
 
     /// Whether a file of this identity was noted, or one of which it isn't known.
@@ -59,10 +86,15 @@ impl InputFiles {
     }
 }
 
-/// Whether standard input is the file of this identity. Where the system has no name for standard input, or doesn't let
-/// it be asked about, it counts as another file.
-fn is_standard_input(files: &impl Files, id: u128) -> bool {
-    match fs::metadata(files, "/dev/stdin") {
+/// Whether standard output writes to the file of this identity.
+pub(crate) fn is_standard_output(files: &impl Files, id: u128) -> bool {
+    is_stream(files, STANDARD_OUTPUT, id)
+}
+
+/// Whether the stream to which this name leads is the file of this identity. Where the system has no such name, or doesn't
+/// let it be asked about, it counts as another file.
+fn is_stream(files: &impl Files, stream: &str, id: u128) -> bool {
+    match fs::metadata(files, stream) {
         Ok(about) => id_of(&about) == id,
         Err(error) => {
             error.kind() != ErrorKind::NotFound && error.kind() != ErrorKind::PermissionDenied

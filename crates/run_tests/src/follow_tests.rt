@@ -50,7 +50,7 @@ pub(crate) const TWO_FILES: Row<'static> = Row {
     status: 0,
 };
 
-const ROWS: [Row<'static>; 16] = [
+const ROWS: [Row<'static>; 17] = [
     TRUNCATED,
     Row {
         words: &["tail", "-F", "f"],
@@ -60,6 +60,18 @@ const ROWS: [Row<'static>; 16] = [
         status: 1,
     },
     TWO_FILES,
+    Row {
+        words: &["tail", "-f", "--pid=7", "f"],
+        looks: &[
+            &[Edit::Replace("f", b"a\n")],
+            &[Edit::Append("f", b"b\n"), Edit::End(6)],
+            &[Edit::Append("f", b"c\n"), Edit::End(7)],
+            &[Edit::Append("f", b"d\n")],
+        ],
+        output: b"a\nb\nc\n",
+        messages: b"",
+        status: 0,
+    },
     Row {
         words: &["tail", "-f", "-c", "2", "f"],
         looks: &[

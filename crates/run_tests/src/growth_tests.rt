@@ -6,6 +6,7 @@ ghost use Rattle.std.specs.Prelude.{◌≡◌, [], IfOk};
 ghost use Rattle.ports_core.specs.Slot.{streams};
 ghost use Rattle.mem_core.specs.MemWatchState.{seen};
 
+use crate::about_tests::HEAD_HELP;
 use crate::args_tests::Args;
 use crate::follow_tests::{Row as Followed, TRUNCATED, TWO_FILES, watch_of};
 use crate::left::{
@@ -267,6 +268,17 @@ const ROWS: &[Row<'static>] = &[
             input: b"abcde",
             left: Left {
                 output: b"ab",
+                ..NOTHING
+            },
+            ..ALL_BUT_TWO
+        },
+        ..HEAD
+    },
+    Row {
+        run: Run {
+            words: &["head", "--help"],
+            left: Left {
+                output: HEAD_HELP,
                 ..NOTHING
             },
             ..ALL_BUT_TWO

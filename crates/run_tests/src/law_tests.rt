@@ -5,7 +5,8 @@ ghost use Rattle.ends_core.specs.Ends.{tail_of};
 ghost use Rattle.mem_core.specs.MemWatchState.{seen, shows};
 ghost use Rattle.seg_core.specs.Line.{joined};
 ghost use Rattle.seg_core.specs.declared.count.Sign.TheVariants.{Plain, Plus};
-ghost use Rattle.seg_core.specs.declared.cut.Cut.TheVariants.{Bytes};
+ghost use Rattle.seg_core.specs.declared.cut.Cut.TheVariants.{Parts};
+ghost use Rattle.seg_core.specs.declared.cut.Limit.TheVariants.{Bytes};
 ghost use Rattle.ports_core.specs.Slot.{Slot, slot_at, streams};
 ghost use Rattle.ports_core.specs.Source.{source_of};
 ghost use Rattle.tools_core.specs.Promises.{AreCopies, Does, CountAlike, HasInput, IsBare, OnlyGrows, Ran, Run, SkipNothing, counted};
@@ -77,8 +78,8 @@ fn left_of(
 /// What `head` and then `tail` write of the same bytes, if both go well: all of them, where `tail` begins with the line or byte
 /// after those that `head` writes.
 fn met(alloc: Global, head: &[&str], tail: &[&str], bytes: &[u8]) -> Result<Option<Vec<u8>>, Fault>
-    ensures { (first rest : EndsAsked) (n looks : ℕ) → settings_of (map (λ word. word.now) head.now) ≡ Ok (Head (counted first Plain n))
-        → settings_of (map (λ word. word.now) tail.now) ≡ Ok (Tail (record { ends = counted rest Plus (n + 1); followed = None; looks = looks }))
+    ensures { (first rest : EndsAsked) (n looks pause : ℕ) → settings_of (map (λ word. word.now) head.now) ≡ Ok (Head (counted first Plain n))
+        → settings_of (map (λ word. word.now) tail.now) ≡ Ok (Tail (record { ends = counted rest Plus (n + 1); followed = None; looks = looks; pause = pause; process = None }))
         → CountAlike first rest → first.names ≡ codes "-" ∷ [] → rest.names ≡ codes "-" ∷ []
         → IfOk result (λ both. IfSome both (λ all. all.items ≡ bytes.now)) }
 {
@@ -103,7 +104,7 @@ fn first_and_rest(alloc: Global, bytes: &[u8]) -> Result<Option<Vec<u8>>, Fault>
 
 /// The files into which `split -b` cuts these bytes, if that goes well: joined they are the bytes.
 fn pieces(alloc: Global, words: &[&str], bytes: &[u8]) -> Result<Option<MemOut>, Fault>
-    ensures { (asked : SplitAsked) (n : ℕ) → settings_of (map (λ word. word.now) words.now) ≡ Ok (Split asked) → asked.input ≡ codes "-" → asked.cut ≡ Bytes n
+    ensures { (asked : SplitAsked) (n : ℕ) → settings_of (map (λ word. word.now) words.now) ≡ Ok (Split asked) → asked.input ≡ codes "-" → asked.cut ≡ Parts (Bytes n)
         → IfOk result (λ left. IfSome left (λ outs. joined (map (λ (file : Slot). file.written) (drop 2 outs)) ≡ bytes.now)) }
 {
     split_loses_nothing();
@@ -134,7 +135,7 @@ fn sections(alloc: Global, words: &[&str], bytes: &[u8]) -> Result<Option<MemOut
 fn grown(alloc: Global, words: &[&str], watch: &mut MemWatch) -> Result<Option<MemOut>, Fault>
     requires seen { seen watch.old ≡ [] }
     requires watched { watch.old.watched ≡ [] }
-    ensures { (options : EndsAsked) (followed : Followed) (name came : List ℕ) (file n : ℕ) → settings_of (map (λ word. word.now) words.now) ≡ Ok (Tail (record { ends = options; followed = Some followed; looks = n + 1 }))
+    ensures { (options : EndsAsked) (followed : Followed) (name came : List ℕ) (file n pause : ℕ) → settings_of (map (λ word. word.now) words.now) ≡ Ok (Tail (record { ends = options; followed = Some followed; looks = n + 1; pause = pause; process = None }))
         → IsBare options → options.names ≡ name ∷ [] → ((count : ℕ) → OnlyGrows count (shows watch.old) name file) → (shows watch.old n).holds file ≡ (shows watch.old 0).holds file ++ came
         → IfOk result (λ left. IfSome left (λ outs. (slot_at outs 0).written ≡ tail_of options.delim options.unit (is_plus options.count.sign) options.count.amount ((shows watch.old 0).holds file) ++ came)) }
 {

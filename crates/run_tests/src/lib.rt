@@ -2,6 +2,8 @@
 #![tactic(auto)]
 
 #[cfg(test)]
+mod about_tests;
+#[cfg(test)]
 mod args_tests;
 #[cfg(test)]
 mod csplit_run_tests;

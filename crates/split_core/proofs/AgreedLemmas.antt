@@ -6,7 +6,7 @@ use Rattle.std.proofs.Math.Seq.{drop-append_seam}
 use Rattle.std.proofs.lemmas.Bool.{cases_lt, ne_eqb}
 use Rattle.std.proofs.lemmas.List.{append-nil, take_all, length-map, length-replicate}
 use Rattle.seg_core.specs.Line.{delimiters, joined}
-use Rattle.ports_core.specs.Name.{Naming}
+use Rattle.ports_core.specs.Name.{Naming, has_name}
 use Rattle.ports_core.specs.Part.{File}
 use Rattle.ports_core.specs.Agreed.{CanCome, IsAgreed, file_bytes, outputs_of}
 use Rattle.ports_core.specs.declared.slot.State.{State}
@@ -14,12 +14,13 @@ use Rattle.ports_core.specs.declared.slot.State.TheVariants.{Open, Closed}
 use Rattle.ports_core.proofs.AgreedLemmas.{none_comes, copies_come, other, other_differs, other_comes, agreed_by, agreed_now, common}
 use Rattle.seg_core.specs.declared.cut.Cut.{Cut}
 use Rattle.seg_core.specs.declared.cut.Cut.TheVariants as cut
-use Rattle.split_core.specs.declared.limit.Limit.{Limit}
-use Rattle.split_core.specs.declared.limit.Limit.TheVariants.{Lines, Bytes, LineBytes}
-use Rattle.split_core.specs.Parts.{whole_lines, most, after_first, cut_up, unless_empty, parts, settled_rest, waiting_rest}
-use Rattle.split_core.specs.Split.{Plan, Share, share, is_named, are_named, named, settled_parts, settled_by, split_work, dealt_files, bytes_in}
-use Rattle.split_core.specs.Splitter.{IsPositive}
-use Rattle.split_core.specs.PartState.{parts_work}
+use Rattle.seg_core.specs.declared.cut.Limit.{Limit}
+use Rattle.seg_core.specs.declared.cut.Limit.TheVariants.{Lines, Bytes, LineBytes}
+use Rattle.seg_core.specs.Cut.{most}
+use Rattle.split_core.specs.Parts.{whole_lines, after_first, cut_up, unless_empty, parts, settled_rest, waiting_rest}
+use Rattle.split_core.specs.Split.{Plan, Share, share, are_named, named, settled_parts, settled_by, split_work, dealt_files, bytes_in}
+use Rattle.seg_core.specs.Cut.{IsPositive}
+use Rattle.split_core.specs.PartsState.{parts_work}
 use Rattle.split_core.specs.Round.{round_plan, round_work}
 use Rattle.split_core.specs.laws.CutLaws.{short_some, full_from, whole_of_none, whole_some, rest_short}
 use Rattle.split_core.specs.laws.ShareLaws.{cut_first, one_on, parts_on, settled_count}
@@ -32,7 +33,7 @@ use Rattle.split_core.proofs.CutLaws.{bytes_of_shares, lines_stay}
 
 abbrev pub named_bytes : Naming → ℕ → List (List ℕ) → List (List ℕ)
 named_bytes names place [] = []
-named_bytes names place (one ∷ those) = cond (is_named names place) (one ∷ named_bytes names (place + 1) those) []
+named_bytes names place (one ∷ those) = cond (has_name names place) (one ∷ named_bytes names (place + 1) those) []
 
 pub bytes_named : (names : Naming) (place : ℕ) (shares : List Share) → map (λ (file : File). file.bytes) (named names place shares) ≡ named_bytes names place (map (λ (file : Share). file.bytes) shares)
 bytes_named names place [] = refl
@@ -45,22 +46,22 @@ more_step false one all front (more, are) = ([], refl)
 -- further parts make further files, or none
 pub named_more : (names : Naming) (place : ℕ) (front back : List (List ℕ)) → (more : List (List ℕ)) × (named_bytes names place (front ++ back) ≡ named_bytes names place front ++ more)
 named_more names place [] back = (named_bytes names place back, refl)
-named_more names place (one ∷ front) back = more_step (is_named names place) one _ _ (named_more names (place + 1) front back)
+named_more names place (one ∷ front) back = more_step (has_name names place) one _ _ (named_more names (place + 1) front back)
 
 pub count_named : (names : Naming) (place : ℕ) (these those : List (List ℕ)) → length these ≡ length those → length (named_bytes names place these) ≡ length (named_bytes names place those)
 count_named names place [] [] same = refl
 count_named names place (one ∷ these) (two ∷ those) same = grind (arith, nat_tests, count_named names (place + 1) these those (omega (arith, same)))
 count_named names place these those same = cc
 
-named_each : (names : Naming) (place : ℕ) (one : List ℕ) (those : List (List ℕ)) → is_named names (place + length those) ≡ true → named_bytes names place (one ∷ those) ≡ one ∷ those
+named_each : (names : Naming) (place : ℕ) (one : List ℕ) (those : List (List ℕ)) → has_name names (place + length those) ≡ true → named_bytes names place (one ∷ those) ≡ one ∷ those
 named_each names place one [] is = grind (arith, common_steps)
 named_each names place one (two ∷ those) is =
-    cc (named_before names place (place + suc (length those)) is (omega arith), named_each names (place + 1) two those (subst (λ n. is_named names n ≡ true) (one_on place (length those)) is))
+    cc (named_before names place (place + suc (length those)) is (omega arith), named_each names (place + 1) two those (subst (λ n. has_name names n ≡ true) (one_on place (length those)) is))
 
 -- where all have names, none is left out
 pub each_named : (names : Naming) (those : List (List ℕ)) → are_named names (length those) ≡ true → named_bytes names 0 those ≡ those
 each_named names [] are = refl
-each_named names (one ∷ those) are = named_each names 0 one those (subst (λ n. is_named names n ≡ true) (sym (zero-add (length those))) are)
+each_named names (one ∷ those) are = named_each names 0 one those (subst (λ n. has_name names n ≡ true) (sym (zero-add (length those))) are)
 
 pub shared_bytes : (names : Naming) (state : State) (those : List (List ℕ))
     → map (λ (file : File). file.bytes) (named names 0 (map (share state) those)) ≡ named_bytes names 0 those
@@ -172,12 +173,10 @@ round_agreed delim n elide names {x} = agreed_now (split_work (round_plan delim 
 
 -- All ways to cut
 
-abbrev pub plan_by : ℕ → Cut → Bool → Naming → Plan
-plan_by delim cut elide names = record { delim = delim; cut = cut; elide = elide; names = names }
+abbrev pub plan_by : Cut → Bool → Naming → Plan
+plan_by cut elide names = record { cut = cut; elide = elide; names = names }
 
-pub agreed_at : (delim : ℕ) (cut : Cut) (elide : Bool) (names : Naming) → IsPositive cut → {x : List ℕ}
-    → IsAgreed (split_work (plan_by delim cut elide names)) x ((split_work (plan_by delim cut elide names)).settled x)
-agreed_at delim (cut.Lines n) elide names some = parts_agreed (Lines n delim) names some
-agreed_at delim (cut.Bytes n) elide names some = parts_agreed (Bytes n) names some
-agreed_at delim (cut.LineBytes n) elide names some = parts_agreed (LineBytes n delim) names some
-agreed_at delim (cut.Round n) elide names some = round_agreed delim n elide names
+pub agreed_at : (cut : Cut) (elide : Bool) (names : Naming) → IsPositive cut → {x : List ℕ}
+    → IsAgreed (split_work (plan_by cut elide names)) x ((split_work (plan_by cut elide names)).settled x)
+agreed_at (cut.Parts limit) elide names some = parts_agreed limit names some
+agreed_at (cut.Round n delim) elide names some = round_agreed delim n elide names

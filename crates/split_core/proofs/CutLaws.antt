@@ -6,9 +6,10 @@ use Rattle.std.proofs.lemmas.Bool.Decides.{nat_tests}
 use Rattle.std.proofs.Math.Seq.{drop-append_seam}
 use Rattle.seg_core.specs.Line.{joined, delimiters, after_lines, first_lines, EndsAt, FallsShort, LastEndsAt}
 use Rattle.seg_core.proofs.FirstLines.{first_lines-is_take, first_lines-append, first_lines-full, first_lines-short, delimiters-first_lines}
-use Rattle.split_core.specs.declared.limit.Limit.{Limit}
-use Rattle.split_core.specs.declared.limit.Limit.TheVariants.{Lines, Bytes, LineBytes}
-use Rattle.split_core.specs.Parts.{whole_lines, open_line, most, measure, is_full, first_part, after_first, cut_up, dealt}
+use Rattle.seg_core.specs.declared.cut.Limit.{Limit}
+use Rattle.seg_core.specs.declared.cut.Limit.TheVariants.{Lines, Bytes, LineBytes}
+use Rattle.seg_core.specs.Cut.{most}
+use Rattle.split_core.specs.Parts.{whole_lines, open_line, measure, is_full, first_part, after_first, cut_up, dealt}
 use Rattle.split_core.specs.laws.CutLaws.{whole_within, cuts_up, cut_once, full_from, whole_of_lines, whole_of_none, whole_then_open, whole_some, has_lines}
 use Rattle.split_core.specs.inner.CutLaws.{Cuts, stops, goes, cut_so, SharesBegin, AllShut}
 use Rattle.ports_core.specs.Part.{IsBeginning}

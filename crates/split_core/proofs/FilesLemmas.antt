@@ -7,14 +7,16 @@ use Rattle.std.proofs.lemmas.Bool.Decides.{nat_tests}
 use Rattle.std.proofs.lemmas.List.{append-nil, take-append-drop, get_or_append_left}
 use Rattle.std.proofs.lemmas.List.FromFn.{length-map-range_with_len, take-map-range_with_len, map-range_with_len_more}
 use Rattle.std.proofs.lemmas.Result.{IfErr-weaker, on_ok_weaker}
-use Rattle.ports_core.specs.Name.{Naming, next_name, has_next}
+use Rattle.ports_core.specs.Name.{Naming, name_at, has_name}
+use Rattle.ports_core.specs.Names.{next_name, has_next}
+use Rattle.ports_core.specs.declared.names.Names.{Names}
 use Rattle.ports_core.specs.Slot.{Slot, changed_at, slot_at, opened, adds, closes, is_closable, with_written, with_broken, told_of}
 use Rattle.ports_core.specs.Part.{File, Part, OutputsAt, StoppedBetween, gets_none, FilesBegin, Begins, IsNext, IsAt, Marks}
 use Rattle.ports_core.specs.declared.slot.State.TheVariants.{Open, Closed}
 use Rattle.ports_core.specs.declared.fault.Fault.{Fault}
 use Rattle.ports_core.proofs.PartLemmas.{begins_itself, begins_trans, kept_trans, nothing_begins, marks_by, sound_at}
 use Rattle.ports_core.proofs.SlotSteps.{keeps_again, keeps_close, keeps_open, keeps_write, open_rose, rose_later, write_rose, writable_elsewhere, writable_within, opened_writable, broken_there, written_size, short_size, broken_size}
-use Rattle.split_core.specs.Split.{Share, share, from_start, file_at, only_files, name_of, is_named}
+use Rattle.split_core.specs.Split.{Share, share, file_at, only_files}
 use Rattle.split_core.specs.FilesState.{FilesState}
 use Rattle.split_core.specs.Round.{AreReady, output_at}
 use Rattle.split_core.specs.laws.ShareLaws.{kept_file}
@@ -29,7 +31,7 @@ use Rattle.ports_core.proofs.WriteLemmas.{writable-written}
 use Rattle.ports_core.proofs.FileLemmas.{Makes, file_more, file_changes, write_makes, close_makes, gets, ended}
 use Rattle.split_core.specs.inner.Moves.{WritesTo, OpensNone, no_memory, no_name, no_file, wants_memory, breaks_write, breaks_open}
 use Rattle.ports_core.specs.Engine.{is_verdict}
-use Rattle.ports_core.specs.inner.Slot.{KeepsBroken}
+use Rattle.ports_core.specs.Slot.{KeepsBroken}
 use Rattle.split_core.specs.Sharing.{CannotOpen}
 
 -- Files by their places
@@ -95,7 +97,7 @@ grow_by from to {had} {has} more count outside are = record {
 
 -- after some files the next one of many is due, and it has this name
 abbrev pub IsDue : Naming → ℕ → ℕ → List ℕ → Type 0
-IsDue names some many name = (name ≡ name_of names some) × (some < many)
+IsDue names some many name = (name ≡ name_at names some) × (some < many)
 
 next_due : (names : Naming) (part high : ℕ → Share) {some many : ℕ} (name : List ℕ) → IsDue names some many name → IsNext (part_by names part some) (part_by names high many) name
 next_due names part high {some} {many} name due = record {
@@ -170,9 +172,9 @@ pub outputs_as : (told : Bool) {before now : List Slot} (names : Naming) {shares
 outputs_as told {before} {now} names {shares} {others} {n = n} same count at = search (rules, same_by)
 
 -- a fault came at a place before anything was done
-pub adds_not : (told : Bool) (files : FilesState) {names : Naming} (more : ℕ → List ℕ) {from : ℕ} (place to : ℕ) {old new : List Slot} (why : Fault) → from ≤ place → place < max 1 to → place ≤ length files.outputs
-    → from_start names ≡ from_start files.names → KeepsFiles files old (record files { names = names }) new → IsOfFiles old new why → ((i : ℕ) → (i < place) ⊎ (to ≤ i) → more i ≡ [])
-    → Marks (IsDue (from_start files.names) (length files.outputs) (max (length files.outputs) to)) why old new → ((first : ℕ) → IsAt why first place (length files.outputs))
+pub adds_not : (told : Bool) (files : FilesState) {names : Names} (more : ℕ → List ℕ) {from : ℕ} (place to : ℕ) {old new : List Slot} (why : Fault) → from ≤ place → place < max 1 to → place ≤ length files.outputs
+    → names.naming ≡ files.names.naming → KeepsFiles files old (record files { names = names }) new → IsOfFiles old new why → ((i : ℕ) → (i < place) ⊎ (to ≤ i) → more i ≡ [])
+    → Marks (IsDue files.names.naming (length files.outputs) (max (length files.outputs) to)) why old new → ((first : ℕ) → IsAt why first place (length files.outputs))
     → Adds told files more from to old (record files { names = names }) new (Err why)
 adds_not told files more {from} place to {old} why low high inside names owned caused outside marks came = record {
   names = names;
@@ -200,17 +202,17 @@ adds_then {told} {files} {between} {next} {first} {second} {from} {to} {low} {hi
       outside i out = cc (one.outside i (wider (omega arith) more out), other.outside i (wider less (omega arith) out))
 
       leaves : (before : List Slot) (had has : ℕ → List ℕ) → StandAt told files before had old → ((i : ℕ) → has i ≡ had i ++ (first i ++ second i))
-          → Leaves told before (from_start files.names) (all_open (λ i. had i ++ first i)) (max (length files.outputs) to) (all_open has) (max (length files.outputs) high) low high new result
+          → Leaves told before files.names.naming (all_open (λ i. had i ++ first i)) (max (length files.outputs) to) (all_open has) (max (length files.outputs) high) low high new result
       leaves before had has at are = rw (← count, ← one.opened, ← one.names) (other.leaves before (λ i. had i ++ first i) has (record {
         owns = one.owned (length before) at.owns;
         outputs = subst (λ names. OutputsAt told before (part_by names (all_open (λ i. had i ++ first i)) (length between.outputs)) mid) (sym one.names)
-            (subst (λ n. OutputsAt told before (part_by (from_start files.names) (all_open (λ i. had i ++ first i)) n) mid) (sym one.opened) (one.leaves before had _ at (λ i. refl)));
+            (subst (λ n. OutputsAt told before (part_by files.names.naming (all_open (λ i. had i ++ first i)) n) mid) (sym one.opened) (one.leaves before had _ at (λ i. refl)));
         none = λ i past. cc (at.none i (omega (arith, past, one.opened)), one.outside i (inr (omega (arith, past, one.opened))));
       }) (λ i. are i ∙ sym (append_assoc (had i) (first i) (second i))))
 
       further : (result : Result (Unit {0}) Fault) (before : List Slot) (had has : ℕ → List ℕ)
-          → Leaves told before (from_start files.names) (all_open (λ i. had i ++ first i)) (max (length files.outputs) to) (all_open has) (max (length files.outputs) high) low high new result
-          → Leaves told before (from_start files.names) (all_open had) (length files.outputs) (all_open has) (max (length files.outputs) high) from high new result
+          → Leaves told before files.names.naming (all_open (λ i. had i ++ first i)) (max (length files.outputs) to) (all_open has) (max (length files.outputs) high) low high new result
+          → Leaves told before files.names.naming (all_open had) (length files.outputs) (all_open has) (max (length files.outputs) high) from high new result
       further (Ok done) before had has at = at
       further (Err why) before had has stop = record {
         stops = λ start last fewest most end front back. stop.stops start last fewest most end
@@ -284,14 +286,14 @@ owned_opened : {files : FilesState} {old new : List Slot} (name : List ℕ) → 
 owned_opened {files} {old} name drawn is first owns = grind (arith, common_steps)
 
 -- the file could not be opened: then a name was drawn for it, or no output was added
-owned_unopened : (files : FilesState) (names : Naming) {old new : List Slot} {why : Fault} → files.names.drawn ≡ length files.outputs → OpensNone files.names names old new why
+owned_unopened : (files : FilesState) (names : Names) {old new : List Slot} {why : Fault} → files.names.drawn ≡ length files.outputs → OpensNone files.names names old new why
     → KeepsFiles files old (record files { names = names }) new
 owned_unopened files names drawn (no_memory has same) first owns = record { stand = owns.stand; last = λ also. owns.last drawn ∙ sym (ap length same) }
 owned_unopened files names drawn (no_name has same) first owns = record { stand = owns.stand; last = λ also. owns.last drawn ∙ sym (ap length same) }
 owned_unopened files names drawn (no_file slot kept at has drew is made) first owns =
-    record { stand = owns.stand; last = λ also. absurd (omega (arith, also, drawn, ap (λ (those : Naming). those.drawn) drew)) }
+    record { stand = owns.stand; last = λ also. absurd (omega (arith, also, drawn, ap (λ (those : Names). those.drawn) drew)) }
 
-fails_caused : {names next : Naming} {old new : List Slot} {why : Fault} → IsTrue (has_next names) → OpensNone names next old new why → CannotOpen old new why
+fails_caused : {names next : Names} {old new : List Slot} {why : Fault} → IsTrue (has_next names) → OpensNone names next old new why → CannotOpen old new why
 fails_caused has (no_memory left same) = inl refl
 fails_caused {old = old} {new} has (no_file slot kept at _ drew is made) = inr (slot, refl, open_rose slot kept old new at made)
 fails_caused has (no_name none same) = absurd (false≢true (sym none ∙ has))
@@ -312,35 +314,35 @@ reached told files {old} {new} place ready here is = record {
   caused = tt;
 } where
   file : (ℕ → List ℕ) → ℕ → File
-  file had i = file_at (from_start files.names) i (all_open had i)
+  file had i = file_at files.names.naming i (all_open had i)
 
   list : (before : List Slot) (had has : ℕ → List ℕ) → StandAt told files before had old → ((i : ℕ) → has i ≡ had i ++ [])
-      → map (file had) (range_with_len 0 (length files.outputs)) ++ file_at files.names files.names.drawn (share Open []) ∷ [] ≡ map (file has) (range_with_len 0 (length files.outputs + 1))
+      → map (file had) (range_with_len 0 (length files.outputs)) ++ file_at files.names.naming files.names.drawn (share Open []) ∷ [] ≡ map (file has) (range_with_len 0 (length files.outputs + 1))
   list before had has at are =
       let same : ◌≡◌ {A = ℕ → List ℕ} has had = fun_ext (λ i. are i ∙ append-nil (had i)) in
       sym (map-range_with_len_more (file has) 0 (length files.outputs) (length files.outputs) (zero-add (length files.outputs))
       ∙ cc (same, at.none (length files.outputs) (omega arith), ready.drawn))
 
   leaves : (before : List Slot) (had has : ℕ → List ℕ) → StandAt told files before had old → ((i : ℕ) → has i ≡ had i ++ [])
-      → OutputsAt told before (part_by (from_start files.names) (all_open has) (max (length files.outputs) (place + 1))) new
+      → OutputsAt told before (part_by files.names.naming (all_open has) (max (length files.outputs) (place + 1))) new
   leaves before had has at are =
       let count : max (length files.outputs) (place + 1) ≡ length files.outputs + 1 = omega (arith, here) in
-      subst (λ n. OutputsAt told before (part_by (from_start files.names) (all_open has) n) new) (sym count)
+      subst (λ n. OutputsAt told before (part_by files.names.naming (all_open has) n) new) (sym count)
       (subst (λ files. OutputsAt told before (only_files files) new) (list before had has at are)
-      (file_more told before (part_by (from_start files.names) (all_open had) (length files.outputs)) old new
-      (name_of files.names files.names.drawn) Fresh at.outputs is))
+      (file_more told before (part_by files.names.naming (all_open had) (length files.outputs)) old new
+      (name_at files.names.naming files.names.drawn) Fresh at.outputs is))
 
 -- or it couldn't be
-pub reached_not : (told : Bool) (files : FilesState) {names : Naming} {old new : List Slot} (place : ℕ) {why : Fault} → AreReady files old → place ≡ length files.outputs → is_named files.names place ≡ true
-    → names ≡ record files.names { drawn = names.drawn } → (IsTrue (has_next files.names) → OpensNone files.names names old new why)
+pub reached_not : (told : Bool) (files : FilesState) {names : Names} {old new : List Slot} (place : ℕ) {why : Fault} → AreReady files old → place ≡ length files.outputs → has_name files.names.naming place ≡ true
+    → names.naming ≡ files.names.naming → (IsTrue (has_next files.names) → OpensNone files.names names old new why)
     → Opens told files place (place + 1) old (record files { names = names }) new (Err why)
 reached_not told files {names} {old} {new} place {why} ready here named same unopened = record {
-  adds = adds_not told files _ place (place + 1) why (omega arith) (omega arith) (omega arith) (ap from_start same) (owned_unopened files names ready.drawn fails) (of_files caused) (λ i out. refl)
-      (opens_marks _ (λ has. (ap (name_of files.names) ready.drawn, omega arith)) fails) (λ first. opens_at first here fails);
+  adds = adds_not told files _ place (place + 1) why (omega arith) (omega arith) (omega arith) same (owned_unopened files names ready.drawn fails) (of_files caused) (λ i out. refl)
+      (opens_marks _ (λ has. (ap (name_at files.names.naming) ready.drawn, omega arith)) fails) (λ first. opens_at first here fails);
   caused = caused;
 } where
   has : IsTrue (has_next files.names)
-  has = subst (λ n. is_named files.names n ≡ true) (here ∙ sym ready.drawn) named
+  has = subst (λ n. has_name files.names.naming n ≡ true) (here ∙ sym ready.drawn) named
 
   fails : OpensNone files.names names old new why
   fails = unopened has
@@ -359,12 +361,12 @@ owned_same size first owns = record { stand = owns.stand; last = λ drawn. owns.
 
 -- the file at a place changed
 changes : (told : Bool) (change : Slot → Slot) (makes : File → File) → Makes told change makes → (files : FilesState) {before now new : List Slot} {low : ℕ → Share} (high : ℕ → Share) (place : ℕ)
-    → output_at files place ≡ length before + place → OutputsAt told before (part_by (from_start files.names) low (length files.outputs)) now → place < length files.outputs → new ≡ changed_at (output_at files place) change now
-    → ((i : ℕ) → (i ≡ place → ⊥) → low i ≡ high i) → makes (file_at (from_start files.names) place (low place)) ≡ file_at (from_start files.names) place (high place)
-    → OutputsAt told before (part_by (from_start files.names) high (length files.outputs)) new
+    → output_at files place ≡ length before + place → OutputsAt told before (part_by files.names.naming low (length files.outputs)) now → place < length files.outputs → new ≡ changed_at (output_at files place) change now
+    → ((i : ℕ) → (i ≡ place → ⊥) → low i ≡ high i) → makes (file_at files.names.naming place (low place)) ≡ file_at files.names.naming place (high place)
+    → OutputsAt told before (part_by files.names.naming high (length files.outputs)) new
 changes told change makes fits files {before} {now} {new} {low} high place stands at within is other here =
-    subst (λ those. OutputsAt told before (only_files those) new) (changed_by makes _ _ 0 (length files.outputs) place (zero-add place) within (λ i differs. ap (file_at (from_start files.names) i) (other i differs)) here)
-    (file_changes told change makes fits before (part_by (from_start files.names) low (length files.outputs)) now new place at
+    subst (λ those. OutputsAt told before (only_files those) new) (changed_by makes _ _ 0 (length files.outputs) place (zero-add place) within (λ i differs. ap (file_at files.names.naming i) (other i differs)) here)
+    (file_changes told change makes fits before (part_by files.names.naming low (length files.outputs)) now new place at
     (is ∙ ap (λ slot. changed_at slot change now) stands))
 
 none_outside : (place : ℕ) (bytes : List ℕ) (i : ℕ) → (i < place) ⊎ (place + 1 ≤ i) → only_at place bytes i ≡ []
@@ -372,10 +374,10 @@ none_outside place bytes i out = ap (λ is. cond is bytes []) (ne_eqb i place (�
 
 writes : (told : Bool) {files : FilesState} {before : List Slot} {had has : ℕ → List ℕ} {old new : List Slot} (place : ℕ) (bytes : List ℕ) → place < length files.outputs
     → new ≡ with_written (output_at files place) (told_of told bytes) old → StandAt told files before had old → ((i : ℕ) → has i ≡ had i ++ only_at place bytes i)
-    → OutputsAt told before (part_by (from_start files.names) (all_open has) (length files.outputs)) new
+    → OutputsAt told before (part_by files.names.naming (all_open has) (length files.outputs)) new
 writes told {files} {had = had} {has} place bytes within is at are = changes told (adds (told_of told bytes)) (gets bytes) (write_makes told bytes) files (all_open has) place (at.owns.stand place within) at.outputs within is
     (λ i differs. ap (share Open) (sym (are i ∙ ap (λ is. had i ++ cond is bytes []) (ne_eqb i place differs) ∙ append-nil (had i))))
-    (ap (λ bytes. file_at (from_start files.names) place (share Open bytes)) (sym (are place ∙ ap (λ is. had place ++ cond is bytes []) (eq-eqb place place refl))))
+    (ap (λ bytes. file_at files.names.naming place (share Open bytes)) (sym (are place ∙ ap (λ is. had place ++ cond is bytes []) (eq-eqb place place refl))))
 
 -- bytes were written to a file that is open, or it broke among them
 pub written : (told : Bool) {files : FilesState} {old new : List Slot} (place : ℕ) (bytes : List ℕ) (result : Result (Unit {0}) Fault) → AreReady files old → place < length files.outputs
@@ -434,10 +436,10 @@ closed_as had i n m there back = grind (arith, common_steps)
 
 module _ (told : Bool) {files : FilesState} {place : ℕ} {old now : List Slot} (ready : AreReady files old) (within : place < length files.outputs) (so_far : Closing told files place old now) where
   closes_next : {new : List Slot} → new ≡ changed_at (output_at files place) closes now → {before : List Slot} {had : ℕ → List ℕ} → StandAt told files before had old
-      → OutputsAt told before (part_by (from_start files.names) (closed_first (place + 1) had) (length files.outputs)) new
+      → OutputsAt told before (part_by files.names.naming (closed_first (place + 1) had) (length files.outputs)) new
   closes_next is {before} {had} at = changes told closes ended (close_makes told) files (closed_first (place + 1) had) place (at.owns.stand place within) (so_far.closed before had at) within is
       (λ i differs. closed_as had i place (place + 1) (λ less. omega arith) (λ less. omega (arith, differs)))
-      (ap (λ now. file_at (from_start files.names) place (share now (had place))) (sym (shut_now place (place + 1) (omega arith))))
+      (ap (λ now. file_at files.names.naming place (share now (had place))) (sym (shut_now place (place + 1) (omega arith))))
 
   pub one_closed : {new : List Slot} → new ≡ changed_at (output_at files place) closes now → Closing told files (place + 1) old new
   one_closed {new} is = search (rules, length-changed_at, writable_elsewhere, closes_next, keeps_again, keeps_close)
@@ -465,7 +467,7 @@ module _ (told : Bool) {files : FilesState} {place : ℕ} {old now : List Slot} 
     shut_grow had from to n m low few high = grind (arith, common_steps, cases_lt, closed_as, still_open, begins_itself)
 
     halted : (before : List Slot) (had : ℕ → List ℕ) → StandAt told files before had old
-        → Halts told before (from_start files.names) (all_open had) (length files.outputs) (closed_first (length files.outputs) had) (length files.outputs) 0
+        → Halts told before files.names.naming (all_open had) (length files.outputs) (closed_first (length files.outputs) had) (length files.outputs) 0
         (length files.outputs) (fault.Write (output_at files place)) new
     halted before had at = halts place (closed_first (place + 1) had) (length files.outputs) (omega arith) (omega arith) (omega arith)
         (grind (arith, common_steps, still_open, begins_itself))

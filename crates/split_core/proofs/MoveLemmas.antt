@@ -1,15 +1,17 @@
 -- How the files of `split` change, as they are opened, written and closed, and how what waits is written.
 use Rattle.std.proofs.lemmas.Grind.{common_steps}
-use Rattle.std.proofs.Common.{◌≡◌, ℕ, ◌+◌, ◌≤◌, zero, suc, List, [], ◌∷◌, ◌++◌, ◌⊎◌, length, Bool, true, false, IsTrue, Option, Some, None, Result, Ok, Err, OnOk, IfErr, inl, inr, refl, sym, ap, subst, arith, length-append, rules, drop, ◌∙◌, append_assoc, zero-add}
+use Rattle.std.proofs.Common.{◌≡◌, ℕ, ◌+◌, ◌≤◌, suc, List, [], ◌∷◌, ◌++◌, ◌⊎◌, length, Bool, true, false, IsTrue, Option, Some, None, Result, Ok, Err, OnOk, IfErr, inl, inr, refl, sym, ap, subst, arith, length-append, rules, drop, ◌∙◌, append_assoc, zero-add}
 use Rattle.std.proofs.lemmas.Bool.{cond_both, false≢true}
 use Rattle.std.proofs.lemmas.Result.{IfErr-weaker, on_ok_weaker}
-use Rattle.ports_core.specs.Name.{Naming, next_name, has_next, with_one_drawn}
+use Rattle.ports_core.specs.Name.{Naming, name_at, has_name}
+use Rattle.ports_core.specs.Names.{next_name, has_next, with_one_drawn}
+use Rattle.ports_core.specs.declared.names.Names.{Names}
 use Rattle.ports_core.specs.Slot.{Slot, changed_at, opened, closes, with_broken, is_writable, FailsToOpen, with_written, told_of}
-use Rattle.ports_core.specs.inner.Slot.{KeepsBroken}
+use Rattle.ports_core.specs.Slot.{KeepsBroken}
 use Rattle.ports_core.specs.declared.slot.Mode.TheVariants.{Fresh}
 use Rattle.ports_core.specs.declared.slot.State.TheVariants as state
 use Rattle.ports_core.specs.Part.{Part, Output, Marks, IsAt, gets_none}
-use Rattle.ports_core.specs.inner.Part.{AllClosed, InTurn}
+use Rattle.ports_core.specs.Turn.{AllClosed, InTurn}
 use Rattle.ports_core.specs.Engine.{IsMet, is_verdict}
 use Rattle.ports_core.specs.declared.fault.Fault.{Fault}
 use Rattle.ports_core.specs.declared.fault.Fault.TheVariants.{Write, Suffixes}
@@ -17,7 +19,7 @@ use Rattle.ports_core.proofs.PartLemmas.{begins_itself, begins_more, turn_last, 
 use Rattle.ports_core.proofs.PartSteps.{Becomes, with_last, becomes_again, falls_wider, halts_here, opens, writes_to, closes_last, closes_not}
 use Rattle.ports_core.specs.inner.Write.{WritesShort, broke}
 use Rattle.ports_core.proofs.SlotSteps.{keeps_again, rose_later, write_rose, open_rose, written_writable}
-use Rattle.split_core.specs.Split.{Share, share, split_means, is_named, are_named, from_start, only_files, file_at, named, name_of}
+use Rattle.split_core.specs.Split.{Share, share, split_means, only_files, file_at, named}
 use Rattle.split_core.specs.inner.CutLaws.{AllShut, SharesBegin}
 use Rattle.split_core.proofs.CutLaws.{shares_more, shares_themselves, shares_trans, last_grows}
 use Rattle.split_core.specs.laws.ShareLaws.{part_begins, one_on, shares_fewer}
@@ -30,35 +32,30 @@ use Rattle.ports_core.proofs.WriteLemmas.{broke_later, none_written, written_bot
 
 -- names
 
-pub named_before : (names : Naming) (place more : ℕ) → is_named names more ≡ true → place ≤ more → is_named names place ≡ true
+pub named_before : (names : Naming) (place more : ℕ) → has_name names more ≡ true → place ≤ more → has_name names place ≡ true
 named_before names place more is less = search rules
 
 -- the files of shares that all have names, and then the files of those after them
-pub named_on : (names : Naming) (place : ℕ) (front rest : List Share) → is_named names (place + length front) ≡ true → named names place (front ++ rest) ≡ named names place front ++ named names (place + length front) rest
+pub named_on : (names : Naming) (place : ℕ) (front rest : List Share) → has_name names (place + length front) ≡ true → named names place (front ++ rest) ≡ named names place front ++ named names (place + length front) rest
 named_on names place [] rest is = grind (arith, common_steps)
 named_on names place (one ∷ front) rest is = cc (
   named_before names place (place + suc (length front)) is (omega arith),
   one_on place (length front),
-  named_on names (place + 1) front rest (subst (λ n. is_named names n ≡ true) (one_on place (length front)) is),
+  named_on names (place + 1) front rest (subst (λ n. has_name names n ≡ true) (one_on place (length front)) is),
 )
 
-pub named_at : (names : Naming) (front rest : List Share) (one : Share) → is_named names (length front) ≡ true
+pub named_at : (names : Naming) (front rest : List Share) (one : Share) → has_name names (length front) ≡ true
     → named names 0 (front ++ one ∷ rest) ≡ named names 0 front ++ file_at names (length front) one ∷ named names (length front + 1) rest
 named_at names front rest one is = grind (arith, common_steps, named_on, zero-add)
 
--- nor does it matter how many names were drawn
-pub are_named_same : (names next : Naming) (count : ℕ) → from_start next ≡ from_start names → are_named next count ≡ are_named names count
-are_named_same names next zero same = refl
-are_named_same names next (suc last) same = grind (arith, common_steps)
-
 -- what begins where names run out makes the same files
 pub same_files : (names : Naming) (place : ℕ) (those high : List Share) → AllShut those → SharesBegin those high
-    → is_named names (place + length those) ≡ false → named names place high ≡ named names place those
+    → has_name names (place + length those) ≡ false → named names place high ≡ named names place those
 same_files names place [] [] shut begins none = refl
 same_files names place [] (whole ∷ high) shut begins none = grind (arith, common_steps)
 same_files names place (one ∷ those) [] shut begins none = absurd begins
 same_files names place (one ∷ those) (whole ∷ high) shut begins none =
-    cc (same begins.0, same_files names (place + 1) those high shut.1 begins.2 (subst (λ n. is_named names n ≡ false) (one_on place (length those)) none)) where
+    cc (same begins.0, same_files names (place + 1) those high shut.1 begins.2 (subst (λ n. has_name names n ≡ false) (one_on place (length those)) none)) where
       same : (one.state ≡ state.Open) ⊎ (one ≡ whole) → one ≡ whole
       same (inl is) = absurd (let closed : one.state ≡ state.Closed = shut.0 in cc)
       same (inr is) = is
@@ -67,19 +64,19 @@ same_files names place (one ∷ those) (whole ∷ high) shut begins none =
 
 pub shut_files : (names : Naming) (place : ℕ) (shares : List Share) → AllShut shares → AllClosed (named names place shares)
 shut_files names place [] shut = tt
-shut_files names place (one ∷ shares) shut = cond_both (is_named names place) _ _ AllClosed (λ is. (shut.0, shut_files names (place + 1) shares shut.1)) (λ is. tt)
+shut_files names place (one ∷ shares) shut = cond_both (has_name names place) _ _ AllClosed (λ is. (shut.0, shut_files names (place + 1) shares shut.1)) (λ is. tt)
 
-named_count : (names : Naming) (place : ℕ) (shares : List Share) → is_named names (place + length shares) ≡ true → length (named names place shares) ≡ length shares
+named_count : (names : Naming) (place : ℕ) (shares : List Share) → has_name names (place + length shares) ≡ true → length (named names place shares) ≡ length shares
 named_count names place [] is = refl
 named_count names place (one ∷ shares) is = cc (
   named_before names place (place + suc (length shares)) is (omega arith),
-  named_count names (place + 1) shares (subst (λ n. is_named names n ≡ true) (one_on place (length shares)) is),
+  named_count names (place + 1) shares (subst (λ n. has_name names n ≡ true) (one_on place (length shares)) is),
 )
 
-all_named : (names : Naming) (shares : List Share) → is_named names (length shares) ≡ true → length (named names 0 shares) ≡ length shares
-all_named names shares is = named_count names 0 shares (subst (λ n. is_named names n ≡ true) (sym (zero-add (length shares))) is)
+all_named : (names : Naming) (shares : List Share) → has_name names (length shares) ≡ true → length (named names 0 shares) ≡ length shares
+all_named names shares is = named_count names 0 shares (subst (λ n. has_name names n ≡ true) (sym (zero-add (length shares))) is)
 
-pub last_turn : (names : Naming) (shares : List Share) (one : Share) → is_named names (length shares) ≡ true → AllShut shares → InTurn (named names 0 (shares ++ one ∷ [])) (length shares)
+pub last_turn : (names : Naming) (shares : List Share) (one : Share) → has_name names (length shares) ≡ true → AllShut shares → InTurn (named names 0 (shares ++ one ∷ [])) (length shares)
 last_turn names shares one is shut = grind (arith, common_steps, named_at, turn_last, all_named, shut_files)
 
 -- which faults come
@@ -93,18 +90,18 @@ breaks_later keeps lacks_names = lacks_names
 pub write_breaks : (told : Bool) {slot : ℕ} {bytes : List ℕ} {old new : List Slot} {fault : Fault} → 2 ≤ slot → IsTrue (is_writable old slot) → WritesShort told slot bytes old new fault → Breaks old new fault
 write_breaks told {slot} {bytes} {old} {new} two can (broke n cut) = breaks_write slot two (write_rose told slot bytes n old new can cut)
 
-pub open_breaks : {names next : Naming} {old new : List Slot} {fault : Fault} → OpensNone names next old new fault → Breaks old new fault
+pub open_breaks : {names next : Names} {old new : List Slot} {fault : Fault} → OpensNone names next old new fault → Breaks old new fault
 open_breaks (no_memory has same) = wants_memory
 open_breaks {old = old} {new} (no_file slot kept at has drew is made) = breaks_open slot (open_rose slot kept old new at made)
 open_breaks (no_name none same) = lacks_names
 
 -- what an open that failed leaves, and where it failed
-pub opens_marks : (IsName : List ℕ → Type 0) {names next : Naming} {old new : List Slot} {fault : Fault} → (IsTrue (has_next names) → IsName (next_name names)) → OpensNone names next old new fault → Marks IsName fault old new
+pub opens_marks : (IsName : List ℕ → Type 0) {names next : Names} {old new : List Slot} {fault : Fault} → (IsTrue (has_next names) → IsName (next_name names)) → OpensNone names next old new fault → Marks IsName fault old new
 opens_marks IsName named (no_memory has same) = same
 opens_marks IsName {names} named (no_file slot kept at has drew is made) = grind (arith, common_steps)
 opens_marks IsName named (no_name none same) = same
 
-pub opens_at : {names next : Naming} {old new : List Slot} {fault : Fault} (first : ℕ) {place count : ℕ} → place ≡ count → OpensNone names next old new fault → IsAt fault first place count
+pub opens_at : {names next : Names} {old new : List Slot} {fault : Fault} (first : ℕ) {place count : ℕ} → place ≡ count → OpensNone names next old new fault → IsAt fault first place count
 opens_at first here (no_memory has same) = tt
 opens_at first here (no_file slot kept at has drew is made) = here
 opens_at first here (no_name none same) = tt
@@ -151,7 +148,7 @@ pub owned_opened : {slot : ℕ} (one : Slot) (old : List Slot) {new : List Slot}
 owned_opened one old {new} at is first owns = grind (arith, common_steps)
 
 -- the file could not be opened
-pub owned_unopened : {names next : Naming} {old new : List Slot} {fault : Fault} → OpensNone names next old new fault → KeepsFile None old None new
+pub owned_unopened : {names next : Names} {old new : List Slot} {fault : Fault} → OpensNone names next old new fault → KeepsFile None old None new
 owned_unopened {old = old} {new} (no_memory has same) first owns = grind (arith, common_steps)
 owned_unopened {old = old} (no_file slot kept at has drew is made) first owns = grind (arith, common_steps)
 owned_unopened {old = old} {new} (no_name none same) first owns = grind (arith, common_steps)
@@ -209,7 +206,7 @@ moves_then {told} {parts} {mid} {first = first} {second} {wet = wet} {new} resul
 becomes_as : {output : Output} {told : Bool} {low low' high high' : Part} {old new : List Slot} {fault : Option Fault} → low ≡ low' → high ≡ high' → Becomes output told low' high' old new fault → Becomes output told low high old new fault
 becomes_as {output} {told} {low} {high' = high'} {old} {new} {fault} is_low is_high becomes = grind (arith, common_steps)
 
-module _ (told : Bool) (names : Naming) (shares : List Share) (begun : List ℕ) (old : List Slot) (shut : AllShut shares) (is : is_named names (length shares) ≡ true) where
+module _ (told : Bool) (names : Naming) (shares : List Share) (begun : List ℕ) (old : List Slot) (shut : AllShut shares) (is : has_name names (length shares) ≡ true) where
   last_one : (one : Share) → part_of names (shares ++ one ∷ []) ≡ with_last [] (named names 0 shares) (file_at names (length shares) one)
   last_one one = ap only_files (named_at names shares [] one is)
 
@@ -226,27 +223,27 @@ module _ (told : Bool) (names : Naming) (shares : List Share) (begun : List ℕ)
   close_goes {slot} {new} (Err fault) ok err = search (rules, last_grows, begins_itself, becomes_as, last_one, closes_not, shut_files, false≢true)
 
   -- the next file was opened
-  pub open_goes : (current : Option ℕ) {new : List Slot} → new ≡ old ++ opened (name_of names (length shares)) Fresh ∷ [] → Goes told names current shares (shares ++ share state.Open [] ∷ []) old new (Ok tt)
+  pub open_goes : (current : Option ℕ) {new : List Slot} → new ≡ old ++ opened (name_at names (length shares)) Fresh ∷ [] → Goes told names current shares (shares ++ share state.Open [] ∷ []) old new (Ok tt)
   open_goes current made = search (rules, shares_more, becomes_as, last_one, opens)
 
 -- or it could not be opened
-pub open_stops : (told : Bool) {names next : Naming} (current : Option ℕ) (shares : List Share) (one : Share) {old new : List Slot} {fault : Fault} → AllShut shares
-    → names.drawn ≡ length shares → OpensNone names next old new fault → Goes told (from_start names) current shares (shares ++ one ∷ []) old new (Err fault)
+pub open_stops : (told : Bool) {names next : Names} (current : Option ℕ) (shares : List Share) (one : Share) {old new : List Slot} {fault : Fault} → AllShut shares
+    → names.drawn ≡ length shares → OpensNone names next old new fault → Goes told names.naming current shares (shares ++ one ∷ []) old new (Err fault)
 open_stops told {names} {next} current shares one {old} {new} shut drawn none = record {
   grows = shares_more shares (one ∷ []);
-  moves = λ last. halts_here (part_begins (from_start names) shares _ (shares_more shares (one ∷ []))) (turn_next _ (shut_files (from_start names) 0 shares shut)) tt
+  moves = λ last. halts_here (part_begins names.naming shares _ (shares_more shares (one ∷ []))) (turn_next _ (shut_files names.naming 0 shares shut)) tt
       (opens_marks _ (λ has. record {
-        front = named (from_start names) 0 shares;
-        file = file_at (from_start names) (length shares) one;
+        front = named names.naming 0 shares;
+        file = file_at names.naming (length shares) one;
         rest = [];
-        files = named_at (from_start names) shares [] one (subst (λ n. is_named names n ≡ true) drawn has);
+        files = named_at names.naming shares [] one (subst (λ n. has_name names.naming n ≡ true) drawn has);
         place = refl;
-        name_is = ap (name_of names) (sym drawn);
+        name_is = ap (name_at names.naming) (sym drawn);
       }) none) (λ before at. opens_at (length before) refl none);
   short = λ is. ran (subst (OpensNone names next old new) is none);
 } where
-  ran : OpensNone names next old new Suffixes → (those : List Share) × RunsShort (from_start names) those (shares ++ one ∷ [])
-      × (IsAtEnd current old → Becomes gets_none told (part_of (from_start names) shares) (part_of (from_start names) those) old new None)
+  ran : OpensNone names next old new Suffixes → (those : List Share) × RunsShort names.naming those (shares ++ one ∷ [])
+      × (IsAtEnd current old → Becomes gets_none told (part_of names.naming shares) (part_of names.naming those) old new None)
   ran (no_name none same) = (
     shares,
     grind (arith, common_steps, shut, drawn, none, shares_more, length-append),
@@ -287,7 +284,7 @@ pub empties_short : (told : Bool) {slot most now_most : ℕ} {held now : List �
 empties_short told {slot} front rest {old} {new} {fault} so_far is short = grind (arith, common_steps, short_later)
 
 -- a file that couldn't be opened
-pub opens_none : (names : Naming) {next : Naming} {name : List ℕ} {old new : List Slot} → name ≡ next_name names → IsTrue (has_next names) → next ≡ with_one_drawn names
+pub opens_none : (names : Names) {next : Names} {name : List ℕ} {old new : List Slot} → name ≡ next_name names → IsTrue (has_next names) → next ≡ with_one_drawn names
     → {fault : Fault} → FailsToOpen old name new fault → OpensNone names next old new fault
 opens_none names named has drew (outputs.broke slot kept at is made) = no_file slot kept at has drew (subst (λ those. (kept ≡ those) ⊎ (kept ≡ [])) named is) made
 opens_none names named has drew (outputs.numberless full same) = no_memory has same

@@ -1,29 +1,31 @@
 -- What each call on parts leaves: a step of a piece, a piece that is taken in step by step, the end of the input, and what the stage owes.
 use Rattle.std.proofs.lemmas.Grind.{common_steps}
-use Rattle.std.proofs.Common.{◌≡◌, ℕ, ◌+◌, ◌-◌, ◌<◌, ◌≤◌, suc, List, [], ◌∷◌, ◌++◌, length, map, Bool, true, false, eqb, Option, Some, None, Result, Ok, Err, OnOk, IfErr, refl, sym, ◌∙◌, ap, subst, add-one, arith, length-append, rules, take, drop, IfOk, append_assoc, not, cond, zero-add}
+use Rattle.std.proofs.Common.{◌≡◌, ℕ, ◌+◌, ◌-◌, ◌<◌, ◌≤◌, suc, List, [], ◌∷◌, ◌++◌, length, map, Bool, true, false, eqb, Some, None, Result, Ok, Err, OnOk, IfErr, refl, sym, ◌∙◌, ap, subst, add-one, arith, length-append, rules, take, drop, IfOk, append_assoc, not, cond, zero-add}
 use Rattle.std.proofs.lemmas.List.{append-nil, drop-take, take-append-drop, length-map}
 use Rattle.std.proofs.lemmas.Bool.{false≢true}
 use Rattle.std.proofs.lemmas.Result.{IfErr-weaker, on_ok_weaker}
-use Rattle.ports_core.specs.Name.{Naming, next_name}
+use Rattle.ports_core.specs.Name.{Naming, has_name, name_at}
+use Rattle.ports_core.specs.Names.{next_name}
 use Rattle.ports_core.specs.Slot.{Slot, Rose, changed_at, opened, closes, with_broken, is_closable}
 use Rattle.ports_core.specs.declared.slot.Mode.TheVariants.{Fresh}
 use Rattle.ports_core.specs.declared.slot.State.{State}
 use Rattle.ports_core.specs.declared.fault.Fault.{Fault}
 use Rattle.ports_core.specs.declared.fault.Fault.TheVariants as fault
 use Rattle.ports_core.proofs.SlotLemmas.{length-changed_at}
-use Rattle.split_core.specs.declared.limit.Limit.{Limit}
-use Rattle.split_core.specs.Parts.{most, unless_empty, cut_up, settled_rest, waiting_rest, parts}
-use Rattle.split_core.specs.Split.{Share, share, is_some, is_named, are_named, from_start, name_of, named, settled_parts, only_files}
+use Rattle.seg_core.specs.declared.cut.Limit.{Limit}
+use Rattle.seg_core.specs.Cut.{most}
+use Rattle.split_core.specs.Parts.{unless_empty, cut_up, settled_rest, waiting_rest, parts}
+use Rattle.split_core.specs.Split.{Share, share, is_some, are_named, named, settled_parts, only_files}
 use Rattle.split_core.specs.laws.DealLaws.{is_some_of}
 use Rattle.split_core.specs.laws.ShareLaws.{shares_after, part_begins, settled_on, settled_grow, are_named_more, settled_count}
 use Rattle.split_core.proofs.CutLaws.{shut_more, cut_two, shut_map, shares_trans}
 use Rattle.split_core.specs.PartsState.{PartsState, IsReady, is_given, Lacks, Stands}
 use Rattle.split_core.specs.inner.CutLaws.{AllShut, cut_so, SharesBegin, whole_parts}
 use Rattle.split_core.specs.inner.Moves.{Keeps, KeepsFile, Breaks, Draft, draft, written, Begun, gets, turns, Moves, HasFile, there, made, HasNone, Extends, Turns, Shuts, WritesTo, breaks_write, numbers, Takes, Steps, Finishes, CannotClose, wants_memory, lacks_names}
-use Rattle.split_core.proofs.MoveLemmas.{close_goes, goes_same, goes_then, goes_wider, keeps_still, keeps_then, moves_then, on_ok, open_breaks, open_goes, open_stops, owned_ended, owned_opened, owned_same, owned_unopened, write_breaks, write_goes, are_named_same, last_turn, shut_files, met_closing, met_files, owns_last, same_files}
+use Rattle.split_core.proofs.MoveLemmas.{close_goes, goes_same, goes_then, goes_wider, keeps_still, keeps_then, moves_then, on_ok, open_breaks, open_goes, open_stops, owned_ended, owned_opened, owned_same, owned_unopened, write_breaks, write_goes, last_turn, shut_files, met_closing, met_files, owns_last, same_files}
 use Rattle.ports_core.proofs.SlotSteps as slot_steps
 use Rattle.std.proofs.Math.Seq.{take-length}
-use Rattle.ports_core.specs.inner.Part.{InTurn}
+use Rattle.ports_core.specs.Turn.{InTurn}
 use Rattle.ports_core.specs.inner.Write.{broke}
 use Rattle.ports_core.proofs.PartLemmas.{turn_next, stopped_in_turn}
 use Rattle.ports_core.proofs.PartSteps.{halts_here}
@@ -40,7 +42,7 @@ use Rattle.ports_core.specs.Engine.{CutsOff, EndsWith, EndsThere, is_verdict}
 use Rattle.ports_core.specs.Engine as engine
 use Rattle.ports_core.specs.declared.fault.Fault.TheVariants.{Suffixes}
 use Rattle.ports_core.specs.declared.slot.State.TheVariants.{Closed}
-use Rattle.split_core.specs.PartState.{work}
+use Rattle.split_core.specs.PartsState.{work}
 use Rattle.split_core.specs.Ways as ways
 use Rattle.split_core.specs.declared.splitter.Splitter.TheVariants as way
 use Rattle.split_core.specs.inner.Ways.{PassesBy, FinishesBy}
@@ -66,10 +68,10 @@ written_count : (those : Draft) → is_some those.begun ≡ true → length (wri
 written_count those some = ap length (written_some those some) ∙ count_one those.shares (share file_state.Open those.begun)
 
 -- its name is there
-begun_named : {names : Naming} {current : Option ℕ} {those : Draft} → Begun names current those → is_some those.begun ≡ true
-    → (names.drawn ≡ suc (length those.shares)) × (is_named names (length those.shares) ≡ true)
-begun_named {names} {those = those} has some =
-    let count = written_count those some in (has.drawn ∙ count, ap (are_named names) (sym count) ∙ has.enough)
+begun_named : {parts : PartsState} {those : Draft} → Begun parts those → is_some those.begun ≡ true
+    → (parts.names.drawn ≡ suc (length those.shares)) × (has_name parts.names.naming (length those.shares) ≡ true)
+begun_named {parts} {those} has some =
+    let count = written_count those some in (has.drawn ∙ count, ap (are_named parts.names.naming) (sym count) ∙ has.enough)
 
 -- writing to its file, whatever is left to wait
 write_keeps : (told : Bool) (parts : PartsState) (held : List ℕ) {slot : ℕ} (bytes : List ℕ) {old new : List Slot} (result : Result (Unit {0}) Fault)
@@ -92,17 +94,17 @@ shuts_none told parts ready none = record {
   moves = record {
     same = refl;
     keeps = keeps_still ready;
-    begun = λ those has. subst (Begun parts.names parts.current) (sym (turn_nothing those (empty those has))) has;
+    begun = λ those has. subst (Begun parts) (sym (turn_nothing those (empty those has))) has;
     goes = λ those has. goes_same (ap written (sym (turn_nothing those (empty those has))));
   };
   caused = tt;
 } where
-  empty : (those : Draft) → Begun parts.names parts.current those → those.begun ≡ []
+  empty : (those : Draft) → Begun parts those → those.begun ≡ []
   empty those has = none_begun those.begun (sym has.given ∙ ap is_given none)
 
 -- no part is begun once one was closed
-shut_begun : {names : Naming} {current : Option ℕ} {those : Draft} → Begun names current those → is_some those.begun ≡ true → Begun names None (turns [] those)
-shut_begun {names} {those = those} has some = search (rules, begun_named, some_share, shut_more, append-nil, count_one)
+shut_begun : {parts : PartsState} {those : Draft} → Begun parts those → is_some those.begun ≡ true → Begun (record parts { current = None }) (turns [] those)
+shut_begun {parts} {those} has some = search (rules, begun_named, some_share, shut_more, append-nil, count_one)
 
 pub shuts_some : (told : Bool) (parts next : PartsState) {slot : ℕ} {old new : List Slot} (result : Result (Unit {0}) Fault) → IsReady parts.current old
     → parts.current ≡ Some slot → next ≡ record parts { current = None } → OnOk result (new ≡ changed_at slot closes old)
@@ -114,14 +116,14 @@ shuts_some told parts next {slot} {old} {new} result ready is next_is ok err = s
     keeps = grind (arith, common_steps, is, owned_ended, size result ok err, on_ok_weaker, keeps_close, can, writable_within, rose, breaks_write, ok, err);
     begun = on_ok result (λ those has. shut_begun has (some those has));
     goes = λ those has. rw (written_some those (some those has), append-nil (those.shares ++ map (share file_state.Closed) (unless_empty those.begun)), some_share file_state.Closed those.begun (some those has), is)
-        (close_goes told (from_start parts.names) those.shares those.begun old has.shut (begun_named has (some those has)).1 result ok err);
+        (close_goes told parts.names.naming those.shares those.begun old has.shut (begun_named has (some those has)).1 result ok err);
   };
   caused = IfErr-weaker result _ _ (λ f why. (slot, why.0, can.0, rose why.1)) err;
 }) where
   can : is_closable old slot
   can = subst (λ current. IsReady current old) is ready
 
-  some : (those : Draft) → Begun parts.names parts.current those → is_some those.begun ≡ true
+  some : (those : Draft) → Begun parts those → is_some those.begun ≡ true
   some those has = sym has.given ∙ ap is_given is
 
   rose : new ≡ with_broken slot (changed_at slot closes old) → Rose slot old new
@@ -139,14 +141,14 @@ pub record Found (told : Bool) (parts : PartsState) (old new : List Slot) (next 
   pub same : next ≡ record parts { names = next.names; current = Some slot }
   pub keeps : Keeps parts old new next (Ok tt)
   pub can : is_closable new slot
-  pub last : (those : Draft) → Begun parts.names parts.current those
-      → (next.names.drawn ≡ suc (length those.shares)) × (is_named parts.names (length those.shares) ≡ true)
-  pub goes : (those : Draft) → Begun parts.names parts.current those
-      → run.Goes told (from_start parts.names) parts.current (written those) (those.shares ++ share file_state.Open those.begun ∷ []) old new (Ok tt)
+  pub last : (those : Draft) → Begun parts those
+      → (next.names.drawn ≡ suc (length those.shares)) × (has_name parts.names.naming (length those.shares) ≡ true)
+  pub goes : (those : Draft) → Begun parts those
+      → run.Goes told parts.names.naming parts.current (written those) (those.shares ++ share file_state.Open those.begun ∷ []) old new (Ok tt)
 
 -- where no file is open, nothing of the part is written
-begun_yet : {names : Naming} {current : Option ℕ} {those : Draft} → Begun names current those → current ≡ None
-    → (those.begun ≡ []) × (names.drawn ≡ length those.shares)
+begun_yet : {parts : PartsState} {those : Draft} → Begun parts those → parts.current ≡ None
+    → (those.begun ≡ []) × (parts.names.drawn ≡ length those.shares)
 begun_yet {those = those} has none =
     let no_bytes = none_begun those.begun (sym has.given ∙ ap is_given none) in
     (no_bytes, has.drawn ∙ ap (λ bytes. length (written (draft those.shares bytes))) no_bytes ∙ ap length (append-nil those.shares))
@@ -168,11 +170,11 @@ found told {parts} {old} {new} {slot = slot} ready (made none at has next_is mad
       can = can;
       last = λ those had. (ap (λ n. n + 1) (begun_yet had none).1 ∙ add-one (length those.shares), named those had);
       goes = λ those had. rw ((begun_yet had none).0, append-nil those.shares)
-          (open_goes told (from_start parts.names) those.shares [] old had.shut (named those had) parts.current
-          (made_it ∙ ap (λ n. old ++ opened (name_of parts.names n) Fresh ∷ []) (begun_yet had none).1));
+          (open_goes told parts.names.naming those.shares [] old had.shut (named those had) parts.current
+          (made_it ∙ ap (λ n. old ++ opened (name_at parts.names.naming n) Fresh ∷ []) (begun_yet had none).1));
     }) where
-      named : (those : Draft) → Begun parts.names parts.current those → is_named parts.names (length those.shares) ≡ true
-      named those had = ap (is_named parts.names) (sym (begun_yet had none).1) ∙ has
+      named : (those : Draft) → Begun parts those → has_name parts.names.naming (length those.shares) ≡ true
+      named those had = ap (has_name parts.names.naming) (sym (begun_yet had none).1) ∙ has
 
       can : is_closable new slot
       can = let streams : 2 ≤ length old = subst (λ current. IsReady current old) none ready in
@@ -180,7 +182,7 @@ found told {parts} {old} {new} {slot = slot} ready (made none at has next_is mad
 
 -- more went to the part that was begun, or a fault came meanwhile
 pub extended : {told : Bool} {parts : PartsState} (more held : List ℕ) {old mid new : List Slot} {fresh next : PartsState} {slot : ℕ}
-    (result : Result (Unit {0}) Fault) → ((those : Draft) → Begun parts.names parts.current those → is_some (those.begun ++ more) ≡ true) → Found told parts old mid fresh slot
+    (result : Result (Unit {0}) Fault) → ((those : Draft) → Begun parts those → is_some (those.begun ++ more) ≡ true) → Found told parts old mid fresh slot
     → WritesTo told slot more mid new result → next ≡ record fresh { waiting = held } → OnOk result (held ≡ []) → Moves told parts (parts.left, parts.has_line, []) (gets more) old new next result
 extended {told} {parts} more held {old} {mid} {new} {fresh} {next} {slot} result some facts wrote is none =
     subst (λ those. Moves told parts (parts.left, parts.has_line, []) (gets more) old new those result) (sym (is ∙ ap (λ (those : PartsState). record those { waiting = held }) facts.same))
@@ -193,7 +195,7 @@ extended {told} {parts} more held {old} {mid} {new} {fresh} {next} {slot} result
       goes = λ those has. rw (written_some (gets more those) (some those has))
           (goes_then result (subst (λ (those : PartsState). KeepsFile parts.current old those.current mid) facts.same facts.keeps.owned)
           (facts.goes those has)
-          (write_goes told (from_start parts.names) those.shares those.begun mid has.shut (facts.last those has).1 more result wrote));
+          (write_goes told parts.names.naming those.shares those.begun mid has.shut (facts.last those has).1 more result wrote));
     })
 
 pub some_bytes : (front bytes : List ℕ) → 0 < length bytes → is_some (front ++ bytes) ≡ true
@@ -268,7 +270,7 @@ begun_of parts x = settled_rest parts.limit (rest_of parts x)
 abbrev pub draft_of : PartsState → List ℕ → Draft
 draft_of parts x = draft (full_of parts x) (begun_of parts x)
 
-begun_so : {parts : PartsState} {x : List ℕ} → Stands parts x → Begun parts.names parts.current (draft_of parts x)
+begun_so : {parts : PartsState} {x : List ℕ} → Stands parts x → Begun parts (draft_of parts x)
 begun_so {parts} {x} stands = record { drawn = stands.drawn; enough = stands.enough; given = stands.opened; shut = shut_map (cut_up parts.limit x).full }
 
 -- what is begun, what waits and more are together what is left and more
@@ -290,7 +292,7 @@ module _ {parts : PartsState} {x taken : List ℕ} {after : Draft} {are : ℕ ×
   settled_so = grind (arith, common_steps, settled_on)
 
   -- it can be what came in
-  stands_so : (next : PartsState) → next.limit ≡ parts.limit → numbers next ≡ are → Begun next.names next.current after → Stands next (x ++ taken)
+  stands_so : (next : PartsState) → next.limit ≡ parts.limit → numbers next ≡ are → Begun next after → Stands next (x ++ taken)
   stands_so next limit same has = search (rules, settled_so, cut_on)
 
 -- so far that is a beginning of what the whole piece leads to
@@ -394,7 +396,7 @@ waits_on told parts piece leads ready = takes_so {change = λ those. those} (λ 
 }) (record {
   same = refl;
   keeps = record { limit = refl; names = refl; owned = λ first owns. owns; sound = keeps_same _ _ refl; ready = ready; breaks = tt };
-  begun = λ those has. has;
+  begun = λ those has. record { drawn = has.drawn; enough = has.enough; given = has.given; shut = has.shut };
   goes = λ those has. goes_same refl;
 })
 
@@ -412,8 +414,8 @@ no_room told parts piece {slots} = record {
   keeps = record { limit = refl; names = refl; owned = λ first owns. owns; sound = tt; ready = tt; breaks = wants_memory };
   stands = tt;
   goes = λ x stands.
-      let names = from_start parts.names in
-      let turn = turn_by names (full_of parts x) (begun_of parts x) (shut_map (cut_up parts.limit x).full) (are_named_same parts.names names _ refl ∙ stands.enough) in record {
+      let names = parts.names.naming in
+      let turn = turn_by names (full_of parts x) (begun_of parts x) (shut_map (cut_up parts.limit x).full) stands.enough in record {
         grows = settled_grow parts.limit x piece;
         moves = λ last. halts_here (part_begins names _ _ (settled_grow parts.limit x piece)) turn.1 tt refl (λ before at. tt);
         short = λ is. absurd (cc);
@@ -516,22 +518,22 @@ module _ (told : Bool) (state : PartsState) {slot : ℕ} {old : List Slot} (held
   held_ends {mid} {next} {wet} {new} result wrote mid_is none shuts = let first = held_moves (Ok tt) wrote mid_is none in let moves = moves_then result first shuts.moves in record {
     keeps = moves.keeps;
     caused = IfErr-weaker result _ _ (λ f why. (why.0, why.1, why.2, rose_later why.0 old wet new first.keeps.sound why.3)) shuts.caused;
-    goes = λ x stands. subst (λ high. run.Goes told (from_start state.names) state.current (settled_parts state.limit x) high old new result) (whole_so state stands) (moves.goes (draft_of state x) (begun_so stands));
+    goes = λ x stands. subst (λ high. run.Goes told state.names.naming state.current (settled_parts state.limit x) high old new result) (whole_so state stands) (moves.goes (draft_of state x) (begun_so stands));
   }
 
-have_names : (state : PartsState) (x : List ℕ) {have : Bool} → are_named (from_start state.names) (length (settled_parts state.limit x)) ≡ have
-    → are_named (from_start state.names) (length (map (share Closed) (parts state.limit x))) ≡ have
+have_names : (state : PartsState) (x : List ℕ) {have : Bool} → are_named state.names.naming (length (settled_parts state.limit x)) ≡ have
+    → are_named state.names.naming (length (map (share Closed) (parts state.limit x))) ≡ have
 have_names state x is = grind (arith, common_steps, length-map, settled_count)
 
 pub all_have : {state : PartsState} {x : List ℕ} → Stands state x
-    → are_named (from_start state.names) (length (map (share Closed) (parts state.limit x))) ≡ true
-all_have {state} {x} stands = have_names state x (are_named_same state.names (from_start state.names) _ refl ∙ stands.enough)
+    → are_named state.names.naming (length (map (share Closed) (parts state.limit x))) ≡ true
+all_have {state} {x} stands = have_names state x stands.enough
 
 -- as long as all parts have names, more can come
 pub never_done : {state : PartsState} {x : List ℕ} → Stands state x → false ≡ (work state).is_complete x
 never_done stands = sym (ap not (all_have stands))
 
-work_by : (state next : PartsState) → next.limit ≡ state.limit → from_start next.names ≡ from_start state.names → work next ≡ work state
+work_by : (state next : PartsState) → next.limit ≡ state.limit → next.names.naming ≡ state.names.naming → work next ≡ work state
 work_by state next limit names = grind (arith, common_steps)
 
 -- a piece
@@ -541,14 +543,14 @@ module _ (told : Bool) (state next : PartsState) (piece : List ℕ) (old new : L
   settles : (f : Fault) → f ≡ Suffixes → Takes told state piece old new next (Err f) → EndsWith ways.Holds ways.work (way.Parts state) piece f
   settles f is stop x stands =
       let ran = (stop.goes x stands).short is in
-      let none = have_names state (x ++ piece) (are_named_more (from_start state.names) (suc (length ran.0)) _ ran.1.none ran.1.fewer) in
+      let none = have_names state (x ++ piece) (are_named_more state.names.naming (suc (length ran.0)) _ ran.1.none ran.1.fewer) in
       (ap not none, ap (λ (have : Bool). cond (not have) (Some Suffixes) None) none ∙ ap Some (sym is))
 
   cut_off : {f : Fault} → Breaks old new f → Takes told state piece old new next (Err f) → CutsOff ways.Holds ways.Owns ways.work (way.Parts state) piece told old new f
   cut_off lacks_names stop before x at =
       let ran = (stop.goes x at.holds).short refl in
       engine.judged refl new (subst (λ files. OutputsAt told before (only_files files) new)
-      (sym (same_files (from_start state.names) 0 ran.0 _ ran.1.shut ran.1.begins (subst (λ n. is_named state.names n ≡ false) (sym (zero-add _)) ran.1.none)))
+      (sym (same_files state.names.naming 0 ran.0 _ ran.1.shut ran.1.begins (subst (λ n. has_name state.names.naming n ≡ false) (sym (zero-add _)) ran.1.none)))
       ((ran.2 (owns_last state.current (length before) old at.owns)).gets before at.outputs)) refl
   cut_off {f} breaks stop before x at = search (rules, stopped_in_turn, owns_last)
 

@@ -10,7 +10,7 @@ use Rattle.std.proofs.lemmas.List.FromFn.{length-map-range_with_len, get_or-map-
 use Rattle.seg_core.specs.Line.{joined, delimiters, line_count}
 use Rattle.seg_core.proofs.Delimiters.{delimiters-append}
 use Rattle.seg_core.proofs.LineCounts.{line_count_near, line_count-front}
-use Rattle.ports_core.specs.Name.{Naming}
+use Rattle.ports_core.specs.Name.{Naming, has_name}
 use Rattle.ports_core.specs.Slot.{Slot}
 use Rattle.ports_core.specs.Part.{Part, OutputsAt, StoppedBetween, nothing, gets_none}
 use Rattle.ports_core.specs.Work.{Work}
@@ -22,7 +22,7 @@ use Rattle.ports_core.specs.declared.slot.State.TheVariants.{Open, Closed}
 use Rattle.ports_core.proofs.PartLemmas.{outputs_count}
 use Rattle.split_core.specs.Parts.{dealt, round_robin}
 use Rattle.split_core.specs.Parts as cut
-use Rattle.split_core.specs.Split.{share, named, is_named, are_named, from_start, file_at, only_files, dealt_files, settled_by, is_short, is_some, split_work, bytes_in}
+use Rattle.split_core.specs.Split.{share, named, are_named, file_at, only_files, dealt_files, settled_by, is_short, is_some, split_work, bytes_in}
 use Rattle.split_core.specs.inner.Dealt.{dealt_piece, dealt_first, reached_by, share_of}
 use Rattle.split_core.specs.FilesState.{FilesState}
 use Rattle.split_core.specs.RoundState.{RoundState}
@@ -41,12 +41,12 @@ use Rattle.std.proofs.lemmas.Grind.{common_steps}
 use Rattle.split_core.specs.declared.splitter.Splitter.{Splitter}
 use Rattle.split_core.proofs.PartsLemmas as part
 use Rattle.split_core.specs.PartsState.{PartsState, Stands}
-use Rattle.split_core.specs.PartState as parts_state
+use Rattle.split_core.specs.PartsState as parts_state
 
 -- Names
 
 -- where this many files have names, each of them has one
-named_at : (names : Naming) (count place : ℕ) → are_named names count ≡ true → place < count → is_named names place ≡ true
+named_at : (names : Naming) (count place : ℕ) → are_named names count ≡ true → place < count → has_name names place ≡ true
 named_at names zero place are within = absurd (omega arith)
 named_at names (suc last) place are within = named_before names place last are (omega arith)
 
@@ -55,20 +55,21 @@ named_fewer names zero count are within = refl
 named_fewer names (suc last) count are within = named_at names count last are (omega arith)
 
 all_by : (names : Naming) (n start count : ℕ) (state : State) (f : ℕ → List ℕ) → are_named names n ≡ true → start + count ≤ n
-    → named (from_start names) start (map (share state) (map f (range_with_len start count))) ≡ map (λ i. file_at (from_start names) i (share state (f i))) (range_with_len start count)
+    → named names start (map (share state) (map f (range_with_len start count))) ≡ map (λ i. file_at names i (share state (f i))) (range_with_len start count)
 all_by names n start zero state f are few = refl
 all_by names n start (suc count) state f are few = cc (named_at names n start are (omega arith), all_by names n (start + 1) count state f are (omega arith))
 
 -- The files of a text
 
 filed_are : (delim : ℕ) (state : State) (names : Naming) (elide : Bool) (n : ℕ) (x : List ℕ) → are_named names n ≡ true
-    → only_files (named (from_start names) 0 (map (share state) (dealt_files delim elide n x))) ≡ part_by (from_start names) (λ i. share state (share_of delim n x i)) (opened_by delim elide n x)
+    → only_files (named names 0 (map (share state) (dealt_files delim elide n x))) ≡ part_by names (λ i. share state (share_of delim n x i)) (opened_by delim elide n x)
 filed_are delim state names elide n x are = grind (arith, common_steps, dealt_files_are, all_by)
 
 all_have : (delim : ℕ) (names : Naming) (elide : Bool) (n : ℕ) (x : List ℕ) → are_named names n ≡ true → are_named names (length (dealt_files delim elide n x)) ≡ true
 all_have delim names elide n x are = grind (arith, common_steps, named_fewer, dealt_files_are, length-map-range_with_len)
 
-not_short : (delim : ℕ) (names : Naming) (elide : Bool) (n : ℕ) (x : List ℕ) → are_named names n ≡ true → false ≡ is_short (round_plan delim n elide names) x
+-- where all files have names, no text needs more
+pub not_short : (delim : ℕ) (names : Naming) (elide : Bool) (n : ℕ) (x : List ℕ) → are_named names n ≡ true → false ≡ is_short (round_plan delim n elide names) x
 not_short delim names elide n x are = sym (ap not (ap (are_named names) (length-map (dealt_files delim elide n x) (share Closed))
     ∙ all_have delim names elide n x are))
 
@@ -98,12 +99,12 @@ first_gathered delim n start {reached} piece is reached_is = search (rules, take
 
 -- What a piece leaves
 
-pub same_work : (old new : RoundState) → new.delim ≡ old.delim → new.count ≡ old.count → new.elide ≡ old.elide → from_start new.files.names ≡ from_start old.files.names → work new ≡ work old
+pub same_work : (old new : RoundState) → new.delim ≡ old.delim → new.count ≡ old.count → new.elide ≡ old.elide → new.files.names.naming ≡ old.files.names.naming → work new ≡ work old
 same_work old new delim count elide names = cc
 
 -- what the stage has written, where it can have been fed x
 stands_is : {round : RoundState} {x : List ℕ} → Holds round x
-    → part_by (from_start round.files.names) (all_open (share_of round.delim round.count x)) (length round.files.outputs) ≡ (work round).settled x
+    → part_by round.files.names.naming (all_open (share_of round.delim round.count x)) (length round.files.outputs) ≡ (work round).settled x
 stands_is {round} {x} holds = search (rules, filed_are)
 
 stand_at : (told : Bool) (round : RoundState) {before : List Slot} {x : List ℕ} {now : List Slot} → StandsAt ways.Holds ways.Owns (way.Round round) told before x ((work round).settled x) now
@@ -116,12 +117,12 @@ count_is {round} {x} piece holds = search (rules, length-map-range_with_len, ope
 
 module _ (told : Bool) (round : RoundState) (piece : List ℕ) {old before : List Slot} {x : List ℕ}
     (at : StandsAt ways.Holds ways.Owns (way.Round round) told before x ((work round).settled x) old) where
-  made_is : part_by (from_start round.files.names) (all_open (share_of round.delim round.count (x ++ piece)))
+  made_is : part_by round.files.names.naming (all_open (share_of round.delim round.count (x ++ piece)))
       (max (length round.files.outputs) (length (dealt_first round.delim round.count round.next piece))) ≡ (work round).settled (x ++ piece)
   made_is = search (rules, count_is, filed_are)
 
   left_by : {next : FilesState} {new : List Slot} (result : Result (Unit {0}) Fault) → Adds told round.files (λ i. get_or (dealt_first round.delim round.count round.next piece) i []) 0 (length (dealt_first round.delim round.count round.next piece)) old next new result
-      → Leaves told before (from_start round.files.names) (all_open (share_of round.delim round.count x)) (length round.files.outputs) (all_open (share_of round.delim round.count (x ++ piece)))
+      → Leaves told before round.files.names.naming (all_open (share_of round.delim round.count x)) (length round.files.outputs) (all_open (share_of round.delim round.count (x ++ piece)))
       (max (length round.files.outputs) (length (dealt_first round.delim round.count round.next piece))) 0 (length (dealt_first round.delim round.count round.next piece)) new result
   left_by result adds = search (rules, stand_at, share_after)
 
@@ -153,7 +154,7 @@ passes_by told old new piece before after (Err why) deals = record {
 -- The end
 
 closed_part : {round : RoundState} {x : List ℕ} → Holds round x
-    → part_by (from_start round.files.names) (closed_first (length round.files.outputs) (share_of round.delim round.count x)) (length round.files.outputs) ≡ (work round).whole x
+    → part_by round.files.names.naming (closed_first (length round.files.outputs) (share_of round.delim round.count x)) (length round.files.outputs) ≡ (work round).whole x
 closed_part {round} {x} holds = search (rules, same_by, shut_now, filed_are)
 
 pub finishes_by : (told : Bool) (round : RoundState) (old new : List Slot) (result : Result (Unit {0}) Fault)
@@ -176,40 +177,39 @@ starts_with delim false n = refl
 
 -- no file is open yet, and the next will be the next output
 abbrev pub no_files : Naming → FilesState
-no_files names = record { names = names; outputs = [] }
+no_files names = record { names = record { naming = names; drawn = 0 }; outputs = [] }
 
 none_owned : (names : Naming) {slots : List Slot} → OwnsFiles (no_files names) (length slots) slots
 none_owned names = record { stand = λ place within. absurd (omega (arith, within)); last = λ same. omega arith }
 
-pub at_start : (delim : ℕ) (elide : Bool) (names : Naming) (n : ℕ) {count : ℕ} → names.drawn ≡ 0 → are_named names n ≡ true → count ≡ opened_by delim elide n []
-    → part_by (from_start names) (all_open (λ i. [])) (max 0 count) ≡ settled_by (round_plan delim n elide names) []
-at_start delim elide names n {count} fresh are counted = ap (part_by (from_start names) (all_open (λ i. []))) (let all : max 0 count ≡ count = omega arith in all ∙ counted)
-    ∙ sym (filed_are delim Open names elide n [] are) ∙ ap (λ drawn. settled_by (round_plan delim n elide (record names { drawn = drawn })) []) (sym fresh)
+pub at_start : (delim : ℕ) (elide : Bool) (names : Naming) (n : ℕ) {count : ℕ} → are_named names n ≡ true → count ≡ opened_by delim elide n []
+    → part_by names (all_open (λ i. [])) (max 0 count) ≡ settled_by (round_plan delim n elide names) []
+at_start delim elide names n {count} are counted = ap (part_by names (all_open (λ i. []))) (let all : max 0 count ≡ count = omega arith in all ∙ counted)
+    ∙ sym (filed_are delim Open names elide n [] are)
 
 module _ (told : Bool) (names : Naming) {count : ℕ} {files next : FilesState} {old new : List Slot} {result : Result (Unit {0}) Fault} (is : files ≡ no_files names)
     (opens : Opens told files 0 count old next new result) where
   -- what is there then is all that must be written of no input
-  pub opens_all : {part : Part} → part_by (from_start names) (all_open (λ i. [])) (max 0 count) ≡ part → (before : List Slot) → OutputsAt told before nothing old
+  pub opens_all : {part : Part} → part_by names (all_open (λ i. [])) (max 0 count) ≡ part → (before : List Slot) → OutputsAt told before nothing old
       → (OnOk result (OutputsAt told before part new)) × (IfErr result (λ why. StoppedBetween gets_none told before nothing part why new))
   opens_all {part} made before at = by result ((subst (λ (those : FilesState). Opens told those 0 count old next new result) is opens).adds.leaves before (λ i. []) (λ i. []) (record {
     owns = subst (λ place. OwnsFiles (no_files names) place old) (omega (arith, outputs_count told before nothing old at)) (none_owned names);
     outputs = at;
     none = λ i past. refl;
   }) (λ i. refl)) where
-    by : (result : Result (Unit {0}) Fault) → Leaves told before (from_start names) (all_open (λ i. [])) 0 (all_open (λ i. [])) (max 0 count) 0 count new result
+    by : (result : Result (Unit {0}) Fault) → Leaves told before names (all_open (λ i. [])) 0 (all_open (λ i. [])) (max 0 count) 0 count new result
         → (OnOk result (OutputsAt told before part new)) × (IfErr result (λ why. StoppedBetween gets_none told before nothing part why new))
     by (Ok done) leaves = (subst (λ those. OutputsAt told before those new) made leaves, tt)
     by (Err why) leaves = (tt, stopped_as told refl made (stops_in_order leaves))
 
 -- where all files have names, the work is what was asked for
-pub does_all : (delim : ℕ) (names others : Naming) (elide : Bool) (n : ℕ) → names.drawn ≡ 0 → are_named names n ≡ true → from_start others ≡ from_start names → round_work (round_plan delim n elide (from_start others)) ≡ split_work (round_plan delim n elide names)
-does_all delim names others elide n fresh are same =
-    ap (λ those. round_work (round_plan delim n elide those)) (same ∙ ap (λ drawn. record names { drawn = drawn }) (sym fresh)) ∙ ap work_by never where
-      never : ◌≡◌ {A = List ℕ → Bool} (λ x. false) (is_short (round_plan delim n elide names))
-      never = fun_ext (λ x. not_short delim names elide n x are)
+pub does_all : (delim : ℕ) (names others : Naming) (elide : Bool) (n : ℕ) → are_named names n ≡ true → others ≡ names → round_work (round_plan delim n elide others) ≡ split_work (round_plan delim n elide names)
+does_all delim names others elide n are same = ap (λ those. round_work (round_plan delim n elide those)) same ∙ ap work_by never where
+  never : ◌≡◌ {A = List ℕ → Bool} (λ x. false) (is_short (round_plan delim n elide names))
+  never = fun_ext (λ x. not_short delim names elide n x are)
 
-      work_by : (List ℕ → Bool) → Work
-      work_by short = record (split_work (round_plan delim n elide names)) { is_complete = short; verdict = λ x. cond (short x) (Some fault.Suffixes) None }
+  work_by : (List ℕ → Bool) → Work
+  work_by short = record (split_work (round_plan delim n elide names)) { is_complete = short; verdict = λ x. cond (short x) (Some fault.Suffixes) None }
 
 -- nothing waits
 
@@ -234,8 +234,8 @@ none_waits {round} {x} holds = search (rules, dealt_all, all_have, drop-length)
 
 -- what waits in a stage that cuts off parts
 pub parts_wait : {parts : PartsState} {x : List ℕ} → Stands parts x → length parts.waiting ≡ length ((parts_state.work parts).waiting x)
-parts_wait {parts} {x} stands = ap length (stands.waits ∙ sym (waiting_is parts.limit (from_start parts.names) x
-    (ap (are_named (from_start parts.names)) (sym (length-map (cut.parts parts.limit x) (share Closed))) ∙ part.all_have stands)))
+parts_wait {parts} {x} stands = ap length (stands.waits ∙ sym (waiting_is parts.limit parts.names.naming x
+    (ap (are_named parts.names.naming) (sym (length-map (cut.parts parts.limit x) (share Closed))) ∙ part.all_have stands)))
 
 -- as long as the engine goes on, all files have names
 pub all_named : (splitter : Splitter) (x : List ℕ) → ways.Holds splitter x → (ways.work splitter).is_complete x ≡ false

@@ -11,9 +11,10 @@ use Rattle.seg_core.proofs.FirstLines.{joined-append, lines_of-first_lines, line
 use Rattle.seg_core.proofs.LineCounts.{line_count-some, line_count_near}
 use Rattle.seg_core.proofs.LinesOf.{joined-lines_of, lines_of-joined, AreLines-lines_of}
 use Rattle.ports_core.specs.declared.slot.State.TheVariants.{Open, Closed}
-use Rattle.split_core.specs.declared.limit.Limit.{Limit}
-use Rattle.split_core.specs.declared.limit.Limit.TheVariants.{Lines, Bytes, LineBytes}
-use Rattle.split_core.specs.Parts.{whole_lines, open_line, most, is_full, cut_up, unless_empty, parts, settled_rest, waiting_rest, dealt, round_robin}
+use Rattle.seg_core.specs.declared.cut.Limit.{Limit}
+use Rattle.seg_core.specs.declared.cut.Limit.TheVariants.{Lines, Bytes, LineBytes}
+use Rattle.seg_core.specs.Cut.{most}
+use Rattle.split_core.specs.Parts.{whole_lines, open_line, is_full, cut_up, unless_empty, parts, settled_rest, waiting_rest, dealt, round_robin}
 use Rattle.split_core.specs.Sections.{runs_within, runs_of, line_parts, byte_parts, AreLineByteParts, none, one, more}
 use Rattle.split_core.specs.Split.{Share, share, settled_parts, dealt_files}
 use Rattle.split_core.proofs.CutLaws.{bytes_of_shares, cut_all}

@@ -5,14 +5,15 @@ use Rattle.std.proofs.lemmas.List.{append-nil, drop_all, take-take, take-append-
 use Rattle.std.proofs.Math.Seq.{get_or-append_right, drop-cons, get_or-append_seam}
 use Rattle.seg_core.specs.Line.{joined, delimiters, lines_of}
 use Rattle.seg_core.proofs.FirstLines.{joined-append}
-use Rattle.ports_core.specs.Name.{Naming}
+use Rattle.ports_core.specs.Name.{Naming, has_name}
 use Rattle.ports_core.specs.Agreed.{Spot, spot, spots_from, GoesTo, file_bytes, ArePlaced, CanCome, IsUndecided}
 use Rattle.ports_core.proofs.AgreedLemmas.{spot_in, spot_past, none_comes, beginning_short, common, none_before}
-use Rattle.split_core.specs.declared.limit.Limit.{Limit}
-use Rattle.split_core.specs.Parts.{parts, whole_lines, most, cut_up, unless_empty, settled_rest, waiting_rest, dealt}
+use Rattle.seg_core.specs.declared.cut.Limit.{Limit}
+use Rattle.seg_core.specs.Cut.{most}
+use Rattle.split_core.specs.Parts.{parts, whole_lines, cut_up, unless_empty, settled_rest, waiting_rest, dealt}
 use Rattle.split_core.specs.laws.ShareLaws.{one_on}
-use Rattle.split_core.specs.Split.{is_named, share, are_named, named, settled_by, is_short, split_work, dealt_files, bytes_in, whole_by}
-use Rattle.split_core.specs.PartState.{parts_work}
+use Rattle.split_core.specs.Split.{share, are_named, named, settled_by, is_short, split_work, dealt_files, bytes_in, whole_by}
+use Rattle.split_core.specs.PartsState.{parts_work}
 use Rattle.split_core.proofs.SectionLemmas.{joined_parts, settled_list}
 use Rattle.split_core.proofs.AgreedLemmas.{named_bytes, came_in, settled_bytes_in, settled_in, shared_bytes, waiting_is, named_more, each_named, list_count, decides_lines, one_of, delimiters_some, plan_by}
 use Rattle.std.proofs.lemmas.Grind.{common_steps}
@@ -21,8 +22,8 @@ use Rattle.ports_core.specs.Slot.{is_open}
 use Rattle.ports_core.specs.declared.slot.State.TheVariants.{Open, Closed}
 use Rattle.seg_core.specs.declared.cut.Cut.{Cut}
 use Rattle.seg_core.specs.declared.cut.Cut.TheVariants as cut
-use Rattle.split_core.specs.declared.limit.Limit.TheVariants.{Lines, Bytes, LineBytes}
-use Rattle.split_core.specs.Splitter.{IsPositive}
+use Rattle.seg_core.specs.declared.cut.Limit.TheVariants.{Lines, Bytes, LineBytes}
+use Rattle.seg_core.specs.Cut.{IsPositive}
 use Rattle.split_core.specs.Place.{dealt_spots, split_spots, dealt_to}
 use Rattle.split_core.specs.Round.{round_plan}
 use Rattle.split_core.specs.laws.CutLaws.{whole_some}
@@ -100,7 +101,7 @@ named_front : (names : Naming) (place : ℕ) (those : List (List ℕ)) → (more
 named_front names place [] = ([], refl)
 named_front names place (one ∷ those) =
     let rest = named_front names (place + 1) those in
-    cond_both (is_named names place) _ _ (λ front. (more : List (List ℕ)) × (one ∷ those ≡ front ++ more)) (λ is. (rest.0, ap (λ those. one ∷ those) rest.1))
+    cond_both (has_name names place) _ _ (λ front. (more : List (List ℕ)) × (one ∷ those ≡ front ++ more)) (λ is. (rest.0, ap (λ those. one ∷ those) rest.1))
     (λ is. (one ∷ those, refl))
 
 -- the files are together a beginning of the text
@@ -156,7 +157,7 @@ last_open : (names : Naming) (place : ℕ) (full : List (List ℕ)) (rest : List
 last_open names place [] [] = tt
 last_open names place [] (byte ∷ rest) = search rules
 last_open names place (part ∷ full) rest =
-    cond_both (is_named names place) _ _ OnlyLastOpen (λ is. (λ opened. absurd (false≢true (ap is_open opened)), last_open names (place + 1) full rest))
+    cond_both (has_name names place) _ _ OnlyLastOpen (λ is. (λ opened. absurd (false≢true (ap is_open opened)), last_open names (place + 1) full rest))
     (λ is. tt)
 
 -- bytes that files have stay where they are
@@ -282,12 +283,10 @@ round_undecided delim n elide names {x} some are =
 counted : (names : Naming) (those : List (List ℕ)) → not (are_named names (length (map (share Closed) those))) ≡ false → are_named names (length those) ≡ true
 counted names those is = grind (arith, common_steps)
 
-pub undecided_at : (delim : ℕ) (cut : Cut) (elide : Bool) (names : Naming) → IsPositive cut → {x : List ℕ} → is_short (plan_by delim cut elide names) x ≡ false
-    → IsUndecided (split_spots (plan_by delim cut elide names)) x ((split_work (plan_by delim cut elide names)).waiting x)
-undecided_at delim (cut.Lines n) elide names some {x} enough = parts_undecided (Lines n delim) names some (counted names (parts (Lines n delim) x) enough)
-undecided_at delim (cut.Bytes n) elide names some {x} enough = parts_undecided (Bytes n) names some (counted names (parts (Bytes n) x) enough)
-undecided_at delim (cut.LineBytes n) elide names some {x} enough = parts_undecided (LineBytes n delim) names some (counted names (parts (LineBytes n delim) x) enough)
-undecided_at delim (cut.Round n) elide names some {x} enough = round_undecided delim n elide names some (counted names (dealt_files delim elide n x) enough)
+pub undecided_at : (cut : Cut) (elide : Bool) (names : Naming) → IsPositive cut → {x : List ℕ} → is_short (plan_by cut elide names) x ≡ false
+    → IsUndecided (split_spots (plan_by cut elide names)) x ((split_work (plan_by cut elide names)).waiting x)
+undecided_at (cut.Parts limit) elide names some {x} enough = parts_undecided limit names some (counted names (parts limit x) enough)
+undecided_at (cut.Round n delim) elide names some {x} enough = round_undecided delim n elide names some (counted names (dealt_files delim elide n x) enough)
 
 -- Lines that are dealt: what a file has, byte by byte
 
@@ -370,12 +369,12 @@ file_is : (delim : ℕ) (elide : Bool) (n : ℕ) (x : List ℕ) (file : ℕ) →
 file_is delim elide n x file within =
     search (rules, dealt_files_are, cases_lt, get_or-map-range_with_len, zero-add, get_or_past, length-map-range_with_len, none_yet)
 
-named_at : (names : Naming) (place : ℕ) (those : List (List ℕ)) (k : ℕ) → get_or (named_bytes names place those) k [] ≡ cond (is_named names (place + k)) (get_or those k []) []
+named_at : (names : Naming) (place : ℕ) (those : List (List ℕ)) (k : ℕ) → get_or (named_bytes names place those) k [] ≡ cond (has_name names (place + k)) (get_or those k []) []
 named_at names place [] k = grind (arith, nat_tests)
 named_at names place (one ∷ those) zero = grind (arith, common_steps)
 named_at names place (one ∷ those) (suc k) =
-    let before = λ (is : is_named names (place + suc k) ≡ true). named_before names place (place + suc k) is (omega arith) in
-    grind (arith, nat_tests, named_at names (place + 1) those k, ap (is_named names) (one_on place k), before)
+    let before = λ (is : has_name names (place + suc k) ≡ true). named_before names place (place + suc k) is (omega arith) in
+    grind (arith, nat_tests, named_at names (place + 1) those k, ap (has_name names) (one_on place k), before)
 
 -- a file that has a byte has a name, and is one of n
 there_by : (has : Bool) (these : List ℕ) {offset : ℕ} → offset < length (cond has these []) → (has ≡ true) × (offset < length these)
@@ -386,7 +385,7 @@ there_by false these less = absurd (omega (arith, less))
 
 pub record Goes (delim n : ℕ) (names : Naming) (x : List ℕ) (i : ℕ) (at : Spot) : Type 0 where
   pub within : i < length x
-  pub named : is_named names (dealt_to delim n x i) ≡ true
+  pub named : has_name names (dealt_to delim n x i) ≡ true
   pub is : at ≡ spot (dealt_to delim n x i + 1) (had delim n (dealt_to delim n x i) x i)
 
 dealt_goes : {delim n : ℕ} (names : Naming) {x : List ℕ} {i : ℕ} {at : Spot} → GoesTo at (dealt_spots delim n names x i) → Goes delim n names x i at
@@ -395,12 +394,12 @@ dealt_goes {delim} {n} names {x} {i} {at} goes = grind (arith, common_steps)
 abbrev dealt_files_of : ℕ → ℕ → Bool → Naming → List ℕ → List (List ℕ)
 dealt_files_of delim n elide names x = file_bytes (whole_by (round_plan delim n elide names) x)
 
-file_there : (delim n : ℕ) (elide : Bool) (names : Naming) (x : List ℕ) (file : ℕ) → file < n → is_named names file ≡ true
+file_there : (delim n : ℕ) (elide : Bool) (names : Naming) (x : List ℕ) (file : ℕ) → file < n → has_name names file ≡ true
     → get_or ([] ∷ dealt_files_of delim n elide names x) (file + 1) [] ≡ share_of delim n x file
 file_there delim n elide names x file within named = search
     (rules, get_or, shared_bytes names Closed (dealt_files delim elide n x), named_at, zero-add, file_is)
 
-goes_there : (delim n : ℕ) (names : Naming) (x : List ℕ) (i : ℕ) {file offset : ℕ} → i < length x → dealt_to delim n x i ≡ file → had delim n file x i ≡ offset → is_named names file ≡ true → GoesTo (spot (suc file) offset) (dealt_spots delim n names x i)
+goes_there : (delim n : ℕ) (names : Naming) (x : List ℕ) (i : ℕ) {file offset : ℕ} → i < length x → dealt_to delim n x i ≡ file → had delim n file x i ≡ offset → has_name names file ≡ true → GoesTo (spot (suc file) offset) (dealt_spots delim n names x i)
 goes_there delim n names x i {file} {offset} less to at named = grind (arith, common_steps)
 
 dealt_filled : (delim n : ℕ) (elide : Bool) (names : Naming) (x : List ℕ) (place offset : ℕ)
@@ -408,7 +407,7 @@ dealt_filled : (delim n : ℕ) (elide : Bool) (names : Naming) (x : List ℕ) (p
     → (i : ℕ) × (i < length x) × GoesTo (spot place offset) (dealt_spots delim n names x i)
 dealt_filled delim n elide names x zero offset less = absurd (omega (arith, less))
 dealt_filled delim n elide names x (suc file) offset less =
-    let there = there_by (is_named names (0 + file)) (get_or (dealt_files delim elide n x) file [])
+    let there = there_by (has_name names (0 + file)) (get_or (dealt_files delim elide n x) file [])
     (subst (λ those. offset < length those) (ap (λ files. get_or files file []) (shared_bytes names Closed (dealt_files delim elide n x))
     ∙ named_at names 0 (dealt_files delim elide n x) file) less) in
     let within : file < n = grind (arith, common_steps, there.1, cases_lt, get_or_past, dealt_files_are, length-map-range_with_len, opened_by-most) in
@@ -416,7 +415,7 @@ dealt_filled delim n elide names x (suc file) offset less =
       found.i,
       found.within,
       goes_there delim n names x found.i found.within
-          (ap (λ k. k % n) (sym (zero-add (delimiters delim (take found.i x)))) ∙ found.goes) found.at (ap (is_named names) (sym (zero-add file)) ∙ there.0),
+          (ap (λ k. k % n) (sym (zero-add (delimiters delim (take found.i x)))) ∙ found.goes) found.at (ap (has_name names) (sym (zero-add file)) ∙ there.0),
     )
 
 not_before : {delim n : ℕ} {names : Naming} {x : List ℕ} {i j : ℕ} {at : Spot} → Goes delim n names x i at → Goes delim n names x j at → i < j → ⊥
@@ -429,9 +428,6 @@ round_placed delim n elide names some = record {
   apart = λ x i j at goes also. grind (arith, common_steps, dealt_goes names goes, dealt_goes names also, not_before);
 }
 
-pub placed_at : (delim : ℕ) (cut : Cut) (elide : Bool) (names : Naming) → IsPositive cut
-    → ArePlaced (split_work (plan_by delim cut elide names)) (split_spots (plan_by delim cut elide names))
-placed_at delim (cut.Lines n) elide names some = parts_placed (Lines n delim) names
-placed_at delim (cut.Bytes n) elide names some = parts_placed (Bytes n) names
-placed_at delim (cut.LineBytes n) elide names some = parts_placed (LineBytes n delim) names
-placed_at delim (cut.Round n) elide names some = round_placed delim n elide names some
+pub placed_at : (cut : Cut) (elide : Bool) (names : Naming) → IsPositive cut → ArePlaced (split_work (plan_by cut elide names)) (split_spots (plan_by cut elide names))
+placed_at (cut.Parts limit) elide names some = parts_placed limit names
+placed_at (cut.Round n delim) elide names some = round_placed delim n elide names some

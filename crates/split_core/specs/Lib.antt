@@ -1,5 +1,4 @@
 pub mod FilesState
-pub mod PartState
 pub mod Parts
 pub mod PartsState
 pub mod Round
@@ -7,7 +6,6 @@ pub mod RoundState
 pub mod Sections
 pub mod Sharing
 pub mod Split
-pub mod Splitter
 pub mod Ways
 pub mod Place
 pub mod inner

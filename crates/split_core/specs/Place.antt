@@ -1,12 +1,12 @@
 -- Where the bytes of an input go: into files, of which the first has place 1 among the outputs.
 use Rattle.std.specs.Prelude.{ℕ, ◌+◌, ◌%◌, nat_lt, ◌&&◌, List, [], ◌∷◌, length, take, if◌then◌else◌}
 use Rattle.seg_core.specs.Line.{lines_of, delimiters}
-use Rattle.ports_core.specs.Name.{Naming}
+use Rattle.ports_core.specs.Name.{Naming, has_name}
 use Rattle.ports_core.specs.Agreed.{Spot, spot, spots_from, file_bytes}
 use Rattle.seg_core.specs.declared.cut.Cut.{Cut}
-use Rattle.seg_core.specs.declared.cut.Cut.TheVariants.{Lines, Bytes, LineBytes, Round}
+use Rattle.seg_core.specs.declared.cut.Cut.TheVariants.{Parts, Round}
 use Rattle.split_core.specs.Parts.{dealt}
-use Rattle.split_core.specs.Split.{Plan, is_named, whole_by}
+use Rattle.split_core.specs.Split.{Plan, whole_by}
 
 -- where lines are dealt: the file that byte i goes to, counted from 0, by the line in which it stands
 abbrev pub dealt_to : ℕ → ℕ → List ℕ → ℕ → ℕ
@@ -15,16 +15,14 @@ dealt_to delim n x i = delimiters delim (take i x) % n
 -- it goes there after what that file has of the bytes before it, if the file has a name
 abbrev pub dealt_spots : ℕ → ℕ → Naming → List ℕ → ℕ → List Spot
 dealt_spots delim n names x i =
-    if nat_lt i (length x) && is_named names (dealt_to delim n x i)
+    if nat_lt i (length x) && has_name names (dealt_to delim n x i)
     then spot (dealt_to delim n x i + 1) (length
     (dealt n (dealt_to delim n x i) 0 (lines_of delim (take i x)))) ∷ [] else []
 
 -- parts that follow one another are together the text, as far as there are names
 abbrev pub spots_by : Cut → Plan → List ℕ → ℕ → List Spot
-spots_by (Lines n) plan x i = spots_from 1 (file_bytes (whole_by plan x)) i
-spots_by (Bytes n) plan x i = spots_from 1 (file_bytes (whole_by plan x)) i
-spots_by (LineBytes n) plan x i = spots_from 1 (file_bytes (whole_by plan x)) i
-spots_by (Round n) plan x i = dealt_spots plan.delim n plan.names x i
+spots_by (Parts limit) plan x i = spots_from 1 (file_bytes (whole_by plan x)) i
+spots_by (Round n delim) plan x i = dealt_spots delim n plan.names x i
 
 abbrev pub split_spots : Plan → List ℕ → ℕ → List Spot
 split_spots plan x i = spots_by plan.cut plan x i

@@ -4,30 +4,21 @@ use Rattle.seg_core.specs.Line.{delimiters, line_count}
 use Rattle.ports_core.specs.Name.{Naming}
 use Rattle.ports_core.specs.Slot.{Slot, is_closable}
 use Rattle.ports_core.specs.Work.{Work, always_well}
-use Rattle.split_core.specs.Split.{Plan, are_named, from_start, settled_by, whole_by, split_means, waiting_after}
+use Rattle.split_core.specs.Split.{Plan, are_named, split_work}
 use Rattle.split_core.specs.FilesState.{FilesState}
 use Rattle.split_core.specs.RoundState.{RoundState}
 use Rattle.seg_core.specs.declared.cut.Cut.TheVariants.{Round}
 
 abbrev pub round_plan : (delim count : ℕ) → Bool → Naming → Plan
-round_plan delim count elide names = record { delim = delim; cut = Round count; elide = elide; names = names }
+round_plan delim count elide names = record { cut = Round count delim; elide = elide; names = names }
 
 -- what the stage was asked for
 abbrev pub plan_of : RoundState → Plan
-plan_of round = round_plan round.delim round.count round.elide (from_start round.files.names)
+plan_of round = round_plan round.delim round.count round.elide round.files.names.naming
 
 -- what `split` makes of an input whose lines it deals, where all files have names
 abbrev pub round_work : Plan → Work
-round_work plan = record {
-  settled = settled_by plan;
-  whole = whole_by plan;
-  waiting = waiting_after (settled_by plan);
-  is_complete = λ x. false;
-  verdict = always_well;
-  clears = false;
-  means = split_means;
-  ahead = 0;
-}
+round_work plan = record (split_work plan) { is_complete = λ x. false; verdict = always_well }
 
 abbrev pub work : RoundState → Work
 work round = round_work (plan_of round)
@@ -39,7 +30,7 @@ opened_by delim elide n x = if elide then min n (line_count delim x) else n
 -- the stage can have been fed x
 pub record Holds (round : RoundState) (x : List ℕ) : Type 0 where
   pub some : 0 < round.count
-  pub named : are_named round.files.names round.count ≡ true
+  pub named : are_named round.files.names.naming round.count ≡ true
   pub next : round.next ≡ delimiters round.delim x % round.count
   pub opened : length round.files.outputs ≡ opened_by round.delim round.elide round.count x
 

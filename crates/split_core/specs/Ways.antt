@@ -4,8 +4,8 @@ use Rattle.ports_core.specs.Slot.{Slot}
 use Rattle.ports_core.specs.Work.{Work}
 use Rattle.split_core.specs.declared.splitter.Splitter.{Splitter}
 use Rattle.split_core.specs.declared.splitter.Splitter.TheVariants.{Parts, Round}
-use Rattle.split_core.specs.PartsState.{Stands}
-use Rattle.split_core.specs.PartState as part
+use Rattle.split_core.specs.PartsState.{Stands, IsReady, OwnsFile}
+use Rattle.split_core.specs.PartsState as part
 use Rattle.split_core.specs.Round as round
 
 abbrev pub Holds : Splitter → List ℕ → Type 0
@@ -17,9 +17,9 @@ work (Parts state) = part.work state
 work (Round state) = round.work state
 
 abbrev pub Ready : Splitter → List Slot → Type 0
-Ready (Parts state) slots = part.Ready state slots
+Ready (Parts state) slots = IsReady state.current slots
 Ready (Round state) slots = round.Ready state slots
 
 abbrev pub Owns : Splitter → ℕ → List Slot → Type 0
-Owns (Parts state) first slots = part.Owns state first slots
+Owns (Parts state) first slots = OwnsFile state.current first slots
 Owns (Round state) first slots = round.Owns state first slots

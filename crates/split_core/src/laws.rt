@@ -4,12 +4,13 @@ ghost use Rattle.ports_core.specs.Agreed.{ArePlaced, IsAgreed, IsUndecided};
 ghost use Rattle.ports_core.specs.Guard.{GuardState, HoldsIn};
 ghost use Rattle.ports_core.specs.declared.slot.State.TheVariants.{Closed};
 ghost use Rattle.seg_core.specs.Line.{delimiters, joined, line_count, lines_of};
-ghost use Rattle.split_core.specs.declared.limit.Limit.TheVariants.{Bytes, LineBytes, Lines};
-ghost use Rattle.split_core.specs.Parts.{cut_up, dealt, most, parts, round_robin, settled_rest, waiting_rest};
+ghost use Rattle.seg_core.specs.declared.cut.Limit.TheVariants.{Bytes, LineBytes, Lines};
+ghost use Rattle.seg_core.specs.Cut.{most};
+ghost use Rattle.split_core.specs.Parts.{cut_up, dealt, parts, round_robin, settled_rest, waiting_rest};
 ghost use Rattle.split_core.specs.Place.{split_spots};
 ghost use Rattle.split_core.specs.Sections.{AreLineByteParts, byte_parts, line_parts};
 ghost use Rattle.split_core.specs.Split.{Plan, Share, dealt_files, is_short, settled_parts, share, split_work};
-ghost use Rattle.split_core.specs.Splitter.{IsPositive};
+ghost use Rattle.seg_core.specs.Cut.{IsPositive};
 ghost use Rattle.split_core.specs.Ways.{Holds, work};
 ghost use Rattle.split_core.specs.declared.splitter.Splitter.{Splitter};
 

@@ -6,7 +6,6 @@ mod deal;
 mod files;
 mod gathered;
 mod laws;
-mod limit;
 mod parts;
 mod round_files;
 mod round_splitter;
@@ -17,6 +16,5 @@ pub use laws::{
     agreed_is_settled, all_files_have_names, line_byte_parts, lines_are_dealt, parts_are_runs,
     parts_go_on,
 };
-pub use limit::Limit;
-pub use seg_core::cut::Cut;
+pub use seg_core::cut::{Cut, Limit};
 pub use splitter::Splitter;

@@ -3,15 +3,14 @@
 //! lines.
 ghost use Rattle.std.specs.Prelude.{◌≡◌, ◌+◌, ◌-◌, ◌++◌, ◌<◌, ◌≤◌, List, ℕ, [], Some, None, false, length, IfOk, IfErr, OnOk};
 ghost use Rattle.split_core.specs.inner.Moves.{Extends, FindsFile, Finishes, Shuts, Steps, Takes, Turns};
-ghost use Rattle.split_core.specs.PartState.{parts_work, work};
-ghost use Rattle.split_core.specs.Parts.{most};
+ghost use Rattle.split_core.specs.PartsState.{parts_work, work};
+ghost use Rattle.seg_core.specs.Cut.{most};
 ghost use Rattle.split_core.specs.PartsState.{IsReady, Stands};
-ghost use Rattle.split_core.specs.Split.{from_start};
 
 use crate::Limit;
 use crate::files::{open_next, write_after, write_held};
 use crate::step::{Step, next_step};
-use ports_core::{Fault, Names, Outs};
+use ports_core::{Fault, Names, Naming, Outs};
 use seg_core::byte_window::ByteWindow;
 use std::alloc::Global;
 use std::marker::Model;
@@ -44,16 +43,15 @@ impl Model for Parts {
 }
 
 impl Parts {
-    /// Parts of an input of which no byte came in yet. The number of the limit is at least 1, and no name was drawn.
+    /// Parts of an input of which no byte came in yet. The number of the limit is at least 1.
     ///
     /// # Errors
     ///
     /// `Memory` where there is no room for what waits.
-    pub(crate) fn open(alloc: Global, limit: Limit, names: Names) -> Result<Parts, Fault>
+    pub(crate) fn open(alloc: Global, limit: Limit, naming: Naming) -> Result<Parts, Fault>
         requires some { 0 < most limit }
-        requires fresh { names.drawn ≡ 0 }
         ensures holds { IfOk result (λ parts. Stands parts []) }
-        ensures does { IfOk result (λ parts. work parts ≡ parts_work limit names) }
+        ensures does { IfOk result (λ parts. work parts ≡ parts_work limit naming) }
         ensures current { IfOk result (λ parts. parts.current ≡ None) }
         ensures err { IfErr result (λ fault. fault ≡ Fault.Memory) }
     {
@@ -61,7 +59,7 @@ impl Parts {
             return Err(Fault::Memory);
         };
         Ok(Parts {
-            names,
+            names: Names { naming, drawn: 0 },
             limit,
             left: limit.most(),
             has_line: false,

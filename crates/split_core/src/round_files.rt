@@ -1,11 +1,12 @@
 ghost use Rattle.std.specs.Prelude.{◌≡◌, ◌+◌, ◌≤◌, ◌<◌, ◌++◌, ◌∷◌, [], true, length, slice_index_or, vec_len, vec_capacity};
 ghost use Rattle.split_core.specs.Round.{AreReady};
-ghost use Rattle.split_core.specs.Split.{are_named, is_named};
+ghost use Rattle.ports_core.specs.Name.{has_name};
+ghost use Rattle.split_core.specs.Split.{are_named};
 ghost use Rattle.split_core.specs.inner.Sharing.{Adds, ClosesAll, Opens, only_at};
 
 use crate::files::{open_next, write_bytes};
 use crate::gathered::Gathered;
-use ports_core::{Fault, Names, Outs};
+use ports_core::{Fault, Names, Naming, Outs};
 use std::alloc::Global;
 use std::marker::Model;
 
@@ -27,11 +28,11 @@ impl Model for RoundFiles {
 
 impl RoundFiles {
     /// No file is open yet, and no memory is taken.
-    pub(crate) fn new(alloc: Global, names: Names) -> RoundFiles
-        ensures { result ≡ record { names = names; outputs = [] } }
+    pub(crate) fn new(alloc: Global, naming: Naming) -> RoundFiles
+        ensures { result ≡ record { names = record { naming = naming; drawn = 0 }; outputs = [] } }
     {
         RoundFiles {
-            names,
+            names: Names { naming, drawn: 0 },
             outputs: Vec::new(alloc),
         }
     }
@@ -44,7 +45,7 @@ impl RoundFiles {
     pub(crate) fn open_first<O: Outs>(&mut self, count: usize, outs: &mut O) -> Result<(), Fault>
         requires ready { AreReady self.old (O.slots outs.old) }
         requires none { self.old.outputs ≡ [] }
-        requires named { are_named self.old.names count ≡ true }
+        requires named { are_named self.old.names.naming count ≡ true }
         ensures { Opens O.told self.old 0 count (O.slots outs.old) self.new (O.slots outs.new) result }
     {
         for place in 0..count {
@@ -65,7 +66,7 @@ impl RoundFiles {
         outs: &mut O,
     ) -> Result<(), Fault>
         requires ready { AreReady self.old (O.slots outs.old) }
-        requires named { are_named self.old.names (length gathered.now) ≡ true }
+        requires named { are_named self.old.names.naming (length gathered.now) ≡ true }
         ensures { Adds O.told self.old (λ place. slice_index_or gathered.now place []) 0 (length gathered.now) (O.slots outs.old) self.new (O.slots outs.new) result }
     {
         for place in 0..gathered.len() {
@@ -93,7 +94,7 @@ impl RoundFiles {
     fn send<O: Outs>(&mut self, place: usize, bytes: &[u8], outs: &mut O) -> Result<(), Fault>
         requires ready { AreReady self.old (O.slots outs.old) }
         requires near { place ≤ length self.old.outputs }
-        requires named { is_named self.old.names place ≡ true }
+        requires named { has_name self.old.names.naming place ≡ true }
         ensures { Adds O.told self.old (only_at place bytes.now) place (place + 1) (O.slots outs.old) self.new (O.slots outs.new) result }
     {
         self.reach(place, outs)?;
@@ -104,7 +105,7 @@ impl RoundFiles {
     fn reach<O: Outs>(&mut self, place: usize, outs: &mut O) -> Result<(), Fault>
         requires ready { AreReady self.old (O.slots outs.old) }
         requires near { place ≤ length self.old.outputs }
-        requires named { is_named self.old.names place ≡ true }
+        requires named { has_name self.old.names.naming place ≡ true }
         ensures { Opens O.told self.old place (place + 1) (O.slots outs.old) self.new (O.slots outs.new) result }
     {
         if place < self.outputs.len() {

@@ -7,11 +7,11 @@ ghost use Rattle.split_core.specs.Round.{AreReady, Holds, Owns, Ready, round_pla
 ghost use Rattle.split_core.specs.inner.Ways.{Deals};
 ghost use Rattle.split_core.specs.inner.Sharing.{ClosesAll};
 ghost use Rattle.split_core.specs.Sharing.{CannotOpen};
-ghost use Rattle.split_core.specs.Split.{are_named, from_start, settled_by, split_work};
+ghost use Rattle.split_core.specs.Split.{are_named, settled_by, split_work};
 
 use crate::deal::Deal;
 use crate::round_files::RoundFiles;
-use ports_core::{Fault, Names, Outs};
+use ports_core::{Fault, Naming, Outs};
 use std::alloc::Global;
 use std::marker::Model;
 
@@ -35,7 +35,7 @@ impl Model for RoundSplitter {
 
     ghost view = { λ r. record { delim = r.deal.delim; count = length r.deal.gathered; elide = r.elide; files = r.files; next = r.deal.next } };
 
-    ghost invariant = { λ r. are_named r.files.names (length r.deal.gathered) ≡ true };
+    ghost invariant = { λ r. are_named r.files.names.naming (length r.deal.gathered) ≡ true };
 }
 
 impl RoundSplitter {
@@ -48,25 +48,24 @@ impl RoundSplitter {
     pub(crate) fn open<O: Outs>(
         alloc: Global,
         count: u64,
-        names: Names,
+        naming: Naming,
         elide: bool,
         delim: u8,
         outs: &mut O,
     ) -> Result<RoundSplitter, Fault>
         requires some { 0 < count }
-        requires fresh { names.drawn ≡ 0 }
-        requires enough { are_named names count ≡ true }
+        requires enough { are_named naming count ≡ true }
         requires streams { 2 ≤ length (O.slots outs.old) }
         ensures holds { IfOk result (λ round. Holds round []) }
-        ensures does { IfOk result (λ round. work round ≡ split_work (round_plan delim count elide names)) }
+        ensures does { IfOk result (λ round. work round ≡ split_work (round_plan delim count elide naming)) }
         ensures ready { IfOk result (λ round. Ready round (O.slots outs.new)) }
         ensures owns { IfOk result (λ round. Owns round (length (O.slots outs.old)) (O.slots outs.new)) }
-        ensures outputs { OnOk result ((before : List Slot) → OutputsAt O.told before nothing (O.slots outs.old) → OutputsAt O.told before (settled_by (round_plan delim count elide names) []) (O.slots outs.new)) }
-        ensures cut { IfErr result (λ fault. (before : List Slot) → OutputsAt O.told before nothing (O.slots outs.old) → StoppedBetween gets_none O.told before nothing (settled_by (round_plan delim count elide names) []) fault (O.slots outs.new)) }
+        ensures outputs { OnOk result ((before : List Slot) → OutputsAt O.told before nothing (O.slots outs.old) → OutputsAt O.told before (settled_by (round_plan delim count elide naming) []) (O.slots outs.new)) }
+        ensures cut { IfErr result (λ fault. (before : List Slot) → OutputsAt O.told before nothing (O.slots outs.old) → StoppedBetween gets_none O.told before nothing (settled_by (round_plan delim count elide naming) []) fault (O.slots outs.new)) }
         ensures refused { IfErr result (CannotOpen (O.slots outs.old) (O.slots outs.new)) }
     {
         let deal = Deal::new(alloc, count, delim)?;
-        let mut files = RoundFiles::new(alloc, names);
+        let mut files = RoundFiles::new(alloc, naming);
         files.open_first(opened_at_start(count, elide), outs)?;
         Ok(RoundSplitter { deal, files, elide })
     }

@@ -5,14 +5,15 @@ ghost use Rattle.ports_core.specs.Part.{OutputsAt, StoppedBetween, nothing, gets
 ghost use Rattle.ports_core.specs.Slot.{Slot};
 ghost use Rattle.split_core.specs.Sharing.{CannotOpen};
 ghost use Rattle.split_core.specs.Split.{settled_by, split_work};
-ghost use Rattle.split_core.specs.Splitter.{HasNames, IsPositive};
+ghost use Rattle.seg_core.specs.Cut.{IsPositive};
+ghost use Rattle.split_core.specs.Split.{HasNames};
 ghost use Rattle.split_core.specs.Ways.{Holds, Owns, Ready, work};
 ghost use Rattle.split_core.specs.inner.Ways.{FinishesBy, PassesBy, held};
 ghost use Rattle.split_core.specs.laws.WorkLaws.{lawful};
 
+use crate::Cut;
 use crate::parts::Parts;
 use crate::round_splitter::RoundSplitter;
-use crate::{Cut, Limit};
 use ports_core::{Fault, Guarded, Names, Outs, Stage};
 use std::alloc::Global;
 
@@ -30,9 +31,9 @@ pub enum Splitter {
 }
 
 impl Splitter {
-    /// An engine that cuts in this way, into files with these names, of which none was drawn. Lines end with `delim`,
-    /// which changes nothing where bytes are counted. The number of the cut is at least 1. Where lines are dealt,
-    /// there must be a name for each file, and all files are opened now, or with `elide` each at its first byte.
+    /// An engine that cuts in this way, into files with these names, from the first one on. The number of the cut is at
+    /// least 1. Where lines are dealt, there must be a name for each file, and all files are opened now, or with `elide`
+    /// each at its first byte.
     ///
     /// # Errors
     ///
@@ -42,33 +43,30 @@ impl Splitter {
         cut: Cut,
         names: Names,
         elide: bool,
-        delim: u8,
         outs: &mut O,
     ) -> Result<Guarded<Splitter>, Fault>
         requires some { IsPositive cut }
-        requires fresh { names.drawn ≡ 0 }
-        requires enough { HasNames cut names }
+        requires enough { HasNames cut names.naming }
         requires streams { 2 ≤ length (O.slots outs.old) }
         ensures holds { IfOk result (λ engine. HoldsIn Holds engine []) }
         ensures bound { IfOk result (λ engine. engine.fed < 2 ^ 63) }
-        ensures does { IfOk result (λ engine. work engine.stage ≡ split_work (record { delim = delim; cut = cut; elide = elide; names = names })) }
+        ensures does { IfOk result (λ engine. work engine.stage ≡ split_work (record { cut = cut; elide = elide; names = names.naming })) }
         ensures ready { IfOk result (λ engine. Ready engine.stage (O.slots outs.new)) }
         ensures owns { IfOk result (λ engine. Owns engine.stage (length (O.slots outs.old)) (O.slots outs.new)) }
-        ensures outputs { OnOk result ((before : List Slot) → OutputsAt O.told before nothing (O.slots outs.old) → OutputsAt O.told before (settled_by (record { delim = delim; cut = cut; elide = elide; names = names }) []) (O.slots outs.new)) }
-        ensures cut { IfErr result (λ fault. (before : List Slot) → OutputsAt O.told before nothing (O.slots outs.old) → StoppedBetween gets_none O.told before nothing (settled_by (record { delim = delim; cut = cut; elide = elide; names = names }) []) fault (O.slots outs.new)) }
+        ensures outputs { OnOk result ((before : List Slot) → OutputsAt O.told before nothing (O.slots outs.old) → OutputsAt O.told before (settled_by (record { cut = cut; elide = elide; names = names.naming }) []) (O.slots outs.new)) }
+        ensures cut { IfErr result (λ fault. (before : List Slot) → OutputsAt O.told before nothing (O.slots outs.old) → StoppedBetween gets_none O.told before nothing (settled_by (record { cut = cut; elide = elide; names = names.naming }) []) fault (O.slots outs.new)) }
         ensures refused { IfErr result (CannotOpen (O.slots outs.old) (O.slots outs.new)) }
     {
-        let limit = match cut {
-            Cut::Lines(most) => Limit::Lines(most, delim),
-            Cut::Bytes(most) => Limit::Bytes(most),
-            Cut::LineBytes(most) => Limit::LineBytes(most, delim),
-            Cut::Round(count) => {
-                let round = RoundSplitter::open(alloc, count, names, elide, delim, outs)?;
-                return Ok(Guarded::new(Splitter::Round(round)));
+        match cut {
+            Cut::Parts(limit) => {
+                let parts = Parts::open(alloc, limit, names.naming)?;
+                Ok(Guarded::new(Splitter::Parts(parts)))
             }
-        };
-        let parts = Parts::open(alloc, limit, names)?;
-        Ok(Guarded::new(Splitter::Parts(parts)))
+            Cut::Round(count, delim) => {
+                let round = RoundSplitter::open(alloc, count, names.naming, elide, delim, outs)?;
+                Ok(Guarded::new(Splitter::Round(round)))
+            }
+        }
     }
 }
 

@@ -11,10 +11,11 @@ use Rattle.ports_core.specs.Message.{SaysOn, SaysAll}
 use Rattle.ports_core.specs.declared.tool.Tool.TheVariants.{Tee}
 use Rattle.ports_core.specs.declared.fault.Fault.{Fault}
 use Rattle.ports_core.proofs.MessageLemmas.{all_said_state, says_more, says_after}
-use Rattle.tee_core.specs.Run.{EachFile, FilesLeft, no_file, one_file, output_names, OutputLeft, output_whole, output_cut, broke_before, broke_in, fault_in, none_left, said_in, said_before, FileLeft, file_whole, file_unopened, file_cut, file_unclosed, said_of_input}
-use Rattle.tee_core.specs.inner.Steps.{HasStreams, SaysTo, broken_of, output_slot, said_since, Copies, FileHas, has_all, has_none, has_begun, IsTeeOf, all_of, HasCopied}
+use Rattle.tee_core.specs.Run.{EachFile, FilesLeft, no_file, one_file, output_names, OutputLeft, output_whole, output_cut, broke_before, broken_before, broke_in, fault_in, is_done, said_in, said_before, FileLeft, file_whole, file_unopened, file_cut, file_unclosed, said_of_input}
+use Rattle.tee_core.specs.inner.Steps.{HasStreams, SaysTo, broken_of, output_slot, said_since, Copies, FileHas, has_all, has_none, has_begun, IsTeeOf, HasCopied}
 use Rattle.std.specs.List.{concat}
 use Rattle.std.proofs.lemmas.List.Folds.{concat-append}
+use Rattle.ports_core.specs.declared.on_broken.OnBroken.{OnBroken}
 use Rattle.ports_core.specs.declared.slot.Mode.{Mode}
 use Rattle.ports_core.specs.Streams.{standard_output, standard_error}
 use Rattle.tee_core.specs.Outputs.{ChangesEach, Gets, gets_all, breaks_off, gets_none, IsFile, IsOutput, IsReady, IsUsable, Closes, is_closed, fails_to_close, was_broken}
@@ -144,19 +145,19 @@ pub all_older : {call : ℕ} (end : ℕ) (names : List (List ℕ)) {befores afte
 all_older zero names past marked = refl
 all_older (suc end) names {befores} {afters} past marked = cc (all_older end names (omega arith) marked, said_older end names (omega arith) marked)
 
--- whether no output is left
+-- which outputs broke before a call
 
-pub none_sooner : {call : ℕ} (other : ℕ) {befores afters : List (Option ℕ)} {known broken : List Bool} → other ≤ call → AllMark call befores afters known broken → none_left other afters ≡ none_left other befores
-none_sooner other within none_marked = refl
-none_sooner other within (all_marked before after was now befores afters known broken one rest) = cc (one.sooner other within, none_sooner other within rest)
+pub broke_sooner : {call : ℕ} (other : ℕ) {befores afters : List (Option ℕ)} {known broken : List Bool} → other ≤ call → AllMark call befores afters known broken → broken_before other afters ≡ broken_before other befores
+broke_sooner other within none_marked = refl
+broke_sooner other within (all_marked before after was now befores afters known broken one rest) = cc (one.sooner other within, broke_sooner other within rest)
 
-none_then : {call : ℕ} {befores afters : List (Option ℕ)} {known broken : List Bool} → AllMark call befores afters known broken → none_left call afters ≡ all_of known
-none_then none_marked = refl
-none_then {call} (all_marked before after was now befores afters known broken one rest) = cc (one.then_is, none_then rest)
+pub broke_then : {call : ℕ} {befores afters : List (Option ℕ)} {known broken : List Bool} → AllMark call befores afters known broken → broken_before call afters ≡ known
+broke_then none_marked = refl
+broke_then {call} (all_marked before after was now befores afters known broken one rest) = cc (one.then_is, broke_then rest)
 
-pub none_now : {call : ℕ} {befores afters : List (Option ℕ)} {known broken : List Bool} → AllMark call befores afters known broken → none_left (suc call) afters ≡ all_of broken
-none_now none_marked = refl
-none_now {call} (all_marked before after was now befores afters known broken one rest) = cc (one.now_is, none_now rest)
+pub broke_now : {call : ℕ} {befores afters : List (Option ℕ)} {known broken : List Bool} → AllMark call befores afters known broken → broken_before (suc call) afters ≡ broken
+broke_now none_marked = refl
+broke_now {call} (all_marked before after was now befores afters known broken one rest) = cc (one.now_is, broke_now rest)
 
 -- one output
 
@@ -256,8 +257,8 @@ pub error_no_output : {names : List (List ℕ)} {tee : TeeState} → IsTeeOf nam
 error_no_output is (inl here) = omega (arith, here)
 error_no_output is (inr file) = let there = file_place 1 is file in omega (arith, there.1)
 
-module _ (told : Bool) (mode : Mode) (names : List (List ℕ)) where
-  pub copies_ready : {pieces : List (List ℕ)} {messages : List (List ℕ)} {slots : List Slot} {known : List Bool} {tee : TeeState} → IsTeeOf names tee → Copies told mode names pieces messages slots known → IsReady tee slots
+module _ (told : Bool) (mode : Mode) (on_broken : OnBroken) (names : List (List ℕ)) where
+  pub copies_ready : {pieces : List (List ℕ)} {messages : List (List ℕ)} {slots : List Slot} {known : List Bool} {tee : TeeState} → IsTeeOf names tee → Copies told mode on_broken names pieces messages slots known → IsReady tee slots
   copies_ready {tee} is copies place output = rw copies.are (by output) where
     by : IsOutput tee place → IsUsable (slot_at (copies.output ∷ copies.error ∷ copies.files) place)
     by (inl here) = rw here (output_usable told copies.output_has)
@@ -268,7 +269,7 @@ module _ (told : Bool) (mode : Mode) (names : List (List ℕ)) where
   -- the outputs after a call, before anything is said of it
   pub record After (OutputIs : Option ℕ → Slot → Type 0) (FileIs : List ℕ → Option ℕ → Slot → Type 0)
       (call : ℕ) {pieces messages : List (List ℕ)} {old : List Slot} {known : List Bool}
-      (copies : Copies told mode names pieces messages old known) (mid : List Slot) : Type 0 where
+      (copies : Copies told mode on_broken names pieces messages old known) (mid : List Slot) : Type 0 where
     pub output : Slot
     pub files : List Slot
     pub first : Option ℕ
@@ -279,7 +280,7 @@ module _ (told : Bool) (mode : Mode) (names : List (List ℕ)) where
     pub marked : AllMark call (copies.first ∷ copies.broke) (first ∷ broke) (broken_of old) (broken_of mid)
 
   pub called : {OutputIs : Option ℕ → Slot → Type 0} {FileIs : List ℕ → Option ℕ → Slot → Type 0} {Change : Slot → Slot → Type 0} {pieces messages : List (List ℕ)} {old mid : List Slot} {known : List Bool} {tee : TeeState}
-      → IsTeeOf names tee → (copies : Copies told mode names pieces messages old known) → (call : ℕ) → length mid ≡ length old → slot_at mid 1 ≡ slot_at old 1
+      → IsTeeOf names tee → (copies : Copies told mode on_broken names pieces messages old known) → (call : ℕ) → length mid ≡ length old → slot_at mid 1 ≡ slot_at old 1
       → ((output : Slot) → slot_at mid 0 ≡ output → Marked OutputIs call copies.first copies.output.is_broken output)
       → ((place : ℕ) → IsFile tee place → Change (slot_at old place) (slot_at mid place))
       → ((name : List ℕ) (first : Option ℕ) (old new : Slot) → FileHas told mode pieces name first old → Change old new → Marked (FileIs name) call first old.is_broken new)
@@ -308,7 +309,7 @@ module _ (told : Bool) (mode : Mode) (names : List (List ℕ)) where
 
   -- what is on standard error once it was told
   pub said_after : {OutputIs : Option ℕ → Slot → Type 0} {FileIs : List ℕ → Option ℕ → Slot → Type 0} {pieces messages : List (List ℕ)} {old mid new : List Slot} {known : List Bool}
-      (copies : Copies told mode names pieces messages old known) → (next : After OutputIs FileIs (suc (length pieces)) copies mid)
+      (copies : Copies told mode on_broken names pieces messages old known) → (next : After OutputIs FileIs (suc (length pieces)) copies mid)
       → (says : SaysTo told (said_since (fault_in (suc (length pieces))) (output_names names) known (broken_of mid)) mid new)
       → SaysAll told Tee ((said_before (suc (length pieces)) (output_names names) (next.first ∷ next.broke) ++ messages) ++ said_in (suc (length pieces)) (output_names names) (next.first ∷ next.broke)) standard_error says.0
   said_after {pieces} {messages} {mid} {known} copies next says =
@@ -319,16 +320,16 @@ module _ (told : Bool) (mode : Mode) (names : List (List ℕ)) where
   -- a piece was fed
 
   pub fed_next : {pieces : List (List ℕ)} {piece : List ℕ} {messages : List (List ℕ)} {old mid : List Slot} {known : List Bool} {tee : TeeState} → IsTeeOf names tee
-      → (copies : Copies told mode names pieces messages old known) → ChangesEach (Gets told piece) (IsOutput tee) old mid
+      → (copies : Copies told mode on_broken names pieces messages old known) → ChangesEach (Gets told piece) (IsOutput tee) old mid
       → After (OutputLeft told (pieces ++ piece ∷ [])) (FileHas told mode (pieces ++ piece ∷ [])) (suc (length pieces)) copies mid
   fed_next {pieces} {piece} {mid} is copies gets = called is copies (suc (length pieces)) gets.count (gets.others 1 (error_no_output is))
       (λ output here. output_more told copies.output_has (rw here at (rw (ap (λ those. slot_at those 0) copies.are) at (gets.each 0 (inl refl)))))
       (λ place file. gets.each place (inr file)) (λ name first old new has got. file_more told has got)
 
   -- the message for it was said
-  pub piece_said : {pieces : List (List ℕ)} (piece : List ℕ) {old mid new : List Slot} {known now : List Bool} → all_of known ≡ false → (copies : Copies told mode names pieces [] old known)
+  pub piece_said : {pieces : List (List ℕ)} (piece : List ℕ) {old mid new : List Slot} {known now : List Bool} → is_done on_broken known ≡ false → (copies : Copies told mode on_broken names pieces [] old known)
       → After (OutputLeft told (pieces ++ piece ∷ [])) (FileHas told mode (pieces ++ piece ∷ [])) (suc (length pieces)) copies mid
-      → SaysTo told (said_since (fault_in (suc (length pieces))) (output_names names) known (broken_of mid)) mid new → now ≡ broken_of mid → Copies told mode names (pieces ++ piece ∷ []) [] new now
+      → SaysTo told (said_since (fault_in (suc (length pieces))) (output_names names) known (broken_of mid)) mid new → now ≡ broken_of mid → Copies told mode on_broken names (pieces ++ piece ∷ []) [] new now
   piece_said {pieces} piece {mid} {new} {known} some copies next says flags_are = record {
     output = next.output;
     error = says.0;
@@ -342,8 +343,8 @@ module _ (told : Bool) (mode : Mode) (names : List (List ℕ)) where
         ∙ sym (append-nil _) ∙ ap (λ call. said_before (suc call) (output_names names) (next.first ∷ next.broke) ++ []) one_more_call) at
         (said_after copies next says);
     known_are = flags_are ∙ ap broken_of next.are ∙ sym (ap broken_of new_is);
-    some_left = ap (λ call. none_left call (next.first ∷ next.broke)) (sym one_more_call) ∙ none_then next.marked ∙ ap all_of (sym copies.known_are) ∙ some;
-    is_vain = ap (λ call. none_left (suc call) (next.first ∷ next.broke)) (sym one_more_call) ∙ none_now next.marked ∙ ap all_of (sym flags_are);
+    goes_on = ap (λ call. is_done on_broken (broken_before call (next.first ∷ next.broke))) (sym one_more_call) ∙ ap (is_done on_broken) (broke_then next.marked ∙ sym copies.known_are) ∙ some;
+    are_known = ap (λ call. broken_before (suc call) (next.first ∷ next.broke)) (sym one_more_call) ∙ broke_now next.marked ∙ sym flags_are;
   } where
     one_more_call : suc (length pieces) ≡ length (pieces ++ piece ∷ [])
     one_more_call = omega (arith, length-append pieces (piece ∷ []))
@@ -353,7 +354,7 @@ module _ (told : Bool) (mode : Mode) (names : List (List ℕ)) where
 
   -- both streams are there, whatever became of the other outputs
   pub streams_after : {pieces messages : List (List ℕ)} {old mid : List Slot} {known : List Bool} {output : Slot} {files : List Slot}
-      → (copies : Copies told mode names pieces messages old known) → mid ≡ output ∷ copies.error ∷ files → length files ≡ length names
+      → (copies : Copies told mode on_broken names pieces messages old known) → mid ≡ output ∷ copies.error ∷ files → length files ≡ length names
       → HasStreams mid (length names)
   streams_after {output = output} {files = files} copies are many = record {
     output = output;
@@ -365,14 +366,14 @@ module _ (told : Bool) (mode : Mode) (names : List (List ℕ)) where
   }
 
   pub copies_streams : {pieces : List (List ℕ)} {messages : List (List ℕ)} {slots : List Slot} {known : List Bool}
-      → Copies told mode names pieces messages slots known → HasStreams slots (length names)
+      → Copies told mode on_broken names pieces messages slots known → HasStreams slots (length names)
   copies_streams copies = streams_after copies copies.are (length-files copies.files_have)
 
   pub after_streams : {OutputIs : Option ℕ → Slot → Type 0} {FileIs : List ℕ → Option ℕ → Slot → Type 0} {call : ℕ} {pieces messages : List (List ℕ)} {old mid : List Slot} {known : List Bool}
-      {copies : Copies told mode names pieces messages old known} → After OutputIs FileIs call copies mid → HasStreams mid (length names)
+      {copies : Copies told mode on_broken names pieces messages old known} → After OutputIs FileIs call copies mid → HasStreams mid (length names)
   after_streams {copies = copies} next = streams_after copies next.are (length-files next.files_are)
 
-  pub known_many : {pieces : List (List ℕ)} {messages : List (List ℕ)} {slots : List Slot} {known : List Bool} → Copies told mode names pieces messages slots known → length known ≡ length names + 1
+  pub known_many : {pieces : List (List ℕ)} {messages : List (List ℕ)} {slots : List Slot} {known : List Bool} → Copies told mode on_broken names pieces messages slots known → length known ≡ length names + 1
   known_many copies = ap length copies.known_are ∙ count_broken (copies_streams copies)
 
 -- an output that isn't closed
@@ -411,9 +412,9 @@ file_flags told no_file = refl
 file_flags told (one_file name names first broke file files one rest) =
     ap (λ (flag : Bool). flag ∷ flags files) (file_flag told one) ∙ ap (λ flags. not (is_none first) ∷ flags) (file_flags told rest)
 
-module _ (told : Bool) (mode : Mode) (names : List (List ℕ)) where
+module _ (told : Bool) (mode : Mode) (on_broken : OnBroken) (names : List (List ℕ)) where
   -- a text more on standard error, while the files are open
-  pub copies_said : {pieces : List (List ℕ)} {texts : List (List ℕ)} {old new : List Slot} {known : List Bool} → Copies told mode names pieces [] old known → SaysTo told texts old new → Copies told mode names pieces texts new known
+  pub copies_said : {pieces : List (List ℕ)} {texts : List (List ℕ)} {old new : List Slot} {known : List Bool} → Copies told mode on_broken names pieces [] old known → SaysTo told texts old new → Copies told mode on_broken names pieces texts new known
   copies_said {pieces} {texts} {new} copies says = record {
     output = copies.output;
     error = says.0;
@@ -426,25 +427,25 @@ module _ (told : Bool) (mode : Mode) (names : List (List ℕ)) where
     said = rw (append-nil _) at
         (says_after told Tee (said_before (suc (length pieces)) (output_names names) (copies.first ∷ copies.broke) ++ []) texts standard_error copies.error says.0 copies.said (rw (ap (λ those. slot_at those 1) copies.are) at says.1));
     known_are = copies.known_are ∙ ap broken_of copies.are ∙ sym (ap broken_of new_is);
-    some_left = copies.some_left;
-    is_vain = copies.is_vain;
+    goes_on = copies.goes_on;
+    are_known = copies.are_known;
   } where
     new_is : new ≡ copies.output ∷ says.0 ∷ copies.files
     new_is = says.2 ∙ ap (changed_at 1 (λ _. says.0)) copies.are
 
   -- the files were closed
 
-  pub closed_next : {pieces messages : List (List ℕ)} {old mid : List Slot} {known : List Bool} {tee : TeeState} → IsTeeOf names tee → (copies : Copies told mode names pieces messages old known)
-      → ChangesEach Closes (IsFile tee) old mid → After told mode names (OutputLeft told pieces) (FileLeft told mode pieces) (suc (length pieces)) copies mid
+  pub closed_next : {pieces messages : List (List ℕ)} {old mid : List Slot} {known : List Bool} {tee : TeeState} → IsTeeOf names tee → (copies : Copies told mode on_broken names pieces messages old known)
+      → ChangesEach Closes (IsFile tee) old mid → After told mode on_broken names (OutputLeft told pieces) (FileLeft told mode pieces) (suc (length pieces)) copies mid
   closed_next {pieces} is copies closes =
-      called told mode names is copies (suc (length pieces)) closes.count (closes.others 1 (λ file. error_no_output is (inr file)))
+      called told mode on_broken names is copies (suc (length pieces)) closes.count (closes.others 1 (λ file. error_no_output is (inr file)))
       (λ output here. rw (← here, closes.others 0 (λ file. let there = file_place 0 is file in omega (arith, there.1)), copies.are)
       (copies.first, copies.output_has, output_kept told copies.output_has))
       closes.each (λ name first old new has ends. file_ends told has ends)
 
-  pub closing_said : {pieces : List (List ℕ)} {fault : Option Fault} {old mid new : List Slot} {known now : List Bool} (copies : Copies told mode names pieces (said_of_input fault) old known)
-      → After told mode names (OutputLeft told pieces) (FileLeft told mode pieces) (suc (length pieces)) copies mid
-      → SaysTo told (said_since (fault_in (suc (length pieces))) (output_names names) known (broken_of mid)) mid new → now ≡ broken_of mid → HasCopied told mode names pieces fault (all_of known) new now
+  pub closing_said : {pieces : List (List ℕ)} {fault : Option Fault} {old mid new : List Slot} {known now : List Bool} (copies : Copies told mode on_broken names pieces (said_of_input fault) old known)
+      → After told mode on_broken names (OutputLeft told pieces) (FileLeft told mode pieces) (suc (length pieces)) copies mid
+      → SaysTo told (said_since (fault_in (suc (length pieces))) (output_names names) known (broken_of mid)) mid new → now ≡ broken_of mid → HasCopied told mode on_broken names pieces fault known new now
   closing_said {pieces} copies next says flags_are = record {
     output = next.output;
     error = says.0;
@@ -454,8 +455,8 @@ module _ (told : Bool) (mode : Mode) (names : List (List ℕ)) where
     are = says.2 ∙ ap (changed_at 1 (λ _. says.0)) next.are;
     output_left = next.output_is;
     files_left = next.files_are;
-    said = said_after told mode names copies next says;
+    said = said_after told mode on_broken names copies next says;
     known_are = cc (flags_are, next.are, output_flag told next.output_is, file_flags told next.files_are);
-    some_left = none_sooner (length pieces) (omega arith) next.marked ∙ copies.some_left;
-    vain_is = none_sooner (suc (length pieces)) (omega arith) next.marked ∙ copies.is_vain;
+    goes_on = ap (is_done on_broken) (broke_sooner (length pieces) (omega arith) next.marked) ∙ copies.goes_on;
+    before_are = broke_sooner (suc (length pieces)) (omega arith) next.marked ∙ copies.are_known;
   }

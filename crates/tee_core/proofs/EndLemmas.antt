@@ -7,11 +7,13 @@ use Rattle.ports_core.specs.Slot.{Slot, changed_at, adds, closes, opened, stream
 use Rattle.ports_core.specs.Source.{Content, Source, source_at, is_readable, fails, gives, BrokeOff, Gave, IsFresh}
 use Rattle.ports_core.specs.declared.fault.Fault.{Fault}
 use Rattle.ports_core.specs.declared.fault.Fault.TheVariants.{Read, Memory}
+use Rattle.ports_core.specs.declared.on_broken.OnBroken.{OnBroken}
+use Rattle.ports_core.specs.declared.on_broken.OnBroken.TheVariants.{GoOn, Stop}
 use Rattle.ports_core.specs.declared.slot.Mode.{Mode}
 use Rattle.ports_core.proofs.InputsLemmas.{HasRead, came_broken, came_sound, still_readable, read_broken, read_failed, read_more, read_none_more, read_to_end, of_content}
 use Rattle.ports_core.specs.Inputs.{CameFrom, largest_piece, OfContent, empty}
-use Rattle.tee_core.specs.Run.{IsRead, LeavesOf, to_end, to_break, to_limit, to_last_output, EndsAs, copied, no_room, file_whole, file_unopened, file_cut, file_unclosed, FilesLeft, no_file, one_file, ComesIn, IsUnread, OutputLeft, output_whole, output_cut, all_copied, are_sound, broke_before, messages_of, none_left, output_names, said_before, said_in, status_of}
-use Rattle.tee_core.specs.inner.Steps.{Copies, CopiesRead, all_of, any_of, HasCopied}
+use Rattle.tee_core.specs.Run.{IsRead, LeavesOf, to_end, to_break, to_limit, to_broken_output, EndsAs, copied, no_room, file_whole, file_unopened, file_cut, file_unclosed, FilesLeft, no_file, one_file, ComesIn, IsUnread, OutputLeft, output_whole, output_cut, all_copied, any_of, are_sound, broken_before, is_done, messages_of, output_names, said_before, said_in, status_of}
+use Rattle.tee_core.specs.inner.Steps.{Copies, CopiesRead, HasCopied}
 use Rattle.std.proofs.lemmas.Bool.Decides.{nat_tests}
 use Rattle.ports_core.specs.Text.{message_of}
 use Rattle.ports_core.specs.Message.{SaysOn, output_named}
@@ -53,22 +55,25 @@ seen_ended told there x size sources new {n = n} read can gave few room is = who
     (λ t. let at_end = (gave t).ended few room in let all = read_to_end there x 0 sources (read t) at_end.0 at_end.1 in
     (all.1, all.0, nothing_more _ (sym all.1 ∙ read_none_more there x 0 sources new size n (read t) can few is))) (λ content. came_sound told new 0 (still_readable 0 sources new size n is can))
 
+-- it was read up to here
+pub seen_so_far : (told : Bool) (there : Content) (x : List ℕ) (sources : List Source) → (told ≡ true → HasRead there x 0 sources) → IsTrue (is_readable sources 0) → SeenTo told there x (source_at sources 0)
+seen_so_far true there x sources read can =
+    (there, (source_at sources 0).left.bytes, (λ t. refl), (read refl).bytes, (λ t. refl), came_sound true sources 0 can (λ off. absurd (false≢true (sym off))))
+seen_so_far false there x sources read can = (
+  record { bytes = x; breaks_off = false },
+  [],
+  (λ t. absurd (false≢true t)),
+  sym (append-nil x),
+  (λ t. absurd (false≢true t)),
+  came_sound false sources 0 can (λ off. refl),
+)
+
 -- it gave a piece more
 pub seen_more : (told : Bool) (there : Content) (x : List ℕ) (size : ℕ) (sources new : List Source) {old_buffer buffer : List ℕ} {n : ℕ} → (told ≡ true → HasRead there x 0 sources)
     → IsTrue (is_readable sources 0) → (told ≡ true → Gave (source_at sources 0).left old_buffer buffer n) → new ≡ changed_at 0 (gives size n) sources
     → SeenTo told there (x ++ take n buffer) (source_at new 0)
 seen_more told there x size sources new {old_buffer} {buffer} {n} read can gave is =
-    by told (λ t. (read_more there x 0 sources new old_buffer buffer size n (read t) can (gave t) is).bytes) (λ content. came_sound told new 0 (still_readable 0 sources new size n is can)) where
-      by : (told : Bool) → (told ≡ true → there.bytes ≡ (x ++ take n buffer) ++ (source_at new 0).left.bytes) → ((content : Content) → (told ≡ false → content.breaks_off ≡ false) → CameFrom told content (source_at new 0)) → SeenTo told there (x ++ take n buffer) (source_at new 0)
-      by true has came = (there, (source_at new 0).left.bytes, (λ t. refl), has refl, (λ t. refl), came there (λ off. absurd (false≢true (sym off))))
-      by false has came = (
-        record { bytes = x ++ take n buffer; breaks_off = false },
-        [],
-        (λ t. absurd (false≢true t)),
-        sym (append-nil (x ++ take n buffer)),
-        (λ t. absurd (false≢true t)),
-        came _ (λ off. refl),
-      )
+    seen_so_far told there (x ++ take n buffer) new (λ t. read_more there x 0 sources new old_buffer buffer size n (read t) can (gave t) is) (still_readable 0 sources new size n is can)
 
 pub counted_more : (x buffer : List ℕ) {fed : ℕ} (n : ℕ) {sum : ℕ} → fed ≡ length x → n ≤ length buffer → sum ≡ fed + n → sum ≡ length (x ++ take n buffer)
 counted_more x buffer n counted within is = omega (arith, counted, within, is, length-append x (take n buffer), length-take n buffer)
@@ -84,8 +89,8 @@ none_sized k d low = absurd (omega (arith, low))
 pub more_sized : (pieces : List (List ℕ)) (buffer : List ℕ) {n : ℕ} → AreSized pieces → (n ≡ 0 → ⊥) → n ≤ length buffer → length buffer ≤ largest_piece → AreSized (pieces ++ take n buffer ∷ [])
 more_sized pieces buffer {n} sized some within most = grind (arith, common_steps)
 
-pub reads_copied : {told_in : Bool} (told : Bool) {mode : Mode} {names : List (List ℕ)} {content : Content} {source : Source} {slots : List Slot} {known : List Bool} {fault : Option Fault} {came : List ℕ} {pieces : List (List ℕ)} {is_vain : Bool} → came ≡ concat pieces → all_of known ≡ is_vain → AreSized pieces → length came < 2 ^ 63
-    → (fault ≡ Some (Read 0)) ⊎ (source.is_broken ≡ false) → (fault ≡ None → is_vain ≡ false → source.ended ≡ true) → IsRead content (LeavesOf told_in source) is_vain came fault → Copies told mode names pieces [] slots known → CopiesRead told_in told mode names content source slots known fault
+pub reads_copied : {told_in : Bool} (told : Bool) {mode : Mode} {on_broken : OnBroken} {names : List (List ℕ)} {content : Content} {source : Source} {slots : List Slot} {known : List Bool} {fault : Option Fault} {came : List ℕ} {pieces : List (List ℕ)} {is_vain : Bool} → came ≡ concat pieces → is_done on_broken known ≡ is_vain → AreSized pieces → length came < 2 ^ 63
+    → (fault ≡ Some (Read 0)) ⊎ (source.is_broken ≡ false) → (fault ≡ None → is_vain ≡ false → source.ended ≡ true) → IsRead content (LeavesOf told_in source) is_vain came fault → Copies told mode on_broken names pieces [] slots known → CopiesRead told_in told mode on_broken names content source slots known fault
 reads_copied {told_in} told {content} {source} {known} {fault} {came} {pieces} joined vain sized few met ended read copies = grind (arith, common_steps)
 
 -- the status
@@ -100,26 +105,26 @@ one_fails sound whole = grind (arith, nat_tests)
 status_is : (broke : List (Option ℕ)) (fault : Option Fault) (failed : Bool) {known : List Bool} → failed ≡ (not (is_none fault) || any_of known) → known ≡ map (λ (when : Option ℕ). not (is_none when)) broke → (if failed then 1 else 0) ≡ status_of broke fault
 status_is broke fault failed failing is = cc (failing, is, any_broken broke, one_fails (is_none fault) (are_sound broke))
 
-pub ends_copied : {told_in : Bool} (told : Bool) {mode : Mode} {names : List (List ℕ)} {content : Content} {source : Source} {pieces : List (List ℕ)}
-    {fault : Option Fault} {is_vain failed : Bool} {slots : List Slot} {known : List Bool} → failed ≡ (not (is_none fault) || any_of known)
-    → ComesIn told_in content source is_vain pieces fault
-    → HasCopied told mode names pieces fault is_vain slots known → EndsAs told_in told mode names content source slots (if failed then 1 else 0)
+pub ends_copied : {told_in : Bool} (told : Bool) {mode : Mode} {on_broken : OnBroken} {names : List (List ℕ)} {content : Content} {source : Source} {pieces : List (List ℕ)}
+    {fault : Option Fault} {failed : Bool} {slots : List Slot} {before known : List Bool} → failed ≡ (not (is_none fault) || any_of known)
+    → ComesIn told_in content source (is_done on_broken before) pieces fault
+    → HasCopied told mode on_broken names pieces fault before slots known → EndsAs told_in told mode on_broken names content source slots (if failed then 1 else 0)
 ends_copied {told_in} told {content} {source} {pieces} {fault} {failed = failed} failing read left =
-    copied pieces fault left.first left.broke left.output left.error left.files (rw left.vain_is read) left.some_left left.output_left left.files_left left.said left.are
+    copied pieces fault left.first left.broke left.output left.error left.files (rw left.before_are read) left.goes_on left.output_left left.files_left left.said left.are
     (status_is (left.first ∷ left.broke) fault failed failing left.known_are)
 
 -- there was no memory
 
-ends_nowhere : {told_in : Bool} (told : Bool) {mode : Mode} {names : List (List ℕ)} {content : Content} {source : Source} {mid new : List Slot} {fault : Fault} → fault ≡ Memory → mid ≡ streams → IsUnread told_in content source → SaysOn told Tee (message_of Tee fault (output_named mid fault)) mid new → EndsAs told_in told mode names content source new 1
+ends_nowhere : {told_in : Bool} (told : Bool) {mode : Mode} {on_broken : OnBroken} {names : List (List ℕ)} {content : Content} {source : Source} {mid new : List Slot} {fault : Fault} → fault ≡ Memory → mid ≡ streams → IsUnread told_in content source → SaysOn told Tee (message_of Tee fault (output_named mid fault)) mid new → EndsAs told_in told mode on_broken names content source new 1
 ends_nowhere told {mid} {new} is at unread says =
     let said = subst (λ (those : Fault). SaysOn told Tee (message_of Tee those (output_named mid those)) mid new) is says standard_output standard_error [] at in
     no_room said.0 (said.0, said.1, refl) unread said.2 refl
 
-pub ends_at_once : {told_in : Bool} (told : Bool) {mode : Mode} {names : List (List ℕ)} {old new_sources : List Source} {first mid new : List Slot} {fault : Fault} → fault ≡ Memory → IsFresh old → first ≡ streams → mid ≡ first → new_sources ≡ old → SaysOn told Tee (message_of Tee fault (output_named mid fault)) mid new
-    → OfContent told_in (source_at old 0).left (λ content. EndsAs told_in told mode names content (source_at new_sources 0) new 1 × CameFrom told_in content (source_at new_sources 0))
-ends_at_once {told_in} told {mode} {names} {old} {new_sources} {new} is fresh at same sources says =
+pub ends_at_once : {told_in : Bool} (told : Bool) {mode : Mode} {on_broken : OnBroken} {names : List (List ℕ)} {old new_sources : List Source} {first mid new : List Slot} {fault : Fault} → fault ≡ Memory → IsFresh old → first ≡ streams → mid ≡ first → new_sources ≡ old → SaysOn told Tee (message_of Tee fault (output_named mid fault)) mid new
+    → OfContent told_in (source_at old 0).left (λ content. EndsAs told_in told mode on_broken names content (source_at new_sources 0) new 1 × CameFrom told_in content (source_at new_sources 0))
+ends_at_once {told_in} told {mode} {on_broken} {names} {old} {new_sources} {new} is fresh at same sources says =
     let unread = ap (λ those. source_at those 0) (sources ∙ fresh.only) in
-    of_content told_in (source_at old 0).left empty (source_at new_sources 0) (λ content. EndsAs told_in told mode names content (source_at new_sources 0) new 1)
+    of_content told_in (source_at old 0).left empty (source_at new_sources 0) (λ content. EndsAs told_in told mode on_broken names content (source_at new_sources 0) new 1)
     (λ _. ends_nowhere told is (same ∙ at) (fresh.standard, unread, λ _. sym (ap (λ those. (source_at those 0).left) fresh.only)) says)
     (λ untold. ends_nowhere told is (same ∙ at) (fresh.standard, unread, λ tells. absurd (false≢true (sym untold ∙ tells))) says)
     (ap (λ (source : Source). source.is_open) unread) (sym (ap (λ (source : Source). source.is_broken) unread))
@@ -158,22 +163,32 @@ read_whole : {content : Content} (Leaves : List ℕ → Type 0) {is_vain : Bool}
 read_whole Leaves left sound (to_end x is ended leaves) = is
 read_whole Leaves left sound (to_break x is breaks leaves) = absurd (false≢true sound)
 read_whole Leaves left sound (to_limit x piece rest is many within leaves) = absurd (false≢true sound)
-read_whole Leaves left sound (to_last_output x rest is leaves) = absurd (false≢true (sym left))
+read_whole Leaves left sound (to_broken_output x rest is leaves) = absurd (false≢true (sym left))
 
-pub whole_if : {told_in : Bool} (told : Bool) {mode : Mode} {names : List (List ℕ)} {content : Content} {source : Source} {new : List Slot} {status : ℕ} → status ≡ 0 → EndsAs told_in told mode names content source new status → new ≡ all_copied told mode names content.bytes
+-- where nothing broke the run goes on
+none_sound : (call : ℕ) (broke : List (Option ℕ)) → are_sound broke ≡ true → any_of (broken_before call broke) ≡ false
+none_sound call [] sound = refl
+none_sound call (first ∷ broke) sound =
+    let sounds = sound_first first (are_sound broke) sound in rw sounds.0 (none_sound call broke sounds.1)
+
+pub sound_goes_on : (on_broken : OnBroken) (call : ℕ) (first : Option ℕ) (broke : List (Option ℕ)) → are_sound (first ∷ broke) ≡ true → is_done on_broken (broken_before call (first ∷ broke)) ≡ false
+sound_goes_on GoOn call first broke sound = rw (sound_first first (are_sound broke) sound).0
+sound_goes_on Stop call first broke sound = none_sound call (first ∷ broke) sound
+
+pub whole_if : {told_in : Bool} (told : Bool) {mode : Mode} {on_broken : OnBroken} {names : List (List ℕ)} {content : Content} {source : Source} {new : List Slot} {status : ℕ} → status ≡ 0 → EndsAs told_in told mode on_broken names content source new status → new ≡ all_copied told mode names content.bytes
 whole_if told zero_is (no_room error said left at one) = absurd (omega (arith, zero_is, one))
-whole_if told {mode} {names} zero_is (copied pieces fault first broke output error files read some output_left files_left said at is) =
+whole_if told {mode} {on_broken} {names} zero_is (copied pieces fault first broke output error files read some output_left files_left said at is) =
     let good = status_zero (is_none fault) (are_sound (first ∷ broke)) (sym is ∙ zero_is) in let sounds = sound_first first (are_sound broke) good.0 in
     let silent = quiet fault (length pieces) (first ∷ broke) good.1 good.0 in
     at ∙ ap (λ slot. slot ∷ error ∷ files) (whole_output told pieces first output sounds.0 output_left)
     ∙ ap (λ slot. adds (told_of told (concat pieces)) standard_output ∷ slot ∷ files) (rw silent at said)
     ∙ ap (λ those. adds (told_of told (concat pieces)) standard_output ∷ standard_error ∷ those) (whole_files told mode pieces names broke files sounds.1 files_left)
-    ∙ ap (all_copied told mode names) (sym (read_whole _ (ap (λ when. broke_before (suc (length pieces)) when && none_left (suc (length pieces)) broke) sounds.0) good.1 read.read)) where
+    ∙ ap (all_copied told mode names) (sym (read_whole _ (sound_goes_on on_broken (suc (length pieces)) first broke good.0) good.1 read.read)) where
       quiet : (fault : Option Fault) (pieces : ℕ) (broke : List (Option ℕ)) → is_none fault ≡ true → are_sound broke ≡ true → messages_of names broke pieces fault ≡ []
       quiet None pieces broke ended sound =
           ap (λ texts. (texts ++ []) ++ said_in (suc pieces) (output_names names) broke) (nothing_before (suc pieces) (output_names names) broke sound) ∙ nothing_in (suc pieces) (output_names names) broke sound
       quiet (Some fault) pieces broke ended sound = absurd (false≢true ended)
 
-pub whole_of : {told_in : Bool} (told : Bool) {mode : Mode} {names : List (List ℕ)} (there : Content) {source : Source} {new : List Slot} {status : ℕ} → told_in ≡ true → status ≡ 0
-    → OfContent told_in there (λ content. EndsAs told_in told mode names content source new status × CameFrom told_in content source) → new ≡ all_copied told mode names there.bytes
+pub whole_of : {told_in : Bool} (told : Bool) {mode : Mode} {on_broken : OnBroken} {names : List (List ℕ)} (there : Content) {source : Source} {new : List Slot} {status : ℕ} → told_in ≡ true → status ≡ 0
+    → OfContent told_in there (λ content. EndsAs told_in told mode on_broken names content source new status × CameFrom told_in content source) → new ≡ all_copied told mode names there.bytes
 whole_of told {mode} {names} there tells zero_is (content, is, holds) = cc (whole_if told zero_is holds.0, is tells)

@@ -1,9 +1,12 @@
 -- Lemmas on a run's start: files that are opened one after another, and the messages for those that could not be.
+use Rattle.std.proofs.lemmas.Bool.Decides.{nat_tests}
 use Rattle.std.proofs.lemmas.Grind.{common_steps}
 use Rattle.std.proofs.Common.{◌≡◌, ℕ, ◌+◌, ◌-◌, ◌^◌, ◌<◌, ◌≤◌, zero, suc, List, [], ◌∷◌, ◌++◌, length, map, take, drop, get_or, Bor, true, inl, inr, refl, sym, ◌∙◌, ap, arith, append_assoc, length-append, replicate, Bool, false, Option, Some, None}
 use Rattle.std.proofs.lemmas.List.{append-nil, get_or-append-add, get_or_append_left, length-map}
 use Rattle.std.proofs.lemmas.Bool.{false≢true}
 use Rattle.ports_core.specs.Slot.{Slot, no_slot, slot_at, opened, unopened, is_open, FailsToOpen, broke, changed_at, streams}
+use Rattle.ports_core.specs.declared.on_broken.OnBroken.{OnBroken}
+use Rattle.ports_core.specs.declared.on_broken.OnBroken.TheVariants.{GoOn, Stop}
 use Rattle.ports_core.specs.declared.slot.Mode.{Mode}
 use Rattle.tee_core.specs.Opening.{OpensAs, is_opened, is_unopened, OpensEach, no_more, one_more, Opens, OpensSome}
 use Rattle.tee_core.specs.inner.Opening.{OpensOne}
@@ -11,9 +14,9 @@ use Rattle.tee_core.specs.Outputs.{IsOutput, IsReady, IsUsable}
 use Rattle.tee_core.specs.TeeState.{TeeState}
 use Rattle.ports_core.proofs.Runs.{adds-nil}
 use Rattle.ports_core.specs.Streams.{standard_output, standard_error}
-use Rattle.tee_core.specs.Run.{EachFile, no_file, one_file, output_whole, fault_in, output_names}
-use Rattle.tee_core.specs.inner.Steps.{Copies, FileHas, has_all, has_none, HasStreams, IsTeeOf, SaysTo, all_of, broken_of, said_since}
-use Rattle.tee_core.proofs.CopyLemmas.{AllMark, Marked, all_marked, marked_none, marked_now, none_marked, none_now, said_marked}
+use Rattle.tee_core.specs.Run.{EachFile, no_file, one_file, output_whole, any_of, broken_before, fault_in, is_done, output_names}
+use Rattle.tee_core.specs.inner.Steps.{Copies, FileHas, has_all, has_none, HasStreams, IsTeeOf, SaysTo, broken_of, said_since}
+use Rattle.tee_core.proofs.CopyLemmas.{AllMark, Marked, all_marked, marked_none, marked_now, none_marked, broke_now, said_marked}
 use Rattle.ports_core.specs.declared.fault.Fault.TheVariants as fault
 
 -- one file
@@ -139,8 +142,19 @@ files_start told (one_more name names file files one rest) =
 pub opened_streams : {mode : Mode} {names : List (List ℕ)} {slots : List Slot} → Opens mode names streams slots → HasStreams slots (length names)
 opened_streams {names} opens = grind (arith, common_steps, length-since)
 
-pub starts : (told : Bool) {mode : Mode} {names : List (List ℕ)} {old new : List Slot} {known now : List Bool} → Opens mode names streams old → known ≡ replicate (length names + 1) false → SaysTo told (said_since (fault_in 0) (output_names names) known (broken_of old)) old new → now ≡ broken_of old → Copies told mode names [] [] new now
-starts told {names} {old} {new} {known} opens unknown says flags =
+-- nothing broke before a run
+
+none_broken : (whens : List (Option ℕ)) → any_of (broken_before 0 whens) ≡ false
+none_broken [] = refl
+none_broken (None ∷ whens) = none_broken whens
+none_broken (Some call ∷ whens) = let rest = none_broken whens in grind (arith, nat_tests, rest)
+
+goes_at_first : (on_broken : OnBroken) (whens : List (Option ℕ)) → is_done on_broken (broken_before 0 (None ∷ whens)) ≡ false
+goes_at_first GoOn whens = refl
+goes_at_first Stop whens = none_broken whens
+
+pub starts : (told : Bool) {mode : Mode} (on_broken : OnBroken) {names : List (List ℕ)} {old new : List Slot} {known now : List Bool} → Opens mode names streams old → known ≡ replicate (length names + 1) false → SaysTo told (said_since (fault_in 0) (output_names names) known (broken_of old)) old new → now ≡ broken_of old → Copies told mode on_broken names [] [] new now
+starts told on_broken {names} {old} {new} {known} opens unknown says flags =
     let files = files_start told opens.each in
     let new_is : new ≡ standard_output ∷ says.0 ∷ opens.since = says.2 ∙ ap (changed_at 1 (λ _. says.0)) opens.slots in
     let marked : AllMark 0 (None ∷ replicate (length names) None) (None ∷ files.0) (false ∷ replicate (length names) false) (broken_of (standard_output ∷ standard_error ∷ opens.since)) = all_marked None None false false _ files.0 _ _ (marked_none) files.2 in
@@ -156,13 +170,9 @@ starts told {names} {old} {new} {known} opens unknown says flags =
       said = rw (ap (λ flags. said_since (fault_in 0) (output_names names) flags (broken_of old)) (unknown ∙ ap (λ n. replicate n false) (let e : length names + 1 ≡ suc (length names) = omega arith in e)) ∙ ap (λ those. said_since (fault_in 0) (output_names names) (false ∷ replicate (length names) false) (broken_of those)) opens.slots
           ∙ sym (said_marked (output_names names) marked) ∙ sym (append-nil _)) at (rw (ap (λ those. slot_at those 1) opens.slots) at says.1);
       known_are = flags ∙ ap broken_of opens.slots ∙ sym (ap broken_of new_is);
-      some_left = refl;
-      is_vain = none_now marked ∙ ap all_of (sym (flags ∙ ap broken_of opens.slots));
+      goes_on = goes_at_first on_broken files.0;
+      are_known = broke_now marked ∙ sym (flags ∙ ap broken_of opens.slots);
     }
-
--- standard output is sound as a run begins
-pub some_at_first : {mode : Mode} {names : List (List ℕ)} {slots : List Slot} {known : List Bool} → Opens mode names streams slots → known ≡ broken_of slots → all_of known ≡ false
-some_at_first opens is = ap all_of (is ∙ ap broken_of opens.slots)
 
 pub length-names : (names : List (Bor (List ℕ))) {known : List Bool} → known ≡ replicate (length names + 1) false → known ≡ replicate (length (map (λ (name : Bor (List ℕ)). name.now) names) + 1) false
 length-names names is = is ∙ ap (λ n. replicate (n + 1) false) (sym (length-map names (λ (name : Bor (List ℕ)). name.now)))

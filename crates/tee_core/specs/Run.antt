@@ -1,11 +1,13 @@
 -- What a run of `tee` leaves, of its input and of what broke when.
-use Rattle.std.specs.Prelude.{is_none, ◌≡◌, ℕ, ◌≤◌, ◌<◌, ◌^◌, zero, suc, ◌==◌, ◌&&◌, nat_lt, All, Bool, true, false, List, [], ◌∷◌, ◌++◌, length, map, take, Option, Some, None, ◌⊎◌, codes, if◌then◌else◌}
+use Rattle.std.specs.Prelude.{is_none, ◌≡◌, ℕ, ◌≤◌, ◌<◌, ◌^◌, zero, suc, ◌==◌, ◌&&◌, ◌||◌, nat_lt, All, Bool, true, false, List, [], ◌∷◌, ◌++◌, length, map, take, Option, Some, None, ◌⊎◌, codes, if◌then◌else◌}
 use Rattle.std.specs.List.{concat}
 use Rattle.ports_core.specs.Slot.{Slot, opened, unopened, adds, breaks, closes, told_of}
 use Rattle.ports_core.specs.Inputs.{largest_piece}
 use Rattle.ports_core.specs.Source.{Content, Source, source_of}
 use Rattle.ports_core.specs.Text.{message_of}
 use Rattle.ports_core.specs.Message.{SaysAll}
+use Rattle.ports_core.specs.declared.on_broken.OnBroken.{OnBroken}
+use Rattle.ports_core.specs.declared.on_broken.OnBroken.TheVariants.{GoOn, Stop}
 use Rattle.ports_core.specs.declared.slot.Mode.{Mode}
 use Rattle.ports_core.specs.declared.tool.Tool.TheVariants.{Tee}
 use Rattle.ports_core.specs.declared.fault.Fault.{Fault}
@@ -59,19 +61,33 @@ are_sound (first ∷ broke) = is_none first && are_sound broke
 abbrev pub status_of : List (Option ℕ) → Option Fault → ℕ
 status_of broke fault = if are_sound broke && is_none fault then 0 else 1
 
--- no output is left: each of them broke before this call, so that nothing more can be written
+-- which outputs broke before this call
 
 abbrev pub broke_before : ℕ → Option ℕ → Bool
 broke_before call None = false
 broke_before call (Some other) = nat_lt other call
 
-abbrev pub none_left : ℕ → List (Option ℕ) → Bool
-none_left call [] = true
-none_left call (first ∷ broke) = broke_before call first && none_left call broke
+abbrev pub broken_before : ℕ → List (Option ℕ) → List Bool
+broken_before call broke = map (broke_before call) broke
+
+-- Whether a run ends, where these of its outputs are broken: one that goes on, once none is left; one that stops, once
+-- one is broken.
+
+abbrev pub all_of : List Bool → Bool
+all_of [] = true
+all_of (flag ∷ flags) = flag && all_of flags
+
+abbrev pub any_of : List Bool → Bool
+any_of [] = false
+any_of (flag ∷ flags) = flag || any_of flags
+
+abbrev pub is_done : OnBroken → List Bool → Bool
+is_done GoOn broken = all_of broken
+is_done Stop broken = any_of broken
 
 -- How an input is read: to its end; or until it breaks off; or up to a piece with which it has more bytes than any tool
--- takes; or, where no output is left, up to the piece in which the last of them broke, so that nothing after it is met.
--- x is all that was copied, and `Leaves` says what is left unread.
+-- takes; or, where the outputs that broke end the run, up to the piece in which that came, so that nothing after it is
+-- met. x is all that was copied, and `Leaves` says what is left unread.
 pub data IsRead (content : Content) (Leaves : List ℕ → Type 0) : (is_vain : Bool) → List ℕ → Option Fault → Type 0 where
   to_end : (x : List ℕ) → content.bytes ≡ x → content.breaks_off ≡ false → Leaves []
       → IsRead content Leaves false x None
@@ -79,7 +95,7 @@ pub data IsRead (content : Content) (Leaves : List ℕ → Type 0) : (is_vain : 
       → IsRead content Leaves false x (Some (Read 0))
   to_limit : (x piece rest : List ℕ) → content.bytes ≡ (x ++ piece) ++ rest → 2 ^ 63 ≤ length (x ++ piece)
       → length piece ≤ largest_piece → Leaves rest → IsRead content Leaves false x (Some TooLong)
-  to_last_output : (x rest : List ℕ) → content.bytes ≡ x ++ rest → Leaves rest → IsRead content Leaves true x None
+  to_broken_output : (x rest : List ℕ) → content.bytes ≡ x ++ rest → Leaves rest → IsRead content Leaves true x None
 
 -- this is left of a source that tells its bytes
 abbrev pub LeavesOf : Bool → Source → List ℕ → Type 0
@@ -130,22 +146,24 @@ pub data EachFile (Is : List ℕ → Option ℕ → Slot → Type 0) : List (Lis
 abbrev pub FilesLeft : Bool → Mode → List (List ℕ) → List (List ℕ) → List (Option ℕ) → List Slot → Type 0
 FilesLeft told mode pieces = EachFile (FileLeft told mode pieces)
 
--- A run ended so: some output was left as each piece was read, and where none is left the reading ended with that;
--- standard output and each file were left as they must be by what broke when, the messages for that were said, and the
--- status tells whether anything went wrong; or there was no memory for the run at all, and nothing was opened or read.
-pub data EndsAs (told_in told : Bool) (mode : Mode) (names : List (List ℕ)) (content : Content) (source : Source)
-    (new : List Slot) (status : ℕ) : Type 0 where
+-- A run ended so: as each piece was read, the outputs that were broken didn't end it, and where they did the reading
+-- ended with that; standard output and each file were left as they must be by what broke when, the messages for that
+-- were said, and the status tells whether anything went wrong; or there was no memory for the run at all, and nothing
+-- was opened or read.
+pub data EndsAs (told_in told : Bool) (mode : Mode) (on_broken : OnBroken) (names : List (List ℕ)) (content : Content)
+    (source : Source) (new : List Slot) (status : ℕ) : Type 0 where
   copied : (pieces : List (List ℕ)) (fault : Option Fault) (first : Option ℕ) (broke : List (Option ℕ))
       (output error : Slot) (files : List Slot)
-      → ComesIn told_in content source (none_left (suc (length pieces)) (first ∷ broke)) pieces fault
-      → none_left (length pieces) (first ∷ broke) ≡ false → OutputLeft told pieces first output
+      → ComesIn told_in content source (is_done on_broken (broken_before (suc (length pieces)) (first ∷ broke)))
+      pieces fault
+      → is_done on_broken (broken_before (length pieces) (first ∷ broke)) ≡ false → OutputLeft told pieces first output
       → FilesLeft told mode pieces names broke files
       → SaysAll told Tee (messages_of names (first ∷ broke) (length pieces) fault) standard_error error
       → new ≡ output ∷ error ∷ files → status ≡ status_of (first ∷ broke) fault
-      → EndsAs told_in told mode names content source new status
+      → EndsAs told_in told mode on_broken names content source new status
   no_room : (error : Slot) → SaysAll told Tee (message_of Tee Memory [] ∷ []) standard_error error
       → IsUnread told_in content source → new ≡ streams_with error → status ≡ 1
-      → EndsAs told_in told mode names content source new status
+      → EndsAs told_in told mode on_broken names content source new status
 
 -- where nothing breaks: standard output and every file have these bytes, the files are closed, and nothing was said
 abbrev pub all_copied : Bool → Mode → List (List ℕ) → List ℕ → List Slot

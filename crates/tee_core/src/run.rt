@@ -1,6 +1,7 @@
 //! A whole run of `tee`.
 ghost use Rattle.std.specs.Prelude.{◌≡◌, ◌∷◌, ◌+◌, ◌-◌, ◌^◌, ◌<◌, ◌≤◌, not, ◌&&◌, ◌||◌, replicate, suc, ◌++◌, ℕ, List, Option, Bool, [], true, false, map, length, get_or, IfOk, IfErr, OnOk, IsTrue, is_none, if◌then◌else◌};
 ghost use Rattle.ports_core.specs.declared.fault.Fault.{Fault};
+ghost use Rattle.ports_core.specs.declared.on_broken.OnBroken.{OnBroken};
 ghost use Rattle.ports_core.specs.declared.slot.Mode.{Mode};
 ghost use Rattle.ports_core.specs.Slot.{Slot, is_open, slot_at, streams};
 ghost use Rattle.ports_core.specs.Text.{message_of};
@@ -8,11 +9,11 @@ ghost use Rattle.ports_core.specs.Message.{SaysOn};
 ghost use Rattle.ports_core.specs.Source.{source_at, is_readable, IsFresh};
 ghost use Rattle.ports_core.specs.Inputs.{CameFrom, KeepsOthers, OfContent, AsksAtMost, largest_piece};
 ghost use Rattle.tee_core.specs.Opening.{Opens};
-ghost use Rattle.tee_core.specs.Run.{EndsAs, all_copied, output_names, said_of_input};
-ghost use Rattle.tee_core.specs.inner.Steps.{HasCopied, Copies, CopiesRead, HasStreams, IsTeeOf, SaysTo, all_of, any_of, broken_of, output_slot, said_since};
+ghost use Rattle.tee_core.specs.Run.{EndsAs, all_copied, all_of, any_of, is_done, output_names, said_of_input};
+ghost use Rattle.tee_core.specs.inner.Steps.{HasCopied, Copies, CopiesRead, HasStreams, IsTeeOf, SaysTo, broken_of, output_slot, said_since};
 
 use crate::tee::Tee;
-use ports_core::{Fault, Inputs, Mode, Outs, Tool, fed_with, say, tell};
+use ports_core::{Fault, Inputs, Mode, OnBroken, Outs, Tool, fed_with, say, tell};
 use std::alloc::Global;
 
 /// How many bytes are read at once, at the most.
@@ -22,26 +23,29 @@ const PIECE: usize = 65_536;
 /// appended to (POSIX.1-2017, XCU tee). A file named `-` is a file. Its status is 1 where a fault was met, and else 0.
 ///
 /// An output that can't be opened, written or closed is told on standard error, after the call in which it broke, and the
-/// others go on. The input is read to its end, or where no output is left, up to the piece with which the last of them broke:
-/// what comes after that, a fault of the input too, isn't met. Where the input breaks off, or has more than 2^63-1 bytes,
-/// that is told. In each case the files that are sound are closed. It takes memory for one buffer of 65,536 bytes and a byte
-/// for each output, before anything is opened, and for its messages.
+/// others have all that is read. The input is read to its end, or where the run goes on with the outputs that are left, up to
+/// the piece with which the last of them broke; where it stops (GNU coreutils manual, tee, `--output-error=exit`), up to the
+/// piece in which the first one did, and not at all where a file couldn't be opened. What comes after that, a fault of the
+/// input too, isn't met. Where the input breaks off, or has more than 2^63-1 bytes, that is told. In each case the files that
+/// are sound are closed. It takes memory for one buffer of 65,536 bytes and a byte for each output, before anything is opened,
+/// and for its messages.
 pub fn run_tee<I: Inputs, O: Outs>(
     alloc: Global,
     names: &[&str],
     mode: Mode,
+    on_broken: OnBroken,
     inputs: &mut I,
     outs: &mut O,
 ) -> u8
     requires fresh { IsFresh (I.sources inputs.old) }
     requires outputs { O.slots outs.old ≡ streams }
-    ensures ends { OfContent I.told (source_at (I.sources inputs.old) 0).left (λ content. EndsAs I.told O.told mode (map (λ name. name.now) names.now) content (source_at (I.sources inputs.new) 0) (O.slots outs.new) result
+    ensures ends { OfContent I.told (source_at (I.sources inputs.old) 0).left (λ content. EndsAs I.told O.told mode on_broken (map (λ name. name.now) names.now) content (source_at (I.sources inputs.new) 0) (O.slots outs.new) result
         × CameFrom I.told content (source_at (I.sources inputs.new) 0)) }
     ensures whole { I.told ≡ true → result ≡ 0 → O.slots outs.new ≡ all_copied O.told mode (map (λ name. name.now) names.now) (source_at (I.sources inputs.old) 0).left.bytes }
     ensures others { KeepsOthers 0 (I.sources inputs.old) (I.sources inputs.new) }
     ensures asked { AsksAtMost largest_piece (I.sources inputs.new) }
 {
-    match copy_input(alloc, names, mode, inputs, outs) {
+    match copy_input(alloc, names, mode, on_broken, inputs, outs) {
         Ok(failed) => u8::from(failed),
         Err(fault) => {
             tell(alloc, Tool::Tee, &fault, outs);
@@ -59,14 +63,14 @@ fn copy_input<I: Inputs, O: Outs>(
     alloc: Global,
     names: &[&str],
     mode: Mode,
+    on_broken: OnBroken,
     inputs: &mut I,
     outs: &mut O,
 ) -> Result<bool, Fault>
     requires fresh { IsFresh (I.sources inputs.old) }
     requires outputs { O.slots outs.old ≡ streams }
-    ensures copied { IfOk result (λ failed. OfContent I.told (source_at (I.sources inputs.old) 0).left (λ content. EndsAs I.told O.told mode (map (λ name. name.now) names.now) content (source_at (I.sources inputs.new) 0) (O.slots outs.new) (if failed then 1 else 0)
+    ensures copied { IfOk result (λ failed. OfContent I.told (source_at (I.sources inputs.old) 0).left (λ content. EndsAs I.told O.told mode on_broken (map (λ name. name.now) names.now) content (source_at (I.sources inputs.new) 0) (O.slots outs.new) (if failed then 1 else 0)
         × CameFrom I.told content (source_at (I.sources inputs.new) 0))) }
-    ensures looked { OnOk result (0 < (source_at (I.sources inputs.new) 0).asked) }
     ensures err { IfErr result (λ fault. (fault ≡ Fault.Memory) × (O.slots outs.new ≡ O.slots outs.old) × (I.sources inputs.new ≡ I.sources inputs.old)) }
     ensures others { KeepsOthers 0 (I.sources inputs.old) (I.sources inputs.new) }
     ensures asked { AsksAtMost largest_piece (I.sources inputs.new) }
@@ -77,13 +81,23 @@ fn copy_input<I: Inputs, O: Outs>(
     };
     let mut known = vec![in alloc; false; outputs]?;
     let tee = Tee::open(alloc, names, mode, outs)?;
-    Ok(copy_all(alloc, names, tee, &mut buffer, &mut known, inputs, outs))
+    Ok(copy_all(
+        alloc,
+        names,
+        on_broken,
+        tee,
+        &mut buffer,
+        &mut known,
+        inputs,
+        outs,
+    ))
 }
 
 /// The run of a tee that was just opened. Of no output it is known yet that it is broken. Returns whether a fault was met.
 fn copy_all<I: Inputs, O: Outs>(
     alloc: Global,
     names: &[&str],
+    on_broken: OnBroken,
     mut tee: Tee,
     buffer: &mut [u8],
     known: &mut [bool],
@@ -96,14 +110,15 @@ fn copy_all<I: Inputs, O: Outs>(
     requires opened { (mode : Mode) × Opens mode (map (λ name. name.now) names.now) streams (O.slots outs.old) }
     requires unknown { known.old ≡ replicate (length names.now + 1) false }
     ensures copied { (mode : Mode) → Opens mode (map (λ name. name.now) names.now) streams (O.slots outs.old)
-        → OfContent I.told (source_at (I.sources inputs.old) 0).left (λ content. EndsAs I.told O.told mode (map (λ name. name.now) names.now) content (source_at (I.sources inputs.new) 0) (O.slots outs.new) (if result then 1 else 0)
+        → OfContent I.told (source_at (I.sources inputs.old) 0).left (λ content. EndsAs I.told O.told mode on_broken (map (λ name. name.now) names.now) content (source_at (I.sources inputs.new) 0) (O.slots outs.new) (if result then 1 else 0)
         × CameFrom I.told content (source_at (I.sources inputs.new) 0)) }
-    ensures looked { 0 < (source_at (I.sources inputs.new) 0).asked }
     ensures others { KeepsOthers 0 (I.sources inputs.old) (I.sources inputs.new) }
     ensures asked { AsksAtMost largest_piece (I.sources inputs.new) }
 {
     tell_broken(alloc, &Fault::Open(0), names, known, outs);
-    let fault = copy_pieces(alloc, names, &mut tee, buffer, known, inputs, outs);
+    let fault = copy_pieces(
+        alloc, names, on_broken, &mut tee, buffer, known, inputs, outs,
+    );
     tell_input(alloc, &fault, outs);
     close_all(alloc, names, &mut tee, known, outs);
     has_failed(&fault, known)
@@ -116,13 +131,14 @@ fn has_failed(fault: &Option<Fault>, known: &[bool]) -> bool
     fault.is_some() || any_is(known)
 }
 
-/// Reads standard input to its end, or until no output is left, and copies it piece by piece, with the messages for outputs
+/// Reads standard input to its end, or until the outputs that are broken end the run, and copies it piece by piece, with the messages for outputs
 /// that break. Returns the fault that ended it sooner, if one did: `Read` where the input broke off, `TooLong` where it has
 /// more than 2^63-1 bytes.
 #[tactic(auto, using(ports_core::proofs::InputsLemmas::keeps_again, ports_core::proofs::InputsLemmas::keeps_others, ports_core::proofs::InputsLemmas::asked_again, ports_core::proofs::InputsLemmas::asked_at_end))]
 fn copy_pieces<I: Inputs, O: Outs>(
     alloc: Global,
     names: &[&str],
+    on_broken: OnBroken,
     tee: &mut Tee,
     buffer: &mut [u8],
     known: &mut [bool],
@@ -131,20 +147,18 @@ fn copy_pieces<I: Inputs, O: Outs>(
 ) -> Option<Fault>
     requires room { 0 < length buffer.old }
     requires most { length buffer.old ≤ largest_piece }
-    requires left { all_of known.old ≡ false }
     requires input { IsTrue (is_readable (I.sources inputs.old) 0) }
     requires tee { IsTeeOf (map (λ name. name.now) names.now) tee.old }
-    requires copies { (mode : Mode) × Copies O.told mode (map (λ name. name.now) names.now) [] [] (O.slots outs.old) known.old }
+    requires copies { (mode : Mode) × Copies O.told mode on_broken (map (λ name. name.now) names.now) [] [] (O.slots outs.old) known.old }
     ensures same { tee.new ≡ tee.old }
-    ensures copies { (mode : Mode) → Copies O.told mode (map (λ name. name.now) names.now) [] [] (O.slots outs.old) known.old
-        → OfContent I.told (source_at (I.sources inputs.old) 0).left (λ content. CopiesRead I.told O.told mode (map (λ name. name.now) names.now) content (source_at (I.sources inputs.new) 0) (O.slots outs.new) known.new result
+    ensures copies { (mode : Mode) → Copies O.told mode on_broken (map (λ name. name.now) names.now) [] [] (O.slots outs.old) known.old
+        → OfContent I.told (source_at (I.sources inputs.old) 0).left (λ content. CopiesRead I.told O.told mode on_broken (map (λ name. name.now) names.now) content (source_at (I.sources inputs.new) 0) (O.slots outs.new) known.new result
         × CameFrom I.told content (source_at (I.sources inputs.new) 0)) }
     ensures others { KeepsOthers 0 (I.sources inputs.old) (I.sources inputs.new) }
     ensures asked { (source_at (I.sources inputs.old) 0).asked ≤ length buffer.old → (source_at (I.sources inputs.new) 0).asked ≤ length buffer.old }
-    ensures looked { 0 < (source_at (I.sources inputs.new) 0).asked }
 {
     let mut fed = 0;
-    'pieces: loop {
+    'pieces: while !is_done(on_broken, known) {
         let n = match inputs.read(0, buffer) {
             Ok(n) => n,
             Err(fault) => return Some(fault),
@@ -156,11 +170,9 @@ fn copy_pieces<I: Inputs, O: Outs>(
             return Some(Fault::TooLong);
         };
         copy_piece(alloc, names, tee, &buffer[..n], known, outs);
-        if are_all(known) {
-            return None;
-        }
         fed = sum;
     }
+    None
 }
 
 /// Copies a piece, and says which outputs broke in it.
@@ -173,10 +185,10 @@ fn copy_piece<O: Outs>(
     outs: &mut O,
 )
     requires tee { IsTeeOf (map (λ name. name.now) names.now) tee.old }
-    requires left { all_of known.old ≡ false }
-    requires copies { (mode : Mode) × (pieces : List (List ℕ)) × Copies O.told mode (map (λ name. name.now) names.now) pieces [] (O.slots outs.old) known.old }
+    requires copies { (mode : Mode) × (on_broken : OnBroken) × (pieces : List (List ℕ)) × Copies O.told mode on_broken (map (λ name. name.now) names.now) pieces [] (O.slots outs.old) known.old }
     ensures same { tee.new ≡ tee.old }
-    ensures copies { (mode : Mode) (pieces : List (List ℕ)) → Copies O.told mode (map (λ name. name.now) names.now) pieces [] (O.slots outs.old) known.old → Copies O.told mode (map (λ name. name.now) names.now) (pieces ++ piece.now ∷ []) [] (O.slots outs.new) known.new }
+    ensures copies { (mode : Mode) (on_broken : OnBroken) (pieces : List (List ℕ)) → is_done on_broken known.old ≡ false
+        → Copies O.told mode on_broken (map (λ name. name.now) names.now) pieces [] (O.slots outs.old) known.old → Copies O.told mode on_broken (map (λ name. name.now) names.now) (pieces ++ piece.now ∷ []) [] (O.slots outs.new) known.new }
 {
     tee.feed(piece, outs);
     tell_broken(alloc, &Fault::Write(0), names, known, outs);
@@ -191,8 +203,8 @@ fn close_all<O: Outs>(
     outs: &mut O,
 )
     requires tee { IsTeeOf (map (λ name. name.now) names.now) tee.old }
-    requires copies { (mode : Mode) × (pieces : List (List ℕ)) × (messages : List (List ℕ)) × Copies O.told mode (map (λ name. name.now) names.now) pieces messages (O.slots outs.old) known.old }
-    ensures { (mode : Mode) (pieces : List (List ℕ)) (fault : Option Fault) → Copies O.told mode (map (λ name. name.now) names.now) pieces (said_of_input fault) (O.slots outs.old) known.old → HasCopied O.told mode (map (λ name. name.now) names.now) pieces fault (all_of known.old) (O.slots outs.new) known.new }
+    requires copies { (mode : Mode) × (on_broken : OnBroken) × (pieces : List (List ℕ)) × (messages : List (List ℕ)) × Copies O.told mode on_broken (map (λ name. name.now) names.now) pieces messages (O.slots outs.old) known.old }
+    ensures { (mode : Mode) (on_broken : OnBroken) (pieces : List (List ℕ)) (fault : Option Fault) → Copies O.told mode on_broken (map (λ name. name.now) names.now) pieces (said_of_input fault) (O.slots outs.old) known.old → HasCopied O.told mode on_broken (map (λ name. name.now) names.now) pieces fault known.old (O.slots outs.new) known.new }
 {
     tee.close(outs);
     tell_broken(alloc, &Fault::Write(0), names, known, outs);
@@ -205,6 +217,16 @@ fn tell_input<O: Outs>(alloc: Global, fault: &Option<Fault>, outs: &mut O)
 {
     if let Some(fault) = fault {
         say(alloc, Tool::Tee, fault, "standard input", outs);
+    }
+}
+
+/// Whether a run ends, where these of its outputs are broken.
+fn is_done(on_broken: OnBroken, broken: &[bool]) -> bool
+    ensures { result ≡ is_done on_broken broken.now }
+{
+    match on_broken {
+        OnBroken::GoOn => are_all(broken),
+        OnBroken::Stop => any_is(broken),
     }
 }
 

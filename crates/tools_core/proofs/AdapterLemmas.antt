@@ -25,7 +25,7 @@ use Rattle.std.proofs.lemmas.Bool.{false≢true}
 use Rattle.ports_core.specs.Swept.{Swept}
 use Rattle.csplit_core.specs.Csplit.{csplit_work}
 use Rattle.operand_core.specs.Style.{Style}
-use Rattle.csplit_core.specs.Writer.{Breaks}
+use Rattle.ports_core.specs.FileWriter.{Breaks}
 use Rattle.operand_core.specs.declared.operand.Operand.{Operand}
 
 head_of-nil : (delim : ℕ) (unit : Counted) (but_last : Bool) (n : ℕ) → head_of delim unit but_last n [] ≡ []
@@ -80,13 +80,10 @@ pub opened_short : {E : Type 0} (told : Bool) {begun asked : Work} {opening : Ne
 opened_short told old new (Ok e) Why Left is two stops cut why left = tt
 opened_short told old new (Err fault) Why Left is two stops cut why left = grind (arith, common_steps, nothing_out, some_there)
 
-says_sizes : (style : Style) → style.quiet ≡ false → writes (sizes_wanted style) ≡ true
-says_sizes style loud = grind (arith, common_steps)
-
-pub csplit_halts : (style : Style) (operands : List Operand) (old new : List Slot) (fault : Fault) → Breaks style old new fault
+pub csplit_halts : (style : Style) (operands : List Operand) (old new : List Slot) (fault : Fault) → Breaks (sizes_wanted style) old new fault
     → (is_verdict fault ≡ false) × Stops (call_of (csplit_work style operands) (record { memory = true; files = true }) [] nothing ((csplit_work style operands).settled [])) new fault
 csplit_halts style operands old new Memory breaks = (refl, refl)
-csplit_halts style operands old new (Write slot) breaks = (refl, (λ first. says_sizes style (breaks.0 first), λ none. absurd (false≢true (sym none)), breaks.1.1))
+csplit_halts style operands old new (Write slot) breaks = (refl, (breaks.0, λ none. absurd (false≢true (sym none)), breaks.1.1))
 csplit_halts style operands old new (Open slot) breaks = (refl, (refl, refl))
 csplit_halts style operands old new fault breaks = absurd breaks
 

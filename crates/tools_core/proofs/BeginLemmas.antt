@@ -2,10 +2,8 @@
 -- outputs, and what these have.
 use Rattle.std.proofs.lemmas.Grind.{common_steps}
 use Rattle.std.proofs.Common.{◌≡◌, ℕ, ◌≤◌, ◌<◌, zero, suc, Bool, true, false, List, [], ◌∷◌, ◌++◌, length, map, Option, Some, inl, inr, ◌⊎◌, refl, sym, ◌∙◌, ap, arith, append-nil, rules, cond, take, None, subst, append_assoc, codes, All, not, ◌&&◌}
-use Rattle.std.proofs.lemmas.Bool.{cases_eq, false≢true, cases_lt, cond_both, eq-eqb, eqb-true}
+use Rattle.std.proofs.lemmas.Bool.{cases_eq, false≢true, cases_lt, cond_both, eq-eqb, eqb-true, lt-ltb}
 use Rattle.std.proofs.Math.Bool.{and_assoc, or-true}
-use Rattle.std.proofs.lemmas.List.{length-map}
-use Rattle.std.proofs.lemmas.List.FromFn.{length-map-range_with_len}
 use Rattle.ports_core.specs.Slot.{Slot, breaks, changed_at, slot_at, unopened, adds}
 use Rattle.ports_core.specs.Source.{Content, Source}
 use Rattle.ports_core.specs.Streams.{streams_with, standard_error, standard_output}
@@ -15,17 +13,18 @@ use Rattle.ports_core.specs.Work.{IsLawful, Needs, Work}
 use Rattle.ports_core.specs.Inputs.{largest_piece}
 use Rattle.ports_core.specs.declared.fault.Fault.{Fault}
 use Rattle.ports_core.specs.declared.fault.Fault.TheVariants.{Write, Open}
-use Rattle.ports_core.specs.Name.{Naming, name_count}
+use Rattle.ports_core.specs.Name.{Naming, has_suffix, name_count}
 use Rattle.ports_core.proofs.PartLemmas.{nothing_begins, nothing_begins_part, part_begins_itself, part_trans, begins_itself, begins_trans, take_begins_after}
 use Rattle.ports_core.proofs.SlotLemmas.{slot_at-changed, slot_at-elsewhere}
 use Rattle.seg_core.specs.declared.cut.Cut.{Cut}
-use Rattle.seg_core.specs.declared.cut.Cut.TheVariants.{Lines, Bytes, LineBytes, Round}
-use Rattle.split_core.specs.declared.limit.Limit.TheVariants as limit
+use Rattle.seg_core.specs.declared.cut.Cut.TheVariants.{Parts, Round}
 use Rattle.split_core.specs.Split.{are_named, split_work, whole_by}
 use Rattle.split_core.specs.Round.{round_plan}
-use Rattle.split_core.specs.laws.DealLaws.{dealt_files_are}
-use Rattle.split_core.proofs.CutLaws.{opened_by-most}
+use Rattle.split_core.specs.Split.{HasNames}
+use Rattle.split_core.proofs.RoundLemmas.{not_short}
+use Rattle.words_core.specs.SplitAsked.{SplitAsked}
 use Rattle.words_core.specs.SplitWords.{AreNamed}
+use Rattle.tools_core.specs.Tasks.{naming_of}
 use Rattle.split_core.specs.laws.WorkLaws.{parts_lawful, round_lawful}
 use Rattle.split_core.proofs.AgreedLemmas.{plan_by}
 use Rattle.run_core.specs.Feeding.{HasAll, IsCall, Step, enough, is_enough, made_of, to_end, opens, feeds, closes}
@@ -34,14 +33,16 @@ use Rattle.run_core.specs.RunEnds.{EndsAs, RunStep, as_defined, calling, heading
 use Rattle.run_core.specs.Task.{Task, after_part, are_missing, header_text, is_missing, made_by, of_content, of_input, of_inputs}
 use Rattle.run_core.proofs.StopLemmas.{after_assoc, begins_after, nothing_after}
 use Rattle.tools_core.specs.Promises.{BeginsAs, BrokeAt, IsCalled, Run, SaysLines, StopsRun, TellsMet, failing}
-use Rattle.tools_core.proofs.LeftLemmas.{Kept, slots_at, swept_kept, outputs_of, slot_of, slots_of, copy, tee_made, HasLine, has_after, has_before, one_line}
+use Rattle.tools_core.proofs.LeftLemmas.{Kept, slots_at, swept_kept, outputs_of, slot_of, slots_of, copy, tee_made, text_made, HasLine, has_after, has_before, one_line}
 use Rattle.std.specs.List.{concat}
 use Rattle.std.proofs.lemmas.List.Elements.{All-append, All-cons, All-nil}
 use Rattle.std.proofs.lemmas.List.Folds.{concat-append}
 use Rattle.ports_core.specs.Message.{SaysAll}
 use Rattle.ports_core.specs.Text.{message_of}
 use Rattle.ports_core.specs.declared.slot.Mode.{Mode}
+use Rattle.ports_core.specs.declared.tool.Tool.{Tool}
 use Rattle.ports_core.specs.declared.tool.Tool.TheVariants as tool
+use Rattle.tools_core.specs.About.{TellsText, no_text, text_cut, text_whole}
 use Rattle.tee_core.specs.Run as tee
 use Rattle.tee_core.specs.Run.{FileLeft, FilesLeft, IsRead, OutputLeft, are_sound, fault_in, messages_of, output_names, said_before, said_in, said_of_input}
 use Rattle.words_core.specs.TeeAsked.{TeeAsked}
@@ -213,24 +214,25 @@ lawful_grows {work} law content = record { settled = settled_made work content l
 
 -- where lines are dealt, and all files have names
 
-named_up_to : (names : Naming) (count : ℕ) {n : ℕ} → count ≤ n → n ≤ name_count names.alphabet names.width → are_named names count ≡ true
-named_up_to names zero few all = refl
-named_up_to names (suc last) few all = grind (arith, common_steps)
+named_up_to : (asked : SplitAsked) (count : ℕ) → count ≤ name_count asked.alphabet asked.width → are_named (naming_of asked) count ≡ true
+named_up_to asked zero all = refl
+named_up_to asked (suc last) all = cond_both asked.auto _ _ (λ numbering. has_suffix numbering last ≡ true) (λ is. refl) (λ is. lt-ltb _ _ all)
 
-never_complete : (delim : ℕ) {n : ℕ} (elide : Bool) (names : Naming) (x : List ℕ) → n ≤ name_count names.alphabet names.width → (split_work (round_plan delim n elide names)).is_complete x ≡ true → ⊥
-never_complete delim {n} elide names x all complete = grind (arith, common_steps, length-map, dealt_files_are, length-map-range_with_len, named_up_to, opened_by-most, false≢true)
+pub all_have_names : (asked : SplitAsked) → AreNamed asked.cut asked.alphabet asked.width → HasNames asked.cut (naming_of asked)
+all_have_names asked named = by asked.cut named where
+  by : (cut : Cut) → AreNamed cut asked.alphabet asked.width → HasNames cut (naming_of asked)
+  by (Parts limit) all = tt
+  by (Round n delim) all = named_up_to asked n all
 
-dealt_closed : (delim : ℕ) {n : ℕ} (elide : Bool) (names : Naming) (content : Content) → n ≤ name_count names.alphabet names.width
+dealt_closed : (delim n : ℕ) (elide : Bool) (names : Naming) (content : Content) → are_named names n ≡ true
     → (x : List ℕ) → HasAll (split_work (round_plan delim n elide names)) content x → Begins (whole_by (round_plan delim n elide names) x) (made_of (split_work (round_plan delim n elide names)) content)
-dealt_closed delim elide names content all x (to_end ends is) = rw (ends, is) (part_begins_itself _)
-dealt_closed delim {n} elide names content all x (enough rest is complete) = absurd (never_complete delim elide names x all complete)
+dealt_closed delim n elide names content all x (to_end ends is) = rw (ends, is) (part_begins_itself _)
+dealt_closed delim n elide names content all x (enough rest is complete) = absurd (false≢true (not_short delim names elide n x all ∙ complete))
 
-pub split_grows : (delim : ℕ) (cut : Cut) (elide : Bool) (names : Naming) → AreNamed cut names.alphabet names.width → (content : Content) → IsGrowing (split_work (plan_by delim cut elide names)) content
-split_grows delim (Lines n) elide names all = lawful_grows (parts_lawful (limit.Lines n delim) names)
-split_grows delim (Bytes n) elide names all = lawful_grows (parts_lawful (limit.Bytes n) names)
-split_grows delim (LineBytes n) elide names all = lawful_grows (parts_lawful (limit.LineBytes n delim) names)
-split_grows delim (Round n) elide names all = λ content.
-    let law = round_lawful delim n elide names in record { settled = settled_made (split_work (round_plan delim n elide names)) content law.grows law.ends; closed = dealt_closed delim elide names content all }
+pub split_grows : (cut : Cut) (elide : Bool) (names : Naming) → HasNames cut names → (content : Content) → IsGrowing (split_work (plan_by cut elide names)) content
+split_grows (Parts limit) elide names all = lawful_grows (parts_lawful limit names)
+split_grows (Round n delim) elide names all = λ content.
+    let law = round_lawful delim n elide names in record { settled = settled_made (split_work (round_plan delim n elide names)) content law.grows law.ends; closed = dealt_closed delim n elide names content all }
 
 -- Each line is such a line, where those are that tell of outputs that broke, each in its call, and of the input.
 
@@ -394,6 +396,16 @@ pub unsound_broke : {mode : Mode} {pieces names : List (List ℕ)} {first : Opti
 unsound_broke tee.output_whole rest sound = let (at, broken) = files_broke rest sound in (suc (suc at), λ is. omega (arith, is), broken)
 unsound_broke (tee.output_cut before piece after n is few) rest sound = search rules
 
+-- Standard output has a beginning of a text about a tool.
+
+pub text_begins : {which : Tool} {text : List ℕ} {new : List Slot} {status : ℕ} (place : ℕ) → (place ≡ 1 → ⊥) → TellsText true which text new status → BeginsAs (slot_at new place) (slot_at (slots_of (text_made text).part) place)
+text_begins (suc zero) differs tells = absurd (differs refl)
+text_begins place differs (no_text error says slots is) = still_begins place slots (bare_begins error place differs)
+text_begins {text} zero differs (text_whole slots is) = rw slots (record { bytes = begins_itself text; named = inl refl })
+text_begins {text} zero differs (text_cut n short error says slots is) = rw slots (record { bytes = take_begins_after n [] text; named = inl refl })
+text_begins (suc (suc place)) differs (text_whole slots is) = rw slots (empty_begins refl)
+text_begins (suc (suc place)) differs (text_cut n short error says slots is) = rw slots (empty_begins refl)
+
 -- Each output has a beginning of the input.
 
 -- all that was copied is one
@@ -401,7 +413,7 @@ read_begins : {content : Content} (Leaves : List ℕ → Type 0) {is_vain : Bool
 read_begins Leaves (tee.to_end x is ends leaves) = rw is (begins_itself x)
 read_begins Leaves (tee.to_break x is breaks leaves) = rw is (begins_itself x)
 read_begins Leaves (tee.to_limit x piece rest is long short leaves) = grind (arith, common_steps)
-read_begins Leaves (tee.to_last_output x rest is leaves) = (rest, is)
+read_begins Leaves (tee.to_broken_output x rest is leaves) = (rest, is)
 
 -- so is what came before an output broke in a piece
 cut_begins : {pieces : List (List ℕ)} (before : List (List ℕ)) (piece : List ℕ) (after : List (List ℕ)) (n : ℕ) → pieces ≡ before ++ piece ∷ after → IsBeginning (concat before ++ take n piece) (concat pieces)
@@ -422,7 +434,7 @@ files_begin all (tee.one_file name names _ broke _ files (tee.file_unopened kept
 files_begin all (tee.one_file name names first broke file files tee.file_whole rest) zero = grind (arith, common_steps)
 files_begin all (tee.one_file name names first broke file files tee.file_unclosed rest) zero = grind (arith, common_steps)
 
-pub tee_begins : {asked : TeeAsked} {content : Content} {source : Source} {new : List Slot} {status : ℕ} (place : ℕ) → (place ≡ 1 → ⊥) → tee.EndsAs true true asked.mode asked.names content source new status → BeginsAs (slot_at new place) (slot_at (slots_of (tee_made asked content).part) place)
+pub tee_begins : {asked : TeeAsked} {content : Content} {source : Source} {new : List Slot} {status : ℕ} (place : ℕ) → (place ≡ 1 → ⊥) → tee.EndsAs true true asked.mode asked.on_broken asked.names content source new status → BeginsAs (slot_at new place) (slot_at (slots_of (tee_made asked content).part) place)
 tee_begins place differs (tee.no_room error says unread slots failed) = still_begins place slots (bare_begins error place differs)
 tee_begins {asked} {content} place differs (tee.copied pieces fault first broke output error files comes going out_left files_left says slots is) = still_begins place slots (at place differs) where
   at : (place : ℕ) → (place ≡ 1 → ⊥) → BeginsAs (slot_at (output ∷ error ∷ files) place) (slot_at (slots_of (tee_made asked content).part) place)

@@ -24,12 +24,14 @@ use Rattle.run_core.specs.Input.{World, input_of, inputs_at, inputs_from, is_das
 use Rattle.run_core.specs.Reading.{AreDone, IsLeft}
 use Rattle.run_core.specs.RunEnds.{EndsAs, as_defined}
 use Rattle.run_core.specs.Task.{Task, made_by, status_of}
+use Rattle.tee_core.proofs.EndLemmas.{sound_goes_on}
 use Rattle.tee_core.specs.Run as tee
 use Rattle.tee_core.specs.Run.{FilesLeft, IsRead, LeavesOf, are_sound, messages_of, said_of_input}
 use Rattle.words_core.specs.TeeAsked.{TeeAsked}
 use Rattle.words_core.specs.Words.{HasOperands}
 use Rattle.words_core.specs.declared.settings.Settings.{Settings}
-use Rattle.words_core.specs.declared.settings.Settings.TheVariants.{Head, Tail, Split, Csplit, Tee}
+use Rattle.words_core.specs.declared.settings.Settings.TheVariants.{Head, Tail, Split, Csplit, Tee, About}
+use Rattle.tools_core.specs.About.{text_whole}
 use Rattle.tools_core.specs.Outcome.{DoesAsked}
 use Rattle.tools_core.specs.Promises.{Completes, FindAlike, HasLong, IsUnstopped, Ran, Run, Unstopped}
 use Rattle.tools_core.specs.Tasks.{csplit_task, head_task, names_of, split_task, tail_task}
@@ -237,16 +239,16 @@ tee_well asked world few = record {
   left : Slot → List Slot
   left error = adds (concat pieces) standard_output ∷ error ∷ map (λ name. closes (adds (concat pieces) (opened name asked.mode))) asked.names
 
-  ends : tee.EndsAs true true asked.mode asked.names content source (left lines.error) (tee.status_of (None ∷ unbroken asked.names) fault)
+  ends : tee.EndsAs true true asked.mode asked.on_broken asked.names content source (left lines.error) (tee.status_of (None ∷ unbroken asked.names) fault)
   ends = tee.copied pieces fault None (unbroken asked.names) _ lines.error _
       (record {
-        read = read_all content.bytes content.breaks_off (LeavesOf true source) (λ told. refl);
+        read = rw (sound_goes_on asked.on_broken (suc (length pieces)) None (unbroken asked.names) (all_sound asked.names)) (read_all content.bytes content.breaks_off (LeavesOf true source) (λ told. refl));
         sizes = All-map (λ (piece : List ℕ). (0 < length piece) × (length piece ≤ largest_piece)) (λ byte. byte ∷ []) content.bytes (λ k byte within. (omega arith, omega arith));
         few = rw (pieces_are content.bytes) few;
         met = met_or_sound content.breaks_off;
         ended = λ none some. refl;
       })
-      refl tee.output_whole (copies_left asked.mode pieces asked.names)
+      (sound_goes_on asked.on_broken (length pieces) None (unbroken asked.names) (all_sound asked.names)) tee.output_whole (copies_left asked.mode pieces asked.names)
       (rw (quiet_outputs asked.names (None ∷ unbroken asked.names) (length pieces) fault (all_sound asked.names)) lines.says) refl refl
 
   all : (breaks_off : Bool) → tee.status_of (None ∷ unbroken asked.names) (met_by breaks_off) ≡ 0
@@ -261,6 +263,7 @@ does_well run (Split asked) can short = let e = ends_well (split_task asked) run
 does_well run (Csplit asked) (operands, asks) short =
     let e = ends_well (csplit_task asked operands) run.world (asked.input ∷ []) in
     record { sources = e.sources; new = e.new; status = e.status; does = record { operands = operands; asks = asks; ends = e.ends }; unstopped = e.unstopped }
+does_well run (About which topic) can short = record { sources = []; new = _; status = 0; does = text_whole refl refl; unstopped = refl }
 does_well run (Tee asked) can short = elim (cases_lt (length run.world.standard.bytes) (2 ^ 63)) [
   | inl few ↦ tee_well asked run.world few
   | inr many ↦ absurd (short (standard_input run.world.standard, run.world.standard, ([], [], refl), refl, many))

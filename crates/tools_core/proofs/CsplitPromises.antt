@@ -1,6 +1,6 @@
 -- What `csplit` leaves of its input.
 use Rattle.std.proofs.lemmas.Grind.{common_steps}
-use Rattle.std.proofs.Common.{◌≡◌, ℕ, ◌+◌, suc, drop, Bool, true, false, eqb, List, [], ◌∷◌, Option, Some, None, refl, ◌∙◌, ◌-◌, ◌<◌, ◌≤◌, not, ◌&&◌, ◌++◌, length, map, sym, ap, subst, arith}
+use Rattle.std.proofs.Common.{◌≡◌, ℕ, ◌+◌, suc, drop, Bool, true, false, eqb, List, [], ◌∷◌, Option, Some, None, refl, ◌∙◌, ◌-◌, ◌<◌, ◌≤◌, not, ◌&&◌, ◌++◌, length, map, sym, ap, subst, arith, cond}
 use Rattle.operand_core.specs.declared.operand.Operand.{Operand}
 use Rattle.operand_core.specs.declared.operand.Target.{Target}
 use Rattle.operand_core.specs.declared.operand.Target.TheVariants.{Number, Search}
@@ -11,7 +11,7 @@ use Rattle.operand_core.specs.Word.{Spelling, number, search, spelling, closed_a
 use Rattle.csplit_core.specs.Operand.{is_kept, Line, has_more}
 use Rattle.tools_core.specs.Promises.{SkipNothing, skips, Run, Does, HasInput, AreNumbered, AreSections, IsSound, contents_of, files_of, in_turn, last_section, left_out, text_at}
 use Rattle.std.proofs.lemmas.Bool.{cond_both, false≢true}
-use Rattle.std.proofs.lemmas.List.{length-map, map-append, drop-drop, take-append-drop}
+use Rattle.std.proofs.lemmas.List.{append-nil, length-map, map-append, drop-drop, take-append-drop}
 use Rattle.std.proofs.lemmas.List.Elements.{All-append, All-cons, All-map, All-nil}
 use Rattle.seg_core.specs.Line.{joined, lines_of}
 use Rattle.seg_core.proofs.FirstLines.{joined-append}
@@ -23,7 +23,11 @@ use Rattle.ports_core.specs.declared.slot.Mode.TheVariants.{Fresh}
 use Rattle.operand_core.specs.Style.{Style}
 use Rattle.csplit_core.specs.Csplit.{verdict_of}
 use Rattle.csplit_core.specs.Input.{all_lines, marked, newline}
-use Rattle.csplit_core.specs.Output.{Contents, contents_of as contents_in, is_empty, makes_file, file_at, files_of as files_by}
+use Rattle.csplit_core.specs.Output.{file_in, manner_of, shares_in, state_in}
+use Rattle.ports_core.specs.Draft.{Share, share, file_at, files_from, made_of}
+use Rattle.ports_core.specs.declared.file_writer.Opening.TheVariants.{Never, Late, AtOnce}
+use Rattle.ports_core.specs.declared.slot.State.{State as SlotState}
+use Rattle.std.specs.List.{flat_map}
 use Rattle.csplit_core.specs.Plan.{State, start, line_after, operands_after, step_of, Step, Ending, below, Runs, is_used_up, misses, is_above, is_below, cuts}
 use Rattle.csplit_core.specs.Planned.{plan}
 use Rattle.csplit_core.specs.Section.{Section, section_of, bytes_of, is_final, is_last_kept, lines_between, lines_in, whole_sections}
@@ -34,7 +38,7 @@ use Rattle.words_core.specs.CsplitAsked.{CsplitAsked}
 use Rattle.words_core.specs.declared.settings.Settings.TheVariants.{Csplit}
 use Rattle.tools_core.specs.Tasks.{csplit_task}
 use Rattle.tools_core.proofs.SplitPromises.{numbered_in_order, AreNamed, bytes_written, named_step}
-use Rattle.tools_core.proofs.LeftLemmas.{numbered_each, slot_of}
+use Rattle.tools_core.proofs.LeftLemmas.{each_made, each_section, slot_of}
 use Rattle.tools_core.proofs.PromiseLemmas.{did_one, one_made}
 
 -- Where no word of `csplit`'s operands skips a section, each operand keeps its section.
@@ -157,31 +161,43 @@ all_bytes : (lines : List (List ℕ)) → map (λ (line : Line). line.text) (map
 all_bytes [] = refl
 all_bytes (text ∷ lines) = ap (λ rest. text ∷ rest) (all_bytes lines)
 
-abbrev written_in : List File → List ℕ
-written_in files = joined (map (λ (file : Slot). file.written) (map slot_of files))
+-- what the files have
 
--- a section that makes no file is empty
-left_empty : (elide kept : Bool) (bytes : List ℕ) → kept ≡ true → (kept && not (elide && is_empty bytes)) ≡ false → bytes ≡ []
-left_empty elide kept [] is none = refl
-left_empty elide false (byte ∷ bytes) is none = absurd (false≢true is)
-left_empty true true (byte ∷ bytes) is none = cc
-left_empty false true (byte ∷ bytes) is none = cc
+share_bytes : (state : SlotState) (those : List (List ℕ)) → map (λ (one : Share). one.bytes) (map (share state) those) ≡ those
+share_bytes state [] = refl
+share_bytes state (bytes ∷ those) = ap (λ rest. bytes ∷ rest) (share_bytes state those)
 
-files_joined : (style : Style) (place : ℕ) (sections : List Section) → AllKept sections → written_in (files_by style place (map contents_in sections)) ≡ bytes_of (lines_in sections)
-files_joined style place [] kept = refl
-files_joined style place (section ∷ sections) kept =
-    let both = bytes_then section.lines (lines_in sections) in
-    cond_both (makes_file style (contents_in section)) _ _ (λ files. written_in files ≡ bytes_of (lines_in (section ∷ sections)))
-    (λ made. ap (λ rest. bytes_of section.lines ++ rest) (files_joined style (place + 1) sections kept.1) ∙ sym both)
-    (λ none. files_joined style place sections kept.1 ∙ sym (both ∙ ap (λ front. front ++ bytes_of (lines_in sections)) (left_empty style.elide section.is_kept (bytes_of section.lines) kept.0 none)))
+shares_have : (style : Style) (sections : List Section) → map (λ (one : Share). one.bytes) (shares_in style sections) ≡ flat_map (file_in style) sections
+shares_have style [] = refl
+shares_have style (section ∷ sections) =
+    map-append (λ (one : Share). one.bytes) (map (share (state_in section)) (file_in style section)) (shares_in style sections)
+    ∙ ap (λ front. front ++ map (λ (one : Share). one.bytes) (shares_in style sections)) (share_bytes (state_in section) (file_in style section))
+    ∙ ap (λ rest. file_in style section ++ rest) (shares_have style sections)
+
+files_have : (style : Style) (place : ℕ) (shares : List Share) → map (λ (file : File). file.bytes) (files_from (manner_of style) place shares) ≡ map (λ (one : Share). one.bytes) shares
+files_have style place [] = refl
+files_have style place (one ∷ shares) = ap (λ rest. one.bytes ∷ rest) (files_have style (place + 1) shares)
+
+-- a section that is kept makes no file only where it is empty
+file_joined : (elide kept : Bool) (bytes : List ℕ) → kept ≡ true → joined (made_of (cond kept (cond elide Late AtOnce) Never) bytes) ≡ bytes
+file_joined elide false bytes kept = absurd (false≢true kept)
+file_joined true true [] kept = refl
+file_joined true true (byte ∷ bytes) kept = append-nil (byte ∷ bytes)
+file_joined false true bytes kept = append-nil bytes
+
+files_joined : (style : Style) (sections : List Section) → AllKept sections → joined (flat_map (file_in style) sections) ≡ bytes_of (lines_in sections)
+files_joined style [] kept = refl
+files_joined style (section ∷ sections) kept =
+    joined-append (file_in style section) (flat_map (file_in style) sections)
+    ∙ ap (λ front. front ++ joined (flat_map (file_in style) sections)) (file_joined style.elide section.is_kept (bytes_of section.lines) kept.0)
+    ∙ ap (λ rest. bytes_of section.lines ++ rest) (files_joined style sections kept.1) ∙ sym (bytes_then section.lines (lines_in sections))
 
 -- Their names
 
-numbered_from : (style : Style) (start : ℕ) (all : List Contents) → AreNamed (numbered_name style.prefix style.digits) start (files_by style start all)
+numbered_from : (style : Style) (start : ℕ) (shares : List Share) → AreNamed (numbered_name style.prefix style.digits) start (files_from (manner_of style) start shares)
 numbered_from style start [] k within = absurd (omega (arith, within))
-numbered_from style start (contents ∷ all) k within =
-    named_step (numbered_name style.prefix style.digits) start (file_at style start contents) (files_by style (start + 1) all) (files_by style start all)
-    (makes_file style contents) refl (numbered_from style (start + 1) all) (numbered_from style start all) k within
+numbered_from style start (one ∷ shares) k within =
+    named_step (numbered_name style.prefix style.digits) start (file_at (manner_of style) start one) (files_from (manner_of style) (start + 1) shares) [] true refl (numbered_from style (start + 1) shares) (λ k within. absurd (omega (arith, within))) k within
 
 -- What a run leaves
 
@@ -194,14 +210,23 @@ pub record IsCsplit (run : Run) (asked : CsplitAsked) (input : List ℕ) : Type 
   pub operands : List Operand
   pub asks : Asks asked.operands operands
   pub well : is_final (plan asked.style.suppress operands (all_lines input)).ending ≡ false
-  pub files : files_of run ≡ map slot_of (files_by asked.style 0 (map contents_in (whole_sections (all_lines input) (plan asked.style.suppress operands (all_lines input)))))
+  pub files : files_of run ≡ map slot_of (files_from (manner_of asked.style) 0 (shares_in asked.style (whole_sections (all_lines input) (plan asked.style.suppress operands (all_lines input)))))
+  pub contents : contents_of run ≡ flat_map (file_in asked.style) (whole_sections (all_lines input) (plan asked.style.suppress operands (all_lines input)))
 
 is_csplit : {run : Run} {asked : CsplitAsked} {input : List ℕ} → Does run (Csplit asked) → HasInput run input → IsCsplit run asked input
-is_csplit {asked} does has =
+is_csplit {run} {asked} {input} does has =
     let one = did_one does has in
     let (operands, asks, is) = one.makes in
     let made = one_made one (csplit_task asked operands) is in
-    record { operands = operands; asks = asks; well = ends_well _ made.unjudged; files = ap (drop 2) made.slots }
+    let sections = whole_sections (all_lines input) (plan asked.style.suppress operands (all_lines input)) in
+    let files : files_of run ≡ map slot_of (files_from (manner_of asked.style) 0 (shares_in asked.style sections)) = ap (drop 2) made.slots in
+    record {
+      operands = operands;
+      asks = asks;
+      well = ends_well _ made.unjudged;
+      files = files;
+      contents = ap (map (λ (file : Slot). file.written)) files ∙ bytes_written _ ∙ files_have asked.style 0 (shares_in asked.style sections) ∙ shares_have asked.style sections;
+    }
 
 pub are_numbered : (run : Run) (asked : CsplitAsked) (input : List ℕ) → Does run (Csplit asked) → HasInput run input → AreNumbered asked.style.prefix asked.style.digits (files_of run)
 are_numbered run asked input does has =
@@ -209,16 +234,18 @@ are_numbered run asked input does has =
     let lines = all_lines input in
     let sections = whole_sections lines (plan asked.style.suppress split.operands lines) in
     let steps = (plan asked.style.suppress split.operands lines).steps in
-    let IsClosed = λ (section : Section). (place : ℕ) → IsSound Fresh (slot_of (file_at asked.style place (contents_in section))) in
-    let files = map slot_of (files_by asked.style 0 (map contents_in sections)) in
+    let IsClosed = λ (section : Section). (bytes : List ℕ) (place : ℕ) → IsSound Fresh (slot_of (file_at (manner_of asked.style) place (share (state_in section) bytes))) in
+    let shares = shares_in asked.style sections in
+    let files = map slot_of (files_from (manner_of asked.style) 0 shares) in
     let size : length (map (λ (file : Slot). file.name) files) ≡ length files = length-map files (λ (file : Slot). file.name) in
     let named : (place : ℕ) → place < length files → text_at (map (λ (file : Slot). file.name) files) place ≡ numbered_name asked.style.prefix asked.style.digits place =
-    λ place within. numbered_from asked.style 0 (map contents_in sections) place within ∙ ap (numbered_name asked.style.prefix asked.style.digits) (omega arith) in
+    λ place within. numbered_from asked.style 0 shares place within ∙ ap (numbered_name asked.style.prefix asked.style.digits) (omega arith) in
     rw split.files (record {
       named = named;
       in_order = λ few least. numbered_in_order asked.style.prefix asked.style.digits (map (λ (file : Slot). file.name) files) (λ place within. named place (omega (arith, size, within))) (omega (arith, size, few)) (omega (arith, size, least));
-      sound = All-map (IsSound Fresh) slot_of _ (numbered_each (λ (file : File). IsSound Fresh (slot_of file)) asked.style 0 (map contents_in sections)
-          (All-map (λ contents. (place : ℕ) → IsSound Fresh (slot_of (file_at asked.style place contents))) contents_in sections (All-append IsClosed (map (section_of lines) steps) _ (All-map IsClosed (section_of lines) steps (λ k step within place. (refl, refl, refl))) (All-cons IsClosed _ [] (λ place. (refl, refl, refl)) (All-nil IsClosed)))));
+      sound = All-map (IsSound Fresh) slot_of _ (each_made (λ (file : File). IsSound Fresh (slot_of file)) (manner_of asked.style) 0 shares
+          (each_section (λ one. (place : ℕ) → IsSound Fresh (slot_of (file_at (manner_of asked.style) place one))) asked.style sections
+          (All-append IsClosed (map (section_of lines) steps) _ (All-map IsClosed (section_of lines) steps (λ k step within bytes place. (refl, refl, refl))) (All-cons IsClosed _ [] (λ bytes place. (refl, refl, refl)) (All-nil IsClosed)))));
     })
 
 pub none_is_lost : (run : Run) (asked : CsplitAsked) (input : List ℕ) → Does run (Csplit asked) → HasInput run input → asked.style.suppress ≡ false → SkipNothing asked.operands → joined (contents_of run) ≡ input
@@ -226,8 +253,8 @@ none_is_lost run asked input does has whole none =
     let split = is_csplit does has in
     let lines = all_lines input in
     let keep = read_keep (words_of asked.operands).operands split.operands (all_keep asked.operands none) split.asks.read in
-    ap (λ files. joined (map (λ (file : Slot). file.written) files)) split.files
-    ∙ files_joined asked.style 0 (whole_sections lines (plan asked.style.suppress split.operands lines)) (sections_kept asked.style.suppress split.operands lines keep)
+    ap joined split.contents
+    ∙ files_joined asked.style (whole_sections lines (plan asked.style.suppress split.operands lines)) (sections_kept asked.style.suppress split.operands lines keep)
     ∙ ap (λ suppress. bytes_of (lines_in (whole_sections lines (plan suppress split.operands lines)))) whole
     ∙ ap bytes_of (none_lost_at_end split.operands lines (subst (λ suppress. is_final (plan suppress split.operands lines).ending ≡ false) whole split.well))
     ∙ ap joined (all_bytes (lines_of newline input)) ∙ joined-lines_of newline input
@@ -276,6 +303,6 @@ are_sections run asked input does has =
       split.asks,
       record {
         all = none_missing asked.style.suppress split.operands split.well;
-        files = rw (split.files, bytes_written _);
+        files = split.contents;
       },
     )

@@ -180,7 +180,7 @@ pub follows_text : {run : Run} {count : ℕ} {options : EndsAsked} {followed : F
     → WroteText (ways_of 0 (is_name followed) (start_of options)) name run.shows count run.seen run.outputs
 follows_text {run} {count} {options} {followed} {name} follows bare named keeps_bytes =
     let ways = ways_of 0 (is_name followed) (start_of options) in
-    let ends = subst (FollowingEndsAt true true run.words count run.shows run.seen run.watched run.outputs run.status) follows.read follows.ends in
+    let ends = subst (FollowingEndsAt true true run.words count run.shows run.seen run.watched run.outputs run.status) follows.read.1 follows.ends in
     let one = subst (λ names. FollowEndsAs true true ways (has_headers options.headers options.names) names count run.shows streams run.seen run.watched run.outputs run.status) named ends in
     let headless = subst (λ headers. FollowEndsAs true true ways headers (name ∷ []) count run.shows streams run.seen run.watched run.outputs run.status) bare one in
     wrote_text ways name run.shows count run.seen run.watched run.outputs keeps_bytes (subst (FollowEndsAs true true ways false (name ∷ []) count run.shows streams run.seen run.watched run.outputs) follows.well headless)
@@ -209,4 +209,4 @@ runs_tool run asked ends read none =
 
 pub runs_following : (run : Run) (options : EndsAsked) (followed : Followed) (looks : ℕ) → IsOfProgram run → AsksToFollow run options followed looks → run.status ≡ 0 → Follows run looks options followed × (run.inputs ≡ source_of run.world.standard ∷ [])
 runs_following run options followed looks ends read well =
-    let (kept, followed_so) = ends_at run ends (ap looks_at read) in (record { looks = looks; read = read; ends = followed_so; well = well }, kept)
+    let (kept, followed_so) = ends_at run ends (ap looks_at read.1) in (record { looks = looks; read = read; ends = followed_so; well = well }, kept)

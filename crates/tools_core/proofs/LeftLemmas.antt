@@ -8,7 +8,9 @@ use Rattle.ports_core.specs.Slot.{Slot, adds, has_file, slot_at, closes, opened,
 use Rattle.ports_core.specs.Source.{Content, Source}
 use Rattle.ports_core.specs.Streams.{standard_error, standard_output, streams_with}
 use Rattle.ports_core.specs.Inputs.{largest_piece}
-use Rattle.ports_core.specs.Name.{Naming}
+use Rattle.ports_core.specs.Draft as made
+use Rattle.ports_core.specs.Draft.{Manner}
+use Rattle.ports_core.specs.Name.{Naming, has_name}
 use Rattle.ports_core.specs.Part.{File, FilesBegin, Part, nothing, only_out, OutputsAt, file_of, told_file}
 use Rattle.ports_core.specs.Text.{message_of}
 use Rattle.ports_core.specs.Work.{Judges, Needs, Work}
@@ -18,19 +20,18 @@ use Rattle.ports_core.specs.declared.slot.State.{State}
 use Rattle.ports_core.specs.declared.slot.State.TheVariants.{Open, Closed}
 use Rattle.ports_core.specs.declared.tool.Tool.{Tool}
 use Rattle.seg_core.specs.declared.cut.Cut.{Cut}
-use Rattle.seg_core.specs.declared.cut.Cut.TheVariants.{Lines, Bytes, LineBytes, Round}
+use Rattle.seg_core.specs.declared.cut.Cut.TheVariants.{Parts, Round}
 use Rattle.seg_core.specs.declared.unit.Unit.{Unit as Counted}
 use Rattle.ends_core.specs.Head.{head_work}
 use Rattle.ends_core.specs.Tail.{tail_work}
-use Rattle.split_core.specs.declared.limit.Limit.{Limit}
-use Rattle.split_core.specs.declared.limit.Limit.TheVariants as limit
-use Rattle.split_core.specs.Parts.{parts}
-use Rattle.split_core.specs.Split.{Plan, Share, dealt_files, file_at, is_named, named, settled_parts, settled_shares, share, split_work, whole_shares}
+use Rattle.seg_core.specs.declared.cut.Limit.{Limit}
+use Rattle.split_core.specs.Split.{Plan, Share, dealt_files, file_at, named, settled_parts, settled_shares, share, split_work}
 use Rattle.operand_core.specs.Style.{Style}
 use Rattle.operand_core.specs.declared.operand.Operand.{Operand}
 use Rattle.csplit_core.specs.Csplit.{csplit_work}
-use Rattle.csplit_core.specs.Output as section
-use Rattle.csplit_core.specs.Output.{Contents, makes_file}
+use Rattle.csplit_core.specs.Output.{file_in, manner_of, shares_in, state_in}
+use Rattle.csplit_core.specs.Input.{all_lines, complete_lines}
+use Rattle.csplit_core.specs.Section.{Section, settled_sections, whole_sections}
 use Rattle.csplit_core.specs.Planned.{plan}
 use Rattle.run_core.specs.Feeding.{IsCall, Step, closes as ends_call, feeds, is_enough, opens}
 use Rattle.run_core.specs.Input.{Input, inputs_at, standard_input}
@@ -47,12 +48,14 @@ use Rattle.operand_core.proofs.ReadingLemmas.{asks_once}
 use Rattle.operand_core.specs.Reading.{Asks}
 use Rattle.run_core.proofs.StopLemmas.{beside_error, swept_error}
 use Rattle.tee_core.specs.Run as tee
-use Rattle.tee_core.specs.Run.{IsRead, are_sound, broke_before, messages_of, none_left, output_names, said_in, said_of_input}
-use Rattle.tee_core.proofs.EndLemmas.{nothing_before, nothing_in, sound_first, whole_files, whole_output}
+use Rattle.tee_core.specs.Run.{IsRead, are_sound, messages_of, output_names, said_in, said_of_input}
+use Rattle.tee_core.proofs.EndLemmas.{nothing_before, nothing_in, sound_first, sound_goes_on, whole_files, whole_output}
 use Rattle.words_core.specs.TeeAsked.{TeeAsked}
 use Rattle.words_core.specs.Words.{settings_of}
 use Rattle.words_core.specs.declared.settings.Settings.{Settings}
-use Rattle.words_core.specs.declared.settings.Settings.TheVariants.{Head, Tail, Split, Csplit, Tee}
+use Rattle.words_core.specs.declared.settings.Settings.TheVariants.{Head, Tail, Split, Csplit, Tee, About}
+use Rattle.words_core.specs.Help.{text_about}
+use Rattle.tools_core.specs.About.{TellsText, no_text, text_cut, text_whole}
 use Rattle.tools_core.specs.Outcome.{DoesAsked, RefusesOperands}
 use Rattle.tools_core.specs.Tasks.{csplit_task, head_task, is_minus, is_plus, names_of, plan_of, split_task, tail_task, tool_of}
 
@@ -118,14 +121,13 @@ pub named_each : (P : File → Type 0) (names : Naming) (place : ℕ) (shares : 
 named_each P names place [] all = All-nil P
 named_each P names place (share ∷ shares) all =
     let Q = λ (share : Share). (place : ℕ) → P (file_at names place share) in
-    step_each P _ _ [] (is_named names place) (All-head Q share shares all place) (named_each P names (place + 1) shares (All-tail Q share shares all)) (All-nil P)
+    step_each P _ _ [] (has_name names place) (All-head Q share shares all place) (named_each P names (place + 1) shares (All-tail Q share shares all)) (All-nil P)
 
-pub numbered_each : (P : File → Type 0) (style : Style) (place : ℕ) (contents : List Contents) → All (λ one. (place : ℕ) → P (section.file_at style place one)) contents → All P (section.files_of style place contents)
-numbered_each P style place [] all = All-nil P
-numbered_each P style place (one ∷ contents) all =
-    let Q = λ (one : Contents). (place : ℕ) → P (section.file_at style place one) in
-    let past = All-tail Q one contents all in
-    step_each P _ _ _ (makes_file style one) (All-head Q one contents all place) (numbered_each P style (place + 1) contents past) (numbered_each P style place contents past)
+pub each_made : (P : File → Type 0) (manner : Manner) (place : ℕ) (shares : List made.Share) → All (λ one. (place : ℕ) → P (made.file_at manner place one)) shares → All P (made.files_from manner place shares)
+each_made P manner place [] all = All-nil P
+each_made P manner place (one ∷ shares) all =
+    let Q = λ (one : made.Share). (place : ℕ) → P (made.file_at manner place one) in
+    step_each P _ _ [] (manner.has_name place) (All-head Q one shares all place) (each_made P manner (place + 1) shares (All-tail Q one shares all)) (All-nil P)
 
 -- Works, whatever came in
 
@@ -148,36 +150,36 @@ shares_there state has texts = All-map IsThere (share state) texts (λ k text wi
 parts_there : (which : Limit) (x : List ℕ) → All IsThere (settled_parts which x)
 parts_there which x = grind (arith, common_steps, All-append, shares_there)
 
-settled_there : (delim : ℕ) (cut : Cut) (elide : Bool) (x : List ℕ) → All IsThere (settled_shares delim cut elide x)
-settled_there delim (Lines n) elide x = parts_there (limit.Lines n delim) x
-settled_there delim (Bytes n) elide x = parts_there (limit.Bytes n) x
-settled_there delim (LineBytes n) elide x = parts_there (limit.LineBytes n delim) x
-settled_there delim (Round n) elide x = shares_there Open refl (dealt_files delim elide n x)
-
--- the pieces of an input, and their shares in the end
-
-abbrev pub pieces_of : ℕ → Cut → Bool → List ℕ → List (List ℕ)
-pieces_of delim (Lines n) elide x = parts (limit.Lines n delim) x
-pieces_of delim (Bytes n) elide x = parts (limit.Bytes n) x
-pieces_of delim (LineBytes n) elide x = parts (limit.LineBytes n delim) x
-pieces_of delim (Round n) elide x = dealt_files delim elide n x
-
-pub shares_are : (delim : ℕ) (cut : Cut) (elide : Bool) (x : List ℕ) → whole_shares delim cut elide x ≡ map (share Closed) (pieces_of delim cut elide x)
-shares_are delim (Lines n) elide x = refl
-shares_are delim cut elide x = refl
+settled_there : (cut : Cut) (elide : Bool) (x : List ℕ) → All IsThere (settled_shares cut elide x)
+settled_there (Parts limit) elide x = parts_there limit x
+settled_there (Round n delim) elide x = shares_there Open refl (dealt_files delim elide n x)
 
 files_there : (names : Naming) (shares : List Share) → All IsThere shares → AreLive (named names 0 shares)
 files_there names shares all = search (rules, named_each)
 
 pub split_living : (plan : Plan) → IsLiving (split_work plan)
-split_living plan = grind (arith, common_steps, files_there, settled_there, shares_are, shares_there)
+split_living plan = grind (arith, common_steps, files_there, settled_there, shares_there)
 
 section_has : (is_closed : Bool) → has_file (cond is_closed Closed Open) ≡ true
 section_has true = refl
 section_has false = refl
 
+pub each_section : (P : made.Share → Type 0) (style : Style) (sections : List Section) → All (λ section. (bytes : List ℕ) → P (made.share (state_in section) bytes)) sections → All P (shares_in style sections)
+each_section P style [] all = All-nil P
+each_section P style (section ∷ sections) all =
+    let Q = λ (section : Section). (bytes : List ℕ) → P (made.share (state_in section) bytes) in
+    All-append P (map (made.share (state_in section)) (file_in style section)) (shares_in style sections)
+    (All-map P (made.share (state_in section)) (file_in style section) (λ k other within. All-head Q section sections all _)) (each_section P style sections (All-tail Q section sections all))
+
+sections_there : (style : Style) (sections : List Section) → AreLive (made.files_from (manner_of style) 0 (shares_in style sections))
+sections_there style sections = each_made (λ file. IsLive (slot_of file)) (manner_of style) 0 (shares_in style sections)
+    (each_section (λ one. (place : ℕ) → IsLive (slot_of (made.file_at (manner_of style) place one))) style sections (λ k other within bytes place. (refl, section_has _)))
+
 pub csplit_living : (style : Style) (operands : List Operand) → IsLiving (csplit_work style operands)
-csplit_living style operands = search (rules, numbered_each, section_has)
+csplit_living style operands = record {
+  settled = λ x. sections_there style (settled_sections (complete_lines x) (plan style.suppress operands (complete_lines x)));
+  whole = λ x. sections_there style (whole_sections (all_lines x) (plan style.suppress operands (all_lines x)));
+}
 
 -- What a run over inputs makes of them
 
@@ -261,6 +263,7 @@ tool_is (Tail asked) task is = ap (λ (task : Task). task.tool) is
 tool_is (Split asked) task is = ap (λ (task : Task). task.tool) is
 tool_is (Csplit asked) task (operands, asks, is) = ap (λ (task : Task). task.tool) is
 tool_is (Tee asked) task is = absurd is
+tool_is (About which topic) task is = absurd is
 
 pub met_line : {run : Run} (asked : Settings) (task : Task) (fault : Fault) (name : List ℕ) → IsTask asked task → IsMet run asked fault name → TellsMet run asked (message_of task.tool fault name)
 met_line asked task fault name of met = (fault, name, met, ap (λ which. message_of which fault name) (tool_is asked task of))
@@ -271,6 +274,7 @@ one_task (Head asked) one other is is_too = is ∙ sym is_too
 one_task (Tail asked) one other is is_too = is ∙ sym is_too
 one_task (Split asked) one other is is_too = is ∙ sym is_too
 one_task (Tee asked) one other is is_too = absurd is
+one_task (About which topic) one other is is_too = absurd is
 
 found_tells : {run : Run} (asked : Settings) {task : Task} (input : Input) → IsTask asked task → IsFound run asked input → TellsInput (TellsMet run asked) task input.name input.content
 found_tells asked {task} input of found = record {
@@ -476,7 +480,7 @@ met_is Leaves left same few (tee.to_end x is ended leaves) = sym (ap met_by ende
 met_is Leaves left same few (tee.to_break x is breaks leaves) = sym (ap met_by breaks)
 met_is Leaves left same few (tee.to_limit x piece rest is many within leaves) =
     let long = length-append x piece in let all = length-append (x ++ piece) rest in let size = ap length (same ∙ is) in absurd (omega (arith, long, all, size, many, few))
-met_is Leaves left same few (tee.to_last_output x rest is leaves) = absurd (false≢true (sym left))
+met_is Leaves left same few (tee.to_broken_output x rest is leaves) = absurd (false≢true (sym left))
 
 met_status : (breaks_off : Bool) → ◌≡◌ {A = ℕ} (cond (is_none (met_by breaks_off)) 0 1) (cond breaks_off 1 0)
 met_status true = refl
@@ -485,20 +489,26 @@ met_status false = refl
 pub quiet_outputs : (names : List (List ℕ)) (broke : List (Option ℕ)) (pieces : ℕ) (fault : Option Fault) → are_sound broke ≡ true → messages_of names broke pieces fault ≡ said_of_input fault
 quiet_outputs names broke pieces fault sound = search (rules, nothing_before, nothing_in)
 
--- no output is left only where the first broke
-pub some_left : (call : ℕ) {first : Option ℕ} (broke : List (Option ℕ)) → first ≡ None → none_left call (first ∷ broke) ≡ false
-some_left call broke none = rw none
-
-pub tee_left : {asked : TeeAsked} {content : Content} {source : Source} {new : List Slot} {status : ℕ} (ends : tee.EndsAs true true asked.mode asked.names content source new status) → IsCopied ends → IsLeft tool.Tee (tee_made asked content) new status
+pub tee_left : {asked : TeeAsked} {content : Content} {source : Source} {new : List Slot} {status : ℕ} (ends : tee.EndsAs true true asked.mode asked.on_broken asked.names content source new status) → IsCopied ends → IsLeft tool.Tee (tee_made asked content) new status
 tee_left {asked} {content} (tee.copied pieces fault first broke output error files comes some left rest says slots is) (sound, all) =
     let sounds = sound_first first (are_sound broke) sound in
-    let met = met_is _ (some_left (suc (length pieces)) broke sounds.0) all comes.few comes.read in record {
+    let met = met_is _ (sound_goes_on asked.on_broken (suc (length pieces)) first broke sound) all comes.few comes.read in record {
       error = error;
       says = rw (quiet_outputs asked.names (first ∷ broke) (length pieces) fault sound ∙ ap said_of_input met) at says;
       swept = rw (slots, whole_output true pieces first output sounds.0 left, whole_files true asked.mode pieces asked.names broke files sounds.1 rest, all, copies_are asked.mode content.bytes asked.names);
       is = rw (is, sound, met, met_status content.breaks_off);
     }
 tee_left (tee.no_room error says unread slots is) copied = absurd copied
+
+-- a text about a tool
+
+abbrev pub text_made : List ℕ → Outcome
+text_made text = record { part = only_out text; messages = []; failed = false; sweeps = false }
+
+text_left : {which : Tool} {text : List ℕ} {new : List Slot} {status : ℕ} → TellsText true which text new status → status ≡ 0 → IsLeft which (text_made text) new status
+text_left (text_whole slots is) well = record { error = standard_error; says = refl; swept = rw slots refl; is = is }
+text_left (text_cut n short error says slots is) well = absurd (omega (arith, is, well))
+text_left (no_text error says slots is) well = absurd (omega (arith, is, well))
 
 -- All tools
 
@@ -509,6 +519,7 @@ Makes (Tail asked) inputs made = made ≡ made_by (tail_task asked.ends) inputs
 Makes (Split asked) inputs made = made ≡ made_by (split_task asked) inputs
 Makes (Csplit asked) inputs made = (operands : List Operand) × Asks asked.operands operands × (made ≡ made_by (csplit_task asked operands) inputs)
 Makes (Tee asked) inputs made = (content : Content) × (inputs ≡ standard_input content ∷ []) × (made ≡ tee_made asked content)
+Makes (About which topic) inputs made = made ≡ text_made (text_about which topic)
 
 pub same_content : {content other : Content} {inputs : List Input} → inputs ≡ standard_input content ∷ [] → inputs ≡ standard_input other ∷ [] → content ≡ other
 same_content {content} {other} one two =
@@ -551,6 +562,7 @@ does_left run (Tee asked) does unstopped = record {
       (λ breaks. (Read 0, codes "standard input", inr (broken_off (standard_input does.content) does.content ([], [], does.input) refl breaks (λ task of. absurd of)), refl));
   left = tee_left does.ends unstopped;
 }
+does_left run (About which topic) does unstopped = record { made = _; of = refl; fits = fits_well _ false refl (All-nil (λ (file : File). IsLive (slot_of file))); left = text_left does unstopped }
 
 pub completes_left : {run : Run} {asked : Settings} → Completes run asked → LeftBy run asked
 completes_left {run} {asked} whole = does_left run asked whole.does whole.unstopped

@@ -1,9 +1,11 @@
+pub mod AboutLemmas
 pub mod AdapterLemmas
 pub mod RunLemmas
 pub mod LeftLemmas
 pub mod BeginLemmas
 pub mod StoppedPromises
 pub mod PromiseLemmas
+pub mod TeePromises
 pub mod SplitPromises
 pub mod CsplitPromises
 pub mod FollowPromises

@@ -1,21 +1,21 @@
 -- What a run that met no fault leaves: just its part, as its definition says, and nothing on standard error; so what `head`, `tail` and
 -- `tee` leave of one input, and that what any run leaves is a beginning of it.
 use Rattle.std.proofs.lemmas.Grind.{common_steps}
-use Rattle.std.proofs.Common.{◌≡◌, ℕ, true, false, List, [], ◌∷◌, Option, Some, None, inl, inr, refl, sym, ◌∙◌, ap, arith, ◌+◌, ◌-◌, ◌++◌, map, drop, subst}
+use Rattle.std.proofs.Common.{◌≡◌, ℕ, Bool, true, false, if◌then◌else◌, List, [], ◌∷◌, Option, Some, None, inl, inr, refl, sym, ◌∙◌, ap, arith, ◌+◌, ◌-◌, ◌++◌, map, drop, subst}
 use Rattle.ports_core.specs.Slot.{Slot, slot_at}
-use Rattle.run_core.specs.Input.{Input, inputs_at}
+use Rattle.run_core.specs.Input.{Input, World, input_of, inputs_at, is_dash}
 use Rattle.run_core.specs.Task.{Outcome, Task, made_by}
 use Rattle.words_core.specs.declared.settings.Settings.{Settings}
 use Rattle.tools_core.specs.Tasks.{names_of, is_minus, is_plus, naming_of}
 use Rattle.tools_core.specs.Promises.{Completes, Does, FindAlike, HasInput, Ran, Run, IsHead, IsTail, IsBare, CountAlike, output_of, AreCopies, IsSound, files_of, BeginsAs, BeginsEach}
-use Rattle.tools_core.proofs.BeginLemmas.{ending, part_of, bare_begins, begins_kept, begins_whole, lawful_grows, split_grows, still_begins, tee_begins}
+use Rattle.tools_core.proofs.BeginLemmas.{all_have_names, ending, part_of, bare_begins, begins_kept, begins_whole, lawful_grows, split_grows, still_begins, tee_begins, text_begins}
 use Rattle.tools_core.proofs.LeftLemmas.{Makes, completes_left, left_whole, same_made, slots_of, copies_are, copy, tee_made, left_at, ran_over}
 use Rattle.tools_core.proofs.StoppedPromises.{completes_or}
 use Rattle.seg_core.specs.declared.count.Sign.{Sign}
 use Rattle.seg_core.specs.declared.count.Sign.TheVariants.{Plain, Minus, Plus}
 use Rattle.ends_core.specs.Ends.{head_of, tail_of, after_of, first_of}
 use Rattle.ends_core.specs.laws.EndsLaws.{first_then_after, ends_together}
-use Rattle.words_core.specs.declared.settings.Settings.TheVariants.{Tee, Head, Tail, Split, Csplit}
+use Rattle.words_core.specs.declared.settings.Settings.TheVariants.{Tee, Head, Tail, Split, Csplit, About}
 use Rattle.words_core.specs.EndsAsked.{EndsAsked}
 use Rattle.std.proofs.lemmas.List.Elements.{All-map}
 use Rattle.ports_core.specs.Source.{Content, Source}
@@ -24,7 +24,7 @@ use Rattle.words_core.specs.TeeAsked.{TeeAsked}
 use Rattle.ends_core.specs.laws.WorkLaws.{head_lawful, tail_lawful}
 use Rattle.csplit_core.specs.laws.InputLaws as csplit_law
 use Rattle.words_core.specs.Words.{CanRun}
-use Rattle.tools_core.specs.Outcome.{DoesAsked}
+use Rattle.tools_core.specs.Outcome.{DoesAsked, names_at}
 use Rattle.tools_core.proofs.RunLemmas.{can_run}
 
 completes : {run : Run} {asked : Settings} → Does run asked → Completes run asked
@@ -43,8 +43,16 @@ pub record HasOne (run : Run) (asked : Settings) (bytes : List ℕ) : Type 0 whe
   pub content : input.content ≡ Some (ending bytes)
   pub only : inputs_at run.world (names_of asked) ≡ input ∷ []
 
+lies_there : (world : World) (name : List ℕ) (dash : Bool) → (input_of world false 1 name dash).content ≡ (if dash then Some world.standard else world.laid 1 name)
+lies_there world name true = refl
+lies_there world name false = refl
+
 pub has_one : {run : Run} {asked : Settings} {bytes : List ℕ} → Ran run asked → HasInput run bytes → HasOne run asked bytes
-has_one {run} ran has = grind (arith, common_steps)
+has_one {run} ran has = record {
+  input = input_of run.world false 1 has.name (is_dash has.name);
+  content = lies_there run.world has.name (is_dash has.name) ∙ has.holds;
+  only = ap (inputs_at run.world) (sym (ap names_at ran.read) ∙ has.only);
+}
 
 -- what was made of it
 pub record DidOne (run : Run) (asked : Settings) (bytes : List ℕ) : Type 0 where
@@ -121,9 +129,10 @@ BeginsMade asked inputs new = (made : Outcome) × Makes asked inputs made × ((p
 begins_made : (asked : Settings) (inputs : List Input) (sources : List Source) (new : List Slot) (status : ℕ) → CanRun asked → DoesAsked true true asked inputs sources new status → BeginsMade asked inputs new
 begins_made (Head asked) inputs sources new status can does = (_, refl, λ place differs. begins_whole (lawful_grows (head_lawful _ _ _ _)) differs does)
 begins_made (Tail asked) inputs sources new status can does = (_, refl, λ place differs. begins_whole (lawful_grows (tail_lawful _ _ _ _)) differs does)
-begins_made (Split asked) inputs sources new status can does = (_, refl, λ place differs. begins_whole (split_grows asked.delim asked.cut asked.elide (naming_of asked) can.named) differs does)
+begins_made (Split asked) inputs sources new status can does = (_, refl, λ place differs. begins_whole (split_grows asked.cut asked.elide (naming_of asked) (all_have_names asked can.named)) differs does)
 begins_made (Csplit asked) inputs sources new status can does = (_, (does.operands, does.asks, refl), λ place differs. begins_whole (lawful_grows (csplit_law.lawful asked.style does.operands)) differs does.ends)
 begins_made (Tee asked) inputs sources new status can does = (_, (does.content, does.input, refl), λ place differs. tee_begins place differs does.ends)
+begins_made (About which topic) inputs sources new status can does = (_, refl, λ place differs. text_begins place differs does)
 
 pub begins_each : (run well : Run) (asked : Settings) → Ran run asked → Completes well asked → FindAlike run well → BeginsEach run well
 begins_each run well asked ran whole same =

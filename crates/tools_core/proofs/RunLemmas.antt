@@ -1,17 +1,25 @@
 -- How a run ends, by its words.
-use Rattle.std.proofs.Common.{◌≡◌, ℕ, List, [], ◌∷◌, Option, Some, None, option_map, Result, Ok, Err, refl, sym, ◌∙◌, ap, Bool, true, false, length, map, Bor, inl, inr, codes, arith, rules}
+use Rattle.std.proofs.Common.{◌≡◌, ℕ, List, [], ◌∷◌, Option, Some, None, option_map, Result, Ok, Err, refl, sym, ◌∙◌, ap, Bool, true, false, length, map, Bor, inl, inr, codes, arith}
 use Rattle.ports_core.specs.declared.fault.Fault.{Fault}
 use Rattle.ports_core.specs.declared.tool.Tool.{Tool}
 use Rattle.words_core.specs.declared.settings.Settings.{Settings}
-use Rattle.words_core.specs.declared.settings.Settings.TheVariants.{Tail, Csplit, Tee}
-use Rattle.words_core.specs.CsplitWords.{HasBadOperand}
+use Rattle.words_core.specs.declared.settings.TailSettings.{TailSettings}
+use Rattle.follow_core.proofs.FollowLemmas.{ends_by, most_made}
+use Rattle.words_core.specs.declared.settings.Settings.TheVariants.{Head, Tail, Split, Csplit, Tee, About}
+use Rattle.words_core.specs.declared.settings.Topic.{Topic}
+use Rattle.words_core.specs.CsplitWords.{HasBadOperand, csplit_asked}
+use Rattle.words_core.specs.EndsWords.{ends_asked}
+use Rattle.words_core.specs.SplitWords.{split_asked}
+use Rattle.words_core.specs.TailWords.{tail_asked}
+use Rattle.words_core.specs.TeeWords.{tee_asked}
 use Rattle.words_core.specs.Given.{Given}
 use Rattle.words_core.specs.Spelling.{given_by, IsRefused}
 use Rattle.words_core.specs.Value.{then_check}
 use Rattle.words_core.specs.Table.{ToolRow, row_named, tools}
-use Rattle.words_core.specs.Words.{settings_for, settings_of, tool_settings, CanRun, HasBadOperands, looks}
+use Rattle.words_core.specs.Words.{about_or, topic_in, work_for, program_asked, settings_for, settings_of, tool_settings, topic_named, CanRun, HasBadOperands, looks}
 use Rattle.tools_core.specs.Outcome.{speaker, or_cutters, RefusesFor, RunEndsAt, TeeEndsAs, names_at}
 use Rattle.tools_core.specs.Tasks.{tool_of}
+use Rattle.tools_core.specs.About.{no_text}
 use Rattle.words_core.proofs.LimitLemmas.{read-can}
 use Rattle.std.proofs.lemmas.Bool.{false≢true}
 use Rattle.ports_core.specs.Slot.{Slot, changed_at, slot_at}
@@ -19,6 +27,7 @@ use Rattle.ports_core.specs.Source.{Content, Source, source_at, IsFresh}
 use Rattle.ports_core.specs.Text.{message_of}
 use Rattle.ports_core.specs.Message.{SaysAll}
 use Rattle.ports_core.specs.declared.fault.Fault.TheVariants.{Memory, Usage}
+use Rattle.ports_core.specs.declared.on_broken.OnBroken.{OnBroken}
 use Rattle.ports_core.specs.declared.slot.Mode.{Mode}
 use Rattle.ports_core.specs.Inputs.{CameFrom, OfContent, empty}
 use Rattle.run_core.specs.Input.{Finds, standard_input}
@@ -47,17 +56,37 @@ use Rattle.operand_core.specs.declared.operand_fault.OperandFaultKind.TheVariant
 
 -- The tool that runs is the one that the words name.
 
+by_check : {A : Type 0} (which : Tool) (make : A → Settings) (checked : Result A Fault) {settings : Settings} → ((asked : A) → which ≡ tool_of (make asked)) → then_check checked (λ asked. Ok (make asked)) ≡ Ok settings → which ≡ tool_of settings
+by_check which make (Ok asked) {settings} makes is = let same : make asked ≡ settings = cc in rw (← same) (makes asked)
+by_check which make (Err fault) makes is = absurd (cc)
+
+by_work : (which : Tool) (given : Given) {settings : Settings} → work_for which given ≡ Ok settings → which ≡ tool_of settings
+by_work tool.Head given is = by_check tool.Head (λ asked. Head asked) (Ok (ends_asked given)) (λ asked. refl) is
+by_work tool.Tail given is = by_check tool.Tail (λ asked. Tail asked) (tail_asked given) (λ asked. refl) is
+by_work tool.Split given is = by_check tool.Split (λ asked. Split asked) (split_asked given) (λ asked. refl) is
+by_work tool.Csplit given is = by_check tool.Csplit (λ asked. Csplit asked) (csplit_asked given) (λ asked. refl) is
+by_work tool.Tee given is = by_check tool.Tee (λ asked. Tee asked) (Ok (tee_asked given)) (λ asked. refl) is
+by_work tool.Cutters given is = absurd (cc)
+
+by_about : (which : Tool) (topic : Option Topic) (work : Result Settings Fault) {settings : Settings} → (work ≡ Ok settings → which ≡ tool_of settings) → about_or which topic work ≡ Ok settings → which ≡ tool_of settings
+by_about which (Some topic) work {settings} rest is = let same : About which topic ≡ settings = cc in rw (← same) refl
+by_about which None work rest is = rest is
+
 by_given : {which : Tool} (given : Result Given Fault) {settings : Settings} → then_check given (settings_for which) ≡ Ok settings → which ≡ tool_of settings
-by_given {which} (Ok given) {settings} is = search rules
+by_given {which} (Ok given) {settings} is = by_about which (topic_in given.options) (work_for which given) (by_work which given) is
 by_given (Err fault) is = absurd (cc)
 
-named : (row : Option ToolRow) (words : List (List ℕ)) (settings : Settings) → tool_settings words row ≡ Ok settings → or_cutters (option_map (λ row. row.tool) row) ≡ tool_of settings
-named (Some row) words settings is = by_given (given_by row words) is
-named None words settings is = absurd (cc)
+by_topic : (topic : Option Topic) {settings : Settings} → program_asked topic ≡ Ok settings → (tool_of settings ≡ tool.Cutters) × CanRun settings
+by_topic (Some topic) {settings} is = let same : About tool.Cutters topic ≡ settings = cc in rw (← same) (refl, tt)
+by_topic None is = absurd (cc)
+
+named : (row : Option ToolRow) (name : List ℕ) (words : List (List ℕ)) (settings : Settings) → tool_settings name words row ≡ Ok settings → or_cutters (option_map (λ row. row.tool) row) ≡ tool_of settings
+named (Some row) name words settings is = by_given (given_by row words) is
+named None name words settings is = sym (by_topic (topic_named name) is).0
 
 pub runs_as_named : (words : List (List ℕ)) {settings : Settings} → settings_of words ≡ Ok settings → speaker words ≡ tool_of settings
 runs_as_named [] is = absurd (cc)
-runs_as_named (name ∷ words) {settings} is = named (row_named tools name) words settings is
+runs_as_named (name ∷ words) {settings} is = named (row_named tools name) name words settings is
 
 -- What words ask for can be done.
 
@@ -65,13 +94,13 @@ can_given : (row : ToolRow) (words : List (List ℕ)) {settings : Settings} (giv
 can_given row words {settings} (Ok given) read is = read-can row words given row.tool (Ok settings) read is
 can_given row words (Err fault) read is = absurd (cc)
 
-can_tool : (words : List (List ℕ)) {settings : Settings} (row : Option ToolRow) → tool_settings words row ≡ Ok settings → CanRun settings
-can_tool words (Some row) is = can_given row words (given_by row words) refl is
-can_tool words None is = absurd (cc)
+can_tool : (name : List ℕ) (words : List (List ℕ)) {settings : Settings} (row : Option ToolRow) → tool_settings name words row ≡ Ok settings → CanRun settings
+can_tool name words (Some row) is = can_given row words (given_by row words) refl is
+can_tool name words None is = (by_topic (topic_named name) is).1
 
 pub can_run : (words : List (List ℕ)) {settings : Settings} → settings_of words ≡ Ok settings → CanRun settings
 can_run [] is = absurd (cc)
-can_run (name ∷ words) is = can_tool words (row_named tools name) is
+can_run (name ∷ words) is = can_tool name words (row_named tools name) is
 
 -- Lemmas on how a run ends, by its words.
 
@@ -89,16 +118,16 @@ finds_standard {laid} sources {content} there = record {
   there = λ t. ap (λ (those : Content). standard_input those ∷ []) (there t);
 }
 
-pub tee_runs : {told_in told : Bool} {laid : ℕ → List ℕ → Option Content} {asked : TeeAsked} {mode : Mode} {names : List (List ℕ)} (old : List Source) {sources : List Source} {new : List Slot} {status : ℕ} → mode ≡ asked.mode → names ≡ asked.names
-    → OfContent told_in (source_at old 0).left (λ content. TeeCopies told_in told mode names content (source_at sources 0) new status × CameFrom told_in content (source_at sources 0))
+pub tee_runs : {told_in told : Bool} {laid : ℕ → List ℕ → Option Content} {asked : TeeAsked} {mode : Mode} {on_broken : OnBroken} {names : List (List ℕ)} (old : List Source) {sources : List Source} {new : List Slot} {status : ℕ} → mode ≡ asked.mode → on_broken ≡ asked.on_broken → names ≡ asked.names
+    → OfContent told_in (source_at old 0).left (λ content. TeeCopies told_in told mode on_broken names content (source_at sources 0) new status × CameFrom told_in content (source_at sources 0))
     → (told_in ≡ true → status ≡ 0 → new ≡ all_copied told mode names (source_at old 0).left.bytes) → RunsOver told_in (world_of laid old) (codes "-" ∷ []) (λ found. TeeEndsAs told_in told asked found sources new status)
-tee_runs {told} {mode} {names} old mode_is names_is (content, there, (ends, came)) whole = (
+tee_runs {told} {mode} {names} old mode_is broken_is names_is (content, there, (ends, came)) whole = (
   standard_input content ∷ [],
   finds_standard old there,
   record {
     content = content;
     input = refl;
-    ends = rw (mode_is, names_is) at ends;
+    ends = rw (mode_is, broken_is, names_is) at ends;
     came = came;
     whole = λ t well. rw (mode_is, names_is) at (whole t well ∙ ap (λ (those : Content). all_copied told mode names those.bytes) (sym (there t)));
   },
@@ -152,6 +181,8 @@ module _ (told_in told : Bool) (words : List (List ℕ)) (laid : ℕ → List �
         finds_standard sources there,
         inl (record { content = content; input = refl; ends = copies.no_room refuses.error (says_as words is refuses) unread refuses.slots refuses.failed; came = came; whole = λ t well. absurd (omega (arith, well, refuses.failed)) }),
       )
+  unread_for (Ok (About which topic)) is refuses =
+      ([], record { are = refl; there = λ t. refl }, inl (no_text refuses.error (rw (runs_as_named words is) at refuses.says) refuses.slots refuses.failed))
   unread_for (Ok settings) is refuses =
       let (found, finds, untouched) = none_touched fresh in (found, finds, inl (no_room refuses.error (says_as words is refuses) refuses.slots untouched (ap length fresh.only) refuses.failed))
 
@@ -165,16 +196,18 @@ module _ (told_in told : Bool) (words : List (List ℕ)) (laid : ℕ → List �
 module _ (told_in told : Bool) (words : List (List ℕ)) (looks : ℕ) (shows : ℕ → Snapshot) (seen : List Snapshot) (watched : List Watched) (new : List Slot) (status : ℕ) (unseen : seen ≡ []) (unwatched : watched ≡ []) where
   -- words that weren't read for want of memory
 
-  unread_tail : (asked : EndsAsked) (followed : Option Followed) → speaker words ≡ tool.Tail → RefusesFor told words Memory new status → FollowsTail told_in told words asked followed looks shows seen watched new status
+  unread_tail : (asked : TailSettings) (followed : Option Followed) → speaker words ≡ tool.Tail → RefusesFor told words Memory new status → FollowsTail told_in told words asked followed looks shows seen watched new status
   unread_tail asked None speaks refuses = (unseen, unwatched, refused_memory words (Usage BadFollow 0) refuses)
-  unread_tail asked (Some followed) speaks refuses = no_room_yet unseen unwatched (λ output error since are. (
-    refuses.error,
-    rw (ap (λ slots. slot_at slots 1) are) at (rw speaks at refuses.says),
-    refuses.slots ∙ ap (changed_at 1 (λ _. refuses.error)) are,
-  )) refuses.failed
+  unread_tail asked (Some followed) speaks refuses =
+      let (most, are, above) = most_made told_in asked.process shows looks 0 (omega arith) (λ t. omega arith) in
+      ends_by asked.process most are (no_room_yet unseen unwatched (λ output error since are. (
+        refuses.error,
+        rw (ap (λ slots. slot_at slots 1) are) at (rw speaks at refuses.says),
+        refuses.slots ∙ ap (changed_at 1 (λ _. refuses.error)) are,
+      )) refuses.failed)
 
   unread_files : (meant : Result Settings Fault) → settings_of words ≡ meant → RefusesFor told words Memory new status → FollowingEndsAt told_in told words looks shows seen watched new status meant
-  unread_files (Ok (Tail asked)) is refuses = unread_tail asked.ends asked.followed (runs_as_named words is) refuses
+  unread_files (Ok (Tail asked)) is refuses = unread_tail asked asked.followed (runs_as_named words is) refuses
   unread_files (Ok (Csplit asked)) is refuses = inr (unseen, unwatched, (Memory, lacks_memory asked, refuses))
   unread_files (Ok asked) is refuses = inl (tt, (unseen, unwatched, refused_memory words (Usage BadFollow 0) refuses))
   unread_files (Err fault) is refuses = (unseen, unwatched, refused_memory words fault refuses)

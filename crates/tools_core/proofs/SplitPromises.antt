@@ -1,13 +1,11 @@
--- What `split` leaves of its input; and that numbered names are in the order of their numbers, while none has more digits than it is
--- filled to.
+-- What `split` leaves of its input, and that names by places are in order.
 use Rattle.std.proofs.lemmas.Grind.{common_steps}
-use Rattle.std.proofs.Common.{◌≡◌, ℕ, ◌+◌, ◌-◌, ◌/◌, ◌%◌, ◌^◌, ◌<◌, ◌≤◌, zero, suc, List, [], ◌∷◌, ◌++◌, length, replicate, inl, inr, refl, sym, ◌∙◌, ap, arith, append_assoc, length-append, decimal, Less, nat_cmp, append-nil, div-add-mod', rules, ◌*◌, min, Bool, true, false, not, cond, map, take, drop, subst, filter, get_or, Some, None, All, suc-mul}
+use Rattle.std.proofs.Common.{◌≡◌, ℕ, ◌+◌, ◌-◌, ◌/◌, ◌%◌, ◌^◌, ◌<◌, ◌≤◌, zero, suc, List, [], ◌∷◌, ◌++◌, length, inl, inr, refl, sym, ◌∙◌, ap, arith, append_assoc, length-append, Less, nat_cmp, append-nil, div-add-mod', rules, ◌*◌, min, Bool, true, false, IsTrue, not, cond, map, take, drop, subst, filter, get_or, Some, None, All, suc-mul}
 use Rattle.std.specs.Cmp.Lexicographic.{slice_cmp}
-use Rattle.std.proofs.Math.Nat.{mod-lt}
-use Rattle.std.proofs.lemmas.Bool.{cases_lt, false≢true}
-use Rattle.std.proofs.lemmas.Fmt.{decimal_by_steps}
-use Rattle.ports_core.specs.Name.{numbered_name, zero_filled, Naming}
-use Rattle.ports_core.proofs.OrderLemmas.{IsBelow, first_less, same_front, in_order}
+use Rattle.std.proofs.lemmas.Bool.{cases_lt, cond_both, false≢true, lt-ltb}
+use Rattle.ports_core.specs.Name.{numbered_name, IsWide, keeps_order, Naming, has_name, name_at}
+use Rattle.ports_core.specs.declared.numbering.Numbering.TheVariants.{Decimal}
+use Rattle.ports_core.proofs.OrderLemmas.{in_order}
 use Rattle.tools_core.specs.Promises.{AreInOrder, text_at, Run, Does, HasInput, AreListed, ArePieces, AreLinePieces, AreUncut, AreDealt, EndsLine, IsFilled, IsSound, contents_of, files_of}
 use Rattle.std.proofs.lemmas.List.{length-map, length-take, length-take-le, length-drop, get_or-take, get_or_past, take-append-drop, take-append-le, take_all}
 use Rattle.std.proofs.lemmas.List.FromFn.{get_or-map-range_with_len, length-map-range_with_len}
@@ -26,11 +24,11 @@ use Rattle.ports_core.specs.Slot.{Slot}
 use Rattle.ports_core.specs.declared.fault.Fault.TheVariants.{Suffixes}
 use Rattle.ports_core.specs.declared.slot.Mode.TheVariants.{Fresh}
 use Rattle.ports_core.specs.declared.slot.State.TheVariants.{Closed}
-use Rattle.split_core.specs.declared.limit.Limit.TheVariants as limit
+use Rattle.seg_core.specs.declared.cut.Limit.TheVariants as limit
 use Rattle.split_core.specs.Parts.{parts, round_robin, whole_lines}
 use Rattle.split_core.specs.Sections.{AreLineByteParts}
 use Rattle.split_core.specs.Sections as piece
-use Rattle.split_core.specs.Split.{Share, share, name_of, is_named, file_at, named, are_named, is_some, dealt_files, whole_shares}
+use Rattle.split_core.specs.Split.{Share, share, file_at, named, are_named, is_some, dealt_files, pieces_of}
 use Rattle.split_core.specs.inner.Dealt.{share_of}
 use Rattle.split_core.specs.laws.CutLaws.{whole_of_lines, whole_of_none}
 use Rattle.split_core.specs.laws.DealLaws.{share_none}
@@ -42,66 +40,8 @@ use Rattle.words_core.specs.SplitAsked.{SplitAsked}
 use Rattle.words_core.specs.SplitWords.{CanSplit, IsInLimits}
 use Rattle.tools_core.specs.Tasks.{naming_of, split_task}
 use Rattle.tools_core.proofs.RunLemmas.{can_run}
-use Rattle.tools_core.proofs.LeftLemmas.{named_each, pieces_of, shares_are, slot_of}
+use Rattle.tools_core.proofs.LeftLemmas.{named_each, slot_of}
 use Rattle.tools_core.proofs.PromiseLemmas.{did_one, one_made}
-
-below_then : (low high rest others : List ℕ) → IsBelow low high → IsBelow (low ++ rest) (high ++ others)
-below_then low high rest others less = grind (arith, common_steps)
-
--- the last digits of a number, the highest first
-abbrev digits_in : ℕ → ℕ → List ℕ
-digits_in zero n = []
-digits_in (suc width) n = digits_in width (n / 10) ++ (48 + n % 10) ∷ []
-
-tenth : (width : ℕ) {n : ℕ} → n < 10 ^ suc width → n / 10 < 10 ^ width
-tenth width {n} small = grind (arith, common_steps)
-
-digits_in_order : (width : ℕ) {low high : ℕ} → low < high → high < 10 ^ width → IsBelow (digits_in width low) (digits_in width high)
-digits_in_order zero less small = grind (arith, common_steps)
-digits_in_order (suc width) {low} {high} less small =
-    let one = div-add-mod' low 10 in
-    let two = div-add-mod' high 10 in
-    let first : low % 10 < 10 = mod-lt low (omega arith) in
-    let second : high % 10 < 10 = mod-lt high (omega arith) in
-    elim (cases_lt (low / 10) (high / 10)) [
-      | inl lower ↦ below_then (digits_in width (low / 10)) (digits_in width (high / 10)) ((48 + low % 10) ∷ []) ((48 + high % 10) ∷ []) (digits_in_order width lower (tenth width small))
-      | inr reached ↦
-          let same : high / 10 ≡ low / 10 = omega (arith, reached, one, two, less, first, second) in
-          let last : 48 + low % 10 < 48 + high % 10 = omega (arith, same, one, two, less) in
-          rw (ap (digits_in width) same) (same_front (digits_in width (low / 10)) ((48 + low % 10) ∷ []) ((48 + high % 10) ∷ []) (first_less (48 + low % 10) (48 + high % 10) [] [] last))
-    ]
-
-one_more : {byte : ℕ} (count : ℕ) → byte ∷ replicate count byte ≡ replicate count byte ++ byte ∷ []
-one_more zero = refl
-one_more {byte} (suc count) = ap (λ rest. byte ∷ rest) (one_more count)
-
-zeros : (width : ℕ) → replicate width 48 ≡ digits_in width 0
-zeros zero = refl
-zeros (suc width) = rw (one_more width, zeros width)
-
--- a number in decimal, filled with zeros, is its last digits
-
-abbrev Fills : ℕ → List ℕ → Type 0
-Fills n text = (width : ℕ) → n < 10 ^ suc width → zero_filled (suc width) text ≡ digits_in (suc width) n
-
-fills_one : (n : ℕ) → n < 10 → Fills n ((48 + n) ∷ [])
-fills_one n digit width small = grind (arith, common_steps, zeros)
-
-fills_more : (n : ℕ) (digits : List ℕ) → 10 ≤ n → Fills (n / 10) digits → Fills n (digits ++ (48 + n % 10) ∷ [])
-fills_more n digits ten fills zero small = search rules
-fills_more n digits ten fills (suc width) small = grind (arith, common_steps)
-
-number_digits : (width : ℕ) {n : ℕ} → n < 10 ^ suc width → n < 2 ^ 64 → zero_filled (suc width) (decimal n) ≡ digits_in (suc width) n
-number_digits width {n} small least = decimal_by_steps Fills fills_one fills_more n least width small
-
-names_below : (prefix : List ℕ) (digits : ℕ) {low high : ℕ} → low < high → high < 10 ^ digits → high < 2 ^ 64 → slice_cmp nat_cmp (numbered_name prefix digits low) (numbered_name prefix digits high) ≡ Less
-names_below prefix zero less small least = grind (arith, common_steps)
-names_below prefix (suc width) {low} {high} less small least =
-    ap (λ text. slice_cmp nat_cmp (prefix ++ text) (numbered_name prefix (suc width) high)) (number_digits width (omega (arith, less, small)) (omega (arith, less, least)))
-    ∙ ap (λ text. slice_cmp nat_cmp (prefix ++ digits_in (suc width) low) (prefix ++ text)) (number_digits width small least)
-    ∙ sym (ap (λ text. slice_cmp nat_cmp text ((prefix ++ digits_in (suc width) high) ++ [])) (append-nil (prefix ++ digits_in (suc width) low))
-    ∙ ap (slice_cmp nat_cmp (prefix ++ digits_in (suc width) low)) (append-nil (prefix ++ digits_in (suc width) high)))
-    ∙ same_front prefix (digits_in (suc width) low) (digits_in (suc width) high) (digits_in_order (suc width) less small) [] []
 
 by_places : (names : List (List ℕ)) → ((k : ℕ) → k + 1 < length names → slice_cmp nat_cmp (text_at names k) (text_at names (suc k)) ≡ Less) → AreInOrder names
 by_places (name ∷ next ∷ names) each = (each 0 (omega arith), by_places (next ∷ names) (λ k within. each (suc k) (omega (arith, within))))
@@ -115,7 +55,7 @@ order_by name names named less = grind (arith, common_steps, by_places)
 pub numbered_in_order : (prefix : List ℕ) (digits : ℕ) (names : List (List ℕ)) → ((place : ℕ) → place < length names → text_at names place ≡ numbered_name prefix digits place)
     → length names ≤ 10 ^ digits → length names ≤ 2 ^ 64 → AreInOrder names
 numbered_in_order prefix digits names named few least =
-    order_by (numbered_name prefix digits) names named (λ k next. names_below prefix digits (omega arith) (omega (arith, next, few)) (omega (arith, next, least)))
+    order_by (numbered_name prefix digits) names named (λ k next. in_order (record { prefix = prefix; numbering = Decimal digits; ending = [] }) k (suc k) tt (omega arith) (lt-ltb _ _ (omega (arith, next, least))) (lt-ltb _ _ (omega (arith, next, few))))
 
 -- The pieces, and their files
 
@@ -144,21 +84,24 @@ named_step name start file made others true is are without zero within = search 
 named_step name start file made others true is are without (suc k) within = are k (omega (arith, within)) ∙ ap name (omega arith)
 named_step name start file made others false is are without k within = without k within
 
-have_names : (names : Naming) (start : ℕ) (shares : List Share) → AreNamed (name_of names) start (named names start shares)
+have_names : (names : Naming) (start : ℕ) (shares : List Share) → AreNamed (name_at names) start (named names start shares)
 have_names names start [] k within = search rules
-have_names names start (share ∷ shares) k within = named_step (name_of names) start (file_at names start share) (named names (start + 1) shares) []
-    (is_named names start) refl (have_names names (start + 1) shares) (λ k within. absurd (omega (arith, within))) k within
+have_names names start (share ∷ shares) k within = named_step (name_at names) start (file_at names start share) (named names (start + 1) shares) []
+    (has_name names start) refl (have_names names (start + 1) shares) (λ k within. absurd (omega (arith, within))) k within
 
-named_below : (names : Naming) (count : ℕ) → are_named names count ≡ true → (place : ℕ) → place < count → is_named names place ≡ true
+named_below : (names : Naming) (count : ℕ) → are_named names count ≡ true → (place : ℕ) → place < count → has_name names place ≡ true
 named_below names zero are place less = search rules
 named_below names (suc last) are place less = grind (arith, common_steps)
+
+split_in_order : (asked : SplitAsked) → 0 < asked.width → (k : ℕ) → has_name (naming_of asked) (suc k) ≡ true → slice_cmp nat_cmp (name_at (naming_of asked) k) (name_at (naming_of asked) (suc k)) ≡ Less
+split_in_order asked wide k has = in_order (naming_of asked) k (suc k) (cond_both asked.auto _ _ IsWide (λ is. wide) (λ is. tt)) (omega arith) has (cond_both asked.auto _ _ (λ numbering. IsTrue (keeps_order numbering (suc k))) (λ is. refl) (λ is. refl))
 
 -- What a run leaves
 
 pub record IsSplit (run : Run) (asked : SplitAsked) (input : List ℕ) : Type 0 where
   pub can : CanSplit asked
   pub listed : AreListed asked (files_of run)
-  pub contents : contents_of run ≡ pieces_of asked.delim asked.cut asked.elide input
+  pub contents : contents_of run ≡ pieces_of asked.cut asked.elide input
 
 pub is_split : {run : Run} {asked : SplitAsked} {input : List ℕ} → Does run (Split asked) → HasInput run input → IsSplit run asked input
 is_split {run} {asked} {input} does has =
@@ -166,23 +109,21 @@ is_split {run} {asked} {input} does has =
     let made = one_made one (split_task asked) one.makes in
     let can = can_run run.words does.ran.read in
     let names = naming_of asked in
-    let pieces = pieces_of asked.delim asked.cut asked.elide input in
-    let shares : whole_shares asked.delim asked.cut asked.elide input ≡ map (share Closed) pieces = shares_are asked.delim asked.cut asked.elide input in
-    let files : files_of run ≡ map slot_of (named names 0 (map (share Closed) pieces)) = ap (drop 2) made.slots ∙ ap (λ those. map slot_of (named names 0 those)) shares in
-    let are : are_named names (length (map (share Closed) pieces)) ≡ true =
-    ap (λ (those : List Share). are_named names (length those)) (sym shares) ∙ not_short _ made.unjudged in
+    let pieces = pieces_of asked.cut asked.elide input in
+    let files : files_of run ≡ map slot_of (named names 0 (map (share Closed) pieces)) = ap (drop 2) made.slots in
+    let are : are_named names (length (map (share Closed) pieces)) ≡ true = not_short _ made.unjudged in
     let slots = map slot_of (named names 0 (map (share Closed) pieces)) in
     let size : length (map (λ (file : Slot). file.name) slots) ≡ length slots = length-map slots (λ (file : Slot). file.name) in
     let count : length slots ≡ length (map (share Closed) pieces) = sym (length-map slots (λ (file : Slot). file.written)) ∙ ap length (all_named names are) ∙ sym (length-map pieces (share Closed)) in
-    let called : (place : ℕ) → place < length (map (λ (file : Slot). file.name) slots) → text_at (map (λ (file : Slot). file.name) slots) place ≡ name_of names place =
-    λ place within. have_names names 0 (map (share Closed) pieces) place (omega (arith, size, within)) ∙ ap (name_of names) (omega arith) in
+    let called : (place : ℕ) → place < length (map (λ (file : Slot). file.name) slots) → text_at (map (λ (file : Slot). file.name) slots) place ≡ name_at names place =
+    λ place within. have_names names 0 (map (share Closed) pieces) place (omega (arith, size, within)) ∙ ap (name_at names) (omega arith) in
     let IsMade = λ (file : File). IsSound Fresh (slot_of file) in
     record {
       can = can;
       listed = rw files (record {
         named = λ place within. called place (omega (arith, size, within));
-        in_order = order_by (name_of names) _ called (λ k next.
-            in_order names.prefix names.alphabet names.width names.auto names.ending k (suc k) can.width.0 (omega arith) (named_below names _ are (suc k) (omega (arith, size, count, next))));
+        in_order = order_by (name_at names) _ called (λ k next.
+            split_in_order asked can.width.0 k (named_below names _ are (suc k) (omega (arith, size, count, next))));
         sound = All-map (IsSound Fresh) slot_of _ (named_each IsMade names 0 (map (share Closed) pieces) (All-map (λ one. (place : ℕ) → IsMade (file_at names place one)) (share Closed) pieces (λ k bytes within place. (refl, refl, refl))));
       });
       contents = rw (files, all_named names are);
@@ -444,7 +385,7 @@ dealt_lines {delim} {n} {elide} {x} some = record {
 -- By the way to split
 
 -- what is true of the pieces, where they are within limits, is true of the files
-pub by_cut : {run : Run} {asked : SplitAsked} {cut : Cut} {input : List ℕ} (P : List (List ℕ) → Type 0) → (IsInLimits cut → P (pieces_of asked.delim cut asked.elide input)) → Does run (Split asked) → HasInput run input → asked.cut ≡ cut → P (contents_of run)
+pub by_cut : {run : Run} {asked : SplitAsked} {cut : Cut} {input : List ℕ} (P : List (List ℕ) → Type 0) → (IsInLimits cut → P (pieces_of cut asked.elide input)) → Does run (Split asked) → HasInput run input → asked.cut ≡ cut → P (contents_of run)
 by_cut {asked} {cut} {input} P holds does has is =
     let split = is_split does has in
-    rw (split.contents ∙ ap (λ those. pieces_of asked.delim those asked.elide input) is) (holds (rw is at split.can.cut))
+    rw (split.contents ∙ ap (λ those. pieces_of those asked.elide input) is) (holds (rw is at split.can.cut))

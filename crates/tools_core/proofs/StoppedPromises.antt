@@ -1,20 +1,21 @@
 -- A run that a fault stopped told it, and which outputs are broken then.
 use Rattle.std.proofs.lemmas.Grind.{common_steps}
-use Rattle.std.proofs.Common.{◌≡◌, ℕ, ◌^◌, ◌≤◌, suc, Bool, true, false, ◌&&◌, cond, is_none, List, [], ◌∷◌, ◌++◌, length, length-append, Option, Some, None, codes, inl, inr, ◌⊎◌, refl, sym, ◌∙◌, ap, subst, arith, zero, rules}
+use Rattle.std.proofs.Common.{◌≡◌, ℕ, ◌^◌, ◌≤◌, suc, Bool, true, false, ◌&&◌, cond, is_none, List, [], ◌∷◌, ◌++◌, length, length-append, Option, Some, codes, inl, inr, ◌⊎◌, refl, sym, ◌∙◌, ap, subst, arith, take, zero, rules}
 use Rattle.std.specs.List.{concat}
 use Rattle.std.proofs.lemmas.Bool.{cases_Bool, false≢true}
 use Rattle.std.proofs.lemmas.List.{get_or_push}
 use Rattle.std.proofs.lemmas.List.Elements.{All-append}
-use Rattle.ports_core.specs.Message.{SaysAll, output_named}
+use Rattle.ports_core.specs.Message.{Says, SaysAll, output_named}
 use Rattle.ports_core.specs.Part.{Output, IsAt, IsNext, Marks, Part, StoppedBetween}
-use Rattle.ports_core.specs.Slot.{Slot, breaks, no_slot, slot_at, unopened}
+use Rattle.ports_core.specs.Slot.{Slot, adds, breaks, no_slot, slot_at, unopened}
 use Rattle.ports_core.specs.Source.{Content, Source}
-use Rattle.ports_core.specs.Streams.{standard_error, streams_with}
+use Rattle.ports_core.specs.Streams.{standard_error, standard_output, streams_with}
 use Rattle.ports_core.specs.Swept.{Swept}
 use Rattle.ports_core.specs.Text.{message_of}
 use Rattle.ports_core.specs.Work.{Needs, Work}
 use Rattle.ports_core.specs.declared.fault.Fault.{Fault}
 use Rattle.ports_core.specs.declared.fault.Fault.TheVariants.{Memory, Write, Open, Read, TooLong}
+use Rattle.ports_core.specs.declared.on_broken.OnBroken.{OnBroken}
 use Rattle.ports_core.specs.declared.slot.Mode.{Mode}
 use Rattle.ports_core.specs.declared.slot.State.TheVariants as state
 use Rattle.run_core.specs.Feeding.{IsCall, Step, Stops, closes as ends_call, enough, feeds, opens, to_end}
@@ -23,16 +24,20 @@ use Rattle.run_core.specs.RunEnds.{EndsAs, RunStep, as_defined, calling, no_room
 use Rattle.run_core.specs.Task.{Task, made_by}
 use Rattle.tee_core.specs.Run.{FilesLeft, IsRead, OutputLeft, are_sound, messages_of, output_names, said_before, said_in}
 use Rattle.tee_core.specs.Run as tee
-use Rattle.tee_core.proofs.EndLemmas.{sound_first}
+use Rattle.tee_core.proofs.EndLemmas.{sound_goes_on}
 use Rattle.words_core.specs.Words.{HasBadOperands}
 use Rattle.words_core.specs.TeeAsked.{TeeAsked}
 use Rattle.words_core.specs.declared.settings.Settings.{Settings}
-use Rattle.words_core.specs.declared.settings.Settings.TheVariants.{Head, Tail, Split, Csplit, Tee}
+use Rattle.words_core.specs.declared.settings.Settings.TheVariants.{Head, Tail, Split, Csplit, Tee, About}
+use Rattle.words_core.specs.declared.settings.Topic.{Topic}
+use Rattle.words_core.specs.Help.{text_about}
+use Rattle.ports_core.specs.declared.tool.Tool.{Tool}
+use Rattle.tools_core.specs.About.{TellsText, no_text, text_cut, text_whole}
 use Rattle.tools_core.specs.Outcome.{DoesAsked, word_of}
 use Rattle.tools_core.specs.Tasks.{is_minus, is_plus, names_of, plan_of, tool_of}
 use Rattle.tools_core.specs.Promises.{BrokeAt, Completes, HasLong, IsCalled, IsCopied, IsGone, IsStopped, IsTask, IsUnstopped, Ran, Run, SaysLines, SaysWhy, StopsRun, Tells, TellsMet, Unstopped, WhyBroken, broken_off, failing, named, removes_files}
 use Rattle.tools_core.proofs.BeginLemmas.{IsMarked, TellsOfInput, failing_stops, marked_at, tee_lines, tee_tells, unsound_broke}
-use Rattle.tools_core.proofs.LeftLemmas.{LeftBy, all_tell, completes_left, left_at, left_says, one_line, ran_over, slots_at, some_left, swept_gone, swept_kept, tool_is, AreLive, IsLiving, IsSoundAt, csplit_living, has_after, has_before, head_living, inputs_fit, live_begin, outputs_live, says_line, split_living, step_live, tail_living}
+use Rattle.tools_core.proofs.LeftLemmas.{LeftBy, all_tell, completes_left, left_at, left_says, one_line, ran_over, slots_at, swept_gone, swept_kept, tool_is, AreLive, IsLiving, IsSoundAt, csplit_living, has_after, has_before, head_living, inputs_fit, live_begin, outputs_live, says_line, split_living, step_live, tail_living}
 use Rattle.tools_core.proofs.RunLemmas.{runs_as_named}
 
 -- What was read of an input is a beginning of it.
@@ -171,7 +176,7 @@ read_or : {content : Content} (Leaves : List ℕ → Type 0) {is_vain : Bool} {x
 read_or Leaves left (tee.to_end x is ended leaves) = inl (sym is)
 read_or Leaves left (tee.to_break x is breaks leaves) = inl (sym is)
 read_or Leaves left (tee.to_limit x piece rest is many within leaves) = let size = ap length is in let all = length-append (x ++ piece) rest in inr (refl, omega (arith, size, all, many))
-read_or Leaves left (tee.to_last_output x rest is leaves) = absurd (false≢true (sym left))
+read_or Leaves left (tee.to_broken_output x rest is leaves) = absurd (false≢true (sym left))
 
 tee_stop : {run : Run} {asked : TeeAsked} {mode : Mode} {pieces names : List (List ℕ)} {first : Option ℕ} {broke : List (Option ℕ)} {output error : Slot} {files : List Slot} (fault : Option Fault) → OutputLeft true pieces first output → FilesLeft true mode pieces names broke files
     → SaysLines run (Tee asked) (messages_of names (first ∷ broke) (length pieces) fault) → run.outputs ≡ output ∷ error ∷ files → run.status ≡ 1 → (why : Fault) (name : List ℕ) → StopsRun run (Tee asked) name why → Tells run (Tee asked) why name
@@ -193,10 +198,10 @@ input_tells run asked {content} Leaves only (tee.to_break x is broke leaves) = (
 input_tells run asked {content} Leaves only (tee.to_limit x piece rest is many within leaves) =
     let size = ap length is in let all = length-append (x ++ piece) rest in
     (TooLong, codes "standard input", inl (standard_input content, content, ([], [], only), refl, omega (arith, size, all, many)), refl)
-input_tells run asked Leaves only (tee.to_last_output x rest is leaves) = tt
+input_tells run asked Leaves only (tee.to_broken_output x rest is leaves) = tt
 
 tee_by : {run : Run} {asked : TeeAsked} {mode : Mode} {content : Content} (Leaves : List ℕ → Type 0) {is_vain : Bool} {pieces names : List (List ℕ)} {first : Option ℕ} {broke : List (Option ℕ)} {output error : Slot} {files : List Slot} (fault : Option Fault) (sound : Bool) → are_sound (first ∷ broke) ≡ sound
-    → (2 ^ 63 ≤ length content.bytes → HasLong run (Tee asked)) → (first ≡ None → is_vain ≡ false) → IsRead content Leaves is_vain (concat pieces) fault → OutputLeft true pieces first output → FilesLeft true mode pieces names broke files
+    → (2 ^ 63 ≤ length content.bytes → HasLong run (Tee asked)) → (are_sound (first ∷ broke) ≡ true → is_vain ≡ false) → IsRead content Leaves is_vain (concat pieces) fault → OutputLeft true pieces first output → FilesLeft true mode pieces names broke files
     → SaysLines run (Tee asked) (messages_of names (first ∷ broke) (length pieces) fault) → run.outputs ≡ output ∷ error ∷ files → run.status ≡ cond (are_sound (first ∷ broke) && is_none fault) 0 1
     → ((are_sound (first ∷ broke) ≡ true) × (concat pieces ≡ content.bytes)) ⊎ IsStop false run (Tee asked)
 tee_by {run} {asked} Leaves {output} {error} {files} fault false sound long vain reads left rest says slots is =
@@ -204,18 +209,46 @@ tee_by {run} {asked} Leaves {output} {error} {files} fault false sound long vain
     let (name, called, has) = tee_tells error fault place left rest differs broken in
     inr (tee_stop fault left rest says slots (is ∙ ap (λ flag. cond (flag && is_none fault) 0 1) sound) (failing place (slot_at (output ∷ error ∷ files) place).state) name
     (failing_stops run (Tee asked) (slot_at (output ∷ error ∷ files) place).state (rw slots (differs, called, broken, refl))) (says_line has says))
-tee_by Leaves {pieces} {names} {first} {broke} fault true sound long vain reads left rest says slots is = elim (read_or Leaves (vain (sound_first first (are_sound broke) sound).0) reads) [
+tee_by Leaves {pieces} {names} {first} {broke} fault true sound long vain reads left rest says slots is = elim (read_or Leaves (vain sound) reads) [
   | inl all ↦ inl (sound, all)
   | inr (met, many) ↦ inr (tee_stop fault left rest says slots (is ∙ ap (λ flag. cond (flag && is_none fault) 0 1) sound ∙ ap (λ why. cond (is_none why) 0 1) met) TooLong (codes "standard input") (long many)
       (says_line (has_before (said_in (suc (length pieces)) (output_names names) (first ∷ broke)) (has_after (said_before (suc (length pieces)) (output_names names) (first ∷ broke)) ([], [], refl))) (rw met at says)))
 ]
 
-tee_or : {run : Run} (asked : TeeAsked) {mode : Mode} {names : List (List ℕ)} {content : Content} {source : Source} → inputs_at run.world (names_of (Tee asked)) ≡ standard_input content ∷ [] → (ends : tee.EndsAs true true mode names content source run.outputs run.status)
+tee_or : {run : Run} (asked : TeeAsked) {mode : Mode} {on_broken : OnBroken} {names : List (List ℕ)} {content : Content} {source : Source} → inputs_at run.world (names_of (Tee asked)) ≡ standard_input content ∷ [] → (ends : tee.EndsAs true true mode on_broken names content source run.outputs run.status)
     → IsCopied ends ⊎ IsStop false run (Tee asked)
-tee_or {run} asked {content} only (tee.copied pieces fault first broke output error files comes some left rest says slots is) =
-    tee_by _ fault (are_sound (first ∷ broke)) refl (λ many. (standard_input content, content, ([], [], only), refl, many)) (λ none. some_left (suc (length pieces)) broke none) comes.read left rest
+tee_or {run} asked {on_broken} {content} only (tee.copied pieces fault first broke output error files comes some left rest says slots is) =
+    tee_by _ fault (are_sound (first ∷ broke)) refl (λ many. (standard_input content, content, ([], [], only), refl, many)) (sound_goes_on on_broken (suc (length pieces)) first broke) comes.read left rest
     (tee_lines asked fault slots left rest (input_tells run asked _ only comes.read) says) slots is
 tee_or asked only (tee.no_room error says unread slots is) = inr (stop_early Memory [] tt says slots is)
+
+-- a text about a tool
+
+text_stops : {run : Run} {which : Tool} {topic : Topic} (n : ℕ) {error : Slot} → Says true which (message_of which (Write 0) (codes "standard output")) standard_error error
+    → run.outputs ≡ breaks (adds (take n (text_about which topic)) standard_output) ∷ error ∷ [] → run.status ≡ 1 → IsStop false run (About which topic)
+text_stops {run} {which} {topic} n {error} says slots is = record {
+  failed = is;
+  why = Write 0;
+  name = codes "standard output";
+  stops = stops;
+  line = line;
+  broke = broke;
+} where
+  stops : BrokeAt run 0 (codes "standard output") (Write 0)
+  stops = rw slots (λ is. absurd (cc), inl refl, refl, refl)
+
+  line : Tells run (About which topic) (Write 0) (codes "standard output")
+  line = ([], [], record { are = one_line (TellsMet run (About which topic)) (message_of which (Write 0) (codes "standard output")) (Write 0, codes "standard output", inl stops, refl); said = rw slots (error, says, refl) })
+
+  broke : (place : ℕ) → (place ≡ 1 → ⊥) → (slot_at run.outputs place).is_broken ≡ true → IsToldOf run (About which topic) place ⊎ IsStuck false run.outputs place
+  broke zero differs broken = inl (subst (λ those. (name : List ℕ) × IsCalled (slot_at those 0) name × Tells run (About which topic) (failing 0 (slot_at those 0).state) name) (sym slots) (codes "standard output", inl refl, line))
+  broke (suc zero) differs broken = absurd (differs refl)
+  broke (suc (suc place)) differs broken = absurd (false≢true (rw slots at broken))
+
+about_or : {run : Run} {which : Tool} {topic : Topic} → TellsText true which (text_about which topic) run.outputs run.status → (run.status ≡ 0) ⊎ IsStop false run (About which topic)
+about_or (text_whole slots is) = inl is
+about_or (text_cut n short error says slots is) = inr (text_stops n says slots is)
+about_or (no_text error says slots is) = inr (stop_early Memory [] tt (error, says, refl) slots is)
 
 -- All tools
 
@@ -226,6 +259,7 @@ does_or (Tail asked) does = ends_or {asked = Tail asked} refl (tail_living asked
 does_or (Split asked) does = ends_or {asked = Split asked} refl (split_living (plan_of asked)) does
 does_or (Csplit asked) does = ends_or {asked = Csplit asked} (does.operands, does.asks, refl) (csplit_living asked.style does.operands) does.ends
 does_or (Tee asked) does = tee_or asked does.input does.ends
+does_or (About which topic) does = about_or does
 
 -- operands that are wrong
 

@@ -8,9 +8,10 @@ use Rattle.ports_core.specs.declared.fault.UsageKind.TheVariants.{BadFollow}
 use Rattle.watch_core.specs.Snapshot.{Snapshot}
 use Rattle.watch_core.specs.Watched.{Watched}
 use Rattle.follow_core.specs.declared.start.Start.{Start}
-use Rattle.follow_core.specs.Ending.{FollowEndsAs}
+use Rattle.follow_core.specs.Ending.{FollowEndsBy}
 use Rattle.follow_core.specs.Look.{ways_of}
 use Rattle.words_core.specs.declared.settings.Settings.{Settings}
+use Rattle.words_core.specs.declared.settings.TailSettings.{TailSettings}
 use Rattle.words_core.specs.declared.settings.Settings.TheVariants.{Tail}
 use Rattle.words_core.specs.declared.value.Followed.{Followed}
 use Rattle.words_core.specs.declared.value.Followed.TheVariants.{Descriptor, Name}
@@ -32,12 +33,13 @@ abbrev pub is_name : Followed → Bool
 is_name Descriptor = false
 is_name Name = true
 
--- these files are followed, in as many looks, and the run ends so that it gave exactly what these looks give
-abbrev pub FollowsAs : (told_in told : Bool) → EndsAsked → Followed → (looks : ℕ) → (ℕ → Snapshot) → List Snapshot
-    → List Watched → List Slot → (status : ℕ) → Type 0
-FollowsAs told_in told asked followed looks shows seen watched new status =
-    FollowEndsAs told_in told (ways_of 0 (is_name followed) (start_of asked)) (has_headers asked.headers asked.names)
-    asked.names looks shows streams seen watched new status
+-- these files are followed, in as many looks or until this process is gone, and the run ends so that it gave exactly
+-- what these looks give
+abbrev pub FollowsAs : (told_in told : Bool) → EndsAsked → Followed → (process : Option ℕ) → (looks : ℕ)
+    → (ℕ → Snapshot) → List Snapshot → List Watched → List Slot → (status : ℕ) → Type 0
+FollowsAs told_in told asked followed process looks shows seen watched new status =
+    FollowEndsBy process told_in told (ways_of 0 (is_name followed) (start_of asked))
+    (has_headers asked.headers asked.names) asked.names looks shows streams seen watched new status
 
 -- the words are refused for this, and no name was watched and no look made
 abbrev pub RefusesUnseen : Bool → List (List ℕ) → Fault → List Snapshot → List Watched → List Slot → ℕ → Type 0
@@ -49,10 +51,10 @@ abbrev pub RefusesToFollow : Bool → List (List ℕ) → List Snapshot → List
 RefusesToFollow told words seen watched new status =
     RefusesUnseen told words (Usage BadFollow 0) seen watched new status
 
-abbrev pub FollowsTail : (told_in told : Bool) → List (List ℕ) → EndsAsked → Option Followed → ℕ → (ℕ → Snapshot)
-    → List Snapshot → List Watched → List Slot → ℕ → Type 0
+abbrev pub FollowsTail : (told_in told : Bool) → List (List ℕ) → TailSettings → Option Followed → ℕ
+    → (ℕ → Snapshot) → List Snapshot → List Watched → List Slot → ℕ → Type 0
 FollowsTail told_in told words asked (Some followed) looks shows seen watched new status =
-    FollowsAs told_in told asked followed looks shows seen watched new status
+    FollowsAs told_in told asked.ends followed asked.process looks shows seen watched new status
 FollowsTail told_in told words asked None looks shows seen watched new status =
     RefusesToFollow told words seen watched new status
 
@@ -61,7 +63,7 @@ FollowsTail told_in told words asked None looks shows seen watched new status =
 abbrev pub FollowingEndsAt : (told_in told : Bool) → List (List ℕ) → ℕ → (ℕ → Snapshot) → List Snapshot → List Watched
     → List Slot → ℕ → Result Settings Fault → Type 0
 FollowingEndsAt told_in told words looks shows seen watched new status (Ok (Tail asked)) =
-    FollowsTail told_in told words asked.ends asked.followed looks shows seen watched new status
+    FollowsTail told_in told words asked asked.followed looks shows seen watched new status
 FollowingEndsAt told_in told words looks shows seen watched new status (Ok settings) =
     (HasOperands settings × RefusesToFollow told words seen watched new status)
     ⊎ ((seen ≡ []) × (watched ≡ []) × RefusesOperands told words settings new status)

@@ -1,6 +1,7 @@
 pub mod Tasks
 pub mod Outcome
 pub mod Promises
+pub mod About
 pub mod Following
 pub mod Program
 pub mod laws

@@ -16,10 +16,12 @@ use Rattle.run_core.specs.RunEnds.{EndsAs}
 use Rattle.ports_core.specs.Streams.{standard_error, streams_with}
 use Rattle.tee_core.specs.Run.{all_copied, EndsAs as TeeCopies}
 use Rattle.words_core.specs.declared.settings.Settings.{Settings}
-use Rattle.words_core.specs.declared.settings.Settings.TheVariants.{Head, Tail, Split, Csplit, Tee}
+use Rattle.words_core.specs.declared.settings.Settings.TheVariants.{Head, Tail, Split, Csplit, Tee, About}
 use Rattle.words_core.specs.CsplitAsked.{CsplitAsked}
 use Rattle.words_core.specs.TeeAsked.{TeeAsked}
+use Rattle.words_core.specs.Help.{text_about}
 use Rattle.words_core.specs.Words.{HasBadOperands, tool_named, settings_of}
+use Rattle.tools_core.specs.About.{TellsText}
 use Rattle.tools_core.specs.Tasks.{csplit_task, head_task, tail_task, split_task, names_of}
 
 -- who refuses words: their tool, or the program where they name none
@@ -48,7 +50,7 @@ pub record TeeEndsAs (told_in told : Bool) (asked : TeeAsked) (inputs : List Inp
     (new : List Slot) (status : ℕ) : Type 0 where
   pub content : Content
   pub input : inputs ≡ standard_input content ∷ []
-  pub ends : TeeCopies told_in told asked.mode asked.names content (source_at sources 0) new status
+  pub ends : TeeCopies told_in told asked.mode asked.on_broken asked.names content (source_at sources 0) new status
   pub came : CameFrom told_in content (source_at sources 0)
   -- where nothing broke: standard output and every file have the input's bytes
   pub whole : told_in ≡ true → status ≡ 0 → new ≡ all_copied told asked.mode asked.names content.bytes
@@ -64,6 +66,8 @@ DoesAsked told_in told (Split asked) inputs sources new status =
 DoesAsked told_in told (Csplit asked) inputs sources new status =
     CsplitEndsAs told_in told asked inputs sources new status
 DoesAsked told_in told (Tee asked) inputs sources new status = TeeEndsAs told_in told asked inputs sources new status
+DoesAsked told_in told (About tool topic) inputs sources new status =
+    TellsText told tool (text_about tool topic) new status
 
 -- the words are refused for this fault, with the word that it speaks of: a message, status 1, and nothing else
 pub record RefusesFor (told : Bool) (words : List (List ℕ)) (fault : Fault) (new : List Slot)
@@ -94,14 +98,10 @@ abbrev pub RunEnds : Bool → Bool → List (List ℕ) → List Input → (old s
 RunEnds told_in told words inputs old sources new status =
     RunEndsAt told_in told words inputs old sources new status (settings_of words)
 
--- the names that these words read
+-- the names that these words read; words that are refused read none
 abbrev pub names_at : Result Settings Fault → List (List ℕ)
 names_at (Ok settings) = names_of settings
 names_at (Err fault) = []
 
 abbrev pub names_read : List (List ℕ) → List (List ℕ)
 names_read words = names_at (settings_of words)
-
--- the words ask for nothing
-abbrev pub AreNone : List (List ℕ) → Type 0
-AreNone words = (fault : Fault) × (settings_of words ≡ Err fault)

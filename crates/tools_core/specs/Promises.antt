@@ -1,21 +1,23 @@
 -- What people rest on, in a manual's words: what a run leaves, over inputs and outputs that tell their bytes, as those
 -- in memory do.
 use Rattle.std.specs.Prelude.{◌≡◌, ℕ, ◌+◌, ◌^◌, ◌/◌, ◌%◌, ◌<◌, ◌≤◌, ◌==◌, suc, Bool, true, false, not, List, [], ◌∷◌, ◌++◌, length, map, drop, All, slice_index_or, ◌⊎◌, Option, Some, None, Ok, if◌then◌else◌}
-use Rattle.std.specs.List.{concat}
+use Rattle.std.specs.List.{concat, flat_map}
 use Rattle.std.specs.declared.cmp.Ordering.TheVariants.{Less}
 use Rattle.std.specs.Ordering.{nat_cmp}
 use Rattle.std.specs.Cmp.Lexicographic.{slice_cmp}
 use Rattle.seg_core.specs.Line.{delimiters, ends_with, first_lines, joined, lines_of}
+use Rattle.ports_core.specs.Inputs.{largest_piece}
 use Rattle.ports_core.specs.Message.{SaysAll}
 use Rattle.ports_core.specs.Name.{name_at, numbered_name}
 use Rattle.ports_core.specs.Part.{File, IsBeginning}
 use Rattle.ports_core.specs.Slot.{Slot, has_file, slot_at}
-use Rattle.ports_core.specs.Source.{Content, Source, source_of}
+use Rattle.ports_core.specs.Source.{Content, Source, source_at, source_of}
 use Rattle.ports_core.specs.Streams.{standard_error}
 use Rattle.ports_core.specs.Text.{message_of}
 use Rattle.ports_core.specs.Work.{Judges}
 use Rattle.ports_core.specs.declared.fault.Fault.{Fault}
 use Rattle.ports_core.specs.declared.fault.Fault.TheVariants as fault
+use Rattle.ports_core.specs.declared.on_broken.OnBroken.{OnBroken}
 use Rattle.ports_core.specs.declared.slot.Mode.{Mode}
 use Rattle.ports_core.specs.declared.slot.Mode.TheVariants.{Fresh}
 use Rattle.ports_core.specs.declared.slot.State.{State}
@@ -28,7 +30,7 @@ use Rattle.operand_core.specs.Style.{Style}
 use Rattle.operand_core.specs.declared.operand.Operand.{Operand}
 use Rattle.csplit_core.specs.Input.{all_lines}
 use Rattle.csplit_core.specs.Operand.{Line}
-use Rattle.csplit_core.specs.Output.{contents_of as contents_in, files_of as files_by}
+use Rattle.csplit_core.specs.Output.{file_in}
 use Rattle.csplit_core.specs.Plan.{Step}
 use Rattle.csplit_core.specs.Planned.{Plan, plan}
 use Rattle.csplit_core.specs.Section.{lines_between, section_of, whole_end, whole_sections}
@@ -38,7 +40,7 @@ use Rattle.run_core.specs.RunEnds.{EndsAs, RunsOver, as_defined, no_room, stoppe
 use Rattle.run_core.specs.Task.{Task}
 use Rattle.tee_core.specs.Run.{EndsAs as TeeCopies, are_sound, copied, no_room as no_memory}
 use Rattle.words_core.specs.declared.settings.Settings.{Settings}
-use Rattle.words_core.specs.declared.settings.Settings.TheVariants.{Head, Tail, Split, Csplit, Tee}
+use Rattle.words_core.specs.declared.settings.Settings.TheVariants.{Head, Tail, Split, Csplit, Tee, About}
 use Rattle.words_core.specs.EndsAsked.{EndsAsked}
 use Rattle.words_core.specs.declared.value.Followed.{Followed}
 use Rattle.words_core.specs.SplitAsked.{SplitAsked}
@@ -48,7 +50,7 @@ use Rattle.watch_core.specs.Watched.{Watched}
 use Rattle.tools_core.specs.Following.{FollowingEnds}
 use Rattle.tools_core.specs.Outcome.{DoesAsked, RunEnds, names_read}
 use Rattle.tools_core.specs.Program.{ProgramEnds}
-use Rattle.tools_core.specs.Tasks.{csplit_task, has_headers, head_task, names_of, split_task, tail_task, tool_of}
+use Rattle.tools_core.specs.Tasks.{csplit_task, has_headers, head_task, names_of, naming_of, split_task, tail_task, tool_of}
 
 -- One run of the program: its words, what it found, and what it left.
 pub record Run : Type 0 where
@@ -113,10 +115,16 @@ counted options sign n = record options { count = record { sign = sign; amount =
 abbrev pub IsHead : Run → EndsAsked → Sign → ℕ → Type 0
 IsHead run options sign n = Does run (Head (counted options sign n))
 
--- `tail` with them, where no file is to be followed; so it makes no looks, whatever their count
+-- `tail` with them, where no file is to be followed; so it makes no looks, whatever their count and their
+-- pauses, and waits for no process
 abbrev pub IsTail : Run → EndsAsked → Sign → ℕ → Type 0
-IsTail run options sign n = (looks : ℕ)
-    × Does run (Tail (record { ends = counted options sign n; followed = None; looks = looks }))
+IsTail run options sign n = (looks : ℕ) × (pause : ℕ) × (process : Option ℕ) × Does run (Tail (record {
+  ends = counted options sign n;
+  followed = None;
+  looks = looks;
+  pause = pause;
+  process = process;
+}))
 
 -- no header is written: an option says so, or there is one input and none asks for headers
 abbrev pub IsBare : EndsAsked → Type 0
@@ -158,8 +166,8 @@ text_at texts place = slice_index_or texts place []
 -- The file at a place has the name of this place: the prefix, letters or digits, and the ending. The files come in the
 -- order of their names, byte by byte, as a shell's `*` gives them where it sorts so. Each was made anew, and is sound.
 pub record AreListed (asked : SplitAsked) (files : List Slot) : Type 0 where
-  pub named : (place : ℕ) → place < length files → text_at (map (λ (file : Slot). file.name) files) place
-      ≡ name_at asked.prefix asked.alphabet asked.width asked.auto asked.ending place
+  pub named : (place : ℕ) → place < length files
+      → text_at (map (λ (file : Slot). file.name) files) place ≡ name_at (naming_of asked) place
   pub in_order : AreInOrder (map (λ (file : Slot). file.name) files)
   pub sound : All (IsSound Fresh) files
 
@@ -238,9 +246,8 @@ pub record AreSections (style : Style) (operands : List Operand) (input : List �
     (contents : List (List ℕ)) : Type 0 where
   pub all : in_turn style.suppress (all_lines input) (plan style.suppress operands (all_lines input)).steps
       (last_section (all_lines input) (plan style.suppress operands (all_lines input))) ≡ all_lines input
-  pub files : contents ≡ map (λ (file : File). file.bytes)
-      (files_by style 0 (map contents_in
-      (whole_sections (all_lines input) (plan style.suppress operands (all_lines input)))))
+  pub files : contents ≡ flat_map (file_in style)
+      (whole_sections (all_lines input) (plan style.suppress operands (all_lines input)))
 
 -- The files are numbered in their order: each name is the prefix and the file's number, from 0 on, filled with zeros to
 -- this many digits. Where no number has more digits, this is the order of the names, byte by byte. Each file was made
@@ -292,7 +299,7 @@ HasLong run asked = (input : Input) × (content : Content) × IsFound run asked 
 
 -- A fault that stops a run, and the name that its line has: there was no memory, which nothing that is left could show;
 -- an input has more than any tool takes; operands of `csplit` are wrong, the first of them this word; or the output of
--- this name broke. Where one of `tee` broke it went on with the others: that counts as well.
+-- this name broke. Where one of `tee` broke that counts as well, also where it went on with the others.
 abbrev pub StopsRun : Run → Settings → List ℕ → Fault → Type 0
 StopsRun run asked name fault.Memory = Unit {0}
 StopsRun run asked name fault.TooLong = HasLong run asked
@@ -306,7 +313,7 @@ StopsRun run asked name (fault.NoMatch operand repetition) = ⊥
 StopsRun run asked name (fault.Range operand repetition) = ⊥
 StopsRun run asked name fault.Failed = ⊥
 
--- what a tool does with each of its inputs; `tee` has no such task
+-- what a tool does with each of its inputs; `tee` has no such task, nor have help and the version
 abbrev pub IsTask : Settings → Task → Type 0
 IsTask (Head asked) task = task ≡ head_task asked
 IsTask (Tail asked) task = task ≡ tail_task asked.ends
@@ -314,6 +321,7 @@ IsTask (Split asked) task = task ≡ split_task asked
 IsTask (Csplit asked) task = (operands : List Operand) × Asks asked.operands operands
     × (task ≡ csplit_task asked operands)
 IsTask (Tee asked) task = ⊥
+IsTask (About tool topic) task = ⊥
 
 -- the tool has not enough of what an input gives before it breaks off, and `tee` never has
 abbrev pub WantsMore : Settings → Content → Type 0
@@ -363,6 +371,7 @@ removes_files (Tail asked) = false
 removes_files (Split asked) = false
 removes_files (Csplit asked) = not asked.style.keep
 removes_files (Tee asked) = false
+removes_files (About tool topic) = false
 
 -- an output that has no file any more, or never had, or is broken
 abbrev pub IsGone : Slot → Type 0
@@ -386,10 +395,11 @@ IsUnstopped (as_defined error reached says outputs swept done is) = Unit {0}
 IsUnstopped (stopped fault before input after error step reached are done untouched at stops between swept says is) = ⊥
 IsUnstopped (no_room error says slots untouched count is) = ⊥
 
--- `tee` copied all that its input has, and none of its outputs broke. Where one broke it went on with the others: that
--- run counts as one that a fault stopped.
-abbrev pub IsCopied : {told_in told : Bool} {mode : Mode} {names : List (List ℕ)} {content : Content} {source : Source}
-    {new : List Slot} {status : ℕ} → TeeCopies told_in told mode names content source new status → Type 0
+-- `tee` copied all that its input has, and none of its outputs broke. A run in which one broke counts as one that a
+-- fault stopped, also where it went on with the others.
+abbrev pub IsCopied : {told_in told : Bool} {mode : Mode} {on_broken : OnBroken} {names : List (List ℕ)}
+    {content : Content} {source : Source} {new : List Slot} {status : ℕ}
+    → TeeCopies told_in told mode on_broken names content source new status → Type 0
 IsCopied {content = content} (copied pieces fault first broke output error files comes left out_left files_left says
     slots is) = (are_sound (first ∷ broke) ≡ true) × (concat pieces ≡ content.bytes)
 IsCopied (no_memory error says unread slots is) = ⊥
@@ -402,6 +412,7 @@ Unstopped (Tail asked) inputs sources new status does = IsUnstopped does
 Unstopped (Split asked) inputs sources new status does = IsUnstopped does
 Unstopped (Csplit asked) inputs sources new status does = IsUnstopped does.ends
 Unstopped (Tee asked) inputs sources new status does = IsCopied does.ends
+Unstopped (About tool topic) inputs sources new status does = status ≡ 0
 
 -- The run did what was asked for, over what it found, and no fault stopped it, whatever its status.
 pub record Completes (run : Run) (asked : Settings) : Type 0 where
@@ -409,8 +420,8 @@ pub record Completes (run : Run) (asked : Settings) : Type 0 where
   pub does : DoesAsked true true asked (inputs_at run.world (names_of asked)) run.inputs run.outputs run.status
   pub unstopped : Unstopped asked (inputs_at run.world (names_of asked)) run.inputs run.outputs run.status does
 
--- Such a fault stopped the run, which told it; or, of `tee`, an output broke: it went on with the others, and no more
--- is said here of that run.
+-- Such a fault stopped the run, which told it; or, of `tee`, an output broke: it went on with the others or ended with
+-- that, and no more is said here of that run.
 pub record IsStopped (run : Run) (asked : Settings) : Type 0 where
   pub failed : run.status ≡ 1
   pub why : Fault
@@ -437,10 +448,34 @@ pub record LeaveAlike (asked : Settings) (one other : Run) : Type 0 where
   pub outputs : (place : ℕ) → (place ≡ 1 → ⊥) → IsAlike (slot_at one.outputs place) (slot_at other.outputs place)
   pub said : SayAlike asked one other
 
--- its words ask `tail` to follow files so, in this many looks
+-- an output has all of these pieces, or at least those before the last, where it is broken
+pub record HasUpTo (before last : List ℕ) (output : Slot) : Type 0 where
+  pub some : IsBeginning before output.written
+  pub no_more : IsBeginning output.written (before ++ last)
+  pub sound : output.is_broken ≡ false → output.written ≡ before ++ last
+
+-- an output but standard error is broken
+abbrev pub HasBroken : Run → Type 0
+HasBroken run = (place : ℕ) × (place ≡ 1 → ⊥) × ((slot_at run.outputs place).is_broken ≡ true)
+
+-- A run of `tee` ended with the first output that broke, or with its input, or told that it found no memory to begin: the
+-- input was read up to `last`, which is no longer than a piece, and the rest is left. Each output that is sound has all
+-- that was read, and each that is broken all but a part of `last`.
+pub record EndsWithBreak (run : Run) (asked : Settings) : Type 0 where
+  pub before : List ℕ
+  pub last : List ℕ
+  pub rest : List ℕ
+  pub read : run.world.standard.bytes ≡ (before ++ last) ++ rest
+  pub left : (source_at run.inputs 0).left.bytes ≡ rest
+  pub small : length last ≤ largest_piece
+  pub outputs : (place : ℕ) → (place ≡ 1 → ⊥) → place < length run.outputs
+      → HasUpTo before last (slot_at run.outputs place)
+  pub ended : (rest ≡ []) ⊎ HasBroken run ⊎ Tells run asked fault.Memory []
+
+-- its words ask `tail` to follow files so, in this many looks, whatever pauses they ask for, and name no process
 abbrev pub AsksToFollow : Run → EndsAsked → Followed → (looks : ℕ) → Type 0
-AsksToFollow run options followed looks =
-    settings_of run.words ≡ Ok (Tail (record { ends = options; followed = Some followed; looks = looks }))
+AsksToFollow run options followed looks = (pause : ℕ) × (settings_of run.words
+    ≡ Ok (Tail (record { ends = options; followed = Some followed; looks = looks; pause = pause; process = None })))
 
 -- It followed what its words ask for, in as many looks as its caller asks for, ended as `run_follow` ensures, and met no
 -- fault. The program asks for as many looks as its words do.

@@ -2,7 +2,7 @@
 -- files for tail, headers and their options, bytes, and all but the last are GNU's, and so is what split does where an
 -- input breaks off.
 use Rattle.std.specs.Prelude.{ℕ, nat_lt, Bool, true, false, not, List, [], ◌∷◌, length, slice_index_or, codes}
-use Rattle.ports_core.specs.Name.{Naming}
+use Rattle.ports_core.specs.Name.{Naming, numbering_of}
 use Rattle.ports_core.specs.declared.fault.Fault.{Fault}
 use Rattle.ports_core.specs.declared.fault.Fault.TheVariants.{NoMatch, Range}
 use Rattle.ports_core.specs.declared.tool.Tool.{Tool}
@@ -18,7 +18,7 @@ use Rattle.run_core.specs.Task.{Task}
 use Rattle.words_core.specs.declared.settings.Headers.{Headers}
 use Rattle.words_core.specs.declared.settings.Headers.TheVariants.{ForSeveral, Never, Always}
 use Rattle.words_core.specs.declared.settings.Settings.{Settings}
-use Rattle.words_core.specs.declared.settings.Settings.TheVariants.{Head, Tail, Split, Csplit, Tee}
+use Rattle.words_core.specs.declared.settings.Settings.TheVariants.{Head, Tail, Split, Csplit, Tee, About}
 use Rattle.words_core.specs.CsplitAsked.{CsplitAsked}
 use Rattle.words_core.specs.EndsAsked.{EndsAsked}
 use Rattle.words_core.specs.SplitAsked.{SplitAsked}
@@ -67,15 +67,12 @@ tail_task asked = record {
 abbrev pub naming_of : SplitAsked → Naming
 naming_of asked = record {
   prefix = asked.prefix;
-  alphabet = asked.alphabet;
-  width = asked.width;
-  auto = asked.auto;
+  numbering = numbering_of asked.alphabet asked.width asked.auto;
   ending = asked.ending;
-  drawn = 0;
 }
 
 abbrev pub plan_of : SplitAsked → Plan
-plan_of asked = record { delim = asked.delim; cut = asked.cut; elide = asked.elide; names = naming_of asked }
+plan_of asked = record { cut = asked.cut; elide = asked.elide; names = naming_of asked }
 
 -- `split`: the input cut into files
 abbrev pub split_task : SplitAsked → Task
@@ -103,13 +100,15 @@ csplit_task asked operands = record {
   with_header = false;
 }
 
--- The names of its inputs. `tee` reads standard input alone, whatever its files are called.
+-- The names of its inputs. `tee` reads standard input alone, whatever its files are called; help and the version read
+-- none.
 abbrev pub names_of : Settings → List (List ℕ)
 names_of (Head asked) = asked.names
 names_of (Tail asked) = asked.ends.names
 names_of (Split asked) = asked.input ∷ []
 names_of (Csplit asked) = asked.input ∷ []
 names_of (Tee asked) = codes "-" ∷ []
+names_of (About tool topic) = []
 
 -- the tool that settings are for
 abbrev pub tool_of : Settings → Tool
@@ -118,3 +117,4 @@ tool_of (Tail asked) = tool.Tail
 tool_of (Split asked) = tool.Split
 tool_of (Csplit asked) = tool.Csplit
 tool_of (Tee asked) = tool.Tee
+tool_of (About tool topic) = tool

@@ -6,7 +6,7 @@ ghost use Rattle.tools_core.specs.Following.{FollowingEnds, FollowingEndsAt, Fol
 
 use crate::ends::{has_headers, is_plus};
 use crate::run::refuse_words;
-use follow_core::{Start, follow_files};
+use follow_core::{Limits, Start, follow_files};
 use ports_core::{Fault, Outs, UsageKind};
 use std::alloc::Global;
 use watch_core::Watch;
@@ -16,7 +16,7 @@ use words_core::{EndsSettings, Followed, Settings, read_words};
 const NOT_FOLLOWED: Fault = Fault::Usage(UsageKind::BadFollow, 0);
 
 /// Runs `tail` over the files that the words name, and follows them: `looks` looks, one directly after another, or fewer where
-/// after one nothing more can come. It writes what each look finds, and says what changed or went wrong on standard error. It
+/// after one nothing more can come, or where the words name a process that is gone. It writes what each look finds, and says what changed or went wrong on standard error. It
 /// returns the status: 0, or 1 where there was any fault. Words that follow nothing are refused. It takes memory for what the
 /// words ask for, for the names and a buffer of 64 KiB, and for headers and messages.
 pub fn run_follow<W: Watch, O: Outs>(
@@ -55,7 +55,14 @@ pub(crate) fn follow_asked<W: Watch, O: Outs>(
 {
     match settings {
         Settings::Tail(tail) => match tail.followed {
-            Some(followed) => follow_tail(alloc, &tail.ends, followed, watch, outs, looks),
+            Some(followed) => {
+                watch.wait_at_most(tail.pause);
+                let limits = Limits {
+                    looks,
+                    process: tail.process,
+                };
+                follow_tail(alloc, &tail.ends, followed, limits, watch, outs)
+            }
             None => refuse_words(alloc, words, &NOT_FOLLOWED, outs),
         },
         _ => refuse_words(alloc, words, &NOT_FOLLOWED, outs),
@@ -67,14 +74,14 @@ fn follow_tail<W: Watch, O: Outs>(
     alloc: Global,
     settings: &EndsSettings<'_>,
     followed: Followed,
+    limits: Limits,
     watch: &mut W,
     outs: &mut O,
-    looks: u64,
 ) -> u8
     requires unseen { W.seen watch.old ≡ [] }
     requires unwatched { W.watched watch.old ≡ [] }
     requires outputs { O.slots outs.old ≡ streams }
-    ensures { FollowsAs W.told O.told settings.now followed looks (W.shows watch.old) (W.seen watch.new) (W.watched watch.new) (O.slots outs.new) result }
+    ensures { FollowsAs W.told O.told settings.now followed limits.process limits.looks (W.shows watch.old) (W.seen watch.new) (W.watched watch.new) (O.slots outs.new) result }
 {
     follow_files(
         alloc,
@@ -82,7 +89,7 @@ fn follow_tail<W: Watch, O: Outs>(
         start_of(settings),
         is_name(followed),
         has_headers(settings),
-        looks,
+        limits,
         watch,
         outs,
     )

@@ -1,6 +1,7 @@
 //! The tools together: what a program's words ask for, run over inputs, outputs and files that are watched.
 #![tactic(auto)]
 
+mod about;
 mod csplit;
 mod ends;
 mod follow;

@@ -5,7 +5,7 @@ ghost use Rattle.ports_core.specs.Source.{source_at, IsFresh};
 ghost use Rattle.run_core.specs.Input.{has_dash};
 ghost use Rattle.run_core.specs.Reading.{count_after};
 ghost use Rattle.ports_core.specs.Inputs.{AsksAtMost, largest_piece};
-ghost use Rattle.tools_core.specs.Outcome.{AreNone, names_read};
+ghost use Rattle.tools_core.specs.Outcome.{names_read};
 ghost use Rattle.tools_core.specs.Program.{ProgramEnds};
 
 use crate::follow::follow_asked;
@@ -31,7 +31,7 @@ pub fn run_words<I: Inputs, W: Watch, O: Outs>(
     ensures ends { ProgramEnds I.told W.told O.told (map (λ word. word.now) words.now) (I.laid inputs.old) (I.sources inputs.old) (I.sources inputs.new) (W.shows watch.old) (W.seen watch.new) (W.watched watch.new) (O.slots outs.new) result }
     ensures opened { length (I.sources inputs.new) ≤ count_after 1 (names_read (map (λ word. word.now) words.now)) }
     ensures asked { AsksAtMost largest_piece (I.sources inputs.new) }
-    ensures unopened { AreNone (map (λ word. word.now) words.now) → I.sources inputs.new ≡ I.sources inputs.old }
+    ensures unopened { names_read (map (λ word. word.now) words.now) ≡ [] → I.sources inputs.new ≡ I.sources inputs.old }
     ensures untouched { has_dash (names_read (map (λ word. word.now) words.now)) ≡ false → source_at (I.sources inputs.new) 0 ≡ source_at (I.sources inputs.old) 0 }
 {
     match read_words(alloc, words) {

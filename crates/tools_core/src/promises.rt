@@ -1,19 +1,21 @@
 //! What people rest on, as laws of runs, with no code: each stands on the contract of a function whose body is empty. They
 //! speak of runs over inputs and outputs that tell their bytes, as those in memory do, and of what `run` and `run_follow` ensure of
 //! each; where nothing else is said, of runs whose status is 0. Each run of the program, `run_words`, is one of these.
-ghost use Rattle.std.specs.Prelude.{◌≡◌, ◌<◌, ◌⊎◌, ◌+◌, ◌++◌, ◌∷◌, [], ℕ, List, Ok, true, false, length};
+ghost use Rattle.std.specs.Prelude.{◌≡◌, ◌<◌, ◌^◌, ◌⊎◌, ◌+◌, ◌++◌, ◌∷◌, [], ℕ, List, Ok, true, false, length};
 ghost use Rattle.ends_core.specs.Ends.{tail_of};
 ghost use Rattle.follow_core.specs.Run.{AreKept, name_text};
 ghost use Rattle.follow_core.specs.Version.{entries_of};
 ghost use Rattle.ports_core.specs.Slot.{slot_at};
+ghost use Rattle.ports_core.specs.declared.on_broken.OnBroken.TheVariants.{Stop};
 ghost use Rattle.ports_core.specs.Source.{source_of};
 ghost use Rattle.seg_core.specs.Line.{joined, line_count};
 ghost use Rattle.seg_core.specs.declared.count.Sign.TheVariants.{Minus, Plain, Plus};
-ghost use Rattle.seg_core.specs.declared.cut.Cut.TheVariants.{Bytes, LineBytes, Lines, Round};
+ghost use Rattle.seg_core.specs.declared.cut.Cut.TheVariants.{Parts, Round};
+ghost use Rattle.seg_core.specs.declared.cut.Limit.TheVariants.{Bytes, LineBytes, Lines};
 ghost use Rattle.operand_core.specs.Reading.{Asks};
 ghost use Rattle.operand_core.specs.declared.operand.Operand.{Operand};
 ghost use Rattle.tools_core.specs.Following.{is_name};
-ghost use Rattle.tools_core.specs.Promises.{AreCopies, AreDealt, AreLinePieces, AreListed, AreNumbered, ArePieces, AreSections, AreUncut, BeginsEach, Completes, CountAlike, Does, AsksToFollow, FindAlike, Follows, HasInput, HasLong, IsBare, IsHead, IsOfProgram, IsStopped, IsTail, SaysWhy, LeaveAlike, OnlyGrows, Ran, Run, SkipNothing, WhyBroken, contents_of, files_of, output_of};
+ghost use Rattle.tools_core.specs.Promises.{AreCopies, AreDealt, AreLinePieces, AreListed, AreNumbered, ArePieces, AreSections, AreUncut, BeginsEach, Completes, CountAlike, Does, AsksToFollow, EndsWithBreak, FindAlike, Follows, HasInput, HasLong, IsBare, IsHead, IsOfProgram, IsStopped, IsTail, SaysWhy, LeaveAlike, OnlyGrows, Ran, Run, SkipNothing, WhyBroken, contents_of, files_of, output_of};
 ghost use Rattle.tools_core.specs.Tasks.{is_plus};
 ghost use Rattle.words_core.specs.CsplitAsked.{CsplitAsked};
 ghost use Rattle.words_core.specs.EndsAsked.{EndsAsked};
@@ -42,10 +44,13 @@ pub fn head_and_tail_meet()
 {}
 
 /// After `tee` standard output and each file that is named once have the input's bytes; with `-a` each file has them after
-/// those that it had.
+/// those that it had. With `--output-error=exit` a run, whatever its status, ends with the piece in which the first output
+/// breaks: each output that is sound has all that was read, each that is broken all but a part of that piece, and what comes
+/// after it is left in the input.
 pub fn tee_copies()
     ensures output { (tee : Run) (asked : TeeAsked) (input : List ℕ) → Does tee (Tee asked) → HasInput tee input → output_of tee ≡ input }
     ensures files { (tee : Run) (asked : TeeAsked) (input : List ℕ) → Does tee (Tee asked) → HasInput tee input → AreCopies asked.mode asked.names input (files_of tee) }
+    ensures stops { (tee : Run) (asked : TeeAsked) → Ran tee (Tee asked) → asked.on_broken ≡ Stop → length tee.world.standard.bytes < 2 ^ 63 → EndsWithBreak tee (Tee asked) }
 {}
 
 /// How an input comes changes nothing: two runs that are asked for the same, over inputs of the same bytes, leave the same
@@ -54,7 +59,7 @@ pub fn tee_copies()
 /// status too, and the same bytes under the same names, and say the same lines; but a file that was to be removed may stay in
 /// one of them. A fault that stops a run is told, as far as standard error takes lines, and the status is 1: no memory, too
 /// much input, operands of `csplit` that are wrong, or an output that broke, by its name. Where an output of `tee` breaks, it
-/// goes on with the others; then that is told, and this law says no more of that run.
+/// goes on with the others, or ends with that; then that is told, and this law says no more of that run.
 pub fn cutting_changes_nothing()
     ensures same { (one other : Run) (asked : Settings) → Does one asked → Does other asked → FindAlike one other → one.outputs ≡ other.outputs }
     ensures ended { (run : Run) (asked : Settings) → Ran run asked → Completes run asked ⊎ IsStopped run asked }
@@ -68,12 +73,12 @@ pub fn cutting_changes_nothing()
 /// in just one file, in turn.
 pub fn split_loses_nothing()
     ensures listed { (split : Run) (asked : SplitAsked) (input : List ℕ) → Does split (Split asked) → HasInput split input → AreListed asked (files_of split) }
-    ensures lines { (split : Run) (asked : SplitAsked) (n : ℕ) (input : List ℕ) → Does split (Split asked) → HasInput split input → asked.cut ≡ Lines n → ArePieces (line_count asked.delim) n input (contents_of split) }
-    ensures uncut { (split : Run) (asked : SplitAsked) (n : ℕ) (input : List ℕ) → Does split (Split asked) → HasInput split input → asked.cut ≡ Lines n → AreUncut asked.delim (contents_of split) }
-    ensures bytes { (split : Run) (asked : SplitAsked) (n : ℕ) (input : List ℕ) → Does split (Split asked) → HasInput split input → asked.cut ≡ Bytes n → ArePieces length n input (contents_of split) }
-    ensures line_bytes { (split : Run) (asked : SplitAsked) (n : ℕ) (input : List ℕ) → Does split (Split asked) → HasInput split input → asked.cut ≡ LineBytes n → AreLinePieces asked.delim n input (contents_of split) }
+    ensures lines { (split : Run) (asked : SplitAsked) (n delim : ℕ) (input : List ℕ) → Does split (Split asked) → HasInput split input → asked.cut ≡ Parts (Lines n delim) → ArePieces (line_count delim) n input (contents_of split) }
+    ensures uncut { (split : Run) (asked : SplitAsked) (n delim : ℕ) (input : List ℕ) → Does split (Split asked) → HasInput split input → asked.cut ≡ Parts (Lines n delim) → AreUncut delim (contents_of split) }
+    ensures bytes { (split : Run) (asked : SplitAsked) (n : ℕ) (input : List ℕ) → Does split (Split asked) → HasInput split input → asked.cut ≡ Parts (Bytes n) → ArePieces length n input (contents_of split) }
+    ensures line_bytes { (split : Run) (asked : SplitAsked) (n delim : ℕ) (input : List ℕ) → Does split (Split asked) → HasInput split input → asked.cut ≡ Parts (LineBytes n delim) → AreLinePieces delim n input (contents_of split) }
     ensures one_list { (delim n : ℕ) (input : List ℕ) (some other : List (List ℕ)) → 0 < n → AreLinePieces delim n input some → AreLinePieces delim n input other → some ≡ other }
-    ensures dealt { (split : Run) (asked : SplitAsked) (n : ℕ) (input : List ℕ) → Does split (Split asked) → HasInput split input → asked.cut ≡ Round n → AreDealt asked.delim n asked.elide input (contents_of split) }
+    ensures dealt { (split : Run) (asked : SplitAsked) (n delim : ℕ) (input : List ℕ) → Does split (Split asked) → HasInput split input → asked.cut ≡ Round n delim → AreDealt delim n asked.elide input (contents_of split) }
 {}
 
 /// `csplit` loses nothing. Its files are numbered in their order, which is that of their names, byte by byte, while no number

@@ -1,5 +1,5 @@
 //! One whole run: from words and inputs to outputs and a status.
-ghost use Rattle.std.specs.Prelude.{◌≡◌, ◌≤◌, false, length, map};
+ghost use Rattle.std.specs.Prelude.{◌≡◌, ◌≤◌, [], false, length, map};
 ghost use Rattle.ports_core.specs.Slot.{streams};
 ghost use Rattle.ports_core.specs.Source.{source_at, IsFresh};
 ghost use Rattle.run_core.specs.Input.{has_dash};
@@ -7,10 +7,11 @@ ghost use Rattle.run_core.specs.Reading.{count_after};
 ghost use Rattle.ports_core.specs.Inputs.{AsksAtMost, largest_piece};
 ghost use Rattle.run_core.specs.RunEnds.{RunsOver};
 ghost use Rattle.run_core.specs.RunSteps.{world_of};
-ghost use Rattle.tools_core.specs.Outcome.{AreNone, DoesAsked, RefusesFor, RunEnds, names_read, speaker, word_of};
+ghost use Rattle.tools_core.specs.Outcome.{DoesAsked, RefusesFor, RunEnds, names_read, speaker, word_of};
 ghost use Rattle.tools_core.specs.Tasks.{names_of};
 ghost use Rattle.words_core.specs.Words.{CanRun};
 
+use crate::about::tell_about;
 use crate::csplit::CsplitAdapter;
 use crate::ends::{HeadAdapter, TailAdapter};
 use crate::split::SplitAdapter;
@@ -21,9 +22,9 @@ use tee_core::run_tee;
 use words_core::{Settings, find_tool, read_words};
 
 /// Runs the tool that the words name, the first being the tool's name. It reads the inputs that they name, writes
-/// what the tool makes of them, and says what went wrong on standard error. It returns the status: 0, or 1 where
-/// there was any fault. It takes memory for what the words ask for, for a buffer of 64 KiB, and for what the tool's
-/// engine, headers and messages need.
+/// what the tool makes of them, and says what went wrong on standard error. Words that ask for help or the version read
+/// none: that text is written. It returns the status: 0, or 1 where there was any fault. It takes memory for what the words
+/// ask for, for a buffer of 64 KiB, and for what the tool's engine, headers and messages need.
 pub fn run<I: Inputs, O: Outs>(alloc: Global, words: &[&str], inputs: &mut I, outs: &mut O) -> u8
     requires inputs { IsFresh (I.sources inputs.old) }
     requires outputs { O.slots outs.old ≡ streams }
@@ -31,7 +32,7 @@ pub fn run<I: Inputs, O: Outs>(alloc: Global, words: &[&str], inputs: &mut I, ou
         (λ found. RunEnds I.told O.told (map (λ word. word.now) words.now) found (I.sources inputs.old) (I.sources inputs.new) (O.slots outs.new) result) }
     ensures opened { length (I.sources inputs.new) ≤ count_after 1 (names_read (map (λ word. word.now) words.now)) }
     ensures asked { AsksAtMost largest_piece (I.sources inputs.new) }
-    ensures unopened { AreNone (map (λ word. word.now) words.now) → I.sources inputs.new ≡ I.sources inputs.old }
+    ensures unopened { names_read (map (λ word. word.now) words.now) ≡ [] → I.sources inputs.new ≡ I.sources inputs.old }
     ensures untouched { has_dash (names_read (map (λ word. word.now) words.now)) ≡ false → source_at (I.sources inputs.new) 0 ≡ source_at (I.sources inputs.old) 0 }
 {
     match read_words(alloc, words) {
@@ -54,7 +55,7 @@ pub(crate) fn refuse_words<O: Outs>(
     1
 }
 
-/// Does what the settings ask for, over the inputs that they name. `tail` takes what is there of each, and follows nothing.
+/// Does what the settings ask for, over the inputs that they name, or tells what they ask about. `tail` takes what is there of each, and follows nothing.
 pub(crate) fn run_tool<I: Inputs, O: Outs>(
     alloc: Global,
     settings: &Settings<'_>,
@@ -105,7 +106,15 @@ pub(crate) fn run_tool<I: Inputs, O: Outs>(
             inputs,
             outs,
         ),
-        Settings::Tee(settings) => run_tee(alloc, &settings.names, settings.mode, inputs, outs),
+        Settings::Tee(settings) => run_tee(
+            alloc,
+            &settings.names,
+            settings.mode,
+            settings.on_broken,
+            inputs,
+            outs,
+        ),
+        Settings::About(tool, topic) => tell_about(alloc, *tool, *topic, outs),
     }
 }
 

@@ -51,13 +51,6 @@ impl<'a, 'b> Adapter for SplitAdapter<'a, 'b> {
             settings.auto,
             settings.ending,
         )?;
-        Splitter::open(
-            alloc,
-            settings.cut,
-            names,
-            settings.elide,
-            settings.delim,
-            outs,
-        )
+        Splitter::open(alloc, settings.cut, names, settings.elide, outs)
     }
 }

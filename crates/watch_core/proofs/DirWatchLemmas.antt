@@ -2,7 +2,8 @@
 use Rattle.std.proofs.Common.{◌≡◌, ℕ, zero, suc, refl, replicate, Bool, false, IsTrue, List, ap, get_or, set, is_some}
 use Rattle.std.proofs.lemmas.Bool.{false≢true}
 use Rattle.ports_core.specs.Slot.{changed_at}
-use Rattle.watch_core.specs.Snapshot.{Snapshot, Finding, Found, latest, no_files, opens_as}
+use Rattle.watch_core.specs.DirWatchState.{any_files}
+use Rattle.watch_core.specs.Snapshot.{Snapshot, Finding, Found, latest, opens_as}
 use Rattle.watch_core.specs.Watched.{Watched, Reopens, watched_at, is_watchable, opens}
 use Rattle.watch_core.specs.DirWatchState.{DirWatchState}
 use Rattle.watch_core.proofs.NameLemmas.{name_changes, names_within}
@@ -14,7 +15,7 @@ one_changes {watch} {names} turns place change {item} {new} is can at changed =
     name_changes names watch.watched place change item new those (names_within names watch.watched place those can) at changed
 
 -- any call may have found anything
-pub finds_any : (n : ℕ) (name : List ℕ) (finding : Finding) → Found (latest (replicate n no_files)) name finding
+pub finds_any : (n : ℕ) (name : List ℕ) (finding : Finding) → Found (latest (replicate n any_files)) name finding
 finds_any zero name finding = refl
 finds_any (suc zero) name finding = refl
 finds_any (suc (suc n)) name finding = finds_any (suc n) name finding

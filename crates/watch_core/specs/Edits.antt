@@ -1,6 +1,6 @@
--- Files under edits. Of a name that leads nowhere only a replacement does anything, and it makes a file that was not
+-- Files under edits, and processes that end. Of a name that leads nowhere only a replacement does anything, and it makes a file that was not
 -- there before. A file to which no name leads any more keeps what it holds.
-use Rattle.std.specs.Prelude.{ℕ, true, List, [], ◌∷◌, ◌++◌, length, map, take, Option, Some, None, slice_index_or, bytes_eq, if◌then◌else◌}
+use Rattle.std.specs.Prelude.{ℕ, ◌==◌, ◌||◌, Bool, true, false, List, [], ◌∷◌, ◌++◌, length, map, take, Option, Some, None, slice_index_or, bytes_eq, if◌then◌else◌}
 use Rattle.ports_core.specs.Slot.{changed_at}
 use Rattle.watch_core.specs.Snapshot.{Snapshot}
 
@@ -13,18 +13,22 @@ pub data Edit : Type 0 where
   replace : List ℕ → List ℕ → Edit
   -- the name leads nowhere
   remove : List ℕ → Edit
+  -- the process of this number ends
+  end : ℕ → Edit
 
 pub record Link : Type 0 where
   pub name : List ℕ
   pub file : Option ℕ
 
--- the files, each at its identity, and where the names lead: of one name the first link counts
+-- the files, each at its identity, and where the names lead: of one name the first link counts; and the processes that
+-- ended
 pub record World : Type 0 where
   pub links : List Link
   pub files : List (List ℕ)
+  pub ended : List ℕ
 
 abbrev pub empty_world : World
-empty_world = record { links = []; files = [] }
+empty_world = record { links = []; files = []; ended = [] }
 
 abbrev pub led_to : List Link → List ℕ → Option ℕ
 led_to [] name = None
@@ -42,22 +46,29 @@ with_file (Some file) change world = record world { files = changed_at file chan
 abbrev pub edited : Edit → World → World
 edited (append name bytes) world = with_file (led_to world.links name) (λ held. held ++ bytes) world
 edited (truncate name n) world = with_file (led_to world.links name) (λ held. take n held) world
-edited (replace name bytes) world = record {
+edited (replace name bytes) world = record world {
   links = record { name = name; file = Some (length world.files) } ∷ world.links;
   files = world.files ++ bytes ∷ [];
 }
 edited (remove name) world = record world { links = record { name = name; file = None } ∷ world.links }
+edited (end process) world = record world { ended = process ∷ world.ended }
 
 abbrev pub edited_by : List Edit → World → World
 edited_by [] world = world
 edited_by (edit ∷ edits) world = edited_by edits (edited edit world)
 
--- what a look sees of these files
+-- this process is one of these
+abbrev pub is_one : ℕ → List ℕ → Bool
+is_one process [] = false
+is_one process (other ∷ ended) = (process == other) || is_one process ended
+
+-- what a look sees of these files, and before it of processes
 abbrev pub seen_in : World → Snapshot
 seen_in world = record {
   leads = led_to world.links;
   holds = held_in world.files;
   finds = λ name finding. true;
+  lacks = λ process. is_one process world.ended;
 }
 
 -- the files at each look, where a look comes after each of these lists of edits

@@ -1,5 +1,5 @@
--- What one look can see: which file each name leads to, and what each file holds.
-use Rattle.std.specs.Prelude.{◌≡◌, ℕ, Bool, true, List, [], ◌∷◌, Option, None}
+-- What one look can see: which file each name leads to, what each file holds, and which processes are gone.
+use Rattle.std.specs.Prelude.{◌≡◌, ℕ, Bool, true, false, List, [], ◌∷◌, Option, None}
 
 -- what a call on a name finds
 pub data Finding : Type 0 where
@@ -7,9 +7,9 @@ pub data Finding : Type 0 where
   leads_to : Option ℕ → Finding
   -- this file was opened, or there was none
   opens_as : Option ℕ → Finding
-  -- the open file, which is this one, holds so many bytes
+  -- the open file, which is this one, holds this number of bytes
   holds_many : Option ℕ → ℕ → Finding
-  -- a read of it from a place on gave these bytes
+  -- a read of it from a place on, with room for some, gave these bytes
   reads_as : Option ℕ → ℕ → List ℕ → Finding
 
 pub record Snapshot : Type 0 where
@@ -19,9 +19,12 @@ pub record Snapshot : Type 0 where
   pub holds : ℕ → List ℕ
   -- A call on this name can find this. Of any watch it is known of what its calls found, and of nothing else.
   pub finds : List ℕ → Finding → Bool
+  -- Before the look it can be found that no process of this number runs. Of any watch it is known of those that were
+  -- found to be gone, and of no others.
+  pub lacks : ℕ → Bool
 
 abbrev pub no_files : Snapshot
-no_files = record { leads = λ name. None; holds = λ file. []; finds = λ name finding. true }
+no_files = record { leads = λ name. None; holds = λ file. []; finds = λ name finding. true; lacks = λ process. false }
 
 -- a call on this name found this
 abbrev pub Found : Snapshot → List ℕ → Finding → Type 0

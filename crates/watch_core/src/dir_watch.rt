@@ -1,9 +1,9 @@
 ghost use Rattle.std.specs.Prelude.{◌≡◌, ◌∷◌, ◌++◌, [], ℕ, false, length, IsTrue, IfOk};
-ghost use Rattle.watch_core.specs.Snapshot.{no_files};
-ghost use Rattle.watch_core.specs.DirWatchState.{DirWatchState, seen};
+ghost use Rattle.watch_core.specs.DirWatchState.{DirWatchState, any_files, seen};
 ghost use Rattle.watch_core.specs.inner.DirWatchState.{no_turns};
 
 use crate::dir_name::DirName;
+use crate::process::Process;
 use crate::{Seen, Watch};
 use ports_core::Fault;
 use std::alloc::Global;
@@ -13,21 +13,25 @@ use std::rt::{Clock, Files};
 use std::thread;
 use std::time::Duration;
 
-/// How many milliseconds pass between two times that changes are looked for.
-const STEP: u64 = 50;
+/// How many milliseconds pass before changes are looked for again, right after one was seen.
+const SHORTEST: u64 = 1;
 
-/// How often changes are looked for at most before a look begins: a second passes.
-const STEPS: u32 = 20;
+/// How many pass at most, while none is seen.
+const LONGEST: u64 = 50;
+
+/// How many milliseconds a look is waited for at most, where nothing else was said: a second.
+const SECOND: u64 = 1000;
 
 /// Real files, named from the working folder. Their bytes aren't told. The identity of a file is made of its device and of its
 /// number there.
 ///
-/// Each look but the first begins with waiting, which ends 50 ms after a change at the latest, at once where a stream has
-/// something, and after a second without either.
-/// A change is another length of a file that is open or that a name leads to, or a name that comes to lead elsewhere. So what comes
-/// to a regular file is to be seen within 50 ms, and without streams there are at most 20 looks in a second. While nothing changes,
-/// waiting asks the system twice for each name at every step, and does nothing else. It takes no memory, and no thread waits on
-/// another.
+/// Each look but the first begins with waiting, which ends soon after a change, at once where a stream has something, and
+/// without either after a second, or what `wait_at_most` said. A change is another length of a file that is open or that a name
+/// leads to, or a name that comes to lead elsewhere. Changes are looked for 1 ms after one was seen, and then after 2, 4 and so
+/// on, 50 at the most: what comes to a regular file t milliseconds after the last change is to be seen within t + 1, and within
+/// 50. Where a process was asked for, waiting ends at once where that is gone, and within 50 ms where that comes to be so: where
+/// the system lists its processes, and lists none of this number. While nothing changes, waiting asks the system twice for each
+/// name every 50 ms, once or twice for the process, and does nothing else. It takes no memory, and no thread waits on another.
 ///
 /// Any file but a regular one is a stream, which is read as it comes, into a buffer of 64 KiB of its own: when it is opened, and as
 /// each look begins. Its length is that of all that was taken of it. A read of it waits while nothing comes and somebody has it open
@@ -44,7 +48,13 @@ pub struct DirWatch<R: Files<File = File> + Clock + Drop> {
     alloc: Global,
     /// How many looks began.
     turns: u64,
+    /// How many milliseconds pass before changes are looked for again.
+    step: u64,
+    /// How many milliseconds a look is waited for at most.
+    most: u64,
     names: Vec<DirName>,
+    /// The process whose end is waited for.
+    process: Option<Process>,
 }
 
 impl<R: Files<File = File> + Clock + Drop> Model for DirWatch<R> {
@@ -62,7 +72,10 @@ impl<R: Files<File = File> + Clock + Drop> DirWatch<R> {
             runtime,
             alloc,
             turns: 0,
+            step: SHORTEST,
+            most: SECOND,
             names: Vec::new(alloc),
+            process: None,
         }
     }
 }
@@ -95,18 +108,47 @@ fn take_all(names: &mut Vec<DirName>) -> bool
     came
 }
 
-/// Waits until something came of a stream or a name has changed, a second at most where no stream is waited for.
-fn wait<R: Files + Clock>(runtime: &R, names: &mut Vec<DirName>)
+/// Waits until something came of a stream, a name has changed or this process is gone, `most` milliseconds at most where no stream
+/// is waited for. The first step is of `first` milliseconds. Returns of how many the next one is to be.
+fn wait<R: Files + Clock>(
+    runtime: &R,
+    names: &mut Vec<DirName>,
+    process: &Option<Process>,
+    first: u64,
+    most: u64,
+) -> u64
     ensures { names.new.items ≡ names.old.items }
 {
-    for _ in 0..STEPS {
-        if take_all(names) {
-            return;
+    let mut step = first;
+    let mut left = most;
+    while left > 0 {
+        if take_all(names) || has_ended(runtime, process) {
+            return SHORTEST;
         }
-        thread::sleep(runtime, Duration::from_millis(STEP));
+        let pause = step.max(SHORTEST).min(left);
+        thread::sleep(runtime, Duration::from_millis(pause));
         if any_changed(runtime, names) {
-            return;
+            return SHORTEST;
         }
+        left -= pause;
+        step = step.saturating_mul(2).min(LONGEST);
+    }
+    step
+}
+
+/// Whether the end of this process is waited for.
+fn waits_for(process: &Option<Process>, number: u32) -> bool {
+    match process {
+        Some(process) => process.is(number),
+        None => false,
+    }
+}
+
+/// Whether there is a process whose end is waited for, and it is gone.
+fn has_ended(files: &impl Files, process: &Option<Process>) -> bool {
+    match process {
+        Some(process) => process.is_gone(files),
+        None => false,
     }
 }
 
@@ -121,7 +163,7 @@ fn keep(names: &mut Vec<DirName>, name: DirName) -> bool
 impl<R: Files<File = File> + Clock + Drop> Watch for DirWatch<R> {
     ghost seen = { λ watch. seen watch };
 
-    ghost shows = { λ watch n. no_files };
+    ghost shows = { λ watch n. any_files };
 
     ghost watched = { λ watch. watch.watched };
 
@@ -134,10 +176,30 @@ impl<R: Files<File = File> + Clock + Drop> Watch for DirWatch<R> {
         if self.turns == 0 {
             any_changed(&self.runtime, &mut self.names);
         } else {
-            wait(&self.runtime, &mut self.names);
+            self.step = wait(
+                &self.runtime,
+                &mut self.names,
+                &self.process,
+                self.step,
+                self.most,
+            );
         }
         self.turns = turns;
         Ok(())
+    }
+
+    fn is_gone(&mut self, process: u32) -> bool {
+        if !waits_for(&self.process, process) {
+            let Ok(process) = Process::new(self.alloc, process) else {
+                return false;
+            };
+            self.process = Some(process);
+        }
+        has_ended(&self.runtime, &self.process)
+    }
+
+    fn wait_at_most(&mut self, milliseconds: u64) {
+        self.most = milliseconds.max(SHORTEST);
     }
 
     fn add(&mut self, name: &str) -> Result<usize, Fault> {

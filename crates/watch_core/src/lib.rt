@@ -4,6 +4,7 @@
 mod dir_file;
 mod dir_name;
 mod dir_watch;
+mod process;
 mod watch;
 
 pub use dir_watch::DirWatch;

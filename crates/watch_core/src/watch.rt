@@ -54,6 +54,22 @@ pub trait Watch {
         ensures watched { watched self.new ≡ watched self.old }
         ensures shows { shows self.new ≡ shows self.old };
 
+    /// Whether no process of this number runs, as is to be known before the next look. It is asked before that begins, so what
+    /// the process wrote is there to be seen in the look.
+    fn is_gone(&mut self, process: u32) -> bool
+        ensures told { told ≡ true → result ≡ (shows self.old (length (seen self.old))).lacks process }
+        ensures found { IsTrue result → IsTrue ((shows self.old (length (seen self.old))).lacks process) }
+        ensures watched { watched self.new ≡ watched self.old }
+        ensures seen { seen self.new ≡ seen self.old }
+        ensures shows { shows self.new ≡ shows self.old };
+
+    /// Has it begin each look within this number of milliseconds, 1 at least, where nothing is seen to change before. What looks see
+    /// doesn't depend on it.
+    fn wait_at_most(&mut self, milliseconds: u64)
+        ensures watched { watched self.new ≡ watched self.old }
+        ensures seen { seen self.new ≡ seen self.old }
+        ensures shows { shows self.new ≡ shows self.old };
+
     /// Adds a name, and gives its number. No file of it is open.
     ///
     /// # Errors
@@ -113,7 +129,7 @@ pub trait Watch {
         ensures shows { shows self.new ≡ shows self.old };
 
     /// Fills a beginning of the buffer with the open file's bytes from a place on, and returns how many there are: 0 only from
-    /// its end on, or for an empty buffer.
+    /// its end on, or for an empty buffer, by which nothing is found.
     ///
     /// # Errors
     ///
@@ -122,7 +138,7 @@ pub trait Watch {
         requires { IsTrue (is_readable (watched self.old) place) }
         ensures bound { IfOk result (λ n. n ≤ length buffer.old) }
         ensures bytes { IfOk result (λ n. told ≡ true → GaveFrom (open_contents (latest (seen self.old)) (watched_at (watched self.old) place)) from buffer.old buffer.new n) }
-        ensures found { IfOk result (λ n. Found (latest (seen self.old)) (watched_at (watched self.old) place).name (reads_as (watched_at (watched self.old) place).opened from (take n buffer.new))) }
+        ensures found { IfOk result (λ n. 0 < length buffer.old → Found (latest (seen self.old)) (watched_at (watched self.old) place).name (reads_as (watched_at (watched self.old) place).opened from (take n buffer.new))) }
         ensures length { length buffer.new ≡ length buffer.old }
         ensures same { OnOk result (watched self.new ≡ watched self.old) }
         ensures err { IfErr result (λ fault. (fault ≡ Fault.Read place) × (watched self.new ≡ changed_at place (breaks (λ file. Broken.Read file from)) (watched self.old))) }

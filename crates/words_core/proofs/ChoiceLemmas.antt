@@ -1,28 +1,34 @@
 -- Lemmas on what options ask for, one after another.
 use Rattle.std.proofs.lemmas.Grind.{common_steps}
-use Rattle.std.proofs.Common.{◌≡◌, ◌≤◌, ◌↔◌, Bool, true, false, ◌||◌, arith, List, [], ◌∷◌, ◌++◌, length, Option, Some, None, Result, Ok, Err, refl, ◌∙◌, ap, if◌then◌else◌, filter, IsOk, rules}
+use Rattle.std.proofs.Common.{◌≡◌, ◌≤◌, ◌↔◌, ℕ, Bool, true, false, ◌||◌, arith, List, [], ◌∷◌, ◌++◌, length, Option, Some, None, Result, Ok, Err, refl, ◌∙◌, ap, if◌then◌else◌, filter, IsOk, rules}
 use Rattle.std.specs.List.{list_any}
 use Rattle.std.proofs.lemmas.Bool.{or_parts}
 use Rattle.ports_core.specs.declared.fault.Fault.{Fault}
 use Rattle.ports_core.specs.declared.fault.Fault.TheVariants.{Usage}
 use Rattle.ports_core.specs.declared.fault.UsageKind.TheVariants.{TwoWays}
+use Rattle.ports_core.specs.declared.on_broken.OnBroken.{OnBroken}
+use Rattle.ports_core.specs.declared.on_broken.OnBroken.TheVariants.{GoOn}
+use Rattle.ports_core.specs.declared.tool.Tool.{Tool}
+use Rattle.ports_core.specs.declared.tool.Tool.TheVariants as tool
 use Rattle.ports_core.specs.declared.slot.Mode.{Mode}
 use Rattle.ports_core.specs.declared.slot.Mode.TheVariants as mode
+use Rattle.ports_core.specs.declared.slot.Mode.TheVariants.{Fresh}
 use Rattle.operand_core.specs.Style.{Style}
 use Rattle.seg_core.specs.declared.cut.Cut.{Cut}
 use Rattle.words_core.specs.declared.table.Choice.{Choice}
-use Rattle.words_core.specs.declared.table.Choice.TheVariants.{Lines, Bytes, SuffixLength, AdditionalSuffix, Separator, Prefix, Digits, Append, Follow, Looks as HowOften}
+use Rattle.words_core.specs.declared.table.Choice.TheVariants.{Lines, Bytes, SuffixLength, AdditionalSuffix, Separator, Prefix, Digits, Append, Follow, NoEffect, OutputError, Looks as HowOften, Pause as HowLong, Process as WaitsFor}
 use Rattle.words_core.specs.declared.tail_words.FollowOptions.{FollowOptions}
-use Rattle.words_core.specs.Value.{Meant, Byte, Counted, Following, Looks, Text, Width}
-use Rattle.words_core.specs.Given.{GivenOption, asked_by}
-use Rattle.words_core.specs.CsplitWords.{csplit_by}
+use Rattle.words_core.specs.Value.{Meant, Breaking, Byte, Counted, Following, Looks, Pause, Process, Text, Width}
+use Rattle.words_core.specs.Given.{GivenOperand, GivenOption, asked_by}
+use Rattle.words_core.specs.CsplitWords.{csplit_by, plain}
 use Rattle.words_core.specs.EndsAsked.{EndsAsked}
 use Rattle.words_core.specs.SplitAsked.{SplitAsked}
-use Rattle.words_core.specs.EndsWords.{ends_by}
-use Rattle.words_core.specs.SplitWords.{is_way, only_way, split_by, way_in, way_of}
-use Rattle.words_core.specs.TailWords.{follow_by}
-use Rattle.words_core.specs.TeeWords.{mode_by}
-use Rattle.words_core.specs.Laws.{amount_of, appends, counts, counts_digits, counts_looks, drops_sizes, elides_files, ends_with_zero, gives_ending, has, heads, keeps_files, leaves_lines_out, names_prefix, retries, says_followed, separates, spells, widens}
+use Rattle.words_core.specs.EndsWords.{ends_by, ten_lines}
+use Rattle.words_core.specs.SplitWords.{delim_by, is_way, no_options, only_way, separator_in, split_by, way_in, way_of}
+use Rattle.words_core.specs.TailWords.{follow_by, no_following}
+use Rattle.words_core.specs.TeeWords.{mode_by, on_broken_by}
+use Rattle.words_core.specs.Words.{about_or, or_later, settings_for, topic_in, topic_of, work_for}
+use Rattle.words_core.specs.Laws.{amount_of, appends, counts, counts_digits, counts_looks, counts_pause, names_process, drops_sizes, elides_files, ends_with_zero, gives_ending, has, heads, keeps_files, leaves_lines_out, names_prefix, retries, says_followed, says_on_broken, separates, spells, widens}
 
 -- a part of what is asked for that some options set, whatever was asked before them, and that the others leave
 
@@ -60,20 +66,26 @@ pub follow-sets : (asked other : FollowOptions) (choice : Choice) (value : Meant
     → ((follow_by asked choice value).followed ≡ (if says_followed choice then (follow_by other choice value).followed else asked.followed))
     × ((follow_by asked choice value).looks ≡ (if counts_looks choice value then (follow_by other choice value).looks else asked.looks))
     × ((follow_by asked choice value).retry ≡ (if retries choice then true else asked.retry))
-follow-sets asked other Follow (Following followed) = (refl, refl, refl)
-follow-sets asked other HowOften (Looks looks) = (refl, refl, refl)
-follow-sets asked other choice value = (refl, refl, refl)
+    × ((follow_by asked choice value).pause ≡ (if counts_pause choice value then (follow_by other choice value).pause else asked.pause))
+    × ((follow_by asked choice value).process ≡ (if names_process choice value then (follow_by other choice value).process else asked.process))
+follow-sets asked other Follow (Following followed) = (refl, refl, refl, refl, refl)
+follow-sets asked other HowOften (Looks looks) = (refl, refl, refl, refl, refl)
+follow-sets asked other HowLong (Pause pause) = (refl, refl, refl, refl, refl)
+follow-sets asked other WaitsFor (Process process) = (refl, refl, refl, refl, refl)
+follow-sets asked other choice value = (refl, refl, refl, refl, refl)
 
 pub split-sets : (asked other : SplitAsked) (choice : Choice) (value : Meant)
     → ((split_by asked choice value).alphabet ≡ (if spells choice then (split_by other choice value).alphabet else asked.alphabet))
     × ((split_by asked choice value).width ≡ (if widens choice value then (split_by other choice value).width else asked.width))
-    × ((split_by asked choice value).delim ≡ (if separates choice value then (split_by other choice value).delim else asked.delim))
     × ((split_by asked choice value).ending ≡ (if gives_ending choice value then (split_by other choice value).ending else asked.ending))
     × ((split_by asked choice value).elide ≡ (if elides_files choice then true else asked.elide))
 split-sets asked other SuffixLength (Width width) = search rules
 split-sets asked other AdditionalSuffix (Text text) = search rules
-split-sets asked other Separator (Byte byte) = search rules
 split-sets asked other choice value = search rules
+
+pub delim-sets : (asked other : ℕ) (choice : Choice) (value : Meant) → delim_by asked choice value ≡ (if separates choice value then delim_by other choice value else asked)
+delim-sets asked other Separator (Byte byte) = refl
+delim-sets asked other choice value = refl
 
 pub csplit-sets : (asked other : Style) (choice : Choice) (value : Meant)
     → ((csplit_by asked choice value).prefix ≡ (if names_prefix choice value then (csplit_by other choice value).prefix else asked.prefix))
@@ -89,6 +101,46 @@ csplit-sets asked other choice value = search rules
 pub append-sets : (old : Mode) (choice : Choice) (value : Meant) → mode_by old choice value ≡ (if appends choice then mode.Append else old)
 append-sets old Append value = refl
 append-sets old choice value = refl
+
+pub on_broken-sets : (asked other : OnBroken) (choice : Choice) (value : Meant) → on_broken_by asked choice value ≡ (if says_on_broken choice then on_broken_by other choice value else asked)
+on_broken-sets asked other OutputError (Breaking on_broken) = refl
+on_broken-sets asked other choice value = refl
+
+-- one that changes nothing may be left out
+module _ (before after : List GivenOption) (value : Meant) (word : ℕ) where
+  abbrev with_it : List GivenOption
+  with_it = before ++ record { choice = NoEffect; value = value; word = word } ∷ after
+
+  left_out : {A : Type 0} (by : A → Choice → Meant → A) (asked : A) → ((asked : A) → by asked NoEffect value ≡ asked) → asked_by by asked with_it ≡ asked_by by asked (before ++ after)
+  left_out {A} by asked same = from before asked where
+    from : (front : List GivenOption) (asked : A) → asked_by by asked (front ++ record { choice = NoEffect; value = value; word = word } ∷ after) ≡ asked_by by asked (front ++ after)
+    from [] asked = ap (λ those. asked_by by those after) (same asked)
+    from (option ∷ front) asked = from front (by asked option.choice option.value)
+
+  no_way : filter is_way with_it ≡ filter is_way (before ++ after)
+  no_way = from before where
+    from : (front : List GivenOption) → filter is_way (front ++ record { choice = NoEffect; value = value; word = word } ∷ after) ≡ filter is_way (front ++ after)
+    from [] = refl
+    from (option ∷ front) = ap (λ those. if is_way option then option ∷ those else those) (from front)
+
+  no_work : (which : Tool) (operands : List GivenOperand) → work_for which (record { options = with_it; operands = operands }) ≡ work_for which (record { options = before ++ after; operands = operands })
+  no_work tool.Head operands = rw (left_out ends_by ten_lines (λ asked. refl)) refl
+  no_work tool.Tail operands = rw (left_out follow_by no_following (λ asked. refl), left_out ends_by ten_lines (λ asked. refl)) refl
+  no_work tool.Split operands = rw (no_way, left_out delim_by 10 (λ asked. refl), left_out split_by no_options (λ asked. refl)) refl
+  no_work tool.Csplit operands = rw (left_out csplit_by plain (λ asked. refl)) refl
+  no_work tool.Tee operands = rw (left_out mode_by Fresh (λ mode. refl), left_out on_broken_by GoOn (λ on_broken. refl)) refl
+  no_work tool.Cutters operands = refl
+
+  no_topic : topic_in with_it ≡ topic_in (before ++ after)
+  no_topic = from before where
+    from : (front : List GivenOption) → topic_in (front ++ record { choice = NoEffect; value = value; word = word } ∷ after) ≡ topic_in (front ++ after)
+    from [] = refl
+    from (option ∷ front) = ap (or_later (topic_of option.choice)) (from front)
+
+  pub no_effect : (which : Tool) (operands : List GivenOperand) → settings_for which (record { options = with_it; operands = operands }) ≡ settings_for which (record { options = before ++ after; operands = operands })
+  no_effect which operands =
+      ap (λ topic. about_or which topic (work_for which (record { options = with_it; operands = operands }))) no_topic
+      ∙ ap (about_or which (topic_in (before ++ after))) (no_work which operands)
 
 -- what an option without a value asks is so where it is given
 
@@ -117,34 +169,34 @@ append_is false = grind (arith, common_steps)
 
 -- at most one way to split
 
-pub few_ways : (ways : List GivenOption) → (IsOk (only_way ways) → length ways ≤ 1) × (length ways ≤ 1 → IsOk (only_way ways))
-few_ways (way ∷ second ∷ more) = grind (arith, common_steps)
-few_ways ways = search rules
+pub few_ways : (delim : ℕ) (ways : List GivenOption) → (IsOk (only_way delim ways) → length ways ≤ 1) × (length ways ≤ 1 → IsOk (only_way delim ways))
+few_ways delim (way ∷ second ∷ more) = grind (arith, common_steps)
+few_ways delim ways = search rules
 
 -- the ways among options, of which one is a way
 ways_around : (before after : List GivenOption) (option : GivenOption) → is_way option ≡ true
     → filter is_way (before ++ option ∷ after) ≡ filter is_way before ++ option ∷ filter is_way after
 ways_around before after option is = grind (arith, common_steps)
 
-way_among : (front rest : List GivenOption) (option : GivenOption) (cut : Cut) → only_way (front ++ option ∷ rest) ≡ Ok cut → cut ≡ way_in option.value option.choice
-way_among [] [] option cut is = cc
-way_among (way ∷ []) rest option cut is = absurd (cc)
-way_among front rest option cut is = absurd (cc)
+way_among : (delim : ℕ) (front rest : List GivenOption) (option : GivenOption) (cut : Cut) → only_way delim (front ++ option ∷ rest) ≡ Ok cut → cut ≡ way_in delim option.value option.choice
+way_among delim [] [] option cut is = cc
+way_among delim (way ∷ []) rest option cut is = absurd (cc)
+way_among delim front rest option cut is = absurd (cc)
 
 pub way_is : (before after : List GivenOption) (option : GivenOption) (cut : Cut) → is_way option ≡ true
-    → way_of (before ++ option ∷ after) ≡ Ok cut → cut ≡ way_in option.value option.choice
+    → way_of (before ++ option ∷ after) ≡ Ok cut → cut ≡ way_in (separator_in (before ++ option ∷ after)) option.value option.choice
 way_is before after option cut is splits_so = grind (arith, common_steps, way_among, ways_around)
 
-second_among : (front rest : List GivenOption) (option : GivenOption) → length front ≡ 1 → only_way (front ++ option ∷ rest) ≡ Err (Usage TwoWays option.word)
-second_among (way ∷ []) rest option one = refl
-second_among front rest option one = cc
+second_among : (delim : ℕ) (front rest : List GivenOption) (option : GivenOption) → length front ≡ 1 → only_way delim (front ++ option ∷ rest) ≡ Err (Usage TwoWays option.word)
+second_among delim (way ∷ []) rest option one = refl
+second_among delim front rest option one = cc
 
 pub second_told : (before after : List GivenOption) (option : GivenOption) → length (filter is_way before) ≡ 1 → is_way option ≡ true
     → way_of (before ++ option ∷ after) ≡ Err (Usage TwoWays option.word)
 second_told before after option one is = grind (arith, common_steps, ways_around, second_among)
 
 -- the way that is so far, if there is one, and ways after it
-abbrev pub way_then : Option Cut → List GivenOption → Result Cut Fault
-way_then None ways = only_way ways
-way_then (Some cut) [] = Ok cut
-way_then (Some cut) (second ∷ more) = Err (Usage TwoWays second.word)
+abbrev pub way_then : ℕ → Option Cut → List GivenOption → Result Cut Fault
+way_then delim None ways = only_way delim ways
+way_then delim (Some cut) [] = Ok cut
+way_then delim (Some cut) (second ∷ more) = Err (Usage TwoWays second.word)

@@ -22,7 +22,7 @@ use Rattle.words_core.specs.declared.table.Choice.TheVariants.{Lines}
 use Rattle.words_core.specs.declared.table.Takes.{Takes}
 use Rattle.words_core.specs.Given.{Given, bare, joined, one_option}
 use Rattle.words_core.specs.Lettered.{counted_with, is_lettered, letter_named, unit_of, switches, without_digits, times, unit_in, with_letters}
-use Rattle.words_core.specs.Spelling.{before, given_at, mixed, option_lettered, reading}
+use Rattle.words_core.specs.Spelling.{given_at, mixed, option_lettered, reading}
 use Rattle.words_core.specs.Table.{OptionRow, head_table, is_among, tail_table}
 use Rattle.words_core.specs.Value.{Counted, counted}
 use Rattle.words_core.specs.inner.Spelling.{Adds}

@@ -1,6 +1,6 @@
 -- Whatever words spell, sizes, counts of files and widths are within their limits, and files that lines are dealt to have names.
 use Rattle.std.proofs.lemmas.Grind.{common_steps}
-use Rattle.std.proofs.Common.{◌≡◌, ℕ, ◌+◌, ◌≤◌, arith, List, [], ◌∷◌, ◌++◌, Result, Ok, Err, IfOk, inl, inr, ◌⊎◌, rules}
+use Rattle.std.proofs.Common.{◌≡◌, ℕ, ◌+◌, ◌≤◌, arith, List, [], ◌∷◌, ◌++◌, Option, Some, None, Result, Ok, Err, IfOk, inl, inr, ◌⊎◌, rules}
 use Rattle.std.specs.Prelude.{⊤, filter}
 use Rattle.ports_core.specs.declared.fault.Fault.{Fault}
 use Rattle.ports_core.specs.declared.alphabet.Alphabet.{Alphabet}
@@ -14,15 +14,16 @@ use Rattle.words_core.specs.declared.table.Choice.TheVariants as choice
 use Rattle.words_core.specs.declared.spelling.State.{State}
 use Rattle.words_core.specs.declared.spelling.State.TheVariants.{Awaiting}
 use Rattle.words_core.specs.declared.settings.Settings.{Settings}
+use Rattle.words_core.specs.declared.settings.Topic.{Topic}
 use Rattle.words_core.specs.Table.{OptionRow, ToolRow}
-use Rattle.words_core.specs.Value.{Meant, Width, Text, Byte, then_check}
+use Rattle.words_core.specs.Value.{Meant, Width, Text, then_check}
 use Rattle.words_core.specs.Given.{asked_by, Given, GivenOption, GivenOperand}
 use Rattle.words_core.specs.CsplitWords.{asked_of, csplit_by, csplit_asked, style_of, plain}
 use Rattle.words_core.specs.Spelling.{Meaning, meaning_of, given_before, onward, spelled, start_of, given_by}
 use Rattle.words_core.specs.SplitAsked.{SplitAsked}
-use Rattle.words_core.specs.SplitWords.{AreNamed, CanSplit, IsInLimits, IsWidth, is_way, only_way, way_of, split_by, no_options, suffix_for, files_in, split_asked}
+use Rattle.words_core.specs.SplitWords.{AreNamed, CanSplit, IsInLimits, IsWidth, is_way, only_way, way_of, split_by, no_options, suffix_for, files_in, split_asked, separator_in}
 use Rattle.words_core.specs.Laws.{AreAmong, none, passed, taken}
-use Rattle.words_core.specs.Words.{CanRun, settings_for}
+use Rattle.words_core.specs.Words.{CanRun, about_or, settings_for, topic_in, work_for}
 use Rattle.words_core.proofs.MeaningLemmas.{AreSound, GivesItself, IsSound, anything, meaning-gives, sound-append}
 use Rattle.words_core.proofs.SpellingLemmas.{either}
 
@@ -69,13 +70,12 @@ asked-keeps by P keeps (option ∷ options) asked holds are =
 split_by-few : (asked : SplitAsked) (choice : Choice) (value : Meant) → asked.width ≤ 255 → IsSound value → (split_by asked choice value).width ≤ 255
 split_by-few asked choice.SuffixLength (Width width) few is = is
 split_by-few asked choice.AdditionalSuffix (Text text) few is = few
-split_by-few asked choice.Separator (Byte byte) few is = few
 split_by-few asked choice value few is = few
 
-only_way-limits : (ways : List GivenOption) → AreSound ways → IfOk (only_way ways) IsInLimits
-only_way-limits [] are = omega arith
-only_way-limits (way ∷ []) are = grind (arith, common_steps)
-only_way-limits (way ∷ second ∷ more) are = tt
+only_way-limits : (delim : ℕ) (ways : List GivenOption) → AreSound ways → IfOk (only_way delim ways) IsInLimits
+only_way-limits delim [] are = omega arith
+only_way-limits delim (way ∷ []) are = grind (arith, common_steps)
+only_way-limits delim (way ∷ second ∷ more) are = tt
 
 ways-sound : (options : List GivenOption) → AreSound options → AreSound (filter is_way options)
 ways-sound [] are = tt
@@ -89,15 +89,15 @@ then_check-kept P Q (Err fault) next is goes = tt
 
 suffix-can : (cut : Cut) (alphabet : Alphabet) (width : ℕ) → IsInLimits cut → width ≤ 255
     → IfOk (suffix_for cut alphabet width) (λ suffix. AreNamed cut alphabet suffix.width × IsWidth suffix.width)
-suffix-can (cut.Round files) alphabet width is_in most = grind (arith, common_steps)
-suffix-can cut alphabet width is most = search rules
+suffix-can (cut.Round files delim) alphabet width is_in most = grind (arith, common_steps)
+suffix-can (cut.Parts limit) alphabet width is most = search rules
 
 -- the line as a whole
 
 asked-can : (given : Given) → AreSound given.options → IfOk (split_asked given) CanSplit
 asked-can given sound =
     let asked = asked_by split_by no_options given.options in
-    then_check-kept IsInLimits CanSplit (way_of given.options) _ (only_way-limits (filter is_way given.options) (ways-sound given.options sound)) (λ cut is.
+    then_check-kept IsInLimits CanSplit (way_of given.options) _ (only_way-limits (separator_in given.options) (filter is_way given.options) (ways-sound given.options sound)) (λ cut is.
     then_check-kept (λ suffix. AreNamed cut asked.alphabet suffix.width × IsWidth suffix.width) CanSplit (suffix_for cut asked.alphabet asked.width) _
     (suffix-can cut asked.alphabet asked.width is
     (asked-keeps split_by (λ asked. asked.width ≤ 255) split_by-few given.options no_options (omega arith) sound)) (λ suffix those.
@@ -119,11 +119,18 @@ csplit-can : (given : Given) → AreSound given.options → IfOk (csplit_asked g
 csplit-can given sound =
     asked_of-few (style_of given.options) given.operands (asked-keeps csplit_by (λ asked. asked.digits ≤ 255) csplit_by-few given.options plain (omega arith) sound)
 
+work-can : (which : Tool) (given : Given) → AreSound given.options → IfOk (work_for which given) CanRun
+work-can tool.Tail given sound = grind (arith, common_steps)
+work-can tool.Split given sound = then_check-kept CanSplit CanRun (split_asked given) _ (asked-can given sound) (λ asked is. is)
+work-can tool.Csplit given sound = search (rules, then_check-kept, csplit-can)
+work-can which given sound = tt
+
+about-can : (which : Tool) (topic : Option Topic) (work : Result Settings Fault) → IfOk work CanRun → IfOk (about_or which topic work) CanRun
+about-can which (Some topic) work can = tt
+about-can which None work can = can
+
 settled-can : (which : Tool) (given : Given) → AreSound given.options → IfOk (settings_for which given) CanRun
-settled-can tool.Tail given sound = grind (arith, common_steps)
-settled-can tool.Split given sound = then_check-kept CanSplit CanRun (split_asked given) _ (asked-can given sound) (λ asked is. is)
-settled-can tool.Csplit given sound = search (rules, then_check-kept, csplit-can)
-settled-can which given sound = tt
+settled-can which given sound = about-can which (topic_in given.options) (work_for which given) (work-can which given sound)
 
 -- what was read of words can be done
 pub read-can : (row : ToolRow) (words : List (List ℕ)) (given : Given) (which : Tool) (result : Result Settings Fault) → given_by row words ≡ Ok given → IfOk result (λ settings. settings_for which given ≡ Ok settings) → IfOk result CanRun

@@ -11,7 +11,7 @@ use Rattle.words_core.specs.declared.table.Kind.{Kind}
 use Rattle.words_core.specs.declared.table.Takes.{Takes}
 use Rattle.words_core.specs.declared.table.Takes.TheVariants as takes
 use Rattle.words_core.specs.declared.spelling.State.{State}
-use Rattle.words_core.specs.declared.spelling.State.TheVariants.{First, Reading, Awaiting, OnlyOperands}
+use Rattle.words_core.specs.declared.spelling.State.TheVariants.{First, Reading, Awaiting, OnlyOperands, Ended}
 use Rattle.words_core.specs.Table.{OptionRow}
 use Rattle.words_core.specs.Value.{Meant, Size, Files, Width}
 use Rattle.words_core.specs.Given.{Given, GivenOption, GivenOperand, bare, joined}
@@ -82,6 +82,7 @@ module _ (rows : List OptionRow) (place : ℕ) where
   lettered-gives rest others None is = omega arith
   lettered-gives [] others (Some (choice, takes.Value kind)) is = (tt, refl, omega arith)
   lettered-gives (byte ∷ text) others (Some (choice, takes.Value kind)) is = valued-gives choice kind place place (byte ∷ text)
+  lettered-gives rest others (Some (choice, takes.Last)) is = ((tt, tt), refl, tt)
   lettered-gives rest others (Some (choice, other)) is = bare-gives choice place others is
 
   cluster-gives : (letters : List ℕ) → GivesOptions place (cluster rows place letters)
@@ -91,6 +92,7 @@ module _ (rows : List OptionRow) (place : ℕ) where
   named-gives : (option : Result (Choice × Takes) UsageKind) (value : Option (List ℕ)) → GivesOptions place (named place option value)
   named-gives (Err fault) value = omega arith
   named-gives (Ok (choice, takes.Nothing)) (Some text) = omega arith
+  named-gives (Ok (choice, takes.Last)) (Some text) = omega arith
   named-gives (Ok (choice, takes.Value kind)) None = (tt, refl, omega arith)
   named-gives (Ok (choice, other)) None = ((tt, tt), refl, tt)
   named-gives (Ok (choice, takes.Value kind)) (Some text) = valued-gives choice kind place place text
@@ -140,3 +142,4 @@ module _ (rows : List OptionRow) (place : ℕ) where
   meaning-gives Reading word = mixed-gives word
   meaning-gives (Awaiting choice kind option) word = options_alone place word _ (valued-gives choice kind option place word)
   meaning-gives OnlyOperands word = (tt, inr refl, tt)
+  meaning-gives Ended word = (tt, inl refl, tt)

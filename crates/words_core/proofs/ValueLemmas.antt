@@ -11,8 +11,8 @@ use Rattle.words_core.specs.declared.table.Takes.TheVariants as takes
 use Rattle.words_core.specs.declared.spelling.State.TheVariants.{Reading}
 use Rattle.words_core.specs.Table.{OptionRow, option_named}
 use Rattle.words_core.specs.Value.{Meant, value_in}
-use Rattle.words_core.specs.Spelling.{after_equals, awaiting, is_equals, long, mixed, named, spelled}
-use Rattle.words_core.specs.Laws.{Gives, IsLetter, IsName}
+use Rattle.words_core.specs.Spelling.{after_equals, awaiting, ending, is_equals, long, mixed, named, spelled}
+use Rattle.words_core.specs.Laws.{Gives, IsLast, IsLetter, IsName}
 
 -- a letter
 
@@ -76,6 +76,12 @@ long_name : {rows : List OptionRow} (name : List ℕ) {choice : Choice} {kind : 
     → mixed rows place (45 ∷ 45 ∷ name) ≡ awaiting choice kind place
 long_name [] place is = absurd (is.some refl)
 long_name {rows} (byte ∷ name) place is =
+    let front : List ℕ = 45 ∷ 45 ∷ byte ∷ name in
+    by_its_name rows place front (all_name front is.no_equals) (no_equals_in front is.no_equals) is.named
+
+pub last_name : {rows : List OptionRow} (name : List ℕ) {choice : Choice} (place : ℕ) → IsLast rows name choice → mixed rows place (45 ∷ 45 ∷ name) ≡ ending choice place
+last_name [] place is = absurd (is.some refl)
+last_name {rows} (byte ∷ name) place is =
     let front : List ℕ = 45 ∷ 45 ∷ byte ∷ name in
     by_its_name rows place front (all_name front is.no_equals) (no_equals_in front is.no_equals) is.named
 

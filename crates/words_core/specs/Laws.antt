@@ -1,18 +1,21 @@
 -- The words of the laws: which options ask for what, and the operands among words.
-use Rattle.std.specs.Prelude.{◌≡◌, ◌≢◌, ℕ, ◌+◌, ◌-◌, ◌^◌, ◌<◌, ◌==◌, not, Bool, true, false, List, [], ◌∷◌, ◌++◌, codes, Option, Some, None, Result}
+use Rattle.std.specs.Prelude.{◌≡◌, ◌≢◌, ℕ, ◌+◌, ◌-◌, ◌^◌, ◌<◌, ◌==◌, not, Bool, true, false, List, [], ◌∷◌, ◌++◌, length, codes, Option, Some, None, Result, Err, ◌⊎◌}
 use Rattle.std.specs.List.{list_any}
 use Rattle.seg_core.specs.declared.count.Count.{Count}
 use Rattle.seg_core.specs.declared.unit.Unit.{Unit as Measured}
 use Rattle.seg_core.specs.declared.unit.Unit.TheVariants as unit
 use Rattle.ports_core.specs.declared.alphabet.Alphabet.{Alphabet}
 use Rattle.ports_core.specs.declared.fault.Fault.{Fault}
+use Rattle.ports_core.specs.declared.on_broken.OnBroken.{OnBroken}
+use Rattle.ports_core.specs.declared.on_broken.OnBroken.TheVariants.{GoOn}
 use Rattle.seg_core.specs.declared.cut.Cut.{Cut}
 use Rattle.operand_core.specs.Style.{Style}
 use Rattle.words_core.specs.declared.table.Choice.{Choice}
-use Rattle.words_core.specs.declared.table.Choice.TheVariants.{Lines, Bytes, Quiet, Verbose, ZeroTerminated, SuffixLength, NumericSuffixes, HexSuffixes, ElideEmptyFiles, AdditionalSuffix, Separator, Prefix, Digits, KeepFiles, SuppressMatched, Append, Follow, FollowNames, Retry, Looks as HowOften}
+use Rattle.words_core.specs.declared.table.Choice.TheVariants.{Lines, Bytes, Quiet, Verbose, ZeroTerminated, SuffixLength, NumericSuffixes, HexSuffixes, ElideEmptyFiles, AdditionalSuffix, Separator, Prefix, Digits, KeepFiles, SuppressMatched, Append, Follow, FollowNames, Retry, OutputError, Looks as HowOften, Pause as HowLong, Process as WaitsFor}
 use Rattle.words_core.specs.declared.table.Kind.{Kind}
 use Rattle.words_core.specs.declared.table.Takes.{Takes}
 use Rattle.words_core.specs.declared.table.Takes.TheVariants as takes
+use Rattle.words_core.specs.declared.spelling.State.{State}
 use Rattle.words_core.specs.declared.spelling.State.TheVariants.{Reading}
 use Rattle.words_core.specs.declared.tail_words.FollowOptions.{FollowOptions}
 use Rattle.words_core.specs.declared.settings.Headers.{Headers}
@@ -22,15 +25,16 @@ use Rattle.words_core.specs.CsplitAsked.{CsplitAsked}
 use Rattle.words_core.specs.EndsAsked.{EndsAsked}
 use Rattle.words_core.specs.SplitAsked.{SplitAsked}
 use Rattle.words_core.specs.declared.settings.TailSettings.{TailSettings}
-use Rattle.words_core.specs.Value.{Meant, Byte, Counted, Text, Width, Looks}
+use Rattle.words_core.specs.Value.{Meant, Byte, Counted, Text, Width, Looks, Pause, Process}
 use Rattle.words_core.specs.Given.{asked_by, Given, GivenOption, GivenOperand, one_option}
 use Rattle.words_core.specs.Spelling.{given_before, is_equals, spelled}
 use Rattle.words_core.specs.Table.{OptionRow, option_named}
 use Rattle.words_core.specs.EndsWords.{ends_by, ten_lines}
 use Rattle.words_core.specs.SplitWords.{no_options, split_by}
 use Rattle.words_core.specs.TailWords.{follow_by, no_following}
+use Rattle.words_core.specs.TeeWords.{on_broken_by}
 
--- what options ask of `head` or `tail`, and of `split`
+-- what options ask of `head` or `tail`, of `split`, and of `tee` once an output is broken
 
 abbrev pub ends_of : List GivenOption → EndsAsked
 ends_of options = asked_by ends_by ten_lines options
@@ -40,6 +44,9 @@ split_of options = asked_by split_by no_options options
 
 abbrev pub follow_of : List GivenOption → FollowOptions
 follow_of options = asked_by follow_by no_following options
+
+abbrev pub on_broken_of : List GivenOption → OnBroken
+on_broken_of options = asked_by on_broken_by GoOn options
 
 -- which unit is counted, and how many
 abbrev pub amount_of : EndsAsked → Measured × Count
@@ -68,7 +75,7 @@ heads choice = false
 abbrev pub is_headers : GivenOption → Bool
 is_headers option = heads option.choice
 
--- whether it says what `tail` follows, and how often it looks
+-- whether it says what `tail` follows, how often it looks, and how long it waits
 
 abbrev pub says_followed : Choice → Bool
 says_followed Follow = true
@@ -84,6 +91,20 @@ counts_looks choice value = false
 
 abbrev pub is_looks : GivenOption → Bool
 is_looks option = counts_looks option.choice option.value
+
+abbrev pub counts_pause : Choice → Meant → Bool
+counts_pause HowLong (Pause pause) = true
+counts_pause choice value = false
+
+abbrev pub is_pause : GivenOption → Bool
+is_pause option = counts_pause option.choice option.value
+
+abbrev pub names_process : Choice → Meant → Bool
+names_process WaitsFor (Process process) = true
+names_process choice value = false
+
+abbrev pub is_process : GivenOption → Bool
+is_process option = names_process option.choice option.value
 
 abbrev pub retries : Choice → Bool
 retries FollowNames = true
@@ -123,8 +144,8 @@ gives_ending choice value = false
 abbrev pub is_ending : GivenOption → Bool
 is_ending option = gives_ending option.choice option.value
 
--- which option of `csplit` it is: one for the prefix, one for the digits, or one without a value; and whether it lets
--- `tee` append
+-- which option of `csplit` it is: one for the prefix, one for the digits, or one without a value; and of `tee`, whether
+-- it lets it append, and whether it says what is done once an output is broken
 
 abbrev pub names_prefix : Choice → Meant → Bool
 names_prefix Prefix (Text text) = true
@@ -159,6 +180,13 @@ leaves_lines_out choice = false
 abbrev pub appends : Choice → Bool
 appends Append = true
 appends choice = false
+
+abbrev pub says_on_broken : Choice → Bool
+says_on_broken OutputError = true
+says_on_broken choice = false
+
+abbrev pub is_on_broken : GivenOption → Bool
+is_on_broken option = says_on_broken option.choice
 
 -- some option is of this kind
 abbrev pub has : (Choice → Bool) → List GivenOption → Bool
@@ -195,12 +223,26 @@ pub record IsName (rows : List OptionRow) (name : List ℕ) (choice : Choice) (k
   pub some : name ≢ []
   pub no_equals : list_any is_equals name ≡ false
 
+-- a name after two hyphens that names an option after which no word is read
+pub record IsLast (rows : List OptionRow) (name : List ℕ) (choice : Choice) : Type 0 where
+  pub named : option_named rows (codes "--" ++ name) ≡ Some (choice, takes.Last)
+  pub some : name ≢ []
+  pub no_equals : list_any is_equals name ≡ false
+
+-- the first words have a fault, whatever follows them; or they give this and leave this state, whatever follows
+abbrev pub LeaveTheRest : List OptionRow → List (List ℕ) → ℕ → State → Type 0
+LeaveTheRest rows first place state =
+    ((fault : Fault) × ((more : List (List ℕ)) → spelled rows (first ++ more) place state ≡ Err fault))
+    ⊎ ((given : Given) × (next : State) × ((more : List (List ℕ))
+    → spelled rows (first ++ more) place state ≡ given_before given (spelled rows more (place + length first) next)))
+
 -- a letter that names an option to which no value belongs in a cluster of letters
 
 abbrev pub takes_none : Takes → Bool
 takes_none takes.Nothing = true
 takes_none (takes.Optional kind) = true
 takes_none (takes.Value kind) = false
+takes_none takes.Last = false
 
 pub record IsSwitch (rows : List OptionRow) (letter : ℕ) (choice : Choice) : Type 0 where
   pub takes : Takes
@@ -229,7 +271,7 @@ ends_as unit count headers = record {
 
 -- the same of `tail`, where nothing is followed
 abbrev pub tail_as : EndsAsked → TailSettings
-tail_as ends = record { ends = ends; followed = None; looks = 2 ^ 63 - 1 }
+tail_as ends = record { ends = ends; followed = None; looks = 2 ^ 63 - 1; pause = 1000; process = None }
 
 -- where the file `f` is followed in this way, in as many looks
 abbrev pub following_as : Option Followed → ℕ → TailSettings
@@ -243,6 +285,8 @@ following_as followed looks = record {
   };
   followed = followed;
   looks = looks;
+  pause = 1000;
+  process = None;
 }
 
 abbrev pub split_as : Cut → Alphabet → ℕ → Bool → Bool → SplitAsked
@@ -255,7 +299,6 @@ split_as cut alphabet width auto elide = record {
   input = codes "-";
   prefix = codes "x";
   ending = [];
-  delim = 10;
 }
 
 abbrev pub csplit_as : Style → ℕ → CsplitAsked

@@ -3,6 +3,7 @@ pub mod CsplitWords
 pub mod EndsAsked
 pub mod EndsWords
 pub mod Given
+pub mod Help
 pub mod Laws
 pub mod Lettered
 pub mod Spelling

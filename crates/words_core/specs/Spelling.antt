@@ -13,7 +13,7 @@ use Rattle.words_core.specs.declared.table.Letters.{Letters}
 use Rattle.words_core.specs.declared.table.Takes.{Takes}
 use Rattle.words_core.specs.declared.table.Takes.TheVariants as takes
 use Rattle.words_core.specs.declared.spelling.State.{State}
-use Rattle.words_core.specs.declared.spelling.State.TheVariants.{First, Reading, Awaiting, OnlyOperands}
+use Rattle.words_core.specs.declared.spelling.State.TheVariants.{First, Reading, Awaiting, OnlyOperands, Ended}
 use Rattle.words_core.specs.Table.{OptionRow, ToolRow, option_called, option_named}
 use Rattle.words_core.specs.Value.{Meant, then_check, value_in}
 use Rattle.words_core.specs.Lettered.{is_lettered, with_letters}
@@ -30,6 +30,10 @@ reading given = Ok (record { given = given; next = Reading })
 
 abbrev pub awaiting : Choice → Kind → ℕ → Result Meaning Fault
 awaiting choice kind place = Ok (record { given = nothing; next = Awaiting choice kind place })
+
+-- an option after which no word is read
+abbrev pub ending : Choice → ℕ → Result Meaning Fault
+ending choice place = Ok (record { given = bare choice place; next = Ended })
 
 abbrev pub before : Given → Result Meaning Fault → Result Meaning Fault
 before first meant = then_check meant (λ meaning. Ok (record meaning { given = joined first meaning.given }))
@@ -52,6 +56,7 @@ attached choice kind place (byte ∷ bytes) = valued choice kind place place (by
 abbrev pub lettered : ℕ → List ℕ → Result Meaning Fault → Option (Choice × Takes) → Result Meaning Fault
 lettered place rest others None = Err (Usage UnknownOption place)
 lettered place rest others (Some (choice, takes.Value kind)) = attached choice kind place rest
+lettered place rest others (Some (choice, takes.Last)) = ending choice place
 lettered place rest others (Some (choice, takes)) = before (bare choice place) others
 
 abbrev pub cluster : List OptionRow → ℕ → List ℕ → Result Meaning Fault
@@ -69,6 +74,8 @@ after_equals word = if position_or_len is_equals word == length word then None e
 abbrev pub named : ℕ → Result (Choice × Takes) UsageKind → Option (List ℕ) → Result Meaning Fault
 named place (Err fault) value = Err (Usage fault place)
 named place (Ok (choice, takes.Nothing)) (Some text) = Err (Usage UnexpectedValue place)
+named place (Ok (choice, takes.Last)) (Some text) = Err (Usage UnexpectedValue place)
+named place (Ok (choice, takes.Last)) None = ending choice place
 named place (Ok (choice, takes.Value kind)) None = awaiting choice kind place
 named place (Ok (choice, option)) None = reading (bare choice place)
 named place (Ok (choice, takes.Value kind)) (Some text) = valued choice kind place place text
@@ -110,6 +117,7 @@ meaning_of rows (First choice kind letters) place word = foremost rows choice ki
 meaning_of rows Reading place word = mixed rows place word
 meaning_of rows (Awaiting choice kind option) place word = valued choice kind option place word
 meaning_of rows OnlyOperands place word = Ok (record { given = one_operand word place; next = OnlyOperands })
+meaning_of rows Ended place word = Ok (record { given = nothing; next = Ended })
 
 -- all words from a place on, or the first fault from left to right
 

@@ -15,5 +15,3 @@ pub record SplitAsked : Type 0 where
   pub prefix : List ℕ
   -- what the names of the files end with
   pub ending : List ℕ
-  -- the byte that lines end with
-  pub delim : ℕ

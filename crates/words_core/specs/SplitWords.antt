@@ -7,7 +7,9 @@ use Rattle.ports_core.specs.declared.fault.Fault.{Fault}
 use Rattle.ports_core.specs.declared.fault.Fault.TheVariants.{Usage}
 use Rattle.ports_core.specs.declared.fault.UsageKind.TheVariants.{TwoWays, SuffixTooShort, ExtraOperand}
 use Rattle.seg_core.specs.declared.cut.Cut.{Cut}
-use Rattle.seg_core.specs.declared.cut.Cut.TheVariants.{Lines, Bytes, LineBytes, Round}
+use Rattle.seg_core.specs.Cut.{most}
+use Rattle.seg_core.specs.declared.cut.Cut.TheVariants.{Parts, Round}
+use Rattle.seg_core.specs.declared.cut.Limit.TheVariants.{Lines, Bytes, LineBytes}
 use Rattle.words_core.specs.declared.table.Choice.{Choice}
 use Rattle.words_core.specs.declared.table.Choice.TheVariants as choice
 use Rattle.words_core.specs.declared.split_words.Suffix.{Suffix}
@@ -15,10 +17,14 @@ use Rattle.words_core.specs.Value.{Meant, Size, Files, Width, Text, Byte, then_c
 use Rattle.words_core.specs.Given.{asked_by, Given, GivenOption, GivenOperand}
 use Rattle.words_core.specs.SplitAsked.{SplitAsked}
 
+-- files are of 1,000 lines, where no way is given
+abbrev pub thousand_lines : ℕ → Cut
+thousand_lines delim = Parts (Lines 1000 delim)
+
 -- without words: files of 1,000 lines, which end with the newline, and names of letters with no width
 abbrev pub no_options : SplitAsked
 no_options = record {
-  cut = Lines 1000;
+  cut = thousand_lines 10;
   alphabet = Letters;
   width = 0;
   auto = false;
@@ -26,21 +32,27 @@ no_options = record {
   input = codes "-";
   prefix = codes "x";
   ending = [];
-  delim = 10;
 }
 
--- with one more option: the last for the alphabet decides, and so do the last width, the last separator and the last
--- ending of names
+-- with one more option: the last for the alphabet decides, and so do the last width and the last ending of names
 abbrev pub split_by : SplitAsked → Choice → Meant → SplitAsked
 split_by asked choice.SuffixLength (Width width) = record asked { width = width }
 split_by asked choice.NumericSuffixes value = record asked { alphabet = Decimal }
 split_by asked choice.HexSuffixes value = record asked { alphabet = Hexadecimal }
 split_by asked choice.ElideEmptyFiles value = record asked { elide = true }
 split_by asked choice.AdditionalSuffix (Text text) = record asked { ending = text }
-split_by asked choice.Separator (Byte byte) = record asked { delim = byte }
 split_by asked choice value = asked
 
--- whether an option is a way to split, and the way that it gives with its value
+-- the byte that lines end with: the newline, or what the last separator says
+
+abbrev pub delim_by : ℕ → Choice → Meant → ℕ
+delim_by delim choice.Separator (Byte byte) = byte
+delim_by delim choice value = delim
+
+abbrev pub separator_in : List GivenOption → ℕ
+separator_in options = asked_by delim_by 10 options
+
+-- whether an option is a way to split, and the way that it gives with its value, for lines that end with this byte
 
 abbrev pub splits : Choice → Bool
 splits choice.Lines = true
@@ -52,22 +64,22 @@ splits choice = false
 abbrev pub is_way : GivenOption → Bool
 is_way option = splits option.choice
 
-abbrev pub way_in : Meant → Choice → Cut
-way_in (Size size) choice.Bytes = Bytes size
-way_in (Size size) choice.LineBytes = LineBytes size
-way_in (Size size) choice = Lines size
-way_in (Files files) choice = Round files
-way_in value choice = Lines 1000
+abbrev pub way_in : ℕ → Meant → Choice → Cut
+way_in delim (Size size) choice.Bytes = Parts (Bytes size)
+way_in delim (Size size) choice.LineBytes = Parts (LineBytes size delim)
+way_in delim (Size size) choice = Parts (Lines size delim)
+way_in delim (Files files) choice = Round files delim
+way_in delim value choice = thousand_lines delim
 
 -- The way that options give. A second one is refused, and told by its word; files have 1,000 lines where none is given.
 
-abbrev pub only_way : List GivenOption → Result Cut Fault
-only_way [] = Ok (Lines 1000)
-only_way (way ∷ []) = Ok (way_in way.value way.choice)
-only_way (way ∷ second ∷ more) = Err (Usage TwoWays second.word)
+abbrev pub only_way : ℕ → List GivenOption → Result Cut Fault
+only_way delim [] = Ok (thousand_lines delim)
+only_way delim (way ∷ []) = Ok (way_in delim way.value way.choice)
+only_way delim (way ∷ second ∷ more) = Err (Usage TwoWays second.word)
 
 abbrev pub way_of : List GivenOption → Result Cut Fault
-way_of options = only_way (filter is_way options)
+way_of options = only_way (separator_in options) (filter is_way options)
 
 -- The suffixes. A width of 0 stands for none. With a width all suffixes have it; without one they widen from 2
 -- characters on. Where lines are dealt to files they never widen: the width must name all files, and without one it is
@@ -95,8 +107,8 @@ dealt alphabet files width =
     else (if names_all alphabet files width then Ok (fixed width) else Err (Usage SuffixTooShort 0))
 
 abbrev pub suffix_for : Cut → Alphabet → ℕ → Result Suffix Fault
-suffix_for (Round files) alphabet width = dealt alphabet files width
-suffix_for cut alphabet width = Ok (free width)
+suffix_for (Round files delim) alphabet width = dealt alphabet files width
+suffix_for (Parts limit) alphabet width = Ok (free width)
 
 -- the operands: the name of the input, and what the names of files begin with
 abbrev pub files_in : List GivenOperand → Result (List ℕ × List ℕ) Fault
@@ -117,18 +129,16 @@ split_asked given =
 -- A file has at least one line or byte, and lines are dealt to 1 to 65,535 files; a suffix has 1 to 255 characters.
 
 abbrev pub IsInLimits : Cut → Type 0
-IsInLimits (Lines size) = 1 ≤ size
-IsInLimits (Bytes size) = 1 ≤ size
-IsInLimits (LineBytes size) = 1 ≤ size
-IsInLimits (Round files) = (1 ≤ files) × (files ≤ 65535)
+IsInLimits (Parts limit) = 1 ≤ most limit
+IsInLimits (Round files delim) = (1 ≤ files) × (files ≤ 65535)
 
 abbrev pub IsWidth : ℕ → Type 0
 IsWidth width = (1 ≤ width) × (width ≤ 255)
 
 -- files that lines are dealt to all have names
 abbrev pub AreNamed : Cut → Alphabet → ℕ → Type 0
-AreNamed (Round files) alphabet width = files ≤ name_count alphabet width
-AreNamed cut alphabet width = ⊤
+AreNamed (Round files delim) alphabet width = files ≤ name_count alphabet width
+AreNamed (Parts limit) alphabet width = ⊤
 
 -- what can be asked of `split`: words that ask for anything else are refused
 pub record CanSplit (asked : SplitAsked) : Type 0 where

@@ -12,13 +12,14 @@ use Rattle.words_core.specs.declared.value.Followed.TheVariants.{Descriptor, Nam
 use Rattle.words_core.specs.EndsWords.{ends_asked}
 use Rattle.words_core.specs.Given.{asked_by, Given, texts_of}
 use Rattle.words_core.specs.declared.settings.TailSettings.{TailSettings}
-use Rattle.words_core.specs.Value.{Meant, Following, Looks, then_check}
+use Rattle.words_core.specs.Value.{Meant, Following, Looks, Pause, Process, then_check}
 
--- without options nothing is followed
+-- without options nothing is followed, and a pause lasts a second at most
 abbrev pub no_following : FollowOptions
-no_following = record { followed = None; retry = false; looks = 2 ^ 63 - 1 }
+no_following = record { followed = None; retry = false; looks = 2 ^ 63 - 1; pause = 1000; process = None }
 
--- With one more option: the last that says what is followed decides, and so does the last number of looks.
+-- With one more option: the last that says what is followed decides, and so do the last number of looks, the last
+-- pause and the last process.
 
 abbrev pub follow_by : FollowOptions → Choice → Meant → FollowOptions
 follow_by asked choice.Follow (Following followed) = record asked { followed = Some followed }
@@ -26,6 +27,8 @@ follow_by asked choice.Follow value = record asked { followed = Some Descriptor 
 follow_by asked choice.FollowNames value = record asked { followed = Some Name; retry = true }
 follow_by asked choice.Retry value = record asked { retry = true }
 follow_by asked choice.Looks (Looks looks) = record asked { looks = looks }
+follow_by asked choice.Pause (Pause pause) = record asked { pause = pause }
+follow_by asked choice.Process (Process process) = record asked { process = Some process }
 follow_by asked choice value = asked
 
 -- whether standard input is among the operands
@@ -57,4 +60,10 @@ abbrev pub tail_asked : Given → Result TailSettings Fault
 tail_asked given =
     let asked = asked_by follow_by no_following given.options in
     then_check (followed_in asked.followed asked.retry (texts_of given.operands))
-    (λ followed. Ok (record { ends = ends_asked given; followed = followed; looks = asked.looks }))
+    (λ followed. Ok (record {
+      ends = ends_asked given;
+      followed = followed;
+      looks = asked.looks;
+      pause = asked.pause;
+      process = asked.process;
+    }))

@@ -1,13 +1,16 @@
 -- What the value of an option says, or what is wrong with it, by its kind. A value that isn't of its form is told
 -- before one that is too large, and that before 0.
-use Rattle.std.specs.Prelude.{ℕ, ◌-◌, ◌^◌, ◌==◌, ◌&&◌, nat_le, codes, List, [], ◌∷◌, Result, Ok, Err, if◌then◌else◌, bytes_eq}
-use Rattle.std.specs.List.{list_any}
-use Rattle.seg_core.specs.Count.{count_of, digits_of}
+use Rattle.std.specs.Prelude.{ℕ, ◌+◌, ◌-◌, ◌*◌, ◌/◌, ◌^◌, ◌==◌, ◌&&◌, ◌||◌, Bool, nat_le, min, codes, length, List, [], ◌∷◌, Option, Some, None, Result, Ok, Err, if◌then◌else◌, bytes_eq}
+use Rattle.std.specs.Char.{is_ascii_digit}
+use Rattle.std.specs.List.{list_all, list_any}
+use Rattle.seg_core.specs.Count.{after_digits, count_of, digits_of, leading_digits, value_of}
 use Rattle.seg_core.specs.declared.count.Count.{Count}
 use Rattle.seg_core.specs.declared.count.CountFault.{CountFault}
 use Rattle.seg_core.specs.declared.count.CountFault.TheVariants.{TooLarge}
+use Rattle.ports_core.specs.declared.on_broken.OnBroken.{OnBroken}
+use Rattle.ports_core.specs.declared.on_broken.OnBroken.TheVariants as on_broken
 use Rattle.ports_core.specs.declared.fault.UsageKind.{UsageKind}
-use Rattle.ports_core.specs.declared.fault.UsageKind.TheVariants.{BadNumber, NumberTooLarge, Zero, BadSeparator, BadSuffix, BadFollow}
+use Rattle.ports_core.specs.declared.fault.UsageKind.TheVariants.{BadNumber, NumberTooLarge, Zero, BadSeparator, BadSuffix, BadFollow, BadMode}
 use Rattle.words_core.specs.declared.table.Kind.{Kind}
 use Rattle.words_core.specs.declared.table.Kind.TheVariants as kind
 use Rattle.words_core.specs.declared.value.Followed.{Followed}
@@ -26,6 +29,10 @@ pub data Meant : Type 0 where
   Byte : ℕ → Meant
   Following : Followed → Meant
   Looks : ℕ → Meant
+  Number : ℕ → Meant
+  Pause : ℕ → Meant
+  Process : ℕ → Meant
+  Breaking : OnBroken → Meant
 
 abbrev pub seen : Value → Meant
 seen value.Nothing = Nothing
@@ -37,6 +44,10 @@ seen (value.Text text) = Text text.now
 seen (value.Byte byte) = Byte byte
 seen (value.Following followed) = Following followed
 seen (value.Looks looks) = Looks looks
+seen (value.Number number) = Number number
+seen (value.Pause pause) = Pause pause
+seen (value.Process process) = Process process
+seen (value.OnBroken on_broken) = Breaking on_broken
 
 -- one check, and those after it where nothing is wrong so far
 abbrev pub then_check : {A B E : Type 0} → Result A E → (A → Result B E) → Result B E
@@ -89,6 +100,45 @@ followed_in text =
     if bytes_eq text (codes "descriptor") then Ok followed.Descriptor
     else (if bytes_eq text (codes "name") then Ok followed.Name else Err BadFollow)
 
+-- what is done once an output is broken
+abbrev pub on_broken_in : List ℕ → Result OnBroken UsageKind
+on_broken_in text =
+    if bytes_eq text (codes "warn") || bytes_eq text (codes "warn-nopipe") then Ok on_broken.GoOn
+    else (if bytes_eq text (codes "exit") || bytes_eq text (codes "exit-nopipe") then Ok on_broken.Stop
+    else Err BadMode)
+
+-- the number of a process
+abbrev pub process_in : List ℕ → Result ℕ UsageKind
+process_in text = then_check (up_to (2 ^ 31 - 1) (digits_of text)) not_zero
+
+-- A pause in seconds: digits, which may have a `.` (46) before, among or after them. It is taken in milliseconds, rounded
+-- up, 2^63-1 at most.
+
+-- the digits after the `.`; none where nothing is left
+abbrev pub fraction_in : List ℕ → Option (List ℕ)
+fraction_in [] = Some []
+fraction_in (byte ∷ digits) = if byte == 46 && list_all is_ascii_digit digits then Some digits else None
+
+abbrev pub is_zero : ℕ → Bool
+is_zero digit = digit == 48
+
+-- what digits write where the first counts `unit` and each next one a tenth of the one before it, rounded up
+abbrev pub fraction_of : ℕ → List ℕ → ℕ
+fraction_of unit [] = 0
+fraction_of unit (digit ∷ digits) = if unit == 0 then (if list_all is_zero (digit ∷ digits) then 0 else 1)
+    else (digit - 48) * unit + fraction_of (unit / 10) digits
+
+abbrev pub milliseconds : ℕ → List ℕ → ℕ
+milliseconds seconds fraction = min (2 ^ 63 - 1) (seconds * 1000 + fraction_of 100 fraction)
+
+abbrev pub pause_with : List ℕ → Option (List ℕ) → Result ℕ UsageKind
+pause_with whole None = Err BadNumber
+pause_with whole (Some fraction) =
+    if length whole + length fraction == 0 then Err BadNumber else Ok (milliseconds (value_of whole) fraction)
+
+abbrev pub pause_in : List ℕ → Result ℕ UsageKind
+pause_in text = pause_with (leading_digits text) (fraction_in (after_digits text))
+
 -- a value that was read, or what is wrong with it
 abbrev pub as_value : {A : Type 0} → (A → Meant) → Result A UsageKind → Result Meant UsageKind
 as_value make (Ok value) = Ok (make value)
@@ -106,3 +156,7 @@ value_in kind.Ending text = as_value (λ ending. Text ending) (ending_in text)
 value_in kind.Following text = as_value (λ followed. Following followed) (followed_in text)
 value_in kind.Looks text =
     as_value (λ looks. Looks looks) (then_check (up_to (2 ^ 63 - 1) (digits_of text)) not_zero)
+value_in kind.Number text = as_value (λ number. Number number) (up_to (2 ^ 63 - 1) (digits_of text))
+value_in kind.Process text = as_value (λ process. Process process) (process_in text)
+value_in kind.Seconds text = as_value (λ pause. Pause pause) (pause_in text)
+value_in kind.OnBroken text = as_value (λ on_broken. Breaking on_broken) (on_broken_in text)

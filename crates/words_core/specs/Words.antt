@@ -6,9 +6,14 @@ use Rattle.ports_core.specs.declared.fault.Fault.{Fault}
 use Rattle.ports_core.specs.declared.fault.Fault.TheVariants.{Usage}
 use Rattle.ports_core.specs.declared.fault.UsageKind.TheVariants.{MissingTool, UnknownTool}
 use Rattle.words_core.specs.declared.settings.Settings.{Settings}
-use Rattle.words_core.specs.declared.settings.Settings.TheVariants.{Head, Tail, Split, Csplit, Tee}
-use Rattle.words_core.specs.Table.{ToolRow, row_named, tools}
-use Rattle.words_core.specs.Given.{Given}
+use Rattle.words_core.specs.declared.settings.Settings.TheVariants.{Head, Tail, Split, Csplit, Tee, About}
+use Rattle.words_core.specs.declared.settings.Topic.{Topic}
+use Rattle.words_core.specs.declared.settings.Topic.TheVariants.{Help, Version}
+use Rattle.words_core.specs.declared.table.Choice.{Choice}
+use Rattle.words_core.specs.declared.table.Choice.TheVariants as choice
+use Rattle.words_core.specs.declared.table.Takes.{Takes}
+use Rattle.words_core.specs.Table.{ToolRow, option_named, program_table, row_named, tools}
+use Rattle.words_core.specs.Given.{Given, GivenOption}
 use Rattle.words_core.specs.Spelling.{given_by}
 use Rattle.words_core.specs.CsplitWords.{HasBadOperand, HasRead, csplit_asked}
 use Rattle.words_core.specs.EndsWords.{ends_asked}
@@ -21,24 +26,59 @@ use Rattle.words_core.specs.TeeWords.{tee_asked}
 abbrev pub tool_named : List ℕ → Option Tool
 tool_named name = option_map (λ row. row.tool) (row_named tools name)
 
--- what options and operands ask of a tool
+-- what options and operands ask of a tool's work
+abbrev pub work_for : Tool → Given → Result Settings Fault
+work_for tool.Head given = Ok (Head (ends_asked given))
+work_for tool.Tail given = then_check (tail_asked given) (λ asked. Ok (Tail asked))
+work_for tool.Split given = then_check (split_asked given) (λ asked. Ok (Split asked))
+work_for tool.Csplit given = then_check (csplit_asked given) (λ asked. Ok (Csplit asked))
+work_for tool.Tee given = Ok (Tee (tee_asked given))
+work_for tool.Cutters given = Err (Usage UnknownTool 0)
+
+-- Help and the version. An option that asks for one of these is the last that is read, and the line as a whole isn't
+-- checked.
+
+abbrev pub topic_of : Choice → Option Topic
+topic_of choice.Help = Some Help
+topic_of choice.Version = Some Version
+topic_of choice = None
+
+abbrev pub or_later : Option Topic → Option Topic → Option Topic
+or_later (Some topic) later = Some topic
+or_later None later = later
+
+abbrev pub topic_in : List GivenOption → Option Topic
+topic_in [] = None
+topic_in (option ∷ options) = or_later (topic_of option.choice) (topic_in options)
+
+abbrev pub about_or : Tool → Option Topic → Result Settings Fault → Result Settings Fault
+about_or tool (Some topic) work = Ok (About tool topic)
+about_or tool None work = work
+
 abbrev pub settings_for : Tool → Given → Result Settings Fault
-settings_for tool.Head given = Ok (Head (ends_asked given))
-settings_for tool.Tail given = then_check (tail_asked given) (λ asked. Ok (Tail asked))
-settings_for tool.Split given = then_check (split_asked given) (λ asked. Ok (Split asked))
-settings_for tool.Csplit given = then_check (csplit_asked given) (λ asked. Ok (Csplit asked))
-settings_for tool.Tee given = Ok (Tee (tee_asked given))
-settings_for tool.Cutters given = Err (Usage UnknownTool 0)
+settings_for tool given = about_or tool (topic_in given.options) (work_for tool given)
+
+-- A word in the place of a tool's name may ask for help or the version of the program.
+
+abbrev pub topic_by : Option (Choice × Takes) → Option Topic
+topic_by None = None
+topic_by (Some option) = topic_of option.0
+
+abbrev pub topic_named : List ℕ → Option Topic
+topic_named name = topic_by (option_named program_table name)
+
+abbrev pub program_asked : Option Topic → Result Settings Fault
+program_asked topic = about_or tool.Cutters topic (Err (Usage UnknownTool 0))
 
 -- the words after a tool's name: faults of single words come before those of the line as a whole
-abbrev pub tool_settings : List (List ℕ) → Option ToolRow → Result Settings Fault
-tool_settings words None = Err (Usage UnknownTool 0)
-tool_settings words (Some row) = then_check (given_by row words) (settings_for row.tool)
+abbrev pub tool_settings : List ℕ → List (List ℕ) → Option ToolRow → Result Settings Fault
+tool_settings name words None = program_asked (topic_named name)
+tool_settings name words (Some row) = then_check (given_by row words) (settings_for row.tool)
 
 -- what the words ask for, or what is wrong with them
 abbrev pub settings_of : List (List ℕ) → Result Settings Fault
 settings_of [] = Err (Usage MissingTool 0)
-settings_of (name ∷ words) = tool_settings words (row_named tools name)
+settings_of (name ∷ words) = tool_settings name words (row_named tools name)
 
 -- whether inputs are followed, and how often they are looked at then
 
@@ -61,6 +101,7 @@ HasBadOperands (Tail asked) fault = ⊥
 HasBadOperands (Split asked) fault = ⊥
 HasBadOperands (Csplit asked) fault = HasBadOperand asked fault
 HasBadOperands (Tee asked) fault = ⊥
+HasBadOperands (About tool topic) fault = ⊥
 
 -- what is asked for has no operands that can't be read
 abbrev pub HasOperands : Settings → Type 0
@@ -69,6 +110,7 @@ HasOperands (Tail asked) = Unit {0}
 HasOperands (Split asked) = Unit {0}
 HasOperands (Csplit asked) = HasRead asked
 HasOperands (Tee asked) = Unit {0}
+HasOperands (About tool topic) = Unit {0}
 
 -- what is asked for can be done
 abbrev pub CanRun : Settings → Type 0
@@ -77,3 +119,4 @@ CanRun (Tail asked) = Unit {0}
 CanRun (Split asked) = CanSplit asked
 CanRun (Csplit asked) = asked.style.digits ≤ 255
 CanRun (Tee asked) = Unit {0}
+CanRun (About tool topic) = Unit {0}

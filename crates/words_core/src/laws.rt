@@ -6,26 +6,26 @@ ghost use Rattle.ports_core.specs.declared.fault.UsageKind.TheVariants.{Ambiguou
 ghost use Rattle.words_core.specs.declared.spelling.State.TheVariants.{Reading};
 ghost use Rattle.seg_core.specs.Count.{count_of, digits_of, is_number, sized, value_of};
 ghost use Rattle.std.specs.Char.{is_ascii_digit};
-ghost use Rattle.words_core.specs.Given.{Given, GivenOption, bare, joined, one_operand, one_option};
+ghost use Rattle.words_core.specs.Given.{Given, GivenOperand, GivenOption, bare, joined, one_operand, one_option};
 ghost use Rattle.words_core.specs.CsplitWords.{style_of};
-ghost use Rattle.words_core.specs.Laws.{AreAmong, Gives, IsLetter, IsName, IsSwitch, amount_of, appends, as_operands, csplit_as, drops_sizes, elides_files, ends_as, ends_of, ends_with_zero, has, is_alphabet, is_count, is_digits, is_ending, is_headers, is_plain, is_prefix, is_separator, is_width, follow_of, following_as, is_following, is_looks, keeps_files, leaves_lines_out, retries, split_as, split_of, tail_as, plain_style};
+ghost use Rattle.words_core.specs.Laws.{AreAmong, Gives, IsLast, IsLetter, IsName, IsSwitch, LeaveTheRest, amount_of, appends, as_operands, csplit_as, drops_sizes, elides_files, ends_as, ends_of, ends_with_zero, has, is_alphabet, is_count, is_digits, is_ending, is_headers, is_plain, is_prefix, is_separator, is_width, follow_of, following_as, is_following, is_looks, keeps_files, leaves_lines_out, retries, split_as, split_of, tail_as, plain_style, is_on_broken, is_pause, is_process, on_broken_of};
 ghost use Rattle.words_core.specs.Lettered.{is_lettered, letter_named, unit_of, with_letters};
 ghost use Rattle.words_core.specs.Spelling.{given_before, mixed, spelled};
 ghost use Rattle.words_core.specs.EndsWords.{ten_lines};
-ghost use Rattle.words_core.specs.SplitWords.{is_way, least_width, way_in, way_of};
+ghost use Rattle.words_core.specs.SplitWords.{is_way, least_width, way_in, way_of, separator_in, thousand_lines};
 ghost use Rattle.words_core.specs.Table.{OptionRow, beginning, head_table, option_called, option_named, tail_table};
 ghost use Rattle.words_core.specs.declared.table.Letters.TheVariants.{OfHead, OfTail};
 ghost use Rattle.words_core.specs.TeeWords.{tee_asked};
 ghost use Rattle.words_core.specs.Value.{Counted, Meant, counted, round_in, size_in, up_to, value_in};
-ghost use Rattle.words_core.specs.Words.{settings_of};
+ghost use Rattle.words_core.specs.Words.{settings_for, settings_of};
 
-use crate::settings::{Headers, Settings};
+use crate::settings::{Headers, Settings, Topic};
 use crate::spelling::State;
 use crate::table::{Choice, Kind, Letters, Takes};
 use crate::value::Followed;
-use ports_core::{Alphabet, Fault, Mode};
+use ports_core::{Alphabet, Fault, Mode, OnBroken, Tool};
 use seg_core::count::{Count, Sign};
-use seg_core::cut::Cut;
+use seg_core::cut::{Cut, Limit};
 use seg_core::unit::Unit;
 
 /// Of several counts for `head` or `tail` the last decides, as if it stood alone, whatever options stand before it;
@@ -41,7 +41,7 @@ pub fn last_of_ends_decides()
 {}
 
 /// Of several options that say what `tail` follows the last decides, as if it stood alone, whatever options stand before it,
-/// and so does the last number of looks. A name that leads nowhere is looked for again where any option says so.
+/// and so do the last number of looks, the last pause and the last process. A name that leads nowhere is looked for again where any option says so.
 pub fn last_of_tail_decides()
     ensures followed { (before after : List GivenOption) (option : GivenOption) → is_following option ≡ true → list_any is_following after ≡ false
         → (follow_of (before ++ option ∷ after)).followed ≡ (follow_of (option ∷ [])).followed }
@@ -49,6 +49,12 @@ pub fn last_of_tail_decides()
     ensures looks { (before after : List GivenOption) (option : GivenOption) → is_looks option ≡ true → list_any is_looks after ≡ false
         → (follow_of (before ++ option ∷ after)).looks ≡ (follow_of (option ∷ [])).looks }
     ensures no_looks { (options : List GivenOption) → list_any is_looks options ≡ false → (follow_of options).looks ≡ 2 ^ 63 - 1 }
+    ensures pause { (before after : List GivenOption) (option : GivenOption) → is_pause option ≡ true → list_any is_pause after ≡ false
+        → (follow_of (before ++ option ∷ after)).pause ≡ (follow_of (option ∷ [])).pause }
+    ensures no_pause { (options : List GivenOption) → list_any is_pause options ≡ false → (follow_of options).pause ≡ 1000 }
+    ensures process { (before after : List GivenOption) (option : GivenOption) → is_process option ≡ true → list_any is_process after ≡ false
+        → (follow_of (before ++ option ∷ after)).process ≡ (follow_of (option ∷ [])).process }
+    ensures no_process { (options : List GivenOption) → list_any is_process options ≡ false → (follow_of options).process ≡ None }
     ensures retry { (options : List GivenOption) → (follow_of options).retry ≡ has retries options }
 {}
 
@@ -62,8 +68,8 @@ pub fn last_of_split_decides()
         → (split_of (before ++ option ∷ after)).width ≡ (split_of (option ∷ [])).width }
     ensures no_width { (options : List GivenOption) → list_any is_width options ≡ false → (split_of options).width ≡ (split_of []).width }
     ensures separator { (before after : List GivenOption) (option : GivenOption) → is_separator option ≡ true → list_any is_separator after ≡ false
-        → (split_of (before ++ option ∷ after)).delim ≡ (split_of (option ∷ [])).delim }
-    ensures no_separator { (options : List GivenOption) → list_any is_separator options ≡ false → (split_of options).delim ≡ 10 }
+        → separator_in (before ++ option ∷ after) ≡ separator_in (option ∷ []) }
+    ensures no_separator { (options : List GivenOption) → list_any is_separator options ≡ false → separator_in options ≡ 10 }
     ensures ending { (before after : List GivenOption) (option : GivenOption) → is_ending option ≡ true → list_any is_ending after ≡ false
         → (split_of (before ++ option ∷ after)).ending ≡ (split_of (option ∷ [])).ending }
     ensures no_ending { (options : List GivenOption) → list_any is_ending options ≡ false → (split_of options).ending ≡ [] }
@@ -78,6 +84,22 @@ pub fn last_of_csplit_decides()
     ensures digits { (before after : List GivenOption) (option : GivenOption) → is_digits option ≡ true → list_any is_digits after ≡ false
         → (style_of (before ++ option ∷ after)).digits ≡ (style_of (option ∷ [])).digits }
     ensures no_digits { (options : List GivenOption) → list_any is_digits options ≡ false → (style_of options).digits ≡ 2 }
+{}
+
+/// Of several options of `tee` that say what is done once an output is broken the last decides, as if it stood alone, whatever
+/// options stand before it. Without one it goes on with those that are left.
+pub fn last_of_tee_decides()
+    ensures on_broken { (before after : List GivenOption) (option : GivenOption) → is_on_broken option ≡ true → list_any is_on_broken after ≡ false
+        → on_broken_of (before ++ option ∷ after) ≡ on_broken_of (option ∷ []) }
+    ensures no_on_broken { (options : List GivenOption) → list_any is_on_broken options ≡ false → on_broken_of options ≡ OnBroken.GoOn }
+{}
+
+/// An option that is taken without effect changes nothing, whatever its value: the others ask for what they ask for without
+/// it. So it is with `-u` of `split` and `--max-unchanged-stats` of `tail`.
+pub fn some_have_no_effect()
+    ensures { (tool : Tool) (before after : List GivenOption) (value : Meant) (word : ℕ) (operands : List GivenOperand)
+        → settings_for tool (record { options = before ++ record { choice = Choice.NoEffect; value = value; word = word } ∷ after; operands = operands })
+        ≡ settings_for tool (record { options = before ++ after; operands = operands }) }
 {}
 
 /// What an option without a value asks is asked for exactly where the option is given, wherever it stands and however
@@ -97,7 +119,7 @@ pub fn options_stand_anywhere()
 pub fn one_way_at_most()
     ensures accepted { (options : List GivenOption) → IsOk (way_of options) ↔ (length (filter is_way options) ≤ 1) }
     ensures way { (before after : List GivenOption) (option : GivenOption) (cut : Cut) → is_way option ≡ true
-        → way_of (before ++ option ∷ after) ≡ Ok cut → cut ≡ way_in option.value option.choice }
+        → way_of (before ++ option ∷ after) ≡ Ok cut → cut ≡ way_in (separator_in (before ++ option ∷ after)) option.value option.choice }
     ensures second { (before after : List GivenOption) (option : GivenOption) → length (filter is_way before) ≡ 1 → is_way option ≡ true
         → way_of (before ++ option ∷ after) ≡ Err (Fault.Usage TwoWays option.word) }
 {}
@@ -166,6 +188,21 @@ pub fn leftmost_fault_decides()
         → place + length first ≤ word }
 {}
 
+/// Words are read from the left, each by what those before it left. An option as `--help` ends that: whatever follows it, even
+/// what would be a fault, gives nothing. So it asks for its text, and the line as a whole isn't checked.
+#[tactic(auto, unfolding(crate::specs::Spelling::foremost, crate::specs::Table::tools))]
+pub fn reading_ends()
+    ensures left { (rows : List OptionRow) (first : List (List ℕ)) (place : ℕ) (state : State) → LeaveTheRest rows first place state }
+    ensures last { (rows : List OptionRow) (name : List ℕ) (choice : Choice) (words : List (List ℕ)) (place : ℕ) → IsLast rows name choice
+        → spelled rows ((codes "--" ++ name) ∷ words) place Reading ≡ Ok (bare choice place) }
+    ensures head { (words : List (List ℕ)) → settings_of (codes "head" ∷ codes "--help" ∷ words) ≡ Ok (Settings.About Tool.Head Topic.Help) }
+    ensures tail { (words : List (List ℕ)) → settings_of (codes "tail" ∷ codes "--help" ∷ words) ≡ Ok (Settings.About Tool.Tail Topic.Help) }
+    ensures split { (words : List (List ℕ)) → settings_of (codes "split" ∷ codes "--version" ∷ words) ≡ Ok (Settings.About Tool.Split Topic.Version) }
+    ensures csplit { (words : List (List ℕ)) → settings_of (codes "csplit" ∷ codes "--help" ∷ words) ≡ Ok (Settings.About Tool.Csplit Topic.Help) }
+    ensures tee { (words : List (List ℕ)) → settings_of (codes "tee" ∷ codes "--version" ∷ words) ≡ Ok (Settings.About Tool.Tee Topic.Version) }
+    ensures program { (words : List (List ℕ)) → settings_of (codes "--version" ∷ words) ≡ Ok (Settings.About Tool.Cutters Topic.Version) }
+{}
+
 /// The operands are some of the words, in their order, each with its place.
 pub fn operands_keep_their_order()
     ensures { (rows : List OptionRow) (words : List (List ℕ)) (place : ℕ) (state : State) (given : Given)
@@ -220,8 +257,8 @@ pub fn ends_options_ask()
     ensures tail_verbose { settings_of (codes "tail" ∷ codes "-v" ∷ []) ≡ Ok (Settings.Tail (tail_as (ends_as Unit.Lines ten_lines.count Headers.Always))) }
 {}
 
-/// What the options of `tail` for following ask for: files that are opened once, or names; as many looks as can be, or this many
-/// (POSIX.1-2017, XCU tail; GNU coreutils manual).
+/// What the options of `tail` for following ask for: files that are opened once, or names; as many looks as can be, or this many;
+/// pauses of a second at most, or of this many milliseconds (POSIX.1-2017, XCU tail; GNU coreutils manual).
 #[tactic(auto, unfolding(crate::specs::Spelling::foremost, crate::specs::Table::tools, seg_core::specs::Count::digits_of))]
 pub fn tail_options_ask()
     ensures follows { settings_of (codes "tail" ∷ codes "-f" ∷ codes "f" ∷ []) ≡ Ok (Settings.Tail (following_as (Some Followed.Descriptor) (2 ^ 63 - 1))) }
@@ -230,22 +267,25 @@ pub fn tail_options_ask()
     ensures names { settings_of (codes "tail" ∷ codes "-F" ∷ codes "f" ∷ []) ≡ Ok (Settings.Tail (following_as (Some Followed.Name) (2 ^ 63 - 1))) }
     ensures retry { settings_of (codes "tail" ∷ codes "--follow=name" ∷ codes "--retry" ∷ codes "f" ∷ []) ≡ Ok (Settings.Tail (following_as (Some Followed.Name) (2 ^ 63 - 1))) }
     ensures looks { settings_of (codes "tail" ∷ codes "-f" ∷ codes "--looks=3" ∷ codes "f" ∷ []) ≡ Ok (Settings.Tail (following_as (Some Followed.Descriptor) 3)) }
+    ensures pause { settings_of (codes "tail" ∷ codes "-f" ∷ codes "-s" ∷ codes "2.5" ∷ codes "f" ∷ []) ≡ Ok (Settings.Tail (record (following_as (Some Followed.Descriptor) (2 ^ 63 - 1)) { pause = 2500 })) }
+    ensures process { settings_of (codes "tail" ∷ codes "-f" ∷ codes "--pid=7" ∷ codes "f" ∷ []) ≡ Ok (Settings.Tail (record (following_as (Some Followed.Descriptor) (2 ^ 63 - 1)) { process = Some 7 })) }
+    ensures short_pause { settings_of (codes "tail" ∷ codes "-f" ∷ codes "--sleep-interval=.0501" ∷ codes "f" ∷ []) ≡ Ok (Settings.Tail (record (following_as (Some Followed.Descriptor) (2 ^ 63 - 1)) { pause = 51 })) }
 {}
 
 /// What the options of `split` ask for, each alone (POSIX.1-2017, XCU split; GNU coreutils manual).
 pub fn split_options_ask()
     ensures lines { (value : List ℕ) (size : ℕ) → size_in value ≡ Ok size
-        → settings_of (codes "split" ∷ codes "-l" ∷ value ∷ []) ≡ Ok (Settings.Split (split_as (Cut.Lines size) Alphabet.Letters 2 true false)) }
+        → settings_of (codes "split" ∷ codes "-l" ∷ value ∷ []) ≡ Ok (Settings.Split (split_as (Cut.Parts (Limit.Lines size 10)) Alphabet.Letters 2 true false)) }
     ensures bytes { (value : List ℕ) (size : ℕ) → size_in value ≡ Ok size
-        → settings_of (codes "split" ∷ codes "-b" ∷ value ∷ []) ≡ Ok (Settings.Split (split_as (Cut.Bytes size) Alphabet.Letters 2 true false)) }
+        → settings_of (codes "split" ∷ codes "-b" ∷ value ∷ []) ≡ Ok (Settings.Split (split_as (Cut.Parts (Limit.Bytes size)) Alphabet.Letters 2 true false)) }
     ensures line_bytes { (value : List ℕ) (size : ℕ) → size_in value ≡ Ok size
-        → settings_of (codes "split" ∷ codes "-C" ∷ value ∷ []) ≡ Ok (Settings.Split (split_as (Cut.LineBytes size) Alphabet.Letters 2 true false)) }
+        → settings_of (codes "split" ∷ codes "-C" ∷ value ∷ []) ≡ Ok (Settings.Split (split_as (Cut.Parts (Limit.LineBytes size 10)) Alphabet.Letters 2 true false)) }
     ensures files { (value : List ℕ) (files : ℕ) → round_in value ≡ Ok files
-        → settings_of (codes "split" ∷ codes "-n" ∷ value ∷ []) ≡ Ok (Settings.Split (split_as (Cut.Round files) Alphabet.Letters (least_width Alphabet.Letters files) false false)) }
-    ensures digits { settings_of (codes "split" ∷ codes "-d" ∷ []) ≡ Ok (Settings.Split (split_as (Cut.Lines 1000) Alphabet.Digits 2 true false)) }
-    ensures hexadecimal { settings_of (codes "split" ∷ codes "-x" ∷ []) ≡ Ok (Settings.Split (split_as (Cut.Lines 1000) Alphabet.Hex 2 true false)) }
-    ensures elide { settings_of (codes "split" ∷ codes "-e" ∷ []) ≡ Ok (Settings.Split (split_as (Cut.Lines 1000) Alphabet.Letters 2 true true)) }
-    ensures width { settings_of (codes "split" ∷ codes "-a3" ∷ []) ≡ Ok (Settings.Split (split_as (Cut.Lines 1000) Alphabet.Letters 3 false false)) }
+        → settings_of (codes "split" ∷ codes "-n" ∷ value ∷ []) ≡ Ok (Settings.Split (split_as (Cut.Round files 10) Alphabet.Letters (least_width Alphabet.Letters files) false false)) }
+    ensures digits { settings_of (codes "split" ∷ codes "-d" ∷ []) ≡ Ok (Settings.Split (split_as (thousand_lines 10) Alphabet.Digits 2 true false)) }
+    ensures hexadecimal { settings_of (codes "split" ∷ codes "-x" ∷ []) ≡ Ok (Settings.Split (split_as (thousand_lines 10) Alphabet.Hex 2 true false)) }
+    ensures elide { settings_of (codes "split" ∷ codes "-e" ∷ []) ≡ Ok (Settings.Split (split_as (thousand_lines 10) Alphabet.Letters 2 true true)) }
+    ensures width { settings_of (codes "split" ∷ codes "-a3" ∷ []) ≡ Ok (Settings.Split (split_as (thousand_lines 10) Alphabet.Letters 3 false false)) }
 {}
 
 /// What the options of `csplit` ask for, each alone, and what is asked for without any (POSIX.1-2017, XCU csplit; GNU
@@ -262,11 +302,15 @@ pub fn csplit_options_ask()
     ensures suppress { settings_of (codes "csplit" ∷ codes "--suppress-matched" ∷ codes "-" ∷ codes "1" ∷ []) ≡ Ok (Settings.Csplit (csplit_as (record plain_style { suppress = true }) 3)) }
 {}
 
-/// What `tee` is asked for without options, and with `-a` (POSIX.1-2017, XCU tee).
+/// What `tee` is asked for without options, with `-a`, and with an option that says what is done once an output is broken
+/// (POSIX.1-2017, XCU tee; GNU coreutils manual).
 #[tactic(auto, unfolding(crate::specs::Table::tools))]
 pub fn tee_options_ask()
-    ensures nothing { settings_of (codes "tee" ∷ codes "f" ∷ []) ≡ Ok (Settings.Tee (record { mode = Mode.Fresh; names = codes "f" ∷ [] })) }
-    ensures append { settings_of (codes "tee" ∷ codes "-a" ∷ codes "f" ∷ []) ≡ Ok (Settings.Tee (record { mode = Mode.Append; names = codes "f" ∷ [] })) }
+    ensures nothing { settings_of (codes "tee" ∷ codes "f" ∷ []) ≡ Ok (Settings.Tee (record { mode = Mode.Fresh; on_broken = OnBroken.GoOn; names = codes "f" ∷ [] })) }
+    ensures append { settings_of (codes "tee" ∷ codes "-a" ∷ codes "f" ∷ []) ≡ Ok (Settings.Tee (record { mode = Mode.Append; on_broken = OnBroken.GoOn; names = codes "f" ∷ [] })) }
+    ensures warn { settings_of (codes "tee" ∷ codes "-p" ∷ codes "f" ∷ []) ≡ Ok (Settings.Tee (record { mode = Mode.Fresh; on_broken = OnBroken.GoOn; names = codes "f" ∷ [] })) }
+    ensures stop { settings_of (codes "tee" ∷ codes "--output-error=exit" ∷ codes "f" ∷ []) ≡ Ok (Settings.Tee (record { mode = Mode.Fresh; on_broken = OnBroken.Stop; names = codes "f" ∷ [] })) }
+    ensures stop_at_no_pipe { settings_of (codes "tee" ∷ codes "--output-error=exit-nopipe" ∷ codes "f" ∷ []) ≡ Ok (Settings.Tee (record { mode = Mode.Fresh; on_broken = OnBroken.Stop; names = codes "f" ∷ [] })) }
 {}
 
 /// A hyphen and digits as the only word mean what `-n` means with these digits for `head` and `tail`, and what `-l` means for

@@ -5,6 +5,7 @@ mod args;
 mod csplit_settings;
 mod csplit_words;
 mod ends_words;
+mod help;
 mod laws;
 mod lettered;
 mod settings;
@@ -19,15 +20,19 @@ mod words;
 
 pub use args::{ArgsFault, read_args};
 pub use csplit_settings::CsplitSettings;
+pub use help::text_about;
 pub use laws::{
     beginnings_are_of_one_option, csplit_options_ask, ends_options_ask, last_of_csplit_decides,
-    last_of_ends_decides, last_of_split_decides, last_of_tail_decides, leftmost_fault_decides,
-    letters_ask, letters_stand_together, letters_take_no_option_away, number_comes_first,
-    numbers_ask, one_way_at_most, operands_follow_the_end, operands_keep_their_order,
-    operands_may_mix, options_stand_anywhere, split_options_ask, tail_options_ask, tee_options_ask,
+    last_of_ends_decides, last_of_split_decides, last_of_tail_decides, last_of_tee_decides,
+    leftmost_fault_decides, letters_ask, letters_stand_together, letters_take_no_option_away,
+    number_comes_first, numbers_ask, one_way_at_most, operands_follow_the_end,
+    operands_keep_their_order, operands_may_mix, options_stand_anywhere, reading_ends,
+    some_have_no_effect, split_options_ask, tail_options_ask, tee_options_ask,
     values_are_spelled_alike,
 };
-pub use settings::{EndsSettings, Headers, Settings, SplitSettings, TailSettings, TeeSettings};
+pub use settings::{
+    EndsSettings, Headers, Settings, SplitSettings, TailSettings, TeeSettings, Topic,
+};
 pub use spelled::{Chosen, Operand, Spelled};
 pub use spelling::read_given;
 pub use table::{Choice, Kind, Letters, OptionRow, Takes, ToolRow, all_tools, find_row};

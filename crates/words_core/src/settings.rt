@@ -6,7 +6,7 @@ ghost use Rattle.words_core.specs.TeeAsked.{TeeAsked};
 
 use crate::csplit_settings::CsplitSettings;
 use crate::value::Followed;
-use ports_core::{Alphabet, Mode};
+use ports_core::{Alphabet, Mode, OnBroken, Tool};
 use seg_core::count::Count;
 use seg_core::cut::Cut;
 use seg_core::unit::Unit;
@@ -25,6 +25,17 @@ pub enum Settings<'a> {
     Csplit(CsplitSettings<'a>),
     /// The input copied to several outputs.
     Tee(TeeSettings<'a>),
+    /// A text about this tool, or the program, and nothing else.
+    About(Tool, Topic),
+}
+
+/// What a text about a tool or the program says.
+#[derive(Clone, Copy, PartialEq, Eq)]
+pub enum Topic {
+    /// How it is called.
+    Help,
+    /// Which version it is.
+    Version,
 }
 
 /// What `head` or `tail` is to write of its inputs.
@@ -57,6 +68,11 @@ pub struct TailSettings<'a> {
     pub followed: Option<Followed>,
     /// How often inputs that are followed are looked at, 1 to 2^63-1.
     pub looks: u64,
+    /// How many milliseconds they are waited for at most where nothing is seen to change, at most 2^63-1. Nothing that is written
+    /// depends on it.
+    pub pause: u64,
+    /// The process after whose end following ends, 1 to 2^31-1. None where it goes on.
+    pub process: Option<u32>,
 }
 
 /// When a header with its name goes before an input.
@@ -89,14 +105,12 @@ pub struct SplitSettings<'a> {
     pub prefix: &'a str,
     /// What they end with; it has no `/`.
     pub ending: &'a str,
-    /// The byte that lines end with.
-    pub delim: u8,
 }
 
 impl<'a> Model for SplitSettings<'a> {
     ghost Value = { SplitAsked };
 
-    ghost view = { λ s. record { cut = s.cut; alphabet = s.alphabet; width = s.width; auto = s.auto; elide = s.elide; input = s.input.now; prefix = s.prefix.now; ending = s.ending.now; delim = s.delim } };
+    ghost view = { λ s. record { cut = s.cut; alphabet = s.alphabet; width = s.width; auto = s.auto; elide = s.elide; input = s.input.now; prefix = s.prefix.now; ending = s.ending.now } };
 }
 
 /// What `tee` is to write its input to, besides standard output.
@@ -104,6 +118,8 @@ impl<'a> Model for SplitSettings<'a> {
 pub struct TeeSettings<'a> {
     /// How the files are opened.
     pub mode: Mode,
+    /// What is done once an output is broken.
+    pub on_broken: OnBroken,
     /// The names of the files, in their order; there may be none, and `-` is a name as any other.
     pub names: Vec<&'a str>,
 }
@@ -111,5 +127,5 @@ pub struct TeeSettings<'a> {
 impl<'a> Model for TeeSettings<'a> {
     ghost Value = { TeeAsked };
 
-    ghost view = { λ s. record { mode = s.mode; names = map (λ name. name.now) s.names.items } };
+    ghost view = { λ s. record { mode = s.mode; on_broken = s.on_broken; names = map (λ name. name.now) s.names.items } };
 }

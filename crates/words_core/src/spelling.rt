@@ -26,6 +26,8 @@ pub enum State {
     Awaiting(Choice, Kind, usize),
     /// An operand, whatever it begins with.
     OnlyOperands,
+    /// Anything: no word is read any more.
+    Ended,
 }
 
 /// Reads the words after a tool's name.
@@ -40,11 +42,11 @@ pub fn read_given<'a>(
 ) -> Result<Spelled<'a>, Fault>
     ensures { Reads (given_by (tool_seen tool.now) (map (λ word. word.now) words.now)) result }
 {
-    let start = match tool.3 {
+    let start = match tool.number {
         Some((choice, kind, letters)) => State::First(choice, kind, letters),
         None => State::Reading,
     };
-    read_items(alloc, tool.2, start, words)
+    read_items(alloc, tool.options, start, words)
 }
 
 /// Reads words by the table of a tool's options. The first stands at place 1.
@@ -67,7 +69,7 @@ fn read_items<'a>(
     }
     match state {
         State::Awaiting(_, _, option) => Err(Fault::Usage(UsageKind::MissingValue, option)),
-        State::First(_, _, _) | State::Reading | State::OnlyOperands => Ok(spelled),
+        State::First(_, _, _) | State::Reading | State::OnlyOperands | State::Ended => Ok(spelled),
     }
 }
 
@@ -92,6 +94,7 @@ fn read_word<'a>(
             spelled.add_operand(word, place)?;
             Ok(State::OnlyOperands)
         }
+        State::Ended => Ok(State::Ended),
     }
 }
 
@@ -205,7 +208,13 @@ fn read_named<'a>(
             spelled.add_option(choice, Value::Nothing, place)?;
             Ok(State::Reading)
         }
-        (Takes::Nothing, Some(_)) => Err(Fault::Usage(UsageKind::UnexpectedValue, place)),
+        (Takes::Last, None) => {
+            spelled.add_option(choice, Value::Nothing, place)?;
+            Ok(State::Ended)
+        }
+        (Takes::Nothing | Takes::Last, Some(_)) => {
+            Err(Fault::Usage(UsageKind::UnexpectedValue, place))
+        }
         (Takes::Value(kind), None) => Ok(State::Awaiting(choice, kind, place)),
         (Takes::Value(kind) | Takes::Optional(kind), Some(text)) => {
             read_option(choice, kind, place, place, text, spelled)
@@ -231,6 +240,10 @@ fn read_cluster<'a>(
             None => return Err(Fault::Usage(UsageKind::UnknownOption, place)),
             Some((choice, Takes::Value(kind))) => {
                 return read_attached(choice, kind, place, rest, spelled);
+            }
+            Some((choice, Takes::Last)) => {
+                spelled.add_option(choice, Value::Nothing, place)?;
+                return Ok(State::Ended);
             }
             Some((choice, Takes::Nothing | Takes::Optional(_))) => {
                 spelled.add_option(choice, Value::Nothing, place)?;

@@ -1,9 +1,9 @@
 //! What `split` is asked for: POSIX.1-2017, XCU split; `-C`, `-n`, `-d`, `-x`, `-e`, `-t` and
 //! `--additional-suffix` are GNU's.
-ghost use Rattle.std.specs.Prelude.{◌≡◌, ℕ, ◌^◌, ◌<◌, ◌≤◌, map, IfOk, IfErr};
+ghost use Rattle.std.specs.Prelude.{◌≡◌, ℕ, ◌^◌, ◌<◌, ◌≤◌, filter, map, IfOk, IfErr};
 ghost use Rattle.ports_core.specs.Name.{name_count};
 ghost use Rattle.words_core.specs.Given.{asked_by, operand_seen, option_seen};
-ghost use Rattle.words_core.specs.SplitWords.{dealt, files_in, fixed, free, least_width, names_all, no_options, split_by, split_asked, suffix_for, way_in, way_of};
+ghost use Rattle.words_core.specs.SplitWords.{dealt, files_in, fixed, free, least_width, names_all, no_options, separator_in, split_by, split_asked, suffix_for, thousand_lines, way_in, is_way, only_way};
 ghost use Rattle.words_core.specs.inner.SplitWords.{with_way};
 ghost use Rattle.words_core.specs.Value.{seen};
 
@@ -12,11 +12,15 @@ use crate::spelled::{Chosen, Operand, Spelled};
 use crate::table::Choice;
 use crate::value::Value;
 use ports_core::{Alphabet, Fault, STANDARD_INPUT, UsageKind};
-use seg_core::cut::Cut;
+use seg_core::cut::{Cut, Limit};
 use seg_core::line::NEWLINE;
 
 /// How files are cut where no way is given.
-const THOUSAND_LINES: Cut = Cut::Lines(1000);
+fn thousand_lines(delim: u8) -> Cut
+    ensures { result ≡ thousand_lines delim }
+{
+    Cut::Parts(Limit::Lines(1000, delim))
+}
 
 /// What the names of files begin with where no operand says so.
 const PREFIX: &str = "x";
@@ -26,7 +30,7 @@ fn no_options<'a>() -> SplitSettings<'a>
     ensures { result ≡ no_options }
 {
     SplitSettings {
-        cut: THOUSAND_LINES,
+        cut: thousand_lines(NEWLINE),
         alphabet: Alphabet::Letters,
         width: 0,
         auto: false,
@@ -34,7 +38,6 @@ fn no_options<'a>() -> SplitSettings<'a>
         input: STANDARD_INPUT,
         prefix: PREFIX,
         ending: "",
-        delim: NEWLINE,
     }
 }
 
@@ -67,10 +70,6 @@ impl<'a> SplitSettings<'a> {
                 Value::Text(ending) => SplitSettings { ending, ..self },
                 _ => self,
             },
-            Choice::Separator => match option.value {
-                Value::Byte(delim) => SplitSettings { delim, ..self },
-                _ => self,
-            },
             _ => self,
         }
     }
@@ -94,7 +93,7 @@ pub fn settle_split<'a>(spelled: &Spelled<'a>) -> Result<SplitSettings<'a>, Faul
     ensures { result ≡ split_asked spelled.now }
 {
     let options = choose_split(&spelled.options);
-    let cut = choose_way(&spelled.options)?;
+    let cut = choose_way(separator_in(&spelled.options), &spelled.options)?;
     let suffix = choose_suffix(cut, options.alphabet, options.width)?;
     let (input, prefix) = take_files(&spelled.operands)?;
     Ok(SplitSettings {
@@ -118,30 +117,43 @@ fn choose_split<'a>(options: &[Chosen<'a>]) -> SplitSettings<'a>
     asked
 }
 
-/// The way to split.
+/// The byte that lines end with.
+fn separator_in(options: &[Chosen<'_>]) -> u8
+    ensures { result ≡ separator_in (map option_seen options.now) }
+{
+    let mut delim = NEWLINE;
+    for option in options {
+        if let (Choice::Separator, Value::Byte(byte)) = (option.choice, option.value) {
+            delim = byte;
+        }
+    }
+    delim
+}
+
+/// The way to split, for lines that end with this byte.
 ///
 /// # Errors
 ///
 /// `Usage` with the place of the second one's word, where two ways are given.
-fn choose_way(options: &[Chosen<'_>]) -> Result<Cut, Fault>
-    ensures { result ≡ way_of (map option_seen options.now) }
+fn choose_way(delim: u8, options: &[Chosen<'_>]) -> Result<Cut, Fault>
+    ensures { result ≡ only_way delim (filter is_way (map option_seen options.now)) }
 {
     let mut way = None;
     let mut left = options;
     while let [option, rest @ ..] = left {
-        way = with_way(way, option)?;
+        way = with_way(delim, way, option)?;
         left = rest;
     }
-    Ok(way.unwrap_or(THOUSAND_LINES))
+    Ok(way.unwrap_or(thousand_lines(delim)))
 }
 
 /// The way to split, with one more option.
-fn with_way(way: Option<Cut>, option: &Chosen<'_>) -> Result<Option<Cut>, Fault>
-    ensures { result ≡ with_way way (option_seen option.now) }
+fn with_way(delim: u8, way: Option<Cut>, option: &Chosen<'_>) -> Result<Option<Cut>, Fault>
+    ensures { result ≡ with_way delim way (option_seen option.now) }
 {
     match option.choice {
         Choice::Lines | Choice::Bytes | Choice::LineBytes | Choice::Files => match way {
-            None => Ok(Some(way_in(option.value, option.choice))),
+            None => Ok(Some(way_in(delim, option.value, option.choice))),
             Some(_) => Err(Fault::Usage(UsageKind::TwoWays, option.word)),
         },
         _ => Ok(way),
@@ -149,17 +161,17 @@ fn with_way(way: Option<Cut>, option: &Chosen<'_>) -> Result<Option<Cut>, Fault>
 }
 
 /// The way to split that an option gives with its value.
-fn way_in(value: Value<'_>, choice: Choice) -> Cut
-    ensures { result ≡ way_in (seen value.entry) choice }
+fn way_in(delim: u8, value: Value<'_>, choice: Choice) -> Cut
+    ensures { result ≡ way_in delim (seen value.entry) choice }
 {
     match value {
-        Value::Size(size) => match choice {
-            Choice::Bytes => Cut::Bytes(size),
-            Choice::LineBytes => Cut::LineBytes(size),
-            _ => Cut::Lines(size),
-        },
-        Value::Files(files) => Cut::Round(files),
-        _ => THOUSAND_LINES,
+        Value::Size(size) => Cut::Parts(match choice {
+            Choice::Bytes => Limit::Bytes(size),
+            Choice::LineBytes => Limit::LineBytes(size, delim),
+            _ => Limit::Lines(size, delim),
+        }),
+        Value::Files(files) => Cut::Round(files, delim),
+        _ => thousand_lines(delim),
     }
 }
 
@@ -169,8 +181,8 @@ fn choose_suffix(cut: Cut, alphabet: Alphabet, width: u32) -> Result<Suffix, Fau
     ensures { result ≡ suffix_for cut alphabet width }
 {
     match cut {
-        Cut::Round(files) => suffix_of_dealt(alphabet, files, width),
-        Cut::Lines(_) | Cut::Bytes(_) | Cut::LineBytes(_) => Ok(free(width)),
+        Cut::Round(files, _) => suffix_of_dealt(alphabet, files, width),
+        Cut::Parts(_) => Ok(free(width)),
     }
 }
 

@@ -1,9 +1,9 @@
 //! The tools and their options, as their manuals list them: POSIX.1-2017, XCU head, tail, split, csplit and tee; `-q`, `-v`,
 //! `-z`, the `-c` of `head`, the `-C`, `-n`, `-d`, `-x`, `-e`, `-t` and `--additional-suffix` of `split`, the
-//! `--suppress-matched` of `csplit`, the `-F`, `--follow` and `--retry` of `tail` and the long names are GNU's; `--looks` is of these
-//! tools alone.
+//! `--suppress-matched` of `csplit`, the `-F`, `--follow`, `--retry`, `-s`, `--pid` and `--max-unchanged-stats` of `tail`, the `-u` of `split`,
+//! the `-p` and `--output-error` of `tee` and the long names are GNU's; `--looks` is of these tools alone.
 ghost use Rattle.std.specs.Prelude.{◌≡◌, [], ◌∷◌, map, option_map, IfNone, IfSome};
-ghost use Rattle.words_core.specs.Table.{beginning, begins_one, is_among, only_one, option_called, option_named, row_named, row_seen, tool_seen, tools};
+ghost use Rattle.words_core.specs.Table.{beginning, begins_one, is_among, only_one, option_called, option_named, program_table, row_named, row_seen, tool_seen, tools};
 
 use ports_core::{Tool, UsageKind};
 
@@ -54,6 +54,18 @@ pub enum Choice {
     Retry,
     /// How often inputs are looked at.
     Looks,
+    /// How long inputs are waited for at most, where nothing is seen to change.
+    Pause,
+    /// After the end of which process following ends.
+    Process,
+    /// What a run does once an output is broken.
+    OutputError,
+    /// Nothing: what it asks for is so in any case.
+    NoEffect,
+    /// The text of help.
+    Help,
+    /// The text of the version.
+    Version,
 }
 
 /// What the value of an option says.
@@ -77,6 +89,14 @@ pub enum Kind {
     Following,
     /// How often inputs are looked at: digits, 1 to 2^63-1.
     Looks,
+    /// A number: digits, 0 to 2^63-1.
+    Number,
+    /// The number of a process: digits, 1 to 2^31-1.
+    Process,
+    /// Seconds: digits, which may have a `.` before, among or after them.
+    Seconds,
+    /// `warn`, `warn-nopipe`, `exit` or `exit-nopipe`.
+    OnBroken,
 }
 
 /// Whether an option takes a value.
@@ -88,6 +108,8 @@ pub enum Takes {
     Value(Kind),
     /// It takes one after `=` alone, and may have none.
     Optional(Kind),
+    /// It takes none, and no word after it is read.
+    Last,
 }
 
 /// What letters may follow the digits of a first word of a hyphen and digits.
@@ -101,162 +123,382 @@ pub enum Letters {
     OfTail,
 }
 
-/// The names of an option as they are written, what it chooses, and the value it takes.
-pub type OptionRow = (&'static [&'static str], Choice, Takes);
+/// An option of a tool, with the line that help prints of it.
+#[derive(Clone, Copy)]
+pub struct OptionRow {
+    /// Its names, as they are written.
+    pub names: &'static [&'static str],
+    /// What it chooses.
+    pub choice: Choice,
+    /// Whether it takes a value.
+    pub takes: Takes,
+    /// What help calls its value; empty where it takes none.
+    pub value: &'static str,
+    /// What it does, in at most 48 characters.
+    pub does: &'static str,
+}
 
-/// The name of a tool, the tool, its options, the option whose value a first word of a hyphen and digits gives, and the
-/// letters that may follow these.
-pub type ToolRow = (
-    &'static str,
-    Tool,
-    &'static [OptionRow],
-    Option<(Choice, Kind, Letters)>,
-);
+/// A tool.
+#[derive(Clone, Copy)]
+pub struct ToolRow {
+    /// The name with which it is called.
+    pub name: &'static str,
+    /// The tool.
+    pub tool: Tool,
+    /// Its options.
+    pub options: &'static [OptionRow],
+    /// The option whose value a first word of a hyphen and digits gives, and the letters that may follow these.
+    pub number: Option<(Choice, Kind, Letters)>,
+    /// Its operands, as help calls them.
+    pub operands: &'static str,
+    /// What it does, in at most 48 characters, for a sentence that its name begins.
+    pub does: &'static str,
+}
+
+/// Help, in each tool.
+const HELP: OptionRow = OptionRow {
+    names: &["--help"],
+    choice: Choice::Help,
+    takes: Takes::Last,
+    value: "",
+    does: "write help, and do nothing else",
+};
+
+/// The version, in each tool.
+const VERSION: OptionRow = OptionRow {
+    names: &["--version"],
+    choice: Choice::Version,
+    takes: Takes::Last,
+    value: "",
+    does: "write the version, and do nothing else",
+};
+
+/// What stands in the place of a tool's name, and asks for a text of the program.
+const PROGRAM: &[OptionRow] = &[HELP, VERSION];
+
+/// No headers, in `head` and `tail`.
+const QUIET: OptionRow = OptionRow {
+    names: &["-q", "--quiet", "--silent"],
+    choice: Choice::Quiet,
+    takes: Takes::Nothing,
+    value: "",
+    does: "write no headers",
+};
+
+/// Headers, in `head` and `tail`.
+const VERBOSE: OptionRow = OptionRow {
+    names: &["-v", "--verbose"],
+    choice: Choice::Verbose,
+    takes: Takes::Nothing,
+    value: "",
+    does: "write a header before each file",
+};
+
+/// Lines that end with byte 0, in `head` and `tail`.
+const ZERO_TERMINATED: OptionRow = OptionRow {
+    names: &["-z", "--zero-terminated"],
+    choice: Choice::ZeroTerminated,
+    takes: Takes::Nothing,
+    value: "",
+    does: "lines end with byte 0, not with a newline",
+};
 
 /// The options of `head`.
 const HEAD: &[OptionRow] = &[
-    (&["-n", "--lines"], Choice::Lines, Takes::Value(Kind::Count)),
-    (&["-c", "--bytes"], Choice::Bytes, Takes::Value(Kind::Count)),
-    (
-        &["-q", "--quiet", "--silent"],
-        Choice::Quiet,
-        Takes::Nothing,
-    ),
-    (&["-v", "--verbose"], Choice::Verbose, Takes::Nothing),
-    (
-        &["-z", "--zero-terminated"],
-        Choice::ZeroTerminated,
-        Takes::Nothing,
-    ),
+    OptionRow {
+        names: &["-n", "--lines"],
+        choice: Choice::Lines,
+        takes: Takes::Value(Kind::Count),
+        value: "COUNT",
+        does: "write COUNT lines; with - all but the last COUNT",
+    },
+    OptionRow {
+        names: &["-c", "--bytes"],
+        choice: Choice::Bytes,
+        takes: Takes::Value(Kind::Count),
+        value: "COUNT",
+        does: "write COUNT bytes; with - all but the last COUNT",
+    },
+    QUIET,
+    VERBOSE,
+    ZERO_TERMINATED,
+    HELP,
+    VERSION,
 ];
 
 /// The options of `tail`: those of `head`, and how files are followed.
 const TAIL: &[OptionRow] = &[
-    (&["-n", "--lines"], Choice::Lines, Takes::Value(Kind::Count)),
-    (&["-c", "--bytes"], Choice::Bytes, Takes::Value(Kind::Count)),
-    (
-        &["-q", "--quiet", "--silent"],
-        Choice::Quiet,
-        Takes::Nothing,
-    ),
-    (&["-v", "--verbose"], Choice::Verbose, Takes::Nothing),
-    (
-        &["-z", "--zero-terminated"],
-        Choice::ZeroTerminated,
-        Takes::Nothing,
-    ),
-    (
-        &["-f", "--follow"],
-        Choice::Follow,
-        Takes::Optional(Kind::Following),
-    ),
-    (&["-F"], Choice::FollowNames, Takes::Nothing),
-    (&["--retry"], Choice::Retry, Takes::Nothing),
-    (&["--looks"], Choice::Looks, Takes::Value(Kind::Looks)),
+    OptionRow {
+        names: &["-n", "--lines"],
+        choice: Choice::Lines,
+        takes: Takes::Value(Kind::Count),
+        value: "COUNT",
+        does: "write COUNT lines; with + all from line COUNT on",
+    },
+    OptionRow {
+        names: &["-c", "--bytes"],
+        choice: Choice::Bytes,
+        takes: Takes::Value(Kind::Count),
+        value: "COUNT",
+        does: "write COUNT bytes; with + all from byte COUNT on",
+    },
+    QUIET,
+    VERBOSE,
+    ZERO_TERMINATED,
+    OptionRow {
+        names: &["-f", "--follow"],
+        choice: Choice::Follow,
+        takes: Takes::Optional(Kind::Following),
+        value: "HOW",
+        does: "follow what is appended, by descriptor or name",
+    },
+    OptionRow {
+        names: &["-F"],
+        choice: Choice::FollowNames,
+        takes: Takes::Nothing,
+        value: "",
+        does: "the same as --follow=name --retry",
+    },
+    OptionRow {
+        names: &["--retry"],
+        choice: Choice::Retry,
+        takes: Takes::Nothing,
+        value: "",
+        does: "with --follow=name, wait for missing names",
+    },
+    OptionRow {
+        names: &["--looks"],
+        choice: Choice::Looks,
+        takes: Takes::Value(Kind::Looks),
+        value: "NUMBER",
+        does: "end after NUMBER checks of what is followed",
+    },
+    OptionRow {
+        names: &["-s", "--sleep-interval"],
+        choice: Choice::Pause,
+        takes: Takes::Value(Kind::Seconds),
+        value: "SECONDS",
+        does: "check what is followed within this time",
+    },
+    OptionRow {
+        names: &["--pid"],
+        choice: Choice::Process,
+        takes: Takes::Value(Kind::Process),
+        value: "PID",
+        does: "end once the process PID is gone",
+    },
+    OptionRow {
+        names: &["--max-unchanged-stats"],
+        choice: Choice::NoEffect,
+        takes: Takes::Value(Kind::Number),
+        value: "NUMBER",
+        does: "taken without effect",
+    },
+    HELP,
+    VERSION,
 ];
 
 /// The options of `split`.
 const SPLIT: &[OptionRow] = &[
-    (&["-l", "--lines"], Choice::Lines, Takes::Value(Kind::Size)),
-    (&["-b", "--bytes"], Choice::Bytes, Takes::Value(Kind::Size)),
-    (
-        &["-C", "--line-bytes"],
-        Choice::LineBytes,
-        Takes::Value(Kind::Size),
-    ),
-    (
-        &["-n", "--number"],
-        Choice::Files,
-        Takes::Value(Kind::Round),
-    ),
-    (
-        &["-a", "--suffix-length"],
-        Choice::SuffixLength,
-        Takes::Value(Kind::Width),
-    ),
-    (
-        &["-d", "--numeric-suffixes"],
-        Choice::NumericSuffixes,
-        Takes::Nothing,
-    ),
-    (
-        &["-x", "--hex-suffixes"],
-        Choice::HexSuffixes,
-        Takes::Nothing,
-    ),
-    (
-        &["-e", "--elide-empty-files"],
-        Choice::ElideEmptyFiles,
-        Takes::Nothing,
-    ),
-    (
-        &["-t", "--separator"],
-        Choice::Separator,
-        Takes::Value(Kind::Byte),
-    ),
-    (
-        &["--additional-suffix"],
-        Choice::AdditionalSuffix,
-        Takes::Value(Kind::Ending),
-    ),
+    OptionRow {
+        names: &["-l", "--lines"],
+        choice: Choice::Lines,
+        takes: Takes::Value(Kind::Size),
+        value: "LINES",
+        does: "put this many lines in each file",
+    },
+    OptionRow {
+        names: &["-b", "--bytes"],
+        choice: Choice::Bytes,
+        takes: Takes::Value(Kind::Size),
+        value: "BYTES",
+        does: "put this many bytes in each file",
+    },
+    OptionRow {
+        names: &["-C", "--line-bytes"],
+        choice: Choice::LineBytes,
+        takes: Takes::Value(Kind::Size),
+        value: "BYTES",
+        does: "put whole lines of at most BYTES in each file",
+    },
+    OptionRow {
+        names: &["-n", "--number"],
+        choice: Choice::Files,
+        takes: Takes::Value(Kind::Round),
+        value: "r/FILES",
+        does: "deal lines to this many files in turn",
+    },
+    OptionRow {
+        names: &["-a", "--suffix-length"],
+        choice: Choice::SuffixLength,
+        takes: Takes::Value(Kind::Width),
+        value: "WIDTH",
+        does: "names have WIDTH characters after the prefix",
+    },
+    OptionRow {
+        names: &["-d", "--numeric-suffixes"],
+        choice: Choice::NumericSuffixes,
+        takes: Takes::Nothing,
+        value: "",
+        does: "digits in names, not letters",
+    },
+    OptionRow {
+        names: &["-x", "--hex-suffixes"],
+        choice: Choice::HexSuffixes,
+        takes: Takes::Nothing,
+        value: "",
+        does: "hexadecimal digits in names, not letters",
+    },
+    OptionRow {
+        names: &["-e", "--elide-empty-files"],
+        choice: Choice::ElideEmptyFiles,
+        takes: Takes::Nothing,
+        value: "",
+        does: "with -n, make no empty files",
+    },
+    OptionRow {
+        names: &["-t", "--separator"],
+        choice: Choice::Separator,
+        takes: Takes::Value(Kind::Byte),
+        value: "BYTE",
+        does: "lines end with BYTE, not with a newline",
+    },
+    OptionRow {
+        names: &["--additional-suffix"],
+        choice: Choice::AdditionalSuffix,
+        takes: Takes::Value(Kind::Ending),
+        value: "TEXT",
+        does: "names end with TEXT",
+    },
+    OptionRow {
+        names: &["-u", "--unbuffered"],
+        choice: Choice::NoEffect,
+        takes: Takes::Nothing,
+        value: "",
+        does: "taken without effect",
+    },
+    HELP,
+    VERSION,
 ];
 
 /// The options of `csplit`.
 const CSPLIT: &[OptionRow] = &[
-    (
-        &["-f", "--prefix"],
-        Choice::Prefix,
-        Takes::Value(Kind::Text),
-    ),
-    (
-        &["-n", "--digits"],
-        Choice::Digits,
-        Takes::Value(Kind::Width),
-    ),
-    (&["-k", "--keep-files"], Choice::KeepFiles, Takes::Nothing),
-    (
-        &["-s", "-q", "--quiet", "--silent"],
-        Choice::Quiet,
-        Takes::Nothing,
-    ),
-    (
-        &["-z", "--elide-empty-files"],
-        Choice::ElideEmptyFiles,
-        Takes::Nothing,
-    ),
-    (
-        &["--suppress-matched"],
-        Choice::SuppressMatched,
-        Takes::Nothing,
-    ),
+    OptionRow {
+        names: &["-f", "--prefix"],
+        choice: Choice::Prefix,
+        takes: Takes::Value(Kind::Text),
+        value: "PREFIX",
+        does: "names begin with PREFIX, not with xx",
+    },
+    OptionRow {
+        names: &["-n", "--digits"],
+        choice: Choice::Digits,
+        takes: Takes::Value(Kind::Width),
+        value: "DIGITS",
+        does: "numbers in names have this many digits, not 2",
+    },
+    OptionRow {
+        names: &["-k", "--keep-files"],
+        choice: Choice::KeepFiles,
+        takes: Takes::Nothing,
+        value: "",
+        does: "keep files after a fault",
+    },
+    OptionRow {
+        names: &["-s", "-q", "--quiet", "--silent"],
+        choice: Choice::Quiet,
+        takes: Takes::Nothing,
+        value: "",
+        does: "write no sizes",
+    },
+    OptionRow {
+        names: &["-z", "--elide-empty-files"],
+        choice: Choice::ElideEmptyFiles,
+        takes: Takes::Nothing,
+        value: "",
+        does: "make no empty files",
+    },
+    OptionRow {
+        names: &["--suppress-matched"],
+        choice: Choice::SuppressMatched,
+        takes: Takes::Nothing,
+        value: "",
+        does: "leave out the line at each cut",
+    },
+    HELP,
+    VERSION,
 ];
 
 /// The options of `tee`.
-const TEE: &[OptionRow] = &[(&["-a", "--append"], Choice::Append, Takes::Nothing)];
+const TEE: &[OptionRow] = &[
+    OptionRow {
+        names: &["-a", "--append"],
+        choice: Choice::Append,
+        takes: Takes::Nothing,
+        value: "",
+        does: "append to the files",
+    },
+    OptionRow {
+        names: &["-p", "--output-error"],
+        choice: Choice::OutputError,
+        takes: Takes::Optional(Kind::OnBroken),
+        value: "MODE",
+        does: "go on (warn) or exit once an output is broken",
+    },
+    HELP,
+    VERSION,
+];
 
 /// The tools.
 pub const TOOLS: &[ToolRow] = &[
-    (
-        "head",
-        Tool::Head,
-        HEAD,
-        Some((Choice::Lines, Kind::Count, Letters::OfHead)),
-    ),
-    (
-        "tail",
-        Tool::Tail,
-        TAIL,
-        Some((Choice::Lines, Kind::Count, Letters::OfTail)),
-    ),
-    (
-        "split",
-        Tool::Split,
-        SPLIT,
-        Some((Choice::Lines, Kind::Size, Letters::Never)),
-    ),
-    ("csplit", Tool::Csplit, CSPLIT, None),
-    ("tee", Tool::Tee, TEE, None),
+    ToolRow {
+        name: "head",
+        tool: Tool::Head,
+        options: HEAD,
+        number: Some((Choice::Lines, Kind::Count, Letters::OfHead)),
+        operands: "[FILE]...",
+        does: "writes the first lines or bytes of files",
+    },
+    ToolRow {
+        name: "tail",
+        tool: Tool::Tail,
+        options: TAIL,
+        number: Some((Choice::Lines, Kind::Count, Letters::OfTail)),
+        operands: "[FILE]...",
+        does: "writes the last lines or bytes, follows files",
+    },
+    ToolRow {
+        name: "split",
+        tool: Tool::Split,
+        options: SPLIT,
+        number: Some((Choice::Lines, Kind::Size, Letters::Never)),
+        operands: "[FILE [PREFIX]]",
+        does: "cuts a file into pieces",
+    },
+    ToolRow {
+        name: "csplit",
+        tool: Tool::Csplit,
+        options: CSPLIT,
+        number: None,
+        operands: "FILE OPERAND...",
+        does: "cuts a file at patterns and line numbers",
+    },
+    ToolRow {
+        name: "tee",
+        tool: Tool::Tee,
+        options: TEE,
+        number: None,
+        operands: "[FILE]...",
+        does: "copies its input to standard output and files",
+    },
 ];
+
+/// The options of the program: those of the manual.
+pub fn program_options() -> &'static [OptionRow]
+    ensures { map row_seen result.now ≡ program_table }
+{
+    PROGRAM
+}
 
 /// The table of the tools: that of the manuals.
 pub fn all_tools() -> &'static [ToolRow]
@@ -270,7 +512,7 @@ pub fn find_row<'a>(rows: &'a [ToolRow], name: &str) -> Option<&'a ToolRow>
     ensures { option_map (λ row. tool_seen row.now) result ≡ row_named (map tool_seen rows.now) name.now }
 {
     for row in rows {
-        if row.0 == name {
+        if row.name == name {
             return Some(row);
         }
     }
@@ -282,8 +524,8 @@ pub fn find_option(rows: &[OptionRow], name: &[u8]) -> Option<(Choice, Takes)>
     ensures { result ≡ option_named (map row_seen rows.now) name.now }
 {
     for row in rows {
-        if is_among(row.0, name) {
-            return Some((row.1, row.2));
+        if is_among(row.names, name) {
+            return Some((row.choice, row.takes));
         }
     }
     None
@@ -322,7 +564,7 @@ fn find_only(rows: &[OptionRow], start: &[u8]) -> Result<(Choice, Takes), UsageK
     match first_beginning(rows, start) {
         None => Err(UsageKind::UnknownOption),
         Some((row, rest)) => match first_beginning(rest, start) {
-            None => Ok((row.1, row.2)),
+            None => Ok((row.choice, row.takes)),
             Some(_) => Err(UsageKind::AmbiguousOption),
         },
     }
@@ -338,7 +580,7 @@ fn first_beginning<'a>(
 {
     let mut left = rows;
     while let [row, rest @ ..] = left {
-        if begins_one(row.0, start) {
+        if begins_one(row.names, start) {
             return Some((row, rest));
         }
         left = rest;

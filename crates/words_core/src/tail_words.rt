@@ -1,4 +1,5 @@
-//! What `tail` is asked for (POSIX.1-2017, XCU tail); `-F`, `--follow` and `--retry` are GNU's, `--looks` is of these tools.
+//! What `tail` is asked for (POSIX.1-2017, XCU tail); `-F`, `--follow`, `--retry`, `-s` and `--pid` are
+//! GNU's, `--looks` is of these tools.
 ghost use Rattle.std.specs.Prelude.{◌≡◌, map, IfOk, IfErr};
 ghost use Rattle.words_core.specs.Given.{asked_by, operand_seen, option_seen, texts_of};
 ghost use Rattle.words_core.specs.Spelling.{Reads};
@@ -22,13 +23,22 @@ pub struct FollowOptions {
     pub retry: bool,
     /// How often inputs are looked at.
     pub looks: u64,
+    /// How many milliseconds they are waited for at most.
+    pub pause: u64,
+    /// The process after whose end following ends, if there is one.
+    pub process: Option<u32>,
 }
+
+/// How many milliseconds inputs are waited for where no option says it: a second.
+const SECOND: u64 = 1000;
 
 /// What is asked for without options.
 const NO_FOLLOWING: FollowOptions = FollowOptions {
     followed: None,
     retry: false,
     looks: MOST_LOOKS,
+    pause: SECOND,
+    process: None,
 };
 
 /// What is wrong with what is to be followed.
@@ -63,6 +73,17 @@ impl FollowOptions {
                 Value::Looks(looks) => FollowOptions { looks, ..self },
                 _ => self,
             },
+            Choice::Pause => match option.value {
+                Value::Pause(pause) => FollowOptions { pause, ..self },
+                _ => self,
+            },
+            Choice::Process => match option.value {
+                Value::Process(process) => FollowOptions {
+                    process: Some(process),
+                    ..self
+                },
+                _ => self,
+            },
             _ => self,
         }
     }
@@ -83,10 +104,13 @@ pub fn settle_tail<'a>(alloc: Global, spelled: &Spelled<'a>) -> Result<TailSetti
         ends: settle_ends(alloc, spelled)?,
         followed,
         looks: options.looks,
+        pause: options.pause,
+        process: options.process,
     })
 }
 
-/// What all options ask for: the last that says what is followed, and the last number of looks.
+/// What all options ask for: the last that says what is followed, the last number of looks, the last
+/// pause and the last process.
 fn choose_following(options: &[Chosen<'_>]) -> FollowOptions
     ensures { result ≡ asked_by follow_by no_following (map option_seen options.now) }
 {

@@ -1,14 +1,16 @@
 //! What the value of an option says (POSIX.1-2017, XBD 12.1; XCU head, tail and split; the suffixes of counts are
 //! GNU's).
-ghost use Rattle.std.specs.Prelude.{◌≡◌, ◌≤◌, Ok, Err, IfOk, IfErr};
+ghost use Rattle.std.specs.Prelude.{◌≡◌, ◌≤◌, ◌+◌, ◌-◌, ◌*◌, ◌^◌, ℕ, Ok, Err, true, IfOk, IfErr, min, option_map};
+ghost use Rattle.std.specs.Char.{is_ascii_digit};
+ghost use Rattle.std.specs.List.{list_all};
 ghost use Rattle.seg_core.specs.Count.{count_of, digits_of};
-ghost use Rattle.words_core.specs.Value.{byte_in, counted, ending_in, followed_in, not_zero, number_fault, round_in, size_in, up_to, value_in};
+ghost use Rattle.words_core.specs.Value.{byte_in, counted, ending_in, followed_in, fraction_in, fraction_of, is_zero, milliseconds, not_zero, number_fault, on_broken_in, process_in, pause_in, round_in, size_in, up_to, value_in};
 ghost use Rattle.words_core.specs.inner.Value.{seen_in};
 
 use crate::table::Kind;
-use ports_core::UsageKind;
+use ports_core::{OnBroken, UsageKind};
 use seg_core::count::{Count, CountFault, read_count};
-use seg_core::digits::{GREATEST, read_digits};
+use seg_core::digits::{GREATEST, leading_number, read_digits};
 
 /// The value of an option.
 #[derive(Clone, Copy, PartialEq, Eq)]
@@ -31,6 +33,14 @@ pub enum Value<'a> {
     Following(Followed),
     /// How often inputs are looked at, 1 to 2^63-1.
     Looks(u64),
+    /// A number, at most 2^63-1.
+    Number(u64),
+    /// How many milliseconds inputs are waited for at most, at most 2^63-1.
+    Pause(u64),
+    /// The number of a process, 1 to 2^31-1.
+    Process(u32),
+    /// What a run does once an output is broken.
+    OnBroken(OnBroken),
 }
 
 /// What `tail` follows.
@@ -51,12 +61,15 @@ const WIDEST: u64 = 255;
 /// The greatest number of looks.
 pub const MOST_LOOKS: u64 = GREATEST;
 
+/// The largest number that a process can have.
+const LAST_PROCESS: u64 = 0x7fff_ffff;
+
 /// Reads the value of an option.
 ///
 /// # Errors
 ///
 /// What is wrong with the value: it isn't of its kind's form, or else its number is too large, or else it is 0. A byte,
-/// an ending or what is followed has a fault of its own where it isn't of its form.
+/// an ending, what is followed or what is done once an output is broken has a fault of its own where it isn't of its form.
 pub fn read_value(kind: Kind, text: &str) -> Result<Value<'_>, UsageKind>
     ensures { seen_in result ≡ value_in kind text.now }
 {
@@ -71,6 +84,10 @@ pub fn read_value(kind: Kind, text: &str) -> Result<Value<'_>, UsageKind>
         Kind::Ending => Ok(Value::Text(read_ending(text)?)),
         Kind::Following => Ok(Value::Following(read_followed(text)?)),
         Kind::Looks => Ok(Value::Looks(not_zero(read_number(bytes, MOST_LOOKS)?)?)),
+        Kind::Number => Ok(Value::Number(read_number(bytes, GREATEST)?)),
+        Kind::Process => Ok(Value::Process(read_process(bytes)?)),
+        Kind::Seconds => Ok(Value::Pause(read_pause(bytes)?)),
+        Kind::OnBroken => Ok(Value::OnBroken(read_on_broken(text)?)),
     }
 }
 
@@ -116,6 +133,13 @@ fn read_number(text: &[u8], limit: u64) -> Result<u64, UsageKind>
     }
 }
 
+/// Reads the number of a process.
+fn read_process(text: &[u8]) -> Result<u32, UsageKind>
+    ensures { result ≡ process_in text.now }
+{
+    Ok(not_zero(read_number(text, LAST_PROCESS)?)? as u32)
+}
+
 /// Reads one byte, or the two bytes `\0`, which stand for byte 0.
 fn read_byte(text: &[u8]) -> Result<u8, UsageKind>
     ensures { result ≡ byte_in text.now }
@@ -149,6 +173,96 @@ fn read_followed(text: &str) -> Result<Followed, UsageKind>
         return Ok(Followed::Name);
     }
     Err(UsageKind::BadFollow)
+}
+
+/// Reads what a run does once an output is broken.
+fn read_on_broken(text: &str) -> Result<OnBroken, UsageKind>
+    ensures { result ≡ on_broken_in text.now }
+{
+    if text == "warn" || text == "warn-nopipe" {
+        return Ok(OnBroken::GoOn);
+    }
+    if text == "exit" || text == "exit-nopipe" {
+        return Ok(OnBroken::Stop);
+    }
+    Err(UsageKind::BadMode)
+}
+
+/// Reads seconds: digits, which may have a `.` before, among or after them. Returns them as milliseconds, rounded up, 2^63-1 at
+/// most.
+fn read_pause(text: &[u8]) -> Result<u64, UsageKind>
+    ensures { result ≡ pause_in text.now }
+{
+    let (whole, count) = leading_number(text);
+    match fraction_in(&text[count..]) {
+        Some(fraction) if count > 0 || !fraction.is_empty() => Ok(milliseconds(whole, fraction)),
+        _ => Err(UsageKind::BadNumber),
+    }
+}
+
+/// The digits after a `.`; none where nothing is left.
+fn fraction_in(text: &[u8]) -> Option<&[u8]>
+    ensures { option_map (λ digits. digits.now) result ≡ fraction_in text.now }
+{
+    match text {
+        [] => Some(text),
+        [b'.', digits @ ..] if are_digits(digits) => Some(digits),
+        _ => None,
+    }
+}
+
+/// Whether all of them are digits.
+fn are_digits(text: &[u8]) -> bool
+    ensures { result ≡ list_all is_ascii_digit text.now }
+{
+    for byte in text {
+        if !byte.is_ascii_digit() {
+            return false;
+        }
+    }
+    true
+}
+
+/// Whether all of them are the digit 0.
+fn are_zeros(digits: &[u8]) -> bool
+    ensures { result ≡ list_all is_zero digits.now }
+{
+    for digit in digits {
+        if *digit != b'0' {
+            return false;
+        }
+    }
+    true
+}
+
+/// Seconds and a fraction of one as milliseconds, rounded up, 2^63-1 at most.
+fn milliseconds(whole: u64, fraction: &[u8]) -> u64
+    requires { list_all is_ascii_digit fraction.now ≡ true }
+    ensures { (seconds : ℕ) → whole ≡ min seconds (2 ^ 64 - 1) → result ≡ milliseconds seconds fraction.now }
+{
+    whole
+        .saturating_mul(1000)
+        .saturating_add(fraction_of(100, fraction))
+        .min(GREATEST)
+}
+
+/// What digits write where the first counts `unit` and each next one a tenth of the one before it, rounded up.
+fn fraction_of(unit: u64, digits: &[u8]) -> u64
+    requires digits { list_all is_ascii_digit digits.now ≡ true }
+    requires small { unit ≤ 100 }
+    ensures value { result ≡ fraction_of unit digits.now }
+    ensures bound { result ≤ 10 * unit + 1 }
+{
+    match digits {
+        [] => 0,
+        [digit, rest @ ..] => {
+            if unit == 0 {
+                u64::from(!are_zeros(digits))
+            } else {
+                u64::from(*digit - b'0') * unit + fraction_of(unit / 10, rest)
+            }
+        }
+    }
 }
 
 fn not_zero(number: u64) -> Result<u64, UsageKind>

@@ -1,15 +1,16 @@
 //! The words of the command line, from the tool's name on (POSIX.1-2017, XBD 12.2).
 ghost use Rattle.std.specs.Prelude.{◌≡◌, map, IfOk, IfErr};
+ghost use Rattle.words_core.specs.Given.{option_seen};
 ghost use Rattle.words_core.specs.Spelling.{IsRefused};
-ghost use Rattle.words_core.specs.Words.{CanRun, HasBadOperands, HasOperands, follows, looks, settings_for, settings_of, tool_named};
+ghost use Rattle.words_core.specs.Words.{CanRun, HasBadOperands, HasOperands, follows, looks, program_asked, settings_for, settings_of, tool_named, topic_in, topic_named, topic_of, work_for};
 
 use crate::csplit_words::settle_csplit;
 use crate::ends_words::settle_ends;
-use crate::settings::Settings;
-use crate::spelled::Spelled;
+use crate::settings::{Settings, Topic};
+use crate::spelled::{Chosen, Spelled};
 use crate::spelling::read_given;
 use crate::split_words::settle_split;
-use crate::table::{all_tools, find_row};
+use crate::table::{Choice, all_tools, find_option, find_row, program_options};
 use crate::tail_words::settle_tail;
 use crate::tee_words::settle_tee;
 use crate::value::MOST_LOOKS;
@@ -33,10 +34,10 @@ pub fn read_words<'a>(alloc: Global, words: &[&'a str]) -> Result<Settings<'a>, 
         return Err(Fault::Usage(UsageKind::MissingTool, 0));
     };
     let Some(row) = find_row(all_tools(), name) else {
-        return Err(Fault::Usage(UsageKind::UnknownTool, 0));
+        return settle_program(name);
     };
     let spelled = read_given(alloc, row, words)?;
-    settle(alloc, row.1, &spelled)
+    settle(alloc, row.tool, &spelled)
 }
 
 impl Settings<'_> {
@@ -66,15 +67,67 @@ pub fn find_tool(name: &str) -> Option<Tool>
     ensures { result ≡ tool_named name.now }
 {
     match find_row(all_tools(), name) {
-        Some(row) => Some(row.1),
+        Some(row) => Some(row.tool),
         None => None,
     }
 }
 
-/// What the words after a tool's name ask of it.
+/// What a word asks for that stands in the place of a tool's name, and is none.
+fn settle_program<'a>(name: &str) -> Result<Settings<'a>, Fault>
+    ensures { result ≡ program_asked (topic_named name.now) }
+{
+    match topic_named(name) {
+        Some(topic) => Ok(Settings::About(Tool::Cutters, topic)),
+        None => Err(Fault::Usage(UsageKind::UnknownTool, 0)),
+    }
+}
+
+fn topic_named(name: &str) -> Option<Topic>
+    ensures { result ≡ topic_named name.now }
+{
+    let (choice, _) = find_option(program_options(), name.as_bytes())?;
+    topic_of(choice)
+}
+
+/// The text that an option asks for.
+fn topic_of(choice: Choice) -> Option<Topic>
+    ensures { result ≡ topic_of choice }
+{
+    match choice {
+        Choice::Help => Some(Topic::Help),
+        Choice::Version => Some(Topic::Version),
+        _ => None,
+    }
+}
+
+/// The text that the first of these options asks for which asks for one.
+fn topic_in(options: &[Chosen<'_>]) -> Option<Topic>
+    ensures { result ≡ topic_in (map option_seen options.now) }
+{
+    for option in options {
+        if let Some(topic) = topic_of(option.choice) {
+            return Some(topic);
+        }
+    }
+    None
+}
+
+/// What the words after a tool's name ask of it: a text about it, or its work.
 fn settle<'a>(alloc: Global, tool: Tool, spelled: &Spelled<'a>) -> Result<Settings<'a>, Fault>
     ensures ok { IfOk result (λ settings. settings_for tool spelled.now ≡ Ok settings) }
     ensures err { IfErr result (IsRefused HasBadOperands (settings_for tool spelled.now)) }
+    ensures operands { IfOk result HasOperands }
+{
+    match topic_in(&spelled.options) {
+        Some(topic) => Ok(Settings::About(tool, topic)),
+        None => settle_work(alloc, tool, spelled),
+    }
+}
+
+/// What options and operands ask of a tool's work.
+fn settle_work<'a>(alloc: Global, tool: Tool, spelled: &Spelled<'a>) -> Result<Settings<'a>, Fault>
+    ensures ok { IfOk result (λ settings. work_for tool spelled.now ≡ Ok settings) }
+    ensures err { IfErr result (IsRefused HasBadOperands (work_for tool spelled.now)) }
     ensures operands { IfOk result HasOperands }
 {
     match tool {

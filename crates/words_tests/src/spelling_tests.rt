@@ -10,19 +10,52 @@ use words_core::{
 };
 
 const ROWS: &[OptionRow] = &[
-    (&["-q", "--quiet"], Choice::Quiet, Takes::Nothing),
-    (&["-v"], Choice::Verbose, Takes::Nothing),
-    (&["-n"], Choice::Lines, Takes::Value(Kind::Count)),
-    (&["-f", "--prefix"], Choice::Bytes, Takes::Value(Kind::Text)),
-    (
-        &["-F", "--follow"],
-        Choice::Files,
-        Takes::Optional(Kind::Text),
-    ),
+    OptionRow {
+        names: &["-q", "--quiet"],
+        choice: Choice::Quiet,
+        takes: Takes::Nothing,
+        value: "",
+        does: "",
+    },
+    OptionRow {
+        names: &["-v"],
+        choice: Choice::Verbose,
+        takes: Takes::Nothing,
+        value: "",
+        does: "",
+    },
+    OptionRow {
+        names: &["-n"],
+        choice: Choice::Lines,
+        takes: Takes::Value(Kind::Count),
+        value: "",
+        does: "",
+    },
+    OptionRow {
+        names: &["-f", "--prefix"],
+        choice: Choice::Bytes,
+        takes: Takes::Value(Kind::Text),
+        value: "",
+        does: "",
+    },
+    OptionRow {
+        names: &["-F", "--follow"],
+        choice: Choice::Files,
+        takes: Takes::Optional(Kind::Text),
+        value: "",
+        does: "",
+    },
 ];
 
 /// A tool that gives a first word of a hyphen and digits no meaning.
-const TOOL: ToolRow = ("tool", Tool::Csplit, ROWS, None);
+const TOOL: ToolRow = ToolRow {
+    name: "tool",
+    tool: Tool::Csplit,
+    options: ROWS,
+    number: None,
+    operands: "",
+    does: "",
+};
 
 fn read<'a>(alloc: Global, words: &[&'a str]) -> Result<Spelled<'a>, Fault> {
     read_given(alloc, &TOOL, words)

@@ -2,7 +2,7 @@
 //! no memory for them.
 use crate::refused::{Refused, refuse};
 use ports_core::{Alphabet, UsageKind};
-use seg_core::cut::Cut;
+use seg_core::cut::{Cut, Limit};
 use std::alloc::Global;
 use std::process::Abort;
 use words_core::{Settings, SplitSettings, read_words};
@@ -29,7 +29,18 @@ fn has(found: &SplitSettings<'_>, wanted: Wanted<'_>) -> bool {
         Wanted::Operands(elide, input, prefix) => {
             found.elide == elide && found.input == input && found.prefix == prefix
         }
-        Wanted::Ends(delim, ending) => found.delim == delim && found.ending == ending,
+        Wanted::Ends(delim, ending) => {
+            delim_of(found.cut) == Some(delim) && found.ending == ending
+        }
+    }
+}
+
+/// The byte that lines end with, where they matter.
+fn delim_of(cut: Cut) -> Option<u8> {
+    match cut {
+        Cut::Parts(Limit::Lines(_, delim) | Limit::LineBytes(_, delim)) => Some(delim),
+        Cut::Parts(Limit::Bytes(_)) => None,
+        Cut::Round(_, delim) => Some(delim),
     }
 }
 
@@ -57,31 +68,63 @@ fn reads_the_way_to_split(rt: HostRuntime) {
 }
 
 const WAYS: &[CutRow<'static>] = &[
-    (&["split"], Cut::Lines(1000)),
-    (&["split", "-3"], Cut::Lines(3)),
-    (&["split", "-l", "3"], Cut::Lines(3)),
-    (&["split", "-l", "+3"], Cut::Lines(3)),
-    (&["split", "-l3"], Cut::Lines(3)),
-    (&["split", "--lines", "3"], Cut::Lines(3)),
-    (&["split", "--lines=1k"], Cut::Lines(1024)),
+    (&["split"], Cut::Parts(Limit::Lines(1000, b'\n'))),
+    (&["split", "-u"], Cut::Parts(Limit::Lines(1000, b'\n'))),
+    (&["split", "-ul3"], Cut::Parts(Limit::Lines(3, b'\n'))),
+    (
+        &["split", "--unbuffered", "-b", "9"],
+        Cut::Parts(Limit::Bytes(9)),
+    ),
+    (&["split", "-n", "r/2", "--unb"], Cut::Round(2, b'\n')),
+    (&["split", "-3"], Cut::Parts(Limit::Lines(3, b'\n'))),
+    (&["split", "-l", "3"], Cut::Parts(Limit::Lines(3, b'\n'))),
+    (&["split", "-l", "+3"], Cut::Parts(Limit::Lines(3, b'\n'))),
+    (&["split", "-l3"], Cut::Parts(Limit::Lines(3, b'\n'))),
+    (
+        &["split", "--lines", "3"],
+        Cut::Parts(Limit::Lines(3, b'\n')),
+    ),
+    (
+        &["split", "--lines=1k"],
+        Cut::Parts(Limit::Lines(1024, b'\n')),
+    ),
     (
         &["split", "-l", "9223372036854775807"],
-        Cut::Lines(9_223_372_036_854_775_807),
+        Cut::Parts(Limit::Lines(9_223_372_036_854_775_807, b'\n')),
     ),
-    (&["split", "-b", "3"], Cut::Bytes(3)),
-    (&["split", "-b1k"], Cut::Bytes(1024)),
-    (&["split", "--bytes=2kB"], Cut::Bytes(2000)),
-    (&["split", "--bytes", "+1b"], Cut::Bytes(512)),
-    (&["split", "-C", "4"], Cut::LineBytes(4)),
-    (&["split", "-dC4"], Cut::LineBytes(4)),
-    (&["split", "--line-bytes=4"], Cut::LineBytes(4)),
-    (&["split", "--line-bytes", "4"], Cut::LineBytes(4)),
-    (&["split", "-n", "r/3"], Cut::Round(3)),
-    (&["split", "-nr/03"], Cut::Round(3)),
-    (&["split", "--number=r/3"], Cut::Round(3)),
-    (&["split", "-n", "r/65535"], Cut::Round(65_535)),
-    (&["split", "f", "-l", "2"], Cut::Lines(2)),
-    (&["split", "-e", "--", "-3"], Cut::Lines(1000)),
+    (&["split", "-b", "3"], Cut::Parts(Limit::Bytes(3))),
+    (
+        &["split", "-b", "1", "-t", "0"],
+        Cut::Parts(Limit::Bytes(1)),
+    ),
+    (&["split", "-b1k"], Cut::Parts(Limit::Bytes(1024))),
+    (&["split", "--bytes=2kB"], Cut::Parts(Limit::Bytes(2000))),
+    (&["split", "--bytes", "+1b"], Cut::Parts(Limit::Bytes(512))),
+    (
+        &["split", "-C", "4"],
+        Cut::Parts(Limit::LineBytes(4, b'\n')),
+    ),
+    (&["split", "-dC4"], Cut::Parts(Limit::LineBytes(4, b'\n'))),
+    (
+        &["split", "--line-bytes=4"],
+        Cut::Parts(Limit::LineBytes(4, b'\n')),
+    ),
+    (
+        &["split", "--line-bytes", "4"],
+        Cut::Parts(Limit::LineBytes(4, b'\n')),
+    ),
+    (&["split", "-n", "r/3"], Cut::Round(3, b'\n')),
+    (&["split", "-nr/03"], Cut::Round(3, b'\n')),
+    (&["split", "--number=r/3"], Cut::Round(3, b'\n')),
+    (&["split", "-n", "r/65535"], Cut::Round(65_535, b'\n')),
+    (
+        &["split", "f", "-l", "2"],
+        Cut::Parts(Limit::Lines(2, b'\n')),
+    ),
+    (
+        &["split", "-e", "--", "-3"],
+        Cut::Parts(Limit::Lines(1000, b'\n')),
+    ),
 ];
 
 type NameRow<'a> = (&'a [&'a str], Cut, Alphabet, u32, bool);
@@ -99,7 +142,7 @@ fn names_are(rt: &impl Abort, alloc: Global, row: &NameRow<'_>) {
     check(rt, alloc, words, Wanted::Names(alphabet, width, auto));
 }
 
-const THOUSAND: Cut = Cut::Lines(1000);
+const THOUSAND: Cut = Cut::Parts(Limit::Lines(1000, b'\n'));
 
 const NAMES: &[NameRow<'static>] = &[
     (&["split"], THOUSAND, Alphabet::Letters, 2, true),
@@ -150,56 +193,56 @@ const NAMES: &[NameRow<'static>] = &[
     (&["split", "-da", "1"], THOUSAND, Alphabet::Digits, 1, false),
     (
         &["split", "-n", "r/676"],
-        Cut::Round(676),
+        Cut::Round(676, b'\n'),
         Alphabet::Letters,
         2,
         false,
     ),
     (
         &["split", "-n", "r/677"],
-        Cut::Round(677),
+        Cut::Round(677, b'\n'),
         Alphabet::Letters,
         3,
         false,
     ),
     (
         &["split", "-n", "r/677", "-a", "0"],
-        Cut::Round(677),
+        Cut::Round(677, b'\n'),
         Alphabet::Letters,
         3,
         false,
     ),
     (
         &["split", "-n", "r/26", "-a", "1"],
-        Cut::Round(26),
+        Cut::Round(26, b'\n'),
         Alphabet::Letters,
         1,
         false,
     ),
     (
         &["split", "-n", "r/27", "-a", "1", "-a", "2"],
-        Cut::Round(27),
+        Cut::Round(27, b'\n'),
         Alphabet::Letters,
         2,
         false,
     ),
     (
         &["split", "-n", "r/3", "-a", "255"],
-        Cut::Round(3),
+        Cut::Round(3, b'\n'),
         Alphabet::Letters,
         255,
         false,
     ),
     (
         &["split", "-dn", "r/10001"],
-        Cut::Round(10_001),
+        Cut::Round(10_001, b'\n'),
         Alphabet::Digits,
         5,
         false,
     ),
     (
         &["split", "-n", "r/65535", "-x"],
-        Cut::Round(65_535),
+        Cut::Round(65_535, b'\n'),
         Alphabet::Hex,
         4,
         false,
@@ -251,7 +294,7 @@ const ENDS: &[EndRow<'static>] = &[
     (&["split", "-t", ","], b',', ""),
     (&["split", "-t\\0"], 0, ""),
     (&["split", "--separator", "\\0", "-t", ":"], b':', ""),
-    (&["split", "-b", "1", "-t", "0"], b'0', ""),
+    (&["split", "-C", "1", "-t", "0"], b'0', ""),
     (&["split", "--additional-suffix=.txt"], b'\n', ".txt"),
     (
         &["split", "--additional-suffix", "a", "--additional-suffix="],
@@ -345,7 +388,7 @@ const BAD_VALUES: &[Refused<'static>] = &[
     (&["split", "-l", "1", "-3"], UsageKind::UnknownOption, 3),
     (&["split", "-3x"], UsageKind::UnknownOption, 1),
     (&["split", "-q"], UsageKind::UnknownOption, 1),
-    (&["split", "-u"], UsageKind::UnknownOption, 1),
+    (&["split", "-w"], UsageKind::UnknownOption, 1),
 ];
 
 #[test]

@@ -5,15 +5,23 @@ use std::alloc::Global;
 use std::process::Abort;
 use words_core::{Followed, MOST_LOOKS, Settings, TailSettings, read_words};
 
-/// What is followed, and in how many looks.
+/// What words are to ask of `tail`.
 #[derive(Clone, Copy)]
-struct Wanted {
-    followed: Option<Followed>,
-    looks: u64,
+enum Wanted {
+    /// What is followed, and in how many looks.
+    Follows(Option<Followed>, u64),
+    /// How many milliseconds it waits at most.
+    Pause(u64),
+    /// After the end of which process it ends.
+    Process(Option<u32>),
 }
 
 fn has(found: &TailSettings<'_>, wanted: Wanted) -> bool {
-    found.followed == wanted.followed && found.looks == wanted.looks
+    match wanted {
+        Wanted::Follows(followed, looks) => found.followed == followed && found.looks == looks,
+        Wanted::Pause(pause) => found.pause == pause,
+        Wanted::Process(process) => found.process == process,
+    }
 }
 
 fn check(rt: &impl Abort, alloc: Global, words: &[&str], wanted: Wanted) {
@@ -41,7 +49,7 @@ fn reads_what_tail_follows(rt: HostRuntime) {
 
 fn follows(rt: &impl Abort, alloc: Global, row: &Row<'_>) {
     let (words, followed, looks) = *row;
-    check(rt, alloc, words, Wanted { followed, looks });
+    check(rt, alloc, words, Wanted::Follows(followed, looks));
 }
 
 const FOLLOWS: &[Row<'static>] = &[
@@ -118,6 +126,55 @@ const FOLLOWS: &[Row<'static>] = &[
 ];
 
 #[test]
+fn reads_which_process_is_waited_for(rt: HostRuntime) {
+    for row in PROCESSES {
+        check(&rt, rt.alloc(), row.0, Wanted::Process(row.1));
+    }
+}
+
+const PROCESSES: &[(&[&str], Option<u32>)] = &[
+    (&["tail", "-f", "f"], None),
+    (&["tail", "-f", "--pid=1", "f"], Some(1)),
+    (&["tail", "-f", "--pid", "0042", "f"], Some(42)),
+    (
+        &["tail", "--p=7", "--pid=2147483647", "-f", "f"],
+        Some(2_147_483_647),
+    ),
+    (&["tail", "--pid=9", "f"], Some(9)),
+];
+
+#[test]
+fn reads_how_long_tail_waits(rt: HostRuntime) {
+    for row in WAITS {
+        check(&rt, rt.alloc(), row.0, Wanted::Pause(row.1));
+    }
+}
+
+const WAITS: &[(&[&str], u64)] = &[
+    (&["tail", "-f", "f"], 1000),
+    (&["tail", "-f", "-s", "2", "f"], 2000),
+    (&["tail", "-f", "-s", ".5", "f"], 500),
+    (&["tail", "-fs1.", "f"], 1000),
+    (&["tail", "-s", "0.1", "f"], 100),
+    (&["tail", "-s0", "-f", "f"], 0),
+    (&["tail", "-s", "0.000", "f"], 0),
+    (&["tail", "-s", "0.0001", "f"], 1),
+    (&["tail", "-s", "1.2345", "f"], 1235),
+    (&["tail", "-s", "1.2340000000000000000000000", "f"], 1234),
+    (&["tail", "-s", "00000000000000000000012", "f"], 12_000),
+    (&["tail", "--sleep-interval=3", "f"], 3000),
+    (&["tail", "--sleep-interval", ".25", "f"], 250),
+    (&["tail", "--sl=7", "f"], 7000),
+    (&["tail", "-s1", "-s", "9", "f"], 9000),
+    (&["tail", "-s", "9223372036854775.807", "f"], MOST_LOOKS),
+    (&["tail", "-s", "9223372036854775.8", "f"], MOST_LOOKS - 7),
+    (&["tail", "-s", "99999999999999999999999", "f"], MOST_LOOKS),
+    (&["tail", "--max-unchanged-stats=0", "f"], 1000),
+    (&["tail", "--max=5", "-s2", "f"], 2000),
+    (&["tail", "-f", "--max-unchanged-stats", "12", "f"], 1000),
+];
+
+#[test]
 fn refuses_words_of_tail(rt: HostRuntime) {
     refuse(&rt, rt.alloc(), REFUSED);
 }
@@ -151,4 +208,39 @@ const REFUSED: &[Refused<'static>] = &[
     (&["tail", "-f=name", "f"], UsageKind::UnknownOption, 1),
     (&["head", "-f", "f"], UsageKind::UnknownOption, 1),
     (&["head", "--looks=1", "f"], UsageKind::UnknownOption, 1),
+    (&["tail", "-f", "--pid=0", "f"], UsageKind::Zero, 2),
+    (&["tail", "--pid=x", "f"], UsageKind::BadNumber, 1),
+    (&["tail", "--pid=-1", "f"], UsageKind::BadNumber, 1),
+    (
+        &["tail", "--pid=2147483648", "f"],
+        UsageKind::NumberTooLarge,
+        1,
+    ),
+    (&["tail", "f", "--pid"], UsageKind::MissingValue, 2),
+    (&["head", "--pid=1", "f"], UsageKind::UnknownOption, 1),
+    (&["tail", "-s", ".", "f"], UsageKind::BadNumber, 2),
+    (&["tail", "-s", "-1", "f"], UsageKind::BadNumber, 2),
+    (&["tail", "-s", "+1", "f"], UsageKind::BadNumber, 2),
+    (&["tail", "-s", "1e3", "f"], UsageKind::BadNumber, 2),
+    (&["tail", "-s", "", "f"], UsageKind::BadNumber, 2),
+    (&["tail", "-s", "1.2.3", "f"], UsageKind::BadNumber, 2),
+    (&["tail", "-s", "1,5", "f"], UsageKind::BadNumber, 2),
+    (&["tail", "-s", "1s", "f"], UsageKind::BadNumber, 2),
+    (&["tail", "-s.x", "f"], UsageKind::BadNumber, 1),
+    (&["tail", "-s"], UsageKind::MissingValue, 1),
+    (&["tail", "--s=1", "f"], UsageKind::AmbiguousOption, 1),
+    (&["tail", "--max=x", "f"], UsageKind::BadNumber, 1),
+    (&["tail", "--max-unchanged-stats="], UsageKind::BadNumber, 1),
+    (&["tail", "--max=-1"], UsageKind::BadNumber, 1),
+    (
+        &["tail", "--max-unchanged-stats=9223372036854775808"],
+        UsageKind::NumberTooLarge,
+        1,
+    ),
+    (
+        &["tail", "--max-unchanged-stats"],
+        UsageKind::MissingValue,
+        1,
+    ),
+    (&["head", "-s", "1"], UsageKind::UnknownOption, 1),
 ];

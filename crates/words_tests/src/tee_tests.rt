@@ -1,19 +1,24 @@
 //! What the words after `tee` ask for.
 use crate::refused::{Refused, refuse};
-use ports_core::{Mode, UsageKind};
+use ports_core::{Mode, OnBroken, UsageKind};
 use std::alloc::Global;
 use std::process::Abort;
 use words_core::{Settings, TeeSettings, read_words};
 
-/// How files are opened, and their names: two at the most.
+/// What words are to ask of `tee`.
 #[derive(Clone, Copy)]
-struct Wanted<'a> {
-    mode: Mode,
-    names: &'a [&'a str],
+enum Wanted<'a> {
+    /// How files are opened, and their names: two at the most.
+    Files(Mode, &'a [&'a str]),
+    /// What is done once an output is broken.
+    OnBroken(OnBroken),
 }
 
 fn has(found: &TeeSettings<'_>, wanted: Wanted<'_>) -> bool {
-    found.mode == wanted.mode && has_names(found, wanted.names)
+    match wanted {
+        Wanted::Files(mode, names) => found.mode == mode && has_names(found, names),
+        Wanted::OnBroken(on_broken) => found.on_broken == on_broken,
+    }
 }
 
 /// Whether the first files have these names, empty ones where there are no more.
@@ -56,7 +61,7 @@ fn reads_what_tee_writes_to(rt: HostRuntime) {
 
 fn writes_to(rt: &impl Abort, alloc: Global, row: &Row<'_>) {
     let (words, mode, names) = *row;
-    check(rt, alloc, words, Wanted { mode, names });
+    check(rt, alloc, words, Wanted::Files(mode, names));
 }
 
 const WRITES: &[Row<'static>] = &[
@@ -75,6 +80,33 @@ const WRITES: &[Row<'static>] = &[
 ];
 
 #[test]
+fn reads_what_is_done_once_an_output_is_broken(rt: HostRuntime) {
+    for row in BREAKS {
+        check(&rt, rt.alloc(), row.0, Wanted::OnBroken(row.1));
+    }
+}
+
+const BREAKS: &[(&[&str], OnBroken)] = &[
+    (&["tee", "f"], OnBroken::GoOn),
+    (&["tee", "-p", "f"], OnBroken::GoOn),
+    (&["tee", "-pa", "f"], OnBroken::GoOn),
+    (&["tee", "--output-error", "f"], OnBroken::GoOn),
+    (&["tee", "--output-error", "exit"], OnBroken::GoOn),
+    (&["tee", "--output-error=warn"], OnBroken::GoOn),
+    (&["tee", "--output-error=warn-nopipe"], OnBroken::GoOn),
+    (&["tee", "--output-error=exit"], OnBroken::Stop),
+    (&["tee", "f", "--output-error=exit-nopipe"], OnBroken::Stop),
+    (&["tee", "--out=exit"], OnBroken::Stop),
+    (&["tee", "-p", "--output-error=exit", "f"], OnBroken::Stop),
+    (&["tee", "--output-error=exit", "-ap", "f"], OnBroken::GoOn),
+    (
+        &["tee", "--output-error=exit", "--output-error"],
+        OnBroken::GoOn,
+    ),
+    (&["tee", "--", "--output-error=exit"], OnBroken::GoOn),
+];
+
+#[test]
 fn refuses_options_of_tee(rt: HostRuntime) {
     refuse(&rt, rt.alloc(), REFUSED);
 }
@@ -82,6 +114,13 @@ fn refuses_options_of_tee(rt: HostRuntime) {
 const REFUSED: &[Refused<'static>] = &[
     (&["tee", "-i"], UsageKind::UnknownOption, 1),
     (&["tee", "f", "-3"], UsageKind::UnknownOption, 2),
-    (&["tee", "-ap"], UsageKind::UnknownOption, 1),
+    (&["tee", "-ai"], UsageKind::UnknownOption, 1),
+    (&["tee", "-pexit"], UsageKind::UnknownOption, 1),
+    (&["tee", "-p=exit"], UsageKind::UnknownOption, 1),
+    (&["tee", "--output-error=later"], UsageKind::BadMode, 1),
+    (&["tee", "f", "--output-error="], UsageKind::BadMode, 2),
+    (&["tee", "--output-error=EXIT"], UsageKind::BadMode, 1),
+    (&["tee", "--output-error=exi"], UsageKind::BadMode, 1),
+    (&["tee", "--output-error=exit "], UsageKind::BadMode, 1),
     (&["tee", "--append=f"], UsageKind::UnexpectedValue, 1),
 ];

@@ -1,5 +1,5 @@
 -- What private calls say of where a run stands, of the cutter of lines, and of the stage that takes in bytes.
-use Rattle.std.specs.Prelude.{◌≡◌, ℕ, ◌<◌, ◌≤◌, Bool, false, List, ◌∷◌, length, drop, ◌⊎◌, ◌+◌, true, [], ◌++◌, take, get_or, Option, Some, None, IfNone, IfSome, IfOk, Result, Ok, Err, ◌≢◌, OnOk}
+use Rattle.std.specs.Prelude.{◌≡◌, ℕ, ◌<◌, ◌≤◌, Bool, false, List, ◌∷◌, length, drop, ◌⊎◌, ◌+◌, true, [], ◌++◌, take, get_or, Option, Some, None, IfNone, IfSome, IfOk, Result, Ok, Err, ◌≢◌, OnOk, IsTrue, if◌then◌else◌}
 use Rattle.csplit_core.specs.Operand.{Operand, Line, is_match}
 use Rattle.csplit_core.specs.Plan.{State, CutsAt, search_line, line_after, state_after}
 use Rattle.csplit_core.specs.Measure.{Moves}
@@ -11,20 +11,22 @@ use Rattle.bre_core.specs.Pattern.{Pattern}
 use Rattle.bre_core.specs.Search.{contains}
 use Rattle.seg_core.specs.Line.{lines_of, line_count, ends_with, delimiters}
 use Rattle.ports_core.specs.Part.{Part, Begins, nothing}
-use Rattle.ports_core.specs.Slot.{Slot}
-use Rattle.ports_core.specs.Swept.{Removes, AreThere, RemovesIf}
+use Rattle.ports_core.specs.Slot.{Slot, is_writable}
+use Rattle.ports_core.specs.Swept.{Removes, AreThere, RemovesIf, HasNoFiles}
 use Rattle.ports_core.specs.declared.fault.Fault.{Fault}
 use Rattle.ports_core.specs.declared.fault.Fault.TheVariants.{Memory}
 use Rattle.csplit_core.specs.Csplit.{settled_of, whole_of, verdict_of}
-use Rattle.csplit_core.specs.Draft.{draft_part}
+use Rattle.ports_core.specs.Draft.{draft_part, output_of}
+use Rattle.ports_core.specs.FileWriter.{WriterState, OwnsFiles, IsReady, Breaks, size_of}
+use Rattle.ports_core.specs.FileWriter.{Leaves, Reaches, new_writer}
+use Rattle.ports_core.specs.declared.file_writer.Tells.{Tells}
+use Rattle.ports_core.specs.declared.file_writer.Tells.TheVariants.{Nothing, Sizes}
 use Rattle.csplit_core.specs.Input.{newline, without_newline, marked, all_lines, open_line}
-use Rattle.csplit_core.specs.Output.{Style}
+use Rattle.csplit_core.specs.Output.{Style, manner_of, naming_of, sizes_wanted}
 use Rattle.csplit_core.specs.Planned.{plan}
 use Rattle.csplit_core.specs.inner.PlanLaws.{needed}
 use Rattle.csplit_core.specs.Section.{is_final}
-use Rattle.csplit_core.specs.Writer.{OwnsFiles, IsReady, size_of}
-use Rattle.csplit_core.specs.inner.Writer.{BegunNot, Leaves, Reaches, new_writer}
-use Rattle.ports_core.specs.inner.Part.{fault_in}
+use Rattle.ports_core.specs.Turn.{fault_in}
 use Rattle.csplit_core.specs.declared.line_cutter.Cut.{Cut}
 use Rattle.csplit_core.specs.declared.line_cutter.LineCutter.{LineCutter}
 use Rattle.csplit_core.specs.declared.line_cutter.Passed.{Passed}
@@ -87,11 +89,11 @@ abbrev pub IsLine : List ℕ → Type 0
 IsLine line = lines_of newline line ≡ line ∷ []
 
 abbrev pub settled_part : CutterState → List ℕ → Part
-settled_part cutter x = settled_of cutter.writer.style cutter.operands (all_lines x)
+settled_part cutter x = settled_of cutter.style cutter.operands (all_lines x)
 
 abbrev pub part_at : (cutter : CutterState) (x left : List ℕ) → IsAt cutter x left → Part
-part_at cutter x left at = draft_part cutter.writer.style
-    (draft_by (all_lines x) at.steps (kept_by (state_in cutter).operands) at.written)
+part_at cutter x left at = draft_part (manner_of cutter.style)
+    (draft_by cutter.style (all_lines x) at.steps (kept_by (state_in cutter).operands) at.written)
 
 -- where the plan over x ends, as far as its fault is known from it
 pub record IsJudged (cutter : CutterState) (x : List ℕ) : Type 0 where
@@ -101,6 +103,7 @@ pub record IsJudged (cutter : CutterState) (x : List ℕ) : Type 0 where
 -- What any call leaves of a cutter and its outputs.
 pub record Keeps (cutter next : CutterState) (old new : List Slot) (fault : Option Fault) : Type 0 where
   pub operands : next.operands ≡ cutter.operands
+  pub style : next.style ≡ cutter.style
   pub writer : Leaves cutter.writer next.writer old new fault
 
 -- these bytes came in
@@ -113,7 +116,7 @@ pub record Took (cutter : CutterState) (text : List ℕ) (next : CutterState) : 
 pub record Takes (told : Bool) (cutter : CutterState) (text : List ℕ) (old new : List Slot) (next : CutterState) (fault : Option Fault) : Type 0 where
   pub keeps : Keeps cutter next old new fault
   pub reaches : (x : List ℕ) → IsWhole x → Stands cutter x
-      → Reaches told cutter.writer next.writer (settled_part cutter x) (settled_part cutter (x ++ text)) old new fault
+      → Reaches (sizes_wanted cutter.style) told cutter.writer next.writer (settled_part cutter x) (settled_part cutter (x ++ text)) old new fault
   pub went : IfNone fault (Took cutter text next)
 
 -- The plan over x ends where the cutter stands, and what is written of the open section is settled.
@@ -133,7 +136,7 @@ pub record Held (cutter : CutterState) (left : List ℕ) (next : CutterState) : 
 pub record Holds (told : Bool) (cutter : CutterState) (left : List ℕ) (old new : List Slot) (next : CutterState) (fault : Option Fault) : Type 0 where
   pub keeps : Keeps cutter next old new fault
   pub reaches : (x : List ℕ) (at : IsAt cutter x left) → Arrives cutter x left at
-      → Reaches told cutter.writer next.writer (part_at cutter x left at) (settled_part cutter x) old new fault
+      → Reaches (sizes_wanted cutter.style) told cutter.writer next.writer (part_at cutter x left at) (settled_part cutter x) old new fault
   pub went : IfNone fault (Held cutter left next)
 
 -- a line stands last in x, which ends with its newline where it has one
@@ -227,6 +230,7 @@ pub record WentOn (cutter : CutterState) (cut : Cut) (next : CutterState) : Type
 abbrev pub PassesCut : CutterState → Cut → CutterState → Option Fault → Type 0
 PassesCut cutter cut next None = WentOn cutter cut next
 PassesCut cutter cut next (Some fault) = (fault ≡ Memory) × (next.writer ≡ cutter.writer) × (next.operands ≡ cutter.operands)
+    × (next.style ≡ cutter.style)
 
 -- one text ends with another
 abbrev pub IsEnd : List ℕ → List ℕ → Type 0
@@ -240,7 +244,7 @@ pub record IsAfter (told : Bool) (cutter : CutterState) (x line : List ℕ) (nex
   pub near : next.lines ≤ search_line (suppress_in next) (state_in next)
   pub none : now.taken ≡ 0
   pub grows : Begins low (part_at next x rest now)
-  pub reaches : Reaches told cutter.writer next.writer low (part_at next x rest now) old new None
+  pub reaches : Reaches (sizes_wanted cutter.style) told cutter.writer next.writer low (part_at next x rest now) old new None
 
 -- Some cuts were made, and these lines are left.
 pub record Spreading (told : Bool) (cutter : CutterState) (cut : Cut) (place : ℕ) (waiting line : List ℕ)
@@ -282,7 +286,7 @@ pub record CutsAll (told : Bool) (cutter : CutterState) (cut : Cut) (place : ℕ
     (next : CutterState) (fault : Option Fault) : Type 0 where
   pub keeps : Keeps cutter next old new fault
   pub reaches : (x : List ℕ) (at : IsAt cutter x left) → CutsNow cutter x left line cut place at
-      → Reaches told cutter.writer next.writer (part_at cutter x left at) (settled_part cutter (x ++ more)) old new fault
+      → Reaches (sizes_wanted cutter.style) told cutter.writer next.writer (part_at cutter x left at) (settled_part cutter (x ++ more)) old new fault
   pub went : IfNone fault (CutAll cutter cut place left line more next)
 
 -- What passing over lines says: the next operand stands as it did.
@@ -356,17 +360,34 @@ pub record CutsOn (told : Bool) (cutter : CutterState) (cut : Cut) (line rest : 
 
 -- what is written where the input ends after these lines
 abbrev pub whole_part : CutterState → List ℕ → Part
-whole_part cutter x = whole_of cutter.writer.style cutter.operands (all_lines x)
+whole_part cutter x = whole_of cutter.style cutter.operands (all_lines x)
+
+-- what standard output is told of files
+abbrev pub tells_by : Style → Tells
+tells_by style = if style.quiet then Nothing else Sizes
+
+-- a writer that has begun no section
+abbrev pub writer_for : Style → WriterState
+writer_for style = new_writer (naming_of style) (tells_by style)
+
+-- The first section could not begin, of which this part is due: a file could not be made, or there was no memory.
+pub record BegunNot (told : Bool) (style : Style) (part : Part) (old new : List Slot) (fault : Fault) : Type 0 where
+  pub reaches : Reaches (sizes_wanted style) told (writer_for style) (writer_for style) nothing part old new (Some fault)
+  pub breaks : Breaks (sizes_wanted style) old new fault
+  -- no file was made
+  pub none : HasNoFiles (length old) new
 
 -- The first section began, and no line came in yet.
 pub record Opened (told : Bool) (style : Style) (operands : List Operand) (old new : List Slot)
     (cutter : CutterState) : Type 0 where
-  pub asked : cutter.writer.style ≡ style
+  pub asked : cutter.style ≡ style
   pub operands_are : cutter.operands ≡ operands
   pub stands : Stands cutter []
-  pub reaches : Reaches told (new_writer style) cutter.writer nothing (settled_of style operands []) old new None
+  pub reaches : Reaches (sizes_wanted style) told (writer_for style) cutter.writer nothing (settled_of style operands []) old new None
   pub owns : OwnsFiles cutter.writer (length old) new
   pub ready : IsReady cutter.writer new
+  pub output : IsTrue (is_writable old 0) → IsTrue (is_writable new 0)
+  pub tells : output_of cutter.writer.tells ≡ sizes_wanted style
   pub sound : IsSound cutter
   pub size : load cutter ≡ 0
 
@@ -378,7 +399,7 @@ Opens told style operands old new (Err fault) = BegunNot told style (settled_of 
 pub record EndsAll (told : Bool) (cutter : CutterState) (old new : List Slot) (next : CutterState) (fault : Option Fault) : Type 0 where
   pub keeps : Keeps cutter next old new fault
   pub reaches : (x : List ℕ) → Stands cutter x
-      → Reaches told cutter.writer next.writer (settled_part cutter x) (whole_part cutter x) old new fault
+      → Reaches (sizes_wanted cutter.style) told cutter.writer next.writer (settled_part cutter x) (whole_part cutter x) old new fault
   pub judged : IfNone fault ((x : List ℕ) → Stands cutter x → IsJudged next x)
 
 -- The files that were there are removed, and those are left whose removal failed.
@@ -407,7 +428,7 @@ Passes told stage piece old new next result = PassesFrom told stage.cutter stage
 pub record Closed (told : Bool) (stage : CsplitState) (old new : List Slot) (next : CsplitState) (fault : Option Fault) : Type 0 where
   pub keeps : Keeps stage.cutter next.cutter old new fault
   pub reaches : (x : List ℕ) → IsWhole x → Stands stage.cutter x
-      → Reaches told stage.cutter.writer next.cutter.writer (settled_part stage.cutter x) (whole_part stage.cutter (x ++ stage.rest)) old new fault
+      → Reaches (sizes_wanted stage.cutter.style) told stage.cutter.writer next.cutter.writer (settled_part stage.cutter x) (whole_part stage.cutter (x ++ stage.rest)) old new fault
   pub judged : IfNone fault ((x : List ℕ) → IsWhole x → Stands stage.cutter x → IsJudged next.cutter (x ++ stage.rest))
 
 -- what the cutter says of the fault, once the last section ended, is where the plan over all lines ends

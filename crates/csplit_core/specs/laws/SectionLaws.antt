@@ -1,13 +1,17 @@
 -- Laws that traits cite: what sections are when more lines come.
-use Rattle.std.proofs.lemmas.Grind.{common_steps}
-use Rattle.std.proofs.Common.{◌≡◌, ◌⊎◌, inl, inr, ℕ, zero, suc, ◌+◌, ◌-◌, ◌≤◌, Bool, true, false, cond, ◌&&◌, List, [], ◌∷◌, ◌++◌, length, map, take, drop, refl, sym, ◌∙◌, ap, subst, arith, append_assoc, length-append, rules}
+use Rattle.std.proofs.lemmas.Grind.{common_steps, flat_map-append}
+use Rattle.std.proofs.Common.{◌≡◌, ◌⊎◌, inl, inr, ℕ, zero, suc, ◌+◌, ◌-◌, ◌≤◌, Bool, true, false, cond, List, [], ◌∷◌, ◌++◌, length, map, take, drop, refl, sym, ◌∙◌, ap, subst, arith, append_assoc, length-append}
 use Rattle.std.proofs.lemmas.List.{append-nil, map-append}
-use Rattle.ports_core.specs.Part.{File, IsBeginning, FilesBegin, Begins}
+use Rattle.ports_core.specs.Draft.{share, made_of, part_of as part_by}
+use Rattle.ports_core.specs.Part.{Begins}
+use Rattle.ports_core.specs.inner.Shares.{SharesBegin}
+use Rattle.ports_core.specs.declared.slot.State.TheVariants.{Open, Closed}
+use Rattle.ports_core.proofs.ShareLemmas.{made_begin, part_grows, shares_wider}
 use Rattle.csplit_core.specs.Operand.{Operand, Line, is_kept}
 use Rattle.csplit_core.specs.Plan.{State, start, Step, Ending, above, below, line_after, state_after, Runs, is_used_up, misses, is_above, is_below, cuts}
 use Rattle.csplit_core.specs.Planned.{plan_within, plan}
 use Rattle.csplit_core.specs.Section.{Section, section, section_of, lines_between, bytes_of, is_last_kept, whole_end, settled_end, sections_by, settled_sections}
-use Rattle.csplit_core.specs.Output.{Style, Contents, contents_of, makes_file, file_at, files_of, size_line, size_lines, part_by, part_of}
+use Rattle.csplit_core.specs.Output.{Style, manner_of, opening_of, file_in, state_in, shares_in, part_of}
 use Rattle.csplit_core.specs.Csplit.{settled_of, whole_of}
 use Rattle.csplit_core.specs.laws.PlanLaws.{line_some, goes_on, runs, plan_runs, plan_once}
 use Rattle.csplit_core.specs.inner.PlanLaws.{needed, EndsAs, AreWithin, Next, Covers, Grow, GoesOn, CutsFrom}
@@ -136,53 +140,28 @@ bytes-append : (a b : List Line) → bytes_of (a ++ b) ≡ bytes_of a ++ bytes_o
 bytes-append [] b = refl
 bytes-append (line ∷ a) b = ap (λ those. line.text ++ those) (bytes-append a b) ∙ sym (append_assoc line.text (bytes_of a) (bytes_of b))
 
-pub size_lines-append : (style : Style) (a b : List Contents) → size_lines style (a ++ b) ≡ size_lines style a ++ size_lines style b
-size_lines-append style [] b = refl
-size_lines-append style (one ∷ a) b = ap (λ those. size_line style one ++ those) (size_lines-append style a b)
-    ∙ sym (append_assoc (size_line style one) (size_lines style a) (size_lines style b))
-
-no_size : (makes closed quiet : Bool) (line : List ℕ) → closed ≡ false → cond (makes && (closed && quiet)) line [] ≡ []
-no_size makes closed quiet line is = grind (arith, common_steps)
-
--- an open section has no size line yet
-
-out_grows : (style : Style) (front : List Contents) (begun : Contents) (after : List Contents) → begun.is_closed ≡ false
-    → IsBeginning (size_lines style (front ++ begun ∷ [])) (size_lines style (front ++ after))
-out_grows style front begun after is_open = (
-  size_lines style after,
-  size_lines-append style front after ∙ ap (λ those. those ++ size_lines style after) (sym (grind (arith, common_steps, size_lines-append, no_size, append-nil, is_open))),
-)
-
-files_by : (style : Style) (place : ℕ) (one : Contents) (low low' high high' : List File) (makes : Bool) → FilesBegin low high → FilesBegin low' high'
-    → FilesBegin (cond makes (file_at style place one ∷ low) low') (cond makes (file_at style place one ∷ high) high')
-files_by style place one low low' high high' makes rest other = grind (arith, common_steps)
-
-files_grow : (style : Style) (place : ℕ) (front : List Contents) (begun other : Contents) (more : List Contents)
-    → begun.is_closed ≡ false → begun.is_kept ≡ other.is_kept → (rest : List ℕ) → other.bytes ≡ begun.bytes ++ rest
-    → FilesBegin (files_of style place (front ++ begun ∷ [])) (files_of style place (front ++ other ∷ more))
-files_grow style place [] begun other more is_open kept rest bytes = grind (arith, common_steps)
-files_grow style place (one ∷ front) begun other more is_open kept rest bytes =
-    files_by style place one (files_of style (place + 1) (front ++ begun ∷ []))
-    (files_of style place (front ++ begun ∷ [])) (files_of style (place + 1) (front ++ other ∷ more))
-    (files_of style place (front ++ other ∷ more)) (makes_file style one) (files_grow style (place + 1) front begun other more is_open kept rest bytes)
-    (files_grow style place front begun other more is_open kept rest bytes)
+pub shares-append : (style : Style) (a b : List Section) → shares_in style (a ++ b) ≡ shares_in style a ++ shares_in style b
+shares-append style a b = flat_map-append (λ section. map (share (state_in section)) (file_in style section)) a b
 
 -- what is written of sections whose last one goes on, and may end
-pub part_grows : (style : Style) (front : List Contents) (begun other : Contents) (more : List Contents)
-    → begun.is_closed ≡ false → begun.is_kept ≡ other.is_kept → (rest : List ℕ) → other.bytes ≡ begun.bytes ++ rest
-    → Begins (part_by style (front ++ begun ∷ [])) (part_by style (front ++ other ∷ more))
-part_grows style front begun other more is_open kept rest bytes = search (rules, out_grows, files_grow)
+pub section_grows : (style : Style) (front : List Section) (begun other : Section) (more : List Section)
+    → begun.is_closed ≡ false → begun.is_kept ≡ other.is_kept → (rest : List ℕ) → bytes_of other.lines ≡ bytes_of begun.lines ++ rest
+    → Begins (part_of style (front ++ begun ∷ [])) (part_of style (front ++ other ∷ more))
+section_grows style front begun other more is_open kept rest bytes =
+    subst (λ those. Begins (part_by (manner_of style) those) (part_of style (front ++ other ∷ more))) (sym (shares-append style front (begun ∷ []) ∙ ap (λ those. shares_in style front ++ those) last))
+    (subst (λ those. Begins (part_by (manner_of style) (shares_in style front ++ map (share Open) (file_in style begun))) (part_by (manner_of style) those)) (sym (shares-append style front (other ∷ more)))
+    (part_grows (manner_of style) (shares_in style front) (file_in style begun) _ (shares_wider _ _ (shares_in style more)
+    (subst (λ k. SharesBegin (map (share Open) (made_of (opening_of style k) (bytes_of begun.lines))) (map (share (state_in other)) (file_in style other))) (sym kept)
+    (made_begin (opening_of style other.is_kept) (state_in other) (bytes_of begun.lines) (bytes_of other.lines) (rest, bytes)))))) where
+      last : shares_in style (begun ∷ []) ≡ map (share Open) (file_in style begun)
+      last = append-nil _ ∙ ap (λ closed. map (share (cond closed Closed Open)) (file_in style begun)) is_open
 
 pub parts_grow : (style : Style) {low high : List Section} → Grow low high → Begins (part_of style low) (part_of style high)
 parts_grow style {high} grow =
-    let lines : bytes_of grow.next.other.lines ≡ bytes_of grow.begun.lines ++ bytes_of grow.next.rest =
-    ap bytes_of grow.next.lines ∙ bytes-append grow.begun.lines grow.next.rest in
-    subst (λ those. Begins (part_by style those) (part_of style high))
-    (sym (ap (map contents_of) grow.low_is ∙ map-append contents_of grow.front (grow.begun ∷ [])))
-    (subst (λ those. Begins (part_by style (map contents_of grow.front ++ contents_of grow.begun ∷ [])) (part_by style those)) (sym (ap (map contents_of)
-    (grow.high_is ∙ ap (λ those. grow.front ++ those) grow.next.are) ∙ map-append contents_of grow.front (grow.next.other ∷ grow.next.more)))
-    (part_grows style (map contents_of grow.front) (contents_of grow.begun) (contents_of grow.next.other)
-    (map contents_of grow.next.more) grow.is_open grow.next.kept (bytes_of grow.next.rest) lines))
+    subst (λ those. Begins (part_of style those) (part_of style high)) (sym grow.low_is)
+    (subst (λ those. Begins (part_of style (grow.front ++ grow.begun ∷ [])) (part_of style those)) (sym (grow.high_is ∙ ap (λ those. grow.front ++ those) grow.next.are))
+    (section_grows style grow.front grow.begun grow.next.other grow.next.more grow.is_open grow.next.kept (bytes_of grow.next.rest)
+    (ap bytes_of grow.next.lines ∙ bytes-append grow.begun.lines grow.next.rest)))
 
 pub settled_covers : Covers settled_end
 settled_covers total ending = omega arith

@@ -1,16 +1,12 @@
 -- What private calls say: the one stage of `head` and `tail`, as contracts see it.
-use Rattle.std.specs.Prelude.{◌≡◌, ℕ, ◌-◌, ◌^◌, max, ◌==◌, ◌≤◌, Bool, true, false, List, [], ◌++◌, length}
+use Rattle.std.specs.Prelude.{◌≡◌, ℕ, ◌-◌, ◌^◌, max, ◌==◌, ◌≤◌, Bool, false, List, [], ◌++◌, length}
 use Rattle.seg_core.specs.declared.unit.Unit.{Unit as Counted}
 use Rattle.seg_core.specs.declared.unit.Unit.TheVariants.{Lines, Bytes}
 use Rattle.ends_core.specs.declared.ends.Ends.{Ends}
 use Rattle.ends_core.specs.declared.ends.Ends.TheVariants.{First, ButLast, FromNth, Last}
-use Rattle.ends_core.specs.Ends.{first_of, after_of, last_of, but_last_of}
+use Rattle.ends_core.specs.Ends.{first_of, after_of, last_of, but_last_of, measure}
 use Rattle.ends_core.specs.Kept.{held_of, most_of, delim_of as kept_delim, unit_of as kept_unit}
-use Rattle.ends_core.specs.Stage.{Stretch, the_last, stretch_of, unit_of, delim_of, count_of, waiting_of, may_lack}
-
-abbrev pub is_last : Stretch → Bool
-is_last the_last = true
-is_last stretch = false
+use Rattle.ends_core.specs.Stage.{stretch_of, unit_of, delim_of, count_of, left_of, waiting_of, may_lack}
 
 -- if bytes are kept and as many wait as are to be kept, no memory can be wanting
 abbrev pub FullLacksNone : Ends → Type 0
@@ -22,6 +18,14 @@ due (First count front) piece = first_of front.delim front.unit front.left piece
 due (ButLast kept) piece = but_last_of (kept_delim kept) (kept_unit kept) (most_of kept) (held_of kept ++ piece)
 due (FromNth count front) piece = after_of front.delim front.unit front.left piece
 due (Last kept) piece = []
+
+-- These bytes came before any other, and nothing is written with them: where the last are asked for, whatever they are,
+-- and where all from the nth on, those before it.
+abbrev pub IsSilent : Ends → Ends → List ℕ → Type 0
+IsSilent (FromNth count front) new x = (after_of front.delim front.unit front.left x ≡ [])
+    × (left_of new ≡ front.left - measure front.delim front.unit x)
+IsSilent (Last kept) new x = left_of new ≡ left_of (Last kept)
+IsSilent old new x = (x ≡ []) × (left_of new ≡ left_of old)
 
 -- what of a piece comes in after a head
 abbrev pub unused_of : Ends → List ℕ → List ℕ

@@ -2,7 +2,7 @@ ghost use Rattle.std.specs.Prelude.{◌≡◌, []};
 ghost use Rattle.ports_core.specs.Slot.{streams};
 
 use ends_core::Unit;
-use follow_core::{Start, follow_files};
+use follow_core::{Limits, Start, follow_files};
 use ports_core::Outs;
 use std::alloc::Global;
 use watch_core::Watch;
@@ -26,5 +26,9 @@ pub(crate) fn follow_file<W: Watch, O: Outs>(
     requires unwatched { W.watched watch.old ≡ [] }
     requires outputs { O.slots outs.old ≡ streams }
 {
-    follow_files(alloc, &["log"], LAST_LINE, true, false, looks, watch, outs)
+    let limits = Limits {
+        looks,
+        process: None,
+    };
+    follow_files(alloc, &["log"], LAST_LINE, true, false, limits, watch, outs)
 }

@@ -1,10 +1,10 @@
 -- What a look gives for one name, call by call: bytes on standard output, under headers, and lines on standard error;
 -- and what one call on a name owes, and what is due of it.
-use Rattle.std.specs.Prelude.{◌≡◌, ◌-◌, Bool, true, false, ℕ, List, Option, Some, None, Result, Ok, Err, ◌⊎◌, nat_lt, [], ◌∷◌, ◌++◌, drop, length, if◌then◌else◌, IfOk, is_some}
+use Rattle.std.specs.Prelude.{◌≡◌, ◌<◌, ◌-◌, Bool, true, false, ℕ, List, Option, Some, None, Result, Ok, Err, ◌⊎◌, nat_lt, [], ◌∷◌, ◌++◌, drop, length, if◌then◌else◌, IfOk, is_some}
 use Rattle.ports_core.specs.Slot.{Slot, changed_at, slot_at}
 use Rattle.ports_core.specs.declared.fault.Fault.{Fault}
 use Rattle.ports_core.specs.declared.fault.Fault.TheVariants as fault
-use Rattle.watch_core.specs.Snapshot.{Snapshot, Found, holds_many}
+use Rattle.watch_core.specs.Snapshot.{Snapshot}
 use Rattle.watch_core.specs.declared.watch.Broken.TheVariants as broken
 use Rattle.watch_core.specs.Watched.{Watched, breaks, open_contents, opens, watched_at}
 use Rattle.follow_core.specs.declared.notice.Notice.{Notice}
@@ -16,10 +16,10 @@ use Rattle.follow_core.specs.Followed.{last_with, text_with}
 use Rattle.follow_core.specs.Gain.{last_from}
 use Rattle.follow_core.specs.Look.{Fate, sound, unmeasured, unsought, unread, can_meet, failed_by}
 use Rattle.follow_core.specs.Printing.{PrinterState}
-use Rattle.follow_core.specs.Reading.{AllGive, IsRead, IsWhole}
+use Rattle.follow_core.specs.Reading.{AllGive, IsRead, IsSeen, IsWhole}
 use Rattle.follow_core.specs.Share.{Share, bytes_of, came_before, is_kept, led_before, lines_of}
 use Rattle.follow_core.specs.Sharing.{WroteBy, CanPrint, HasError}
-use Rattle.follow_core.specs.Standing.{StandsAt}
+use Rattle.follow_core.specs.Standing.{IsLong, StandsAt}
 use Rattle.follow_core.specs.Version.{Entry, entries_led, entries_open, held_at, is_file}
 
 abbrev pub IsFront : {X : Type 0} → List X → List X → Type 0
@@ -88,16 +88,19 @@ pub record Ends (told_in : Bool) (Is : List Event → Type 0) (told is_opened : 
   pub found : Is events
   pub came : Came told printer is_opened name (bytes_in events) (lines_in name events) old after new (over_by stop)
 
--- lines alone were given
-abbrev pub Noted : List Event → Type 0
-Noted events = AllGive (λ bytes. ⊥) events
+-- lines alone were given, which tell what is so
+abbrev pub Noted : (Notice → Type 0) → List Event → Type 0
+Noted Tells events = AllGive Tells (λ bytes. ⊥) events
 
--- what was given is what reads gave of files, from such places on, or a beginning of it where following ends
-abbrev pub WereFound : (Option ℕ → ℕ → Type 0) → Snapshot → List ℕ → Fate → Option Stop → List Event → Type 0
-WereFound Starts snapshot name fate None events = AllGive (IsWhole Starts snapshot name sound) events
-WereFound Starts snapshot name fate (Some (Broke why)) events = AllGive (IsWhole Starts snapshot name fate) events
-WereFound Starts snapshot name fate (Some (Over why)) events =
-    (all : List Event) × Begins events all × AllGive (IsRead Starts snapshot name) all
+-- What was given tells what is so, and is what reads gave of files, from such places on; or a beginning of it where
+-- following ends.
+abbrev pub WereFound : (Notice → Type 0) → (Option ℕ → ℕ → Type 0) → Snapshot → List ℕ → Fate → Option Stop
+    → List Event → Type 0
+WereFound Tells Starts snapshot name fate None events = AllGive Tells (IsWhole Starts snapshot name sound) events
+WereFound Tells Starts snapshot name fate (Some (Broke why)) events =
+    AllGive Tells (IsWhole Starts snapshot name fate) events
+WereFound Tells Starts snapshot name fate (Some (Over why)) events =
+    (all : List Event) × Begins events all × AllGive Tells (IsRead Starts snapshot name) all
 
 -- the open file was read, from this place on
 abbrev pub FromThere : Option ℕ → ℕ → Option ℕ → ℕ → Type 0
@@ -109,9 +112,21 @@ FromEither opened position file from =
     (file ≡ opened) × (is_some opened ≡ true) × ((from ≡ 0) ⊎ (from ≡ position))
 
 -- the open file was found to be so long
-abbrev pub IsLong : Snapshot → Watched → ℕ → Type 0
-IsLong snapshot watched len = is_some watched.opened ≡ true
-    → Found snapshot watched.name (holds_many watched.opened len)
+abbrev pub HoldsMany : Snapshot → Watched → ℕ → Type 0
+HoldsMany snapshot watched len = IsLong false snapshot watched.name watched.opened len
+
+-- nothing is told
+abbrev pub Nothing : Notice → Type 0
+Nothing notice = ⊥
+
+-- that the open file is shorter is told
+abbrev pub ToldShort : Snapshot → List ℕ → Option ℕ → (held : ℕ) → Notice → Type 0
+ToldShort snapshot name opened held notice = (notice ≡ Truncated) × IsSeen snapshot name opened held Truncated
+
+-- where the name leads is told, as names are followed
+abbrev pub ToldLed : (by_name : Bool) → Snapshot → List ℕ → Option ℕ → Notice → Type 0
+ToldLed by_name snapshot name opened notice = (by_name ≡ true)
+    × ((held : ℕ) → IsSeen snapshot name opened held notice)
 
 -- following is over: there was no memory, or standard output is broken; a message can still be said
 abbrev pub HasStopped : Fault → List Slot → Type 0
@@ -176,7 +191,7 @@ pub record Copies (told_in told : Bool) (snapshot : Snapshot) (from : ℕ) (plac
     (after : PrinterState) (slots_new : List Slot) (stop : Option Stop) : Type 0 where
   pub at : ℕ
   pub ends : let opened = watched_at watched place in let contents = open_contents snapshot opened in
-      Ends told_in (WereFound (FromThere opened.opened from) snapshot opened.name (unread opened.opened at) stop)
+      Ends told_in (WereFound Nothing (FromThere opened.opened from) snapshot opened.name (unread opened.opened at) stop)
       told false printer name (gives (drop from contents) ∷ [])
       (all_but (length contents - at) (gives (drop from contents) ∷ [])) slots after slots_new stop
   pub keeps : Keeps place watched watched_new (unread (watched_at watched place).opened at) stop
@@ -186,14 +201,19 @@ abbrev pub Anywhere : Option ℕ → ℕ → Type 0
 Anywhere file from = Unit {0}
 
 -- The part of the open file that the first look writes was written. It was sought first.
-pub record Starts (told_in told : Bool) (snapshot : Snapshot) (start : List ℕ → List ℕ) (place : ℕ) (name : List ℕ)
+pub record Starts (told_in told seeks : Bool) (snapshot : Snapshot) (start : List ℕ → List ℕ) (place : ℕ) (name : List ℕ)
     (watched : List Watched) (printer : PrinterState) (slots : List Slot) (watched_new : List Watched)
     (after : PrinterState) (slots_new : List Slot) (stop : Option Stop) : Type 0 where
   pub fate : Fate
   pub ends : let due = gives (start (held_at snapshot (watched_at watched place).opened)) ∷ [] in
-      Ends told_in (WereFound Anywhere snapshot (watched_at watched place).name fate stop) told false printer name due
+      Ends told_in (WereFound Nothing Anywhere snapshot (watched_at watched place).name fate stop) told false printer name due
       (led_before snapshot fate due) slots after slots_new stop
   pub keeps : Keeps place watched watched_new fate stop
+  pub met : IfBroke stop ((by_name : Bool) → can_meet true by_name seeks fate ≡ true)
+
+-- that is told where an open file is shorter than what was seen of it
+abbrev pub IsPast : ℕ → ℕ → Notice → Type 0
+IsPast position len notice = (notice ≡ Truncated) × (len < position)
 
 -- that an open file is shorter than what was seen of it is told
 abbrev pub notes_past : ℕ → ℕ → List Event
@@ -214,11 +234,12 @@ pub record Adds (told_in told : Bool) (snapshot : Snapshot) (place : ℕ) (name 
   pub fate : Fate
   pub ends : let opened = (watched_at watched place).opened in (last : Entry)
       → (told_in ≡ true → StandsAt last opened position) → let due = events_later last (entries_open snapshot opened) in
-      Ends told_in (WereFound (FromEither opened position) snapshot (watched_at watched place).name fate (stop_in result))
-      told false printer name due (came_before snapshot fate due) slots after slots_new (stop_in result)
+      let known = (watched_at watched place).name in
+      Ends told_in (WereFound (ToldShort snapshot known opened position) (FromEither opened position) snapshot known fate
+      (stop_in result)) told false printer name due (came_before snapshot fate due) slots after slots_new (stop_in result)
   pub stands : let opened = (watched_at watched place).opened in IfOk result (λ len. told_in ≡ true → (last : Entry)
       → StandsAt last opened position → StandsAt (last_from last (entries_open snapshot opened)) opened len)
-  pub long : IfOk result (IsLong snapshot (watched_at watched place))
+  pub long : IfOk result (HoldsMany snapshot (watched_at watched place))
   pub keeps : Keeps place watched watched_new fate (stop_in result)
   pub reads : IfBroke (stop_in result) (ReadsOf (watched_at watched place).opened fate)
 
@@ -227,17 +248,18 @@ abbrev pub FromFront : Option ℕ → ℕ → Type 0
 FromFront file from = from ≡ 0
 
 -- the name was followed to this file, or to none
-pub record Leads (told_in told : Bool) (snapshot : Snapshot) (led : Option ℕ) (place : ℕ) (name : List ℕ)
+pub record Leads (told_in told by_name : Bool) (snapshot : Snapshot) (led : Option ℕ) (place : ℕ) (name : List ℕ)
     (position : ℕ) (watched : List Watched) (printer : PrinterState) (slots : List Slot) (watched_new : List Watched)
     (after : PrinterState) (slots_new : List Slot) (result : Result ℕ Stop) : Type 0 where
   pub fate : Fate
   pub ends : let opened = (watched_at watched place).opened in (last : Entry)
       → (told_in ≡ true → StandsAt last opened position) → let due = events_later last (entries_led snapshot opened led) in
-      Ends told_in (WereFound FromFront snapshot (watched_at watched place).name fate (stop_in result))
-      told false printer name due (led_before snapshot fate due) slots after slots_new (stop_in result)
+      let known = (watched_at watched place).name in
+      Ends told_in (WereFound (ToldLed by_name snapshot known opened) FromFront snapshot known fate (stop_in result)) told false printer name due (led_before snapshot fate due) slots after slots_new (stop_in result)
   pub stands : let opened = (watched_at watched place).opened in IfOk result (λ len. told_in ≡ true → (last : Entry)
       → StandsAt last opened position → StandsAt (last_from last (entries_led snapshot opened led)) led len)
-  pub long : IsLong snapshot (watched_at watched place) position → IfOk result (IsLong snapshot (watched_at watched_new place))
+  pub long : HoldsMany snapshot (watched_at watched place) position → let now = watched_at watched_new place in
+      IfOk result (IsLong by_name snapshot now.name now.opened)
   pub follows : Follows told_in led place watched watched_new fate (stop_in result)
   pub other : IfBroke (stop_in result) (told_in ≡ true → is_kept (watched_at watched place).opened fate ≡ false)
-  pub met : IfBroke (stop_in result) (can_meet false true fate ≡ true)
+  pub met : IfBroke (stop_in result) ((seeks : Bool) → can_meet false true seeks fate ≡ true)

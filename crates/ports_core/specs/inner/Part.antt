@@ -1,54 +1,9 @@
--- What private calls say: what a tool has written at some moment: bytes on standard output, and files in the order in
--- which they were opened.
-use Rattle.std.specs.Prelude.{◌≡◌, ℕ, ◌≤◌, suc, Bool, List, [], ◌∷◌, length, take, Option, Some, None, Result, Ok, Err}
-use Rattle.ports_core.specs.Slot.{Slot}
-use Rattle.ports_core.specs.declared.slot.State.TheVariants as state
-use Rattle.ports_core.specs.declared.fault.Fault.{Fault}
-use Rattle.ports_core.specs.Part.{File, Part, OutputsAt, Begins, IsNext, Marks, IsAt, Output, gets_none, gets_bytes, gets_lines, lines_for, AreLines}
-
-abbrev pub AllClosed : List File → Type 0
-AllClosed [] = Unit {0}
-AllClosed (file ∷ files) = (file.state ≡ state.Closed) × AllClosed files
-
--- the files were reached one after another: those before this place are closed, and after it there is none
-pub record InTurn (part : List File) (place : ℕ) : Type 0 where
-  pub closed : AllClosed (take place part)
-  pub within : place ≤ length part
-  pub last : length part ≤ suc place
+-- What private calls say: what standard output has of files.
+use Rattle.std.specs.Prelude.{◌≡◌, List, ℕ}
+use Rattle.ports_core.specs.Part.{File, Output, gets_none, gets_bytes, gets_lines, lines_for}
 
 -- standard output has just the lines for these files, where files have lines
 abbrev pub HasLines : Output → List ℕ → List File → Type 0
 HasLines gets_none bytes files = Unit {0}
 HasLines gets_bytes bytes files = Unit {0}
 HasLines (gets_lines line) bytes files = bytes ≡ lines_for line files
-
--- it has those for the files before a place
-abbrev pub LinesTo : Output → Part → ℕ → Fault → Type 0
-LinesTo gets_none part place fault = Unit {0}
-LinesTo gets_bytes part place fault = Unit {0}
-LinesTo (gets_lines line) part place fault = AreLines line part.out part.files place fault
-
--- The same of a tool that closes each file before it opens the next. It says no more of the two parts than that they
--- begin one another, so that steps compose.
-pub record StoppedInTurn (output : Output) (told : Bool) (before : List Slot) (low high : Part) (fault : Fault)
-    (now : List Slot) : Type 0 where
-  pub part : Part
-  pub above : Begins low part
-  pub below : Begins part high
-  pub place : ℕ
-  pub turn : InTurn part.files place
-  pub lines : LinesTo output part place fault
-  pub reached : List Slot
-  pub outputs : OutputsAt told before part reached
-  pub marks : Marks (IsNext part high) fault reached now
-  pub from : IsAt fault (length before) place (length part.files)
-
--- the fault of a call, if it ended with one
-abbrev pub fault_in : {T : Type 0} → Result T Fault → Option Fault
-fault_in (Ok result) = None
-fault_in (Err fault) = Some fault
-
--- outputs that were to get from one part to another have that, or a fault stopped them between the two
-abbrev pub IsThere : Output → Bool → Type 0 → List Slot → Part → Part → List Slot → Option Fault → Type 0
-IsThere output told There before low high new None = There
-IsThere output told There before low high new (Some fault) = StoppedInTurn output told before low high fault new

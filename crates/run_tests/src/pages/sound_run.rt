@@ -1,13 +1,13 @@
-ghost use Rattle.std.specs.Prelude.{◌≡◌, map};
+ghost use Rattle.std.specs.Prelude.{◌≡◌, [], map};
 ghost use Rattle.ports_core.specs.Slot.{streams};
 ghost use Rattle.ports_core.specs.Source.{IsFresh};
-ghost use Rattle.tools_core.specs.Outcome.{AreNone};
+ghost use Rattle.tools_core.specs.Outcome.{names_read};
 
 use ports_core::{Inputs, Outs};
 use std::alloc::Global;
 use tools_core::run::run;
 
-/// Runs what the words ask for, and returns whether all went well. For words that are refused no input is opened.
+/// Runs what the words ask for, and returns whether all went well. Where the words read nothing, no input is opened.
 pub(crate) fn runs_well<I: Inputs, O: Outs>(
     alloc: Global,
     words: &[&str],
@@ -16,7 +16,7 @@ pub(crate) fn runs_well<I: Inputs, O: Outs>(
 ) -> bool
     requires inputs { IsFresh (I.sources inputs.old) }
     requires outputs { O.slots outs.old ≡ streams }
-    ensures unopened { AreNone (map (λ word. word.now) words.now) → I.sources inputs.new ≡ I.sources inputs.old }
+    ensures unopened { names_read (map (λ word. word.now) words.now) ≡ [] → I.sources inputs.new ≡ I.sources inputs.old }
 {
     run(alloc, words, inputs, outs) == 0
 }

@@ -1,6 +1,6 @@
 -- What private calls say: parts that follow one another, and what files get of them.
 use Rattle.std.specs.Prelude.{◌≡◌, ℕ, List, [], ◌∷◌, true, false, map, ◌⊎◌}
-use Rattle.split_core.specs.declared.limit.Limit.{Limit}
+use Rattle.seg_core.specs.declared.cut.Limit.{Limit}
 use Rattle.split_core.specs.Parts.{is_full, first_part, after_first, CutUp, parts}
 use Rattle.ports_core.specs.Part.{IsBeginning}
 use Rattle.ports_core.specs.declared.slot.State.TheVariants.{Open, Closed}

@@ -1,18 +1,21 @@
 -- How the files of `split` change in a step.
 use Rattle.std.specs.Prelude.{◌≡◌, ℕ, ◌-◌, ◌≤◌, ◌<◌, Bool, true, false, List, [], ◌∷◌, ◌++◌, ◌⊎◌, length, suc, take, map, IsTrue, Option, Some, None, Result, Ok, Err, OnOk, IfErr}
-use Rattle.ports_core.specs.Name.{Naming, next_name, has_next, with_one_drawn}
+use Rattle.ports_core.specs.Name.{Naming, has_name}
+use Rattle.ports_core.specs.Names.{next_name, has_next, with_one_drawn}
+use Rattle.ports_core.specs.declared.names.Names.{Names}
 use Rattle.ports_core.specs.Slot.{Slot, Rose, opened, unopened}
-use Rattle.ports_core.specs.inner.Slot.{KeepsBroken}
+use Rattle.ports_core.specs.Slot.{KeepsBroken}
 use Rattle.ports_core.specs.declared.slot.Mode.TheVariants.{Fresh}
 use Rattle.ports_core.specs.declared.slot.State.TheVariants as state
 use Rattle.ports_core.specs.Part.{Part, gets_none}
 use Rattle.ports_core.proofs.PartSteps.{Becomes}
-use Rattle.ports_core.specs.inner.Part.{fault_in}
+use Rattle.ports_core.specs.Turn.{fault_in}
 use Rattle.ports_core.specs.inner.Write.{Wrote}
 use Rattle.ports_core.specs.declared.fault.Fault.{Fault}
 use Rattle.ports_core.specs.declared.fault.Fault.TheVariants.{Memory, Write, Open, Suffixes}
-use Rattle.split_core.specs.Parts.{most, unless_empty}
-use Rattle.split_core.specs.Split.{Share, share, is_some, is_named, named, are_named, from_start, only_files, settled_parts}
+use Rattle.seg_core.specs.Cut.{most}
+use Rattle.split_core.specs.Parts.{unless_empty}
+use Rattle.split_core.specs.Split.{Share, share, is_some, named, are_named, only_files, settled_parts}
 use Rattle.split_core.specs.inner.CutLaws.{AllShut, SharesBegin, whole_parts}
 use Rattle.split_core.specs.PartsState.{PartsState, Stands, IsReady, OwnsFile, is_given}
 
@@ -42,7 +45,7 @@ WritesTo told slot bytes old new result = Wrote told slot bytes old new (fault_i
 
 -- why the next file wasn't opened: where there was no memory a name had been left, and one was drawn for a file that
 -- can't be opened
-pub data OpensNone (names next : Naming) (old new : List Slot) : Fault → Type 0 where
+pub data OpensNone (names next : Names) (old new : List Slot) : Fault → Type 0 where
   no_memory : IsTrue (has_next names) → new ≡ old → OpensNone names next old new Memory
   no_file : (slot : ℕ) (kept : List ℕ) → slot ≡ length old → IsTrue (has_next names) → next ≡ with_one_drawn names
       → (kept ≡ next_name names) ⊎ (kept ≡ []) → new ≡ old ++ unopened kept ∷ [] → OpensNone names next old new (Open slot)
@@ -53,7 +56,7 @@ pub data OpensNone (names next : Naming) (old new : List Slot) : Fault → Type 
 pub record Keeps (parts : PartsState) (old new : List Slot) (next : PartsState) (result : Result (Unit {0}) Fault)
     : Type 0 where
   pub limit : next.limit ≡ parts.limit
-  pub names : from_start next.names ≡ from_start parts.names
+  pub names : next.names.naming ≡ parts.names.naming
   pub owned : KeepsFile parts.current old next.current new
   pub sound : OnOk result (KeepsBroken old new)
   pub ready : OnOk result (IsReady next.current new)
@@ -62,7 +65,7 @@ pub record Keeps (parts : PartsState) (old new : List Slot) (next : PartsState) 
 -- names ran out on the way to the shares `high`, after all of those that have names
 pub record RunsShort (names : Naming) (those high : List Share) : Type 0 where
   pub shut : AllShut those
-  pub none : is_named names (length those) ≡ false
+  pub none : has_name names (length those) ≡ false
   pub begins : SharesBegin those high
   pub fewer : length those < length high
 
@@ -88,10 +91,10 @@ abbrev pub written : Draft → List Share
 written those = those.shares ++ map (share state.Open) (unless_empty those.begun)
 
 -- these are the shares of the files, and what is written of the part that was begun
-pub record Begun (names : Naming) (current : Option ℕ) (those : Draft) : Type 0 where
-  pub drawn : names.drawn ≡ length (written those)
-  pub enough : are_named names (length (written those)) ≡ true
-  pub given : is_given current ≡ is_some those.begun
+pub record Begun (parts : PartsState) (those : Draft) : Type 0 where
+  pub drawn : parts.names.drawn ≡ length (written those)
+  pub enough : are_named parts.names.naming (length (written those)) ≡ true
+  pub given : is_given parts.current ≡ is_some those.begun
   pub shut : AllShut those.shares
 
 -- the part that was begun gets more
@@ -111,10 +114,9 @@ pub record Moves (told : Bool) (parts : PartsState) (are : ℕ × Bool × List �
     (old new : List Slot) (next : PartsState) (result : Result (Unit {0}) Fault) : Type 0 where
   pub same : OnOk result (numbers next ≡ are)
   pub keeps : Keeps parts old new next result
-  pub begun : OnOk result ((those : Draft) → Begun parts.names parts.current those
-      → Begun next.names next.current (change those))
-  pub goes : (those : Draft) → Begun parts.names parts.current those
-      → Goes told (from_start parts.names) parts.current (written those) (written (change those)) old new result
+  pub begun : OnOk result ((those : Draft) → Begun parts those → Begun next (change those))
+  pub goes : (those : Draft) → Begun parts those
+      → Goes told parts.names.naming parts.current (written those) (written (change those)) old new result
 
 -- the file of the part that was begun: it was there, or it was opened now
 pub data HasFile (parts : PartsState) (old new : List Slot) (next : PartsState) (slot : ℕ) : Type 0 where
@@ -128,7 +130,7 @@ pub record HasNone (parts : PartsState) (old new : List Slot) (next : PartsState
   pub none : parts.current ≡ None
   pub opens : OpensNone parts.names next.names old new fault
   pub same : next ≡ record parts { names = next.names }
-  pub names_same : next.names ≡ record parts.names { drawn = next.names.drawn }
+  pub names_same : next.names.naming ≡ parts.names.naming
 
 abbrev pub FindsFile : PartsState → List Slot → List Slot → PartsState → Result ℕ Fault → Type 0
 FindsFile parts old new next (Ok slot) = HasFile parts old new next slot
@@ -161,7 +163,7 @@ pub record Takes (told : Bool) (parts : PartsState) (bytes : List ℕ) (old new 
     (result : Result (Unit {0}) Fault) : Type 0 where
   pub keeps : Keeps parts old new next result
   pub stands : OnOk result ((x : List ℕ) → Stands parts x → Stands next (x ++ bytes))
-  pub goes : (x : List ℕ) → Stands parts x → Goes told (from_start parts.names) parts.current
+  pub goes : (x : List ℕ) → Stands parts x → Goes told parts.names.naming parts.current
       (settled_parts parts.limit x) (settled_parts parts.limit (x ++ bytes)) old new result
 
 -- a stretch of the piece was taken in, or a fault came
@@ -175,5 +177,5 @@ pub record Finishes (told : Bool) (parts : PartsState) (old new : List Slot) (ne
     (result : Result (Unit {0}) Fault) : Type 0 where
   pub keeps : Keeps parts old new next result
   pub caused : IfErr result (CannotClose old new)
-  pub goes : (x : List ℕ) → Stands parts x → Goes told (from_start parts.names) parts.current
+  pub goes : (x : List ℕ) → Stands parts x → Goes told parts.names.naming parts.current
       (settled_parts parts.limit x) (whole_parts parts.limit x) old new result

@@ -1,14 +1,15 @@
 -- What private calls say: how files in order get more bytes, and how more of them are opened.
 use Rattle.std.specs.Prelude.{◌≡◌, ℕ, ◌+◌, ◌-◌, ◌<◌, ◌≤◌, max, Bool, List, [], ◌∷◌, ◌++◌, ◌⊎◌, length, map, Result, Ok, Err, OnOk, IfErr, nat_lt, ◌==◌, if◌then◌else◌}
 use Rattle.std.specs.List.{range_with_len}
-use Rattle.ports_core.specs.Name.{Naming, with_one_drawn}
+use Rattle.ports_core.specs.Name.{Naming}
+use Rattle.ports_core.specs.Names.{with_one_drawn}
 use Rattle.ports_core.specs.Slot.{Slot}
 use Rattle.ports_core.specs.Part.{Part, OutputsAt, IsBeginning, StoppedBetween, gets_none}
 use Rattle.ports_core.specs.declared.fault.Fault.{Fault}
 use Rattle.ports_core.specs.declared.fault.Fault.TheVariants.{Suffixes, Write}
 use Rattle.ports_core.specs.declared.slot.State.TheVariants as state
-use Rattle.split_core.specs.Split.{Share, share, from_start, file_at, only_files}
-use Rattle.ports_core.specs.inner.Slot.{KeepsBroken}
+use Rattle.split_core.specs.Split.{Share, share, file_at, only_files}
+use Rattle.ports_core.specs.Slot.{KeepsBroken}
 use Rattle.split_core.specs.inner.Moves.{Breaks, CannotClose}
 use Rattle.split_core.specs.Sharing.{CannotOpen}
 use Rattle.split_core.specs.FilesState.{FilesState}
@@ -35,7 +36,7 @@ only_at place bytes other = if other == place then bytes else []
 pub record StandAt (told : Bool) (files : FilesState) (before : List Slot) (had : ℕ → List ℕ) (now : List Slot)
     : Type 0 where
   pub owns : OwnsFiles files (length before) now
-  pub outputs : OutputsAt told before (part_by (from_start files.names) (all_open had) (length files.outputs)) now
+  pub outputs : OutputsAt told before (part_by files.names.naming (all_open had) (length files.outputs)) now
   pub none : (place : ℕ) → length files.outputs ≤ place → had place ≡ []
 
 -- the files still stand where they stood
@@ -75,7 +76,7 @@ IsOfFiles old new fault = Breaks old new fault × (fault ≡ Suffixes → ⊥)
 -- More was added to files from a place on and before another, and all before that are open then; or a fault stopped that.
 pub record Adds (told : Bool) (files : FilesState) (more : ℕ → List ℕ) (from to : ℕ) (old : List Slot)
     (next : FilesState) (new : List Slot) (result : Result (Unit {0}) Fault) : Type 0 where
-  pub names : from_start next.names ≡ from_start files.names
+  pub names : next.names.naming ≡ files.names.naming
   pub owned : KeepsFiles files old next new
   pub ready : OnOk result (AreReady next new)
   pub opened : OnOk result (length next.outputs ≡ max (length files.outputs) to)
@@ -84,7 +85,7 @@ pub record Adds (told : Bool) (files : FilesState) (more : ℕ → List ℕ) (fr
   pub outside : (place : ℕ) → (place < from) ⊎ (to ≤ place) → more place ≡ []
   pub leaves : (before : List Slot) (had has : ℕ → List ℕ) → StandAt told files before had old
       → ((place : ℕ) → has place ≡ had place ++ more place)
-      → Leaves told before (from_start files.names) (all_open had) (length files.outputs) (all_open has)
+      → Leaves told before files.names.naming (all_open had) (length files.outputs) (all_open has)
       (max (length files.outputs) to) from to new result
 
 -- files were opened, as far as they weren't open, or one couldn't be
@@ -96,15 +97,15 @@ pub record Opens (told : Bool) (files : FilesState) (from to : ℕ) (old : List 
 -- the first `count` of them were closed
 abbrev pub HaveClosed : Bool → FilesState → ℕ → List Slot → List Slot → Type 0
 HaveClosed told files count old new = (before : List Slot) (had : ℕ → List ℕ) → StandAt told files before had old
-    → OutputsAt told before (part_by (from_start files.names) (closed_first count had) (length files.outputs)) new
+    → OutputsAt told before (part_by files.names.naming (closed_first count had) (length files.outputs)) new
 
 -- all of them were closed, or a fault came before that
 pub record ClosesAll (told : Bool) (files : FilesState) (old new : List Slot) (result : Result (Unit {0}) Fault)
     : Type 0 where
   pub closed : OnOk result (HaveClosed told files (length files.outputs) old new)
   pub cut : IfErr result (λ fault. (before : List Slot) (had : ℕ → List ℕ) → StandAt told files before had old
-      → StoppedBetween gets_none told before (part_by (from_start files.names) (all_open had) (length files.outputs))
-      (part_by (from_start files.names) (closed_first (length files.outputs) had) (length files.outputs)) fault new)
+      → StoppedBetween gets_none told before (part_by files.names.naming (all_open had) (length files.outputs))
+      (part_by files.names.naming (closed_first (length files.outputs) had) (length files.outputs)) fault new)
   pub caused : IfErr result (CannotClose old new)
   pub owned : KeepsFiles files old files new
 

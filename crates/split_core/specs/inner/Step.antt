@@ -1,10 +1,11 @@
 -- What the next bytes of a piece do to the part that was begun, and to what is left after the full parts.
 use Rattle.std.specs.Prelude.{◌≡◌, ℕ, ◌+◌, ◌-◌, ◌<◌, ◌≤◌, Bool, true, false, List, [], ◌++◌, length, take, drop}
 use Rattle.seg_core.specs.Window.{ByteWindowState}
-use Rattle.split_core.specs.declared.limit.Limit.{Limit}
+use Rattle.seg_core.specs.declared.cut.Limit.{Limit}
 use Rattle.split_core.specs.declared.step.Step.{Step}
 use Rattle.split_core.specs.declared.step.Step.TheVariants.{Goes, Ends, Begins, Waits}
-use Rattle.split_core.specs.Parts.{most, is_full, first_part, settled_rest, waiting_rest}
+use Rattle.seg_core.specs.Cut.{most}
+use Rattle.split_core.specs.Parts.{is_full, first_part, settled_rest, waiting_rest}
 use Rattle.split_core.specs.PartsState.{Lacks}
 
 -- what waits fits into the window

@@ -7,9 +7,10 @@ use Rattle.std.proofs.lemmas.List.{append-nil, take-append-le, drop-append-le, l
 use Rattle.seg_core.specs.Line.{delimiters, first_lines}
 use Rattle.seg_core.proofs.Delimiters.{delimiters-append, delimiters-le-length}
 use Rattle.seg_core.proofs.FirstLines.{first_lines-full, first_lines_then_rest, length-first_lines-le, delimiters-first_lines}
-use Rattle.split_core.specs.declared.limit.Limit.{Limit}
-use Rattle.split_core.specs.declared.limit.Limit.TheVariants.{Lines, Bytes, LineBytes}
-use Rattle.split_core.specs.Parts.{whole_lines, open_line, most, measure, is_full, first_part, after_first, uncut, part_before, cut_within, cut_up, settled_rest, waiting_rest}
+use Rattle.seg_core.specs.declared.cut.Limit.{Limit}
+use Rattle.seg_core.specs.declared.cut.Limit.TheVariants.{Lines, Bytes, LineBytes}
+use Rattle.seg_core.specs.Cut.{most}
+use Rattle.split_core.specs.Parts.{whole_lines, open_line, measure, is_full, first_part, after_first, uncut, part_before, cut_within, cut_up, settled_rest, waiting_rest}
 use Rattle.split_core.specs.inner.CutLaws.{Cuts, stops, goes, cut_so}
 
 -- when a part is full

@@ -5,15 +5,16 @@ use Rattle.std.proofs.lemmas.List.{map-append, length-map, take-take}
 use Rattle.seg_core.specs.Line.{joined, lines_of, delimiters, first_lines}
 use Rattle.seg_core.proofs.Delimiters.{delimiters-append}
 use Rattle.seg_core.proofs.FirstLines.{first_lines-append, first_lines-full, first_lines-short, first_lines_then_rest, lines_of-first_lines}
-use Rattle.ports_core.specs.Name.{Naming}
+use Rattle.ports_core.specs.Name.{Naming, has_name}
 use Rattle.ports_core.specs.Part.{File, IsBeginning, FilesBegin, Begins}
 use Rattle.ports_core.specs.declared.slot.State.{State}
 use Rattle.ports_core.specs.declared.slot.State.TheVariants.{Open, Closed}
 use Rattle.ports_core.proofs.PartLemmas.{begins_itself, begins_more}
-use Rattle.split_core.specs.declared.limit.Limit.{Limit}
-use Rattle.split_core.specs.declared.limit.Limit.TheVariants.{Lines, Bytes, LineBytes}
-use Rattle.split_core.specs.Parts.{whole_lines, most, measure, is_full, first_part, after_first, cut_up, unless_empty, parts, settled_rest}
-use Rattle.split_core.specs.Split.{Share, share, is_named, file_at, named, are_named, only_files, settled_parts}
+use Rattle.seg_core.specs.declared.cut.Limit.{Limit}
+use Rattle.seg_core.specs.declared.cut.Limit.TheVariants.{Lines, Bytes, LineBytes}
+use Rattle.seg_core.specs.Cut.{most}
+use Rattle.split_core.specs.Parts.{whole_lines, measure, is_full, first_part, after_first, cut_up, unless_empty, parts, settled_rest}
+use Rattle.split_core.specs.Split.{Share, share, file_at, named, are_named, only_files, settled_parts}
 use Rattle.split_core.specs.laws.CutLaws.{short_some, full_some, whole_of_lines, whole_of_none, settled_then_waiting, settled_some, cut_on, cut_none, cut_once, cuts_up, rest_short}
 use Rattle.split_core.specs.inner.CutLaws.{goes, cut_so, SharesBegin, whole_parts}
 
@@ -39,7 +40,7 @@ pub files_begin : (names : Naming) (place : ℕ) (low high : List Share) → Sha
 files_begin names place [] high begins = tt
 files_begin names place (share ∷ low) [] begins = absurd begins
 files_begin names place (share ∷ low) (whole ∷ high) begins =
-    files_by names (is_named names place) place share whole (named names (place + 1) low) (named names (place + 1) high)
+    files_by names (has_name names place) place share whole (named names (place + 1) low) (named names (place + 1) high)
     begins.0 begins.1 (files_begin names (place + 1) low high begins.2)
 
 pub part_begins : (names : Naming) (low high : List Share) → SharesBegin low high → Begins (only_files (named names 0 low)) (only_files (named names 0 high))
@@ -52,13 +53,13 @@ pub one_on : (n m : ℕ) → n + suc m ≡ n + 1 + m
 one_on n m = omega arith
 
 -- where a place has no name, what stands from there on makes no file
-pub named_short : (names : Naming) (place : ℕ) (front rest : List Share) → is_named names (place + length front) ≡ false
+pub named_short : (names : Naming) (place : ℕ) (front rest : List Share) → has_name names (place + length front) ≡ false
     → named names place (front ++ rest) ≡ named names place front
 named_short names place [] [] none = refl
 named_short names place [] (share ∷ rest) none = grind (arith, common_steps)
 named_short names place (share ∷ front) rest none =
-    ap (λ files. cond (is_named names place) (file_at names place share ∷ files) []) (named_short names (place + 1) front rest
-    (subst (λ n. is_named names n ≡ false) (one_on place (length front)) none))
+    ap (λ files. cond (has_name names place) (file_at names place share ∷ files) []) (named_short names (place + 1) front rest
+    (subst (λ n. has_name names n ≡ false) (one_on place (length front)) none))
 
 -- the parts of whole texts
 
@@ -177,7 +178,7 @@ are_named_more names (suc last) zero none few = search rules
 are_named_more names (suc last) (suc more) none few = grind (arith, common_steps)
 
 place_nameless : (names : Naming) (limit : Limit) (x : List ℕ) → are_named names (length (parts limit x)) ≡ false
-    → is_named names (0 + length (map (share Closed) (cut_up limit x).full)) ≡ false
+    → has_name names (0 + length (map (share Closed) (cut_up limit x).full)) ≡ false
 place_nameless names limit x short = grind (arith, common_steps)
 
 -- the files are those of the full parts alone

@@ -3,21 +3,21 @@ use Rattle.std.proofs.lemmas.Grind.{common_steps}
 use Rattle.std.proofs.Common.{◌≡◌, ℕ, ◌+◌, ◌≤◌, zero, suc, List, [], ◌∷◌, ◌++◌, map, Bool, true, false, cond, refl, arith, length, sym, ◌∙◌, ap, rules}
 use Rattle.std.specs.List.{range_with_len}
 use Rattle.std.proofs.lemmas.Bool.{false≢true, not-true}
-use Rattle.ports_core.specs.Name.{Naming}
+use Rattle.ports_core.specs.Name.{Naming, has_name}
 use Rattle.ports_core.specs.Part.{File, IsBeginning, FilesBegin, Begins}
 use Rattle.ports_core.specs.Work.{IsLawful, IsComplete}
 use Rattle.ports_core.specs.declared.slot.State.{State}
 use Rattle.ports_core.specs.declared.slot.State.TheVariants.{Open, Closed}
 use Rattle.ports_core.proofs.PartLemmas.{begins_itself, nothing_begins}
-use Rattle.split_core.specs.Split.{share, named, is_named, file_at, only_files, dealt_files, are_named, settled_parts, from_start}
+use Rattle.split_core.specs.Split.{share, named, file_at, only_files, dealt_files, are_named, settled_parts}
 use Rattle.split_core.specs.Round.{round_plan, round_work, opened_by}
 use Rattle.split_core.specs.inner.Dealt.{share_of}
 use Rattle.split_core.specs.laws.DealLaws.{dealt_append, dealt_files_are, opened_by-grows}
 use Rattle.std.proofs.lemmas.List.{append-nil, length-map}
-use Rattle.split_core.specs.declared.limit.Limit.{Limit}
+use Rattle.seg_core.specs.declared.cut.Limit.{Limit}
 use Rattle.split_core.specs.Parts.{cut_up, parts}
 use Rattle.split_core.specs.laws.ShareLaws.{part_begins, settled_grow, settled_end, files_settled, files_whole, parts_grow, are_named_more}
-use Rattle.split_core.specs.PartState.{parts_work}
+use Rattle.split_core.specs.PartsState.{parts_work}
 use Rattle.split_core.specs.declared.splitter.Splitter.{Splitter}
 use Rattle.split_core.specs.declared.splitter.Splitter.TheVariants.{Parts, Round}
 use Rattle.split_core.specs.Ways.{work}
@@ -34,7 +34,7 @@ files_begin : (names : Naming) (high : State) (f g : ℕ → List ℕ) → ((fil
 files_begin names high f g begin place start zero n few = tt
 files_begin names high f g begin place start (suc m) zero few = absurd (omega arith)
 files_begin names high f g begin place start (suc m) (suc n) few =
-    begin_step (is_named names place) (file_at names place (share Open (f start))) (file_at names place (share high (g start)))
+    begin_step (has_name names place) (file_at names place (share Open (f start))) (file_at names place (share high (g start)))
     _ _ refl refl refl refl (begin start) (files_begin names high f g begin (place + 1) (start + 1) m n (omega arith))
 
 -- each file only grows, and none is taken back
@@ -69,5 +69,5 @@ parts_lawful limit names = search (rules, part_begins, settled_grow, settled_end
 -- Both ways
 
 pub lawful : (way : Splitter) → IsLawful (work way)
-lawful (Parts state) = parts_lawful state.limit (from_start state.names)
-lawful (Round state) = round_lawful state.delim state.count state.elide (from_start state.files.names)
+lawful (Parts state) = parts_lawful state.limit state.names.naming
+lawful (Round state) = round_lawful state.delim state.count state.elide state.files.names.naming

@@ -1,24 +1,17 @@
 -- What each step of a run leaves.
-use Rattle.std.specs.Prelude.{◌≡◌, ℕ, ◌<◌, zero, suc, not, ◌&&◌, ◌||◌, Bool, true, false, List, [], ◌∷◌, ◌++◌, length, map, take, Option, Some, None, ◌⊎◌, if◌then◌else◌, is_none}
+use Rattle.std.specs.Prelude.{◌≡◌, ℕ, ◌<◌, zero, suc, not, ◌&&◌, Bool, true, false, List, [], ◌∷◌, ◌++◌, length, map, take, Option, Some, None, ◌⊎◌, if◌then◌else◌, is_none}
 use Rattle.std.specs.List.{concat}
 use Rattle.ports_core.specs.Slot.{Slot, slot_at, changed_at, is_open, opened, unopened, adds, breaks, told_of}
 use Rattle.ports_core.specs.Source.{Content, Source}
 use Rattle.ports_core.specs.Text.{message_of}
 use Rattle.ports_core.specs.Message.{SaysAll}
+use Rattle.ports_core.specs.declared.on_broken.OnBroken.{OnBroken}
 use Rattle.ports_core.specs.declared.slot.Mode.{Mode}
 use Rattle.ports_core.specs.declared.tool.Tool.TheVariants.{Tee}
 use Rattle.ports_core.specs.declared.fault.Fault.{Fault}
 use Rattle.ports_core.specs.Streams.{standard_error}
-use Rattle.tee_core.specs.Run.{ComesIn, EachFile, FilesLeft, OutputLeft, messages_of, none_left, output_names, said_before}
+use Rattle.tee_core.specs.Run.{ComesIn, EachFile, FilesLeft, OutputLeft, broken_before, is_done, messages_of, output_names, said_before}
 use Rattle.tee_core.specs.TeeState.{TeeState}
-
-abbrev pub any_of : List Bool → Bool
-any_of [] = false
-any_of (flag ∷ flags) = flag || any_of flags
-
-abbrev pub all_of : List Bool → Bool
-all_of [] = true
-all_of (flag ∷ flags) = flag && all_of flags
 
 -- where the outputs stand, standard output first, and then the files
 abbrev pub output_slot : ℕ → ℕ
@@ -69,7 +62,7 @@ pub data FileHas (told : Bool) (mode : Mode) (pieces : List (List ℕ)) (name : 
       (breaks (adds (told_of told (concat before ++ take n piece)) (opened name mode)))
 
 -- these pieces were copied, before the files are closed
-pub record Copies (told : Bool) (mode : Mode) (names : List (List ℕ)) (pieces : List (List ℕ))
+pub record Copies (told : Bool) (mode : Mode) (on_broken : OnBroken) (names : List (List ℕ)) (pieces : List (List ℕ))
     (messages : List (List ℕ)) (slots : List Slot) (known : List Bool) : Type 0 where
   pub output : Slot
   pub error : Slot
@@ -82,20 +75,21 @@ pub record Copies (told : Bool) (mode : Mode) (names : List (List ℕ)) (pieces 
   pub said : SaysAll told Tee (said_before (suc (length pieces)) (output_names names) (first ∷ broke) ++ messages)
       standard_error error
   pub known_are : known ≡ broken_of slots
-  -- some output was left before the last call, and whether one is left after it
-  pub some_left : none_left (length pieces) (first ∷ broke) ≡ false
-  pub is_vain : none_left (suc (length pieces)) (first ∷ broke) ≡ all_of known
+  -- those that broke before the last call didn't end the run, and those that broke before the next one are known
+  pub goes_on : is_done on_broken (broken_before (length pieces) (first ∷ broke)) ≡ false
+  pub are_known : broken_before (suc (length pieces)) (first ∷ broke) ≡ known
 
 -- an input was read so, and all that came of it was copied
-pub record CopiesRead (told_in told : Bool) (mode : Mode) (names : List (List ℕ)) (content : Content) (source : Source)
-    (slots : List Slot) (known : List Bool) (fault : Option Fault) : Type 0 where
+pub record CopiesRead (told_in told : Bool) (mode : Mode) (on_broken : OnBroken) (names : List (List ℕ))
+    (content : Content) (source : Source) (slots : List Slot) (known : List Bool) (fault : Option Fault) : Type 0 where
   pub pieces : List (List ℕ)
-  pub read : ComesIn told_in content source (all_of known) pieces fault
-  pub copies : Copies told mode names pieces [] slots known
+  pub read : ComesIn told_in content source (is_done on_broken known) pieces fault
+  pub copies : Copies told mode on_broken names pieces [] slots known
 
--- how a run leaves its outputs, once the files are closed; `is_vain` says whether none was left before that
-pub record HasCopied (told : Bool) (mode : Mode) (names : List (List ℕ)) (pieces : List (List ℕ)) (fault : Option Fault)
-    (is_vain : Bool) (slots : List Slot) (known : List Bool) : Type 0 where
+-- how a run leaves its outputs, once the files are closed; `before` says which of them were broken before that
+pub record HasCopied (told : Bool) (mode : Mode) (on_broken : OnBroken) (names : List (List ℕ))
+    (pieces : List (List ℕ)) (fault : Option Fault) (before : List Bool) (slots : List Slot) (known : List Bool)
+    : Type 0 where
   pub output : Slot
   pub error : Slot
   pub files : List Slot
@@ -106,5 +100,5 @@ pub record HasCopied (told : Bool) (mode : Mode) (names : List (List ℕ)) (piec
   pub files_left : FilesLeft told mode pieces names broke files
   pub said : SaysAll told Tee (messages_of names (first ∷ broke) (length pieces) fault) standard_error error
   pub known_are : known ≡ map (λ when. not (is_none when)) (first ∷ broke)
-  pub some_left : none_left (length pieces) (first ∷ broke) ≡ false
-  pub vain_is : none_left (suc (length pieces)) (first ∷ broke) ≡ is_vain
+  pub goes_on : is_done on_broken (broken_before (length pieces) (first ∷ broke)) ≡ false
+  pub before_are : broken_before (suc (length pieces)) (first ∷ broke) ≡ before

@@ -1,5 +1,5 @@
 -- What private calls say: the way to split, one option after another.
-use Rattle.std.specs.Prelude.{Bool, true, false, Option, Some, None, Result, Ok, Err}
+use Rattle.std.specs.Prelude.{ℕ, Bool, true, false, Option, Some, None, Result, Ok, Err}
 use Rattle.ports_core.specs.declared.fault.Fault.{Fault}
 use Rattle.ports_core.specs.declared.fault.Fault.TheVariants.{Usage}
 use Rattle.ports_core.specs.declared.fault.UsageKind.TheVariants.{TwoWays}
@@ -9,10 +9,10 @@ use Rattle.words_core.specs.SplitWords.{is_way, way_in}
 
 -- the way so far, with one more option
 
-abbrev pub way_by : Option Cut → GivenOption → Bool → Result (Option Cut) Fault
-way_by way option false = Ok way
-way_by None option true = Ok (Some (way_in option.value option.choice))
-way_by (Some way) option true = Err (Usage TwoWays option.word)
+abbrev pub way_by : ℕ → Option Cut → GivenOption → Bool → Result (Option Cut) Fault
+way_by delim way option false = Ok way
+way_by delim None option true = Ok (Some (way_in delim option.value option.choice))
+way_by delim (Some way) option true = Err (Usage TwoWays option.word)
 
-abbrev pub with_way : Option Cut → GivenOption → Result (Option Cut) Fault
-with_way way option = way_by way option (is_way option)
+abbrev pub with_way : ℕ → Option Cut → GivenOption → Result (Option Cut) Fault
+with_way delim way option = way_by delim way option (is_way option)

@@ -1,11 +1,11 @@
 use Rattle.ports_core.proofs.HandedOn.{handed_on}
 use Rattle.std.proofs.Common.{◌<◌, ◌^◌, length, arith}
 use Rattle.std.proofs.lemmas.Grind.{common_steps}
-use Rattle.csplit_core.proofs.CutterLemmas.{fits_front, empties, empties_short, emptied_went, emptied_window, left_within}
+use Rattle.csplit_core.proofs.CutterLemmas.{all_held, fits_front, empties, empties_short, emptied_went, emptied_window, left_within}
 use Rattle.csplit_core.proofs.holding.write_front.Goals as goal
 
 pub loop-left-init : goal.loop-left-init
-loop-left-init g c = grind (arith, common_steps)
+loop-left-init g c = all_held c.requires.ready
 
 pub put-requires-clause-ready : goal.put-requires-clause-ready
 put-requires-clause-ready g c = c.loop-left.invariant.went.leaves.ready

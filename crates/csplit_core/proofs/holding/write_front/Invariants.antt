@@ -1,4 +1,4 @@
-use Rattle.csplit_core.specs.Writer.{seen_writer}
+use Rattle.ports_core.specs.FileWriter.{seen_writer}
 use Rattle.csplit_core.proofs.CutterLemmas.{Emptying}
 use Rattle.csplit_core.proofs.holding.write_front.Given as goal
 

@@ -2,7 +2,7 @@ use Rattle.std.proofs.Common.{◌≡◌, ◌≤◌, ◌++◌, ◌∙◌, ap, len
 use Rattle.seg_core.specs.Window.{ByteWindowState}
 use Rattle.ports_core.specs.Source.{Source, source_at}
 use Rattle.ends_core.proofs.KeptLemmas.{between_more, between_last, still_grown, now_grown, was_ok}
-use Rattle.ports_core.proofs.LoadLemmas.{looked_again, looked_none, looked_once, looked_readable}
+use Rattle.ports_core.proofs.LoadLemmas.{looked_again, looked_once, looked_readable}
 use Rattle.ends_core.proofs.load.load_bytes.Goals as goal
 
 pub loop-at-preserved : goal.loop-at-preserved

@@ -2,7 +2,7 @@ use Rattle.std.proofs.Common.{◌++◌, ◌∙◌, ap, arith}
 use Rattle.std.proofs.lemmas.Grind.{common_steps}
 use Rattle.seg_core.specs.Line.{last_lines}
 use Rattle.ends_core.proofs.KeptLemmas.{holds_more, holds_last}
-use Rattle.ports_core.specs.Source.{Shows, Source}
+use Rattle.ports_core.specs.Source.{Source}
 use Rattle.ports_core.proofs.LoadLemmas.{looked_again, looked_none, looked_readable}
 use Rattle.ends_core.proofs.load.load_lines.Goals as goal
 

@@ -1,8 +1,8 @@
 use Rattle.ports_core.proofs.Runs.{as_status}
-use Rattle.std.proofs.Common.{Bor, ℕ, List, map, refl, ◌∙◌, ap, sym, if◌then◌else◌}
-use Rattle.follow_core.specs.Ending.{stopped, looked}
+use Rattle.std.proofs.Common.{Bor, arith, ℕ, List, map, refl, ◌∙◌, ap, sym, if◌then◌else◌}
+use Rattle.follow_core.specs.Ending.{stopped, looked, no_room}
 use Rattle.follow_core.specs.Look.{ways_of}
-use Rattle.follow_core.proofs.FollowLemmas.{open_holds, watched_are}
+use Rattle.follow_core.proofs.FollowLemmas.{ends_by, most_made, open_holds, watched_are}
 use Rattle.follow_core.proofs.run.follow_files.Goals as goal
 
 pub returns-in-Ok-make_looks : goal.returns-in-Ok-make_looks
@@ -10,17 +10,24 @@ returns-in-Ok-make_looks g c =
     let names : List (List ℕ) = map (λ (name : Bor (List ℕ)). name.now) c.args.names.now in
     let ways = ways_of 0 c.args.by_name c.args.start in
     let slots = g.O.Outs.slots c.args.outs.now in
-    let all = c.in-Ok-make_looks.ensures.looked ways c.args.headers names slots (open_holds c.in-Ok.ensures.ok c.requires.unwatched) in
-    looked all.looks all.holds.shares all.observed (watched_are all.holds) all.made all.within all.over all.holds.are all.holds.found (record {
+    let (most, are, gave) = c.in-Ok-make_looks.ensures.looked in
+    let all = gave ways c.args.headers names slots (open_holds c.in-Ok.ensures.ok c.requires.unwatched) in
+    ends_by c.args.limits.process most are (looked all.looks all.holds.shares all.observed (watched_are all.holds) all.made all.within all.over all.holds.are all.holds.found (record {
       wrote = all.holds.shared.slots;
       status_is = c.from.ensures ∙ as_status c.failed.result ∙ ap (λ those. if those then 1 else 0) (c.failed.ensures ∙ sym all.holds.failed);
-    })
+    }))
 
 pub returns : goal.returns
 returns g c =
     let names : List (List ℕ) = map (λ (name : Bor (List ℕ)). name.now) c.args.names.now in
     let ways = ways_of 0 c.args.by_name c.args.start in
     let slots = g.O.Outs.slots c.args.outs.now in
-    stopped (g.O.Outs.slots c.make_looks.new.outs) c.in-Err-make_looks.fault
-    (c.in-Err-make_looks.ensures.stopped ways c.args.headers names slots (open_holds c.in-Ok.ensures.ok c.requires.unwatched))
-    c.tell-in-Err-make_looks.ensures refl
+    let (most, are, stops) = c.in-Err-make_looks.ensures.stopped in
+    ends_by c.args.limits.process most are (stopped (g.O.Outs.slots c.make_looks.new.outs) c.in-Err-make_looks.fault
+    (stops ways c.args.headers names slots (open_holds c.in-Ok.ensures.ok c.requires.unwatched))
+    c.tell-in-Err-make_looks.ensures refl)
+
+pub returns-in-Err : goal.returns-in-Err
+returns-in-Err g c =
+    let (most, are, above) = most_made g.W.Watch.told c.args.limits.process (g.W.Watch.shows c.args.watch.now) c.args.limits.looks 0 (omega arith) (λ t. omega arith) in
+    ends_by c.args.limits.process most are (no_room c.requires.unseen c.requires.unwatched (rw c.in-Err.ensures.err at c.tell.ensures) refl)

@@ -1,34 +1,69 @@
-use Rattle.std.proofs.Common.{◌+◌, ◌∙◌, refl, arith}
-use Rattle.follow_core.proofs.FollowLemmas.{ended, one_more, one_stopped}
+use Rattle.std.proofs.Common.{◌≡◌, ◌+◌, ◌-◌, ◌∙◌, ◌∷◌, [], ap, refl, arith, length, length-append}
+use Rattle.follow_core.proofs.FollowLemmas.{ended, most_made, none_made, one_more, one_stopped, still_made, until_last, until_more, until_some}
 use Rattle.follow_core.proofs.run.make_looks.Goals as goal
 
-pub returns-in-Err-clause-stopped : goal.returns-in-Err-clause-stopped
-returns-in-Err-clause-stopped g c ways headers names first holds =
-    let l = c.loop-made in
-    one_stopped l.invariant.shows (l.invariant.progress ways headers names first holds) c.in-Err.ensures.saw c.loop-made-test.true c.in-Err.ensures.stopped
+pub loop-made-init : goal.loop-made-init
+loop-made-init g c = record {
+  within = omega arith;
+  count = ap length c.requires.unseen;
+  left = λ t. let all : c.args.limits.looks - 0 ≡ c.args.limits.looks = omega arith in rw all (omega arith);
+  can = c.requires.can;
+  error = c.requires.error;
+  shows = refl;
+  progress = λ ways headers names first holds. none_made c.requires.unseen holds;
+}
 
-pub returns-then-not-alive-clause-looked : goal.returns-then-not-alive-clause-looked
-returns-then-not-alive-clause-looked g c ways headers names first holds =
+pub returns-in-Err-clause-stopped : goal.returns-in-Err-clause-stopped
+returns-in-Err-clause-stopped g c =
     let l = c.loop-made in
     let below = c.loop-made-test.true in
-    ended (omega (arith, below)) (λ fewer. (omega arith, c.if-not-alive.true))
-    (one_more l.invariant.shows (l.invariant.progress ways headers names first holds) c.in_default.ensures.looked c.in_default.ensures.seen c.alive.ensures.alive c.alive.ensures.none refl)
+    let (most, are, above) = most_made g.W.Watch.told c.args.limits.process (g.W.Watch.shows c.args.watch.now) c.args.limits.looks (l.made + 1) (omega (arith, below))
+    (λ t. until_some c.args.limits.process (g.W.Watch.shows c.args.watch.now) (l.invariant.left t) below) in
+    (most, are, (λ ways headers names first holds. one_stopped (c.has_ended-is_last.ensures.shows ∙ l.invariant.shows) (still_made c.has_ended-is_last.ensures.watched c.has_ended-is_last.ensures.seen (l.invariant.progress ways headers names first holds)) c.in-Err.ensures.saw (omega (arith, above)) c.in-Err.ensures.stopped))
+
+pub returns-then-not-alive-clause-looked : goal.returns-then-not-alive-clause-looked
+returns-then-not-alive-clause-looked g c =
+    let l = c.loop-made in
+    let below = c.loop-made-test.true in
+    let (most, are, above) = most_made g.W.Watch.told c.args.limits.process (g.W.Watch.shows c.args.watch.now) c.args.limits.looks (l.made + 1) (omega (arith, below))
+    (λ t. until_some c.args.limits.process (g.W.Watch.shows c.args.watch.now) (l.invariant.left t) below) in (
+      most,
+      are,
+      (λ ways headers names first holds. ended above (λ fewer. (omega arith, c.if-not-alive.true))
+          (one_more {next = l.made + 1} (c.has_ended-is_last.ensures.shows ∙ l.invariant.shows) (still_made c.has_ended-is_last.ensures.watched c.has_ended-is_last.ensures.seen (l.invariant.progress ways headers names first holds)) c.in_default.ensures.looked c.in_default.ensures.seen c.alive.ensures.alive c.alive.ensures.none (omega arith))),
+    )
+
+pub returns-then-is_last-clause-looked : goal.returns-then-is_last-clause-looked
+returns-then-is_last-clause-looked g c =
+    let l = c.loop-made in
+    let are = until_last {process = c.args.limits.process} l.invariant.left c.loop-made-test.true c.has_ended-is_last.ensures.found c.if-is_last.true l.invariant.shows l.invariant.count in (
+      l.made + 1,
+      are,
+      (λ ways headers names first holds. ended (omega arith) (λ fewer. absurd (omega (arith, fewer)))
+          (rw c.if-not-alive.false at (one_more {next = l.made + 1} (c.has_ended-is_last.ensures.shows ∙ l.invariant.shows) (still_made c.has_ended-is_last.ensures.watched c.has_ended-is_last.ensures.seen (l.invariant.progress ways headers names first holds)) c.in_default.ensures.looked c.in_default.ensures.seen c.alive.ensures.alive c.alive.ensures.none (omega arith)))),
+    )
 
 pub loop-made-preserved : goal.loop-made-preserved
 loop-made-preserved g c =
     let l = c.loop-made in
     record {
-      within = omega arith;
+      within = let below = c.loop-made-test.true in omega (arith, below);
+      count = let one = length-append (g.W.Watch.seen c.has_ended-is_last.new.watch) (g.W.Watch.shows c.has_ended-is_last.new.watch (length (g.W.Watch.seen c.has_ended-is_last.new.watch)) ∷ []) in
+          let before = ap length c.has_ended-is_last.ensures.seen in let count = l.invariant.count in ap length c.in_default.ensures.seen ∙ omega (arith, one, before, count);
+      left = λ t. until_more c.args.limits.process (l.invariant.left t) c.loop-made-test.true (c.has_ended-is_last.ensures.told t) c.if-is_last.false l.invariant.shows l.invariant.count;
       can = c.in_default.ensures.can;
       error = c.look.ensures.error l.invariant.error;
-      shows = c.look.ensures.shows ∙ l.invariant.shows;
-      progress = λ ways headers names first holds. rw c.if-not-alive.false at
-          (one_more {next = l.made + 1} l.invariant.shows (l.invariant.progress ways headers names first holds) c.in_default.ensures.looked c.in_default.ensures.seen c.alive.ensures.alive c.alive.ensures.none (omega arith));
+      shows = c.look.ensures.shows ∙ c.has_ended-is_last.ensures.shows ∙ l.invariant.shows;
+      progress = λ ways headers names first holds. rw c.if-not-alive.false at (one_more {next = l.made + 1} (c.has_ended-is_last.ensures.shows ∙ l.invariant.shows)
+          (still_made c.has_ended-is_last.ensures.watched c.has_ended-is_last.ensures.seen (l.invariant.progress ways headers names first holds)) c.in_default.ensures.looked c.in_default.ensures.seen c.alive.ensures.alive c.alive.ensures.none (omega arith));
     }
 
 pub returns-clause-looked : goal.returns-clause-looked
-returns-clause-looked g c ways headers names first holds =
+returns-clause-looked g c =
     let l = c.loop-made in
     let past = c.loop-made-test.false in
     let within = l.invariant.within in
-    ended within (λ fewer. absurd (omega (arith, past, fewer))) (l.invariant.progress ways headers names first holds)
+    let (most, are, above) = most_made g.W.Watch.told c.args.limits.process (g.W.Watch.shows c.args.watch.now) c.args.limits.looks l.made within
+    (λ t. let is = l.invariant.left t in omega (arith, is)) in
+    let most_within = are.within in
+    (most, are, (λ ways headers names first holds. ended above (λ fewer. absurd (omega (arith, past, fewer, most_within))) (l.invariant.progress ways headers names first holds)))

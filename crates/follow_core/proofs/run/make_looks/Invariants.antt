@@ -1,4 +1,5 @@
-use Rattle.std.proofs.Common.{◌≡◌, ◌≤◌, ◌-◌, ℕ, Bool, true, List, []}
+use Rattle.std.proofs.Common.{◌≡◌, ◌≤◌, ◌+◌, ◌-◌, ℕ, Bool, true, List, [], length}
+use Rattle.follow_core.specs.Ending.{until_over}
 use Rattle.ports_core.specs.Slot.{Slot}
 use Rattle.follow_core.specs.Sharing.{HasError}
 use Rattle.follow_core.specs.FollowState.{CanLook, Holds}
@@ -8,7 +9,10 @@ use Rattle.follow_core.proofs.run.make_looks.Given as goal
 
 abbrev pub invariant-loop-made : goal.invariant-loop-made
 invariant-loop-made g l = record {
-  within : l.made ≤ l.looks;
+  within : l.made ≤ l.limits.looks;
+  count : length (g.W.Watch.seen l.watch) ≡ l.made;
+  left : g.W.Watch.told ≡ true → until_over l.limits.process (g.W.Watch.shows l.fn.watch) 0 l.limits.looks
+      ≡ l.made + until_over l.limits.process (g.W.Watch.shows l.fn.watch) l.made (l.limits.looks - l.made);
   can : CanLook l.follow (g.W.Watch.watched l.watch) (g.O.Outs.slots l.outs);
   error : HasError (g.O.Outs.slots l.outs);
   shows : g.W.Watch.shows l.watch ≡ g.W.Watch.shows l.fn.watch;
@@ -17,4 +21,4 @@ invariant-loop-made g l = record {
 }
 
 abbrev pub decreases-loop-made : goal.decreases-loop-made
-decreases-loop-made g l = l.looks - l.made
+decreases-loop-made g l = l.limits.looks - l.made

@@ -1,7 +1,13 @@
 use Rattle.std.proofs.Common.{arith}
 use Rattle.std.proofs.lemmas.Grind.{common_steps}
-use Rattle.follow_core.proofs.CallLemmas.{due_as, nothing_due}
+use Rattle.follow_core.proofs.CallLemmas.{due_as, nothing_due, past_noted}
 use Rattle.follow_core.proofs.visitor.begin_at.Goals as goal
 
 pub returns-then-len-position-clause-ends : goal.returns-then-len-position-clause-ends
 returns-then-len-position-clause-ends g c told_in printer = grind (arith, common_steps, due_as, nothing_due)
+
+pub returns-in-Ok-clause-ends : goal.returns-in-Ok-clause-ends
+returns-in-Ok-clause-ends g c told_in printer = past_noted _ c.if-len-position.false (c.in-Ok.ensures.ends told_in printer)
+
+pub returns-in-Err-clause-ends : goal.returns-in-Err-clause-ends
+returns-in-Err-clause-ends g c told_in printer = past_noted _ c.if-len-position.false (c.in-Err.ensures.ends told_in printer)

@@ -1,7 +1,9 @@
-use Rattle.std.proofs.Common.{arith, drop, sym, ap, ◌∙◌, length, inl, inr}
-use Rattle.follow_core.proofs.CallLemmas.{all_taken, copied_more, copied_none, copies_all, copies_part, copies_short, found_at, opened_is, some_read}
+use Rattle.std.proofs.Common.{arith, false, drop, sym, ap, ◌∙◌, length, inl, inr}
+use Rattle.follow_core.proofs.CallLemmas.{all_taken, copied_more, copied_none, copies_all, copies_part, copies_short, found_at, held_many, opened_is, some_read}
 use Rattle.std.proofs.lemmas.Grind.{common_steps}
 use Rattle.follow_core.proofs.StartLemmas.{contents_same}
+use Rattle.watch_core.specs.Snapshot.{latest}
+use Rattle.watch_core.specs.Watched.{watched_at}
 use Rattle.follow_core.proofs.visitor.copy.Goals as goal
 
 pub loop-at-init : goal.loop-at-init
@@ -12,7 +14,7 @@ loop-at-preserved g c =
     let l = c.loop-at in
     let past = l.invariant.past in record {
       copied = copied_more (drop c.min-room.result l.buffer) past (contents_same c.args.place (sym l.invariant.seen) (sym l.invariant.watched))
-          c.in-Ok.ensures.bound c.read_at.ensures.length c.in-Ok.ensures.bytes (found_at c.args.place _ _ l.invariant.seen l.invariant.watched c.in-Ok.ensures.found) l.invariant.copied c.in-Ok-put.ensures.puts;
+          c.in-Ok.ensures.bound c.read_at.ensures.length c.in-Ok.ensures.bytes (found_at c.args.place _ _ l.invariant.seen l.invariant.watched (c.in-Ok.ensures.found (grind (arith, common_steps)))) l.invariant.copied c.in-Ok-put.ensures.puts;
       writable = c.in-Ok-put.ensures.writable;
       within = grind (arith, common_steps);
       past = omega (arith, past);
@@ -29,17 +31,17 @@ pub returns-in-Err-put-clause-copies : goal.returns-in-Err-put-clause-copies
 returns-in-Err-put-clause-copies g c =
     let l = c.loop-at in
     copies_short _ (copied_more (drop c.min-room.result l.buffer) l.invariant.past (contents_same c.args.place (sym l.invariant.seen) (sym l.invariant.watched))
-    c.in-Ok.ensures.bound c.read_at.ensures.length c.in-Ok.ensures.bytes (found_at c.args.place _ _ l.invariant.seen l.invariant.watched c.in-Ok.ensures.found) l.invariant.copied c.in-Err-put.ensures.puts) (c.in-Ok.ensures.same ∙ l.invariant.watched)
+    c.in-Ok.ensures.bound c.read_at.ensures.length c.in-Ok.ensures.bytes (found_at c.args.place _ _ l.invariant.seen l.invariant.watched (c.in-Ok.ensures.found (grind (arith, common_steps)))) l.invariant.copied c.in-Err-put.ensures.puts) (c.in-Ok.ensures.same ∙ l.invariant.watched)
 
 pub returns-clause-copies : goal.returns-clause-copies
 returns-clause-copies g c =
     let l = c.loop-at in let past = c.loop-at-test.false in
     copies_all l.at (λ t. all_taken _ c.args.from l.at (c.requires.whole t) (omega (arith, past))) l.invariant.copied
-    (inl (c.args.len, c.requires.found (opened_is (g.W.Watch.watched c.args.watch.now) c.args.place c.requires.readable), omega (arith, past))) l.invariant.watched
+    (inl (c.args.len, held_many false (latest (g.W.Watch.seen c.args.watch.now)) (watched_at (g.W.Watch.watched c.args.watch.now) c.args.place).name c.args.len (watched_at (g.W.Watch.watched c.args.watch.now) c.args.place).opened (opened_is (g.W.Watch.watched c.args.watch.now) c.args.place c.requires.readable) c.requires.found, omega (arith, past))) l.invariant.watched
 
 pub returns-in-Ok-eq0-clause-copies : goal.returns-in-Ok-eq0-clause-copies
 returns-in-Ok-eq0-clause-copies g c =
     let l = c.loop-at in
     let same = contents_same c.args.place (sym l.invariant.seen) (sym l.invariant.watched) in
     copies_all l.at (λ t. absurd (some_read _ (c.requires.whole t ∙ ap length same) c.loop-at-test.true c.in-Ok-eq0.field-0-test (grind (arith, common_steps)) (c.in-Ok-eq0.ensures.bytes t))) l.invariant.copied
-    (inr (found_at c.args.place _ _ l.invariant.seen l.invariant.watched (rw c.in-Ok-eq0.field-0-test at c.in-Ok-eq0.ensures.found))) (c.in-Ok-eq0.ensures.same ∙ l.invariant.watched)
+    (inr (found_at c.args.place _ _ l.invariant.seen l.invariant.watched (rw c.in-Ok-eq0.field-0-test at (c.in-Ok-eq0.ensures.found (grind (arith, common_steps)))))) (c.in-Ok-eq0.ensures.same ∙ l.invariant.watched)

@@ -19,9 +19,9 @@ head_read : settings_of (codes "head" ∷ codes "-n" ∷ codes "2" ∷ []) ≡ O
 unfolding tools count_of factor_of foremost
 head_read = refl
 
-tail_read : settings_of (codes "tail" ∷ codes "-n" ∷ codes "+3" ∷ []) ≡ Ok (Tail (record { ends = counted options Plus 3; followed = None; looks = 2 ^ 63 - 1 }))
+tail_read : settings_of (codes "tail" ∷ codes "-n" ∷ codes "+3" ∷ []) ≡ Ok (Tail (record { ends = counted options Plus 3; followed = None; looks = 2 ^ 63 - 1; pause = 1000; process = None }))
 unfolding tools count_of factor_of foremost
 tail_read = refl
 
 pub returns : goal.returns
-returns c = c.met.ensures options options 2 (2 ^ 63 - 1) head_read tail_read (record { unit = refl; delim = λ lines. refl; bare = (refl, refl) }) refl refl
+returns c = c.met.ensures options options 2 (2 ^ 63 - 1) 1000 head_read tail_read (record { unit = refl; delim = λ lines. refl; bare = (refl, refl) }) refl refl

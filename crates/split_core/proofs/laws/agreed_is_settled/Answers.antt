@@ -4,7 +4,7 @@ use Rattle.split_core.proofs.laws.agreed_is_settled.Goals as goal
 
 pub returns : goal.returns
 returns c = record {
-  outputs = λ plan some x. agreed_at plan.delim plan.cut plan.elide plan.names some;
-  waits = λ plan some x. undecided_at plan.delim plan.cut plan.elide plan.names some;
-  placed = λ plan. placed_at plan.delim plan.cut plan.elide plan.names;
+  outputs = λ plan some x. agreed_at plan.cut plan.elide plan.names some;
+  waits = λ plan some x. undecided_at plan.cut plan.elide plan.names some;
+  placed = λ plan. placed_at plan.cut plan.elide plan.names;
 }

@@ -1,5 +1,5 @@
 use Rattle.std.proofs.Common.{◌≡◌, length}
-use Rattle.tee_core.specs.inner.Steps.{any_of}
+use Rattle.tee_core.specs.Run.{any_of}
 use Rattle.tee_core.proofs.run.any_is.Given as goal
 
 abbrev pub invariant-loop-flags : goal.invariant-loop-flags

@@ -1,5 +1,5 @@
 use Rattle.std.proofs.Common.{◌≡◌, length}
-use Rattle.tee_core.specs.inner.Steps.{all_of}
+use Rattle.tee_core.specs.Run.{all_of}
 use Rattle.tee_core.proofs.run.are_all.Given as goal
 
 abbrev pub invariant-loop-flags : goal.invariant-loop-flags

@@ -4,18 +4,18 @@ use Rattle.tee_core.proofs.CopyLemmas.{after_streams, copies_ready, known_many, 
 use Rattle.tee_core.proofs.run.close_all.Goals as goal
 
 pub close-requires : goal.close-requires
-close-requires g c = λ live. let (mode, pieces, messages, copies) = c.requires.copies in copies_ready _ mode _ c.requires.tee copies
+close-requires g c = λ live. let (mode, on_broken, pieces, messages, copies) = c.requires.copies in copies_ready _ mode on_broken _ c.requires.tee copies
 
 pub tell_broken-requires-clause-streams : goal.tell_broken-requires-clause-streams
 tell_broken-requires-clause-streams g c =
-    let (mode, pieces, messages, copies) = c.requires.copies in
-    rw (length-map c.args.names.now _) at (after_streams _ mode _ (closed_next _ mode _ c.requires.tee copies (c.close.ensures.closes c.requires.tee.live)))
+    let (mode, on_broken, pieces, messages, copies) = c.requires.copies in
+    rw (length-map c.args.names.now _) at (after_streams _ mode on_broken _ (closed_next _ mode on_broken _ c.requires.tee copies (c.close.ensures.closes c.requires.tee.live)))
 
 pub tell_broken-requires-clause-known : goal.tell_broken-requires-clause-known
 tell_broken-requires-clause-known g c =
-    let (mode, pieces, messages, copies) = c.requires.copies in
-    known_many _ mode _ copies ∙ ap (λ n. n + 1) (length-map c.args.names.now _)
+    let (mode, on_broken, pieces, messages, copies) = c.requires.copies in
+    known_many _ mode on_broken _ copies ∙ ap (λ n. n + 1) (length-map c.args.names.now _)
 
 pub returns : goal.returns
-returns g c mode pieces fault copies =
-    closing_said _ mode _ copies (closed_next _ mode _ c.requires.tee copies (c.close.ensures.closes c.requires.tee.live)) c.tell_broken.ensures.said c.tell_broken.ensures.known
+returns g c mode on_broken pieces fault copies =
+    closing_said _ mode on_broken _ copies (closed_next _ mode on_broken _ c.requires.tee copies (c.close.ensures.closes c.requires.tee.live)) c.tell_broken.ensures.said c.tell_broken.ensures.known

@@ -4,18 +4,18 @@ use Rattle.tee_core.proofs.CopyLemmas.{copies_ready, fed_next, after_streams, kn
 use Rattle.tee_core.proofs.run.copy_piece.Goals as goal
 
 pub feed-requires : goal.feed-requires
-feed-requires g c = λ live. let (mode, pieces, copies) = c.requires.copies in copies_ready _ mode _ c.requires.tee copies
+feed-requires g c = λ live. let (mode, on_broken, pieces, copies) = c.requires.copies in copies_ready _ mode on_broken _ c.requires.tee copies
 
 pub tell_broken-requires-clause-streams : goal.tell_broken-requires-clause-streams
 tell_broken-requires-clause-streams g c =
-    let (mode, pieces, copies) = c.requires.copies in
-    rw (length-map c.args.names.now _) at (after_streams _ mode _ (fed_next _ mode _ c.requires.tee copies (c.feed.ensures.gets c.requires.tee.live)))
+    let (mode, on_broken, pieces, copies) = c.requires.copies in
+    rw (length-map c.args.names.now _) at (after_streams _ mode on_broken _ (fed_next _ mode on_broken _ c.requires.tee copies (c.feed.ensures.gets c.requires.tee.live)))
 
 pub tell_broken-requires-clause-known : goal.tell_broken-requires-clause-known
 tell_broken-requires-clause-known g c =
-    let (mode, pieces, copies) = c.requires.copies in
-    known_many _ mode _ copies ∙ ap (λ n. n + 1) (length-map c.args.names.now _)
+    let (mode, on_broken, pieces, copies) = c.requires.copies in
+    known_many _ mode on_broken _ copies ∙ ap (λ n. n + 1) (length-map c.args.names.now _)
 
 pub returns-clause-copies : goal.returns-clause-copies
-returns-clause-copies g c mode pieces copies =
-    piece_said _ mode _ c.args.piece.now c.requires.left copies (fed_next _ mode _ c.requires.tee copies (c.feed.ensures.gets c.requires.tee.live)) c.tell_broken.ensures.said c.tell_broken.ensures.known
+returns-clause-copies g c mode on_broken pieces goes copies =
+    piece_said _ mode on_broken _ c.args.piece.now goes copies (fed_next _ mode on_broken _ c.requires.tee copies (c.feed.ensures.gets c.requires.tee.live)) c.tell_broken.ensures.said c.tell_broken.ensures.known

@@ -1,10 +1,10 @@
-use Rattle.std.proofs.Common.{◌≡◌, ◌≤◌, ◌<◌, ◌-◌, ◌^◌, ℕ, List, [], length, map, true, false, IsTrue}
+use Rattle.std.proofs.Common.{◌≡◌, ◌≤◌, ◌<◌, ◌-◌, ◌^◌, ℕ, List, [], length, map, true, IsTrue}
 use Rattle.std.specs.List.{concat}
 use Rattle.ports_core.specs.Source.{source_at, is_readable}
 use Rattle.ports_core.specs.declared.slot.Mode.{Mode}
 use Rattle.ports_core.specs.Inputs.{KeepsOthers}
 use Rattle.ports_core.proofs.InputsLemmas.{HasRead}
-use Rattle.tee_core.specs.inner.Steps.{Copies, all_of}
+use Rattle.tee_core.specs.inner.Steps.{Copies}
 use Rattle.tee_core.proofs.EndLemmas.{AreSized}
 use Rattle.tee_core.proofs.run.copy_pieces.Given as goal
 
@@ -14,9 +14,8 @@ invariant-pieces g l = record {
   pieces : List (List ℕ);
   joined : came ≡ concat pieces;
   sized : AreSized pieces;
-  left : all_of l.known ≡ false;
-  copies : (mode : Mode) → Copies g.O.Outs.told mode (map (λ name. name.now) l.names) [] [] (g.O.Outs.slots l.fn.outs) l.fn.known
-      → Copies g.O.Outs.told mode (map (λ name. name.now) l.names) pieces [] (g.O.Outs.slots l.outs) l.known;
+  copies : (mode : Mode) → Copies g.O.Outs.told mode l.on_broken (map (λ name. name.now) l.names) [] [] (g.O.Outs.slots l.fn.outs) l.fn.known
+      → Copies g.O.Outs.told mode l.on_broken (map (λ name. name.now) l.names) pieces [] (g.O.Outs.slots l.outs) l.known;
   same : l.tee ≡ l.fn.tee;
   counted : l.fed ≡ length came;
   small : l.fed < 2 ^ 63;

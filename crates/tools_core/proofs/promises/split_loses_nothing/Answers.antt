@@ -7,10 +7,10 @@ use Rattle.tools_core.proofs.promises.split_loses_nothing.Goals as goal
 pub returns : goal.returns
 returns c = record {
   listed = λ split asked input does has. (is_split does has).listed;
-  lines = λ split asked n input. by_cut (ArePieces (line_count asked.delim) n input) (line_pieces asked.delim);
-  uncut = λ split asked n input. by_cut (AreUncut asked.delim) (line_ends asked.delim input);
+  lines = λ split asked n delim input. by_cut (ArePieces (line_count delim) n input) (line_pieces delim);
+  uncut = λ split asked n delim input. by_cut (AreUncut delim) (line_ends delim input);
   bytes = λ split asked n input. by_cut (ArePieces length n input) byte_pieces;
-  line_bytes = λ split asked n input. by_cut (AreLinePieces asked.delim n input) line_byte_pieces;
+  line_bytes = λ split asked n delim input. by_cut (AreLinePieces delim n input) line_byte_pieces;
   one_list = one_line_list;
-  dealt = λ split asked n input. by_cut (AreDealt asked.delim n asked.elide input) (λ some. dealt_lines some.0);
+  dealt = λ split asked n delim input. by_cut (AreDealt delim n asked.elide input) (λ some. dealt_lines some.0);
 }

@@ -1,10 +1,12 @@
-use Rattle.std.proofs.Common.{Bor, ℕ, List, map, ◌∙◌, ◌∷◌, [], sym, ap}
+use Rattle.std.proofs.Common.{Bor, ℕ, List, map, ◌∙◌, ◌∷◌, [], refl, sym, ap}
 use Rattle.run_core.specs.Input.{has_dash}
 use Rattle.words_core.specs.CsplitAsked.{CsplitAsked}
 use Rattle.words_core.specs.SplitAsked.{SplitAsked}
 use Rattle.words_core.specs.TeeAsked.{TeeAsked}
 use Rattle.words_core.specs.declared.settings.Settings.{Settings}
 use Rattle.tools_core.specs.Tasks.{names_of}
+use Rattle.run_core.proofs.InputLemmas.{fresh_counts}
+use Rattle.ports_core.proofs.InputsLemmas.{fresh_asks}
 use Rattle.tools_core.proofs.RunLemmas.{ends_names, tee_runs}
 use Rattle.tools_core.proofs.run.run_tool.Goals as goal
 
@@ -44,7 +46,15 @@ returns-in-Csplit g c = record {
   untouched = λ none. c.run_inputs-in-Csplit.ensures.untouched (ap (λ (asked : CsplitAsked). has_dash (asked.input ∷ [])) c.asked.view_is ∙ sym (ap (λ (those : Settings). has_dash (names_of those)) c.in-Csplit.is) ∙ none);
 }
 
+pub returns-in-About : goal.returns-in-About
+returns-in-About g c = record {
+  ends = rw c.in-About.is ([], record { are = refl; there = λ t. refl }, c.tell_about.ensures);
+  opened = rw c.in-About.is (fresh_counts [] c.requires.inputs);
+  asked = fresh_asks _ _ c.requires.inputs;
+  untouched = λ none. refl;
+}
+
 pub returns-in-Tee-clause-ends : goal.returns-in-Tee-clause-ends
 returns-in-Tee-clause-ends g c =
-    rw c.in-Tee.is (tee_runs (g.I.Inputs.sources c.args.inputs.now) (ap (λ (those : TeeAsked). those.mode) c.settings-in-Tee.view_is)
+    rw c.in-Tee.is (tee_runs (g.I.Inputs.sources c.args.inputs.now) (ap (λ (those : TeeAsked). those.mode) c.settings-in-Tee.view_is) (ap (λ (those : TeeAsked). those.on_broken) c.settings-in-Tee.view_is)
     (ap (map (λ (name : Bor (List ℕ)). name.now)) c.deref-in-Tee.ensures.value ∙ ap (λ (those : TeeAsked). those.names) c.settings-in-Tee.view_is) c.run_tee.ensures.ends c.run_tee.ensures.whole)

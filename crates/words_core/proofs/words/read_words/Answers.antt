@@ -10,6 +10,6 @@ returns c =
     c.settle.ensures.ok c.settle.ensures.err in record {
       ok = there.0;
       err = there.1;
-      can = read-can (tool_seen c.in-Some.row.now) _ c.in_ok-spelled.spelled c.in-Some.row.now.1 c.settle.result c.in_ok-spelled.ensures c.settle.ensures.ok;
+      can = read-can (tool_seen c.in-Some.row.now) _ c.in_ok-spelled.spelled c.in-Some.row.now.tool c.settle.result c.in_ok-spelled.ensures c.settle.ensures.ok;
       operands = c.settle.ensures.operands;
     }

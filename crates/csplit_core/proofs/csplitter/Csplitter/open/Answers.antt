@@ -1,4 +1,4 @@
-use Rattle.std.proofs.Common.{◌≡◌, List, [], length, refl, subst, sym, ap, arith}
+use Rattle.std.proofs.Common.{◌≡◌, List, [], length, refl, subst, sym, ◌∙◌, ap, arith}
 use Rattle.seg_core.specs.Line.{delimiters}
 use Rattle.ports_core.specs.Guard.{GuardState, HoldsIn}
 use Rattle.ports_core.specs.Part.{OutputsAt, StoppedBetween, nothing}
@@ -22,7 +22,7 @@ returns-clause-ready g c =
     let opened = c.in_ok-cutter.ensures in
     let none : length c.new.result.items ≡ 0 = ap length empty in
     subst (λ (guard : GuardState CsplitState). IsReady guard.stage (g.O.Outs.slots c.open.new.outs)) (sym c.new-2.ensures)
-    (record { writer = opened.ready; sound = opened.sound; unbroken = ap (delimiters newline) empty; room = (let size = opened.size in omega (arith, size, none)); few = omega arith })
+    (record { writer = opened.ready; output = opened.output c.requires.output; tells = opened.tells ∙ ap sizes_wanted (sym opened.asked); sound = opened.sound; unbroken = ap (delimiters newline) empty; room = (let size = opened.size in omega (arith, size, none)); few = omega arith })
 
 pub returns-clause-owns : goal.returns-clause-owns
 returns-clause-owns g c = subst (λ (guard : GuardState CsplitState). Owns guard.stage (length (g.O.Outs.slots c.args.outs.now)) (g.O.Outs.slots c.open.new.outs)) (sym c.new-2.ensures) c.in_ok-cutter.ensures.owns

@@ -18,7 +18,7 @@ pass-tells g c =
       owns = c.ensures.passes.took.keeps.writer.owns.owns;
       there = c.ensures.passes.took.keeps.writer.owns.there;
       cut = cuts_off told stage next piece _ _ c.result c.ensures.passes;
-      met = pass_met told stage next piece _ _ c.result c.ensures.passes;
+      met = pass_met told stage next piece _ _ c.result c.ensures.passes c.requires.ready;
     }
 
 pub finish-tells : goal.finish-tells
@@ -29,11 +29,11 @@ finish-tells g c =
       same = end_same told stage next _ _ c.ensures.closes;
       size = c.ensures.bound;
       outputs = end_outputs told stage next _ _ c.ensures.closes;
-      writable = end_writable told stage next _ _ c.ensures.closes;
+      writable = end_writable told stage next _ _ c.ensures.closes c.requires.ready;
       owns = end_own told stage next _ _ c.ensures.closes;
       there = end_there told stage next _ _ c.result c.ensures.closes;
       cut = end_cut told stage next _ _ c.ensures.closes;
-      met = end_met told stage next _ _ c.ensures.closes;
+      met = end_met told stage next _ _ c.ensures.closes c.requires.ready;
     }
 
 pub waits-tells : goal.waits-tells

@@ -5,7 +5,7 @@ use Rattle.ports_core.proofs.HandedOn.{handed_on}
 use Rattle.csplit_core.specs.CsplitState.{CsplitState}
 use Rattle.csplit_core.specs.Cutter.{IsSound}
 use Rattle.csplit_core.specs.Input.{newline}
-use Rattle.csplit_core.specs.Writer.{IsReady}
+use Rattle.ports_core.specs.FileWriter.{IsReady}
 use Rattle.csplit_core.proofs.LineLemmas.{piece_ends, rest_all}
 use Rattle.csplit_core.proofs.StageLemmas.{none_passes, past_passes, some_passes, some_stopped}
 use Rattle.csplit_core.proofs.csplitter.CsplitterStage.pass.Goals as goal

@@ -5,4 +5,4 @@ use Rattle.csplit_core.proofs.csplitter.CsplitterStage.wanted.Goals as goal
 
 pub returns-clause-few : goal.returns-clause-few
 returns-clause-few c x piece after n holds going within same later spare =
-    omega (arith, none_spare _ (x ++ piece) n (lawful c.args.self.now.cutter.writer.style c.args.self.now.cutter.operands) refl spare)
+    omega (arith, none_spare _ (x ++ piece) n (lawful c.args.self.now.cutter.style c.args.self.now.cutter.operands) refl spare)

@@ -2,13 +2,14 @@ use Rattle.ports_core.proofs.HandedOn.{handed_on}
 use Rattle.std.proofs.Common.{◌+◌, length, ap, refl, sym, ◌∙◌, arith}
 use Rattle.std.proofs.lemmas.Grind.{common_steps}
 use Rattle.csplit_core.specs.Cutter.{CutterState}
-use Rattle.csplit_core.specs.Writer.{size_of}
-use Rattle.csplit_core.proofs.CutterLemmas.{cut_put_stopped, goes_lacking}
+use Rattle.ports_core.specs.FileWriter.{size_of}
+use Rattle.ports_core.proofs.FileWriterLemmas.{goes_lacking}
+use Rattle.csplit_core.proofs.CutterLemmas.{cut_put_stopped}
 use Rattle.csplit_core.proofs.TakeLemmas.{cut_drained, spread_held, spread_fit, spread_ready, waiting_count, waiting_size}
 use Rattle.csplit_core.proofs.line_cutter.LineCutter.cut_line.Goals as goal
 
 pub returns-in_err-waiting : goal.returns-in_err-waiting
-returns-in_err-waiting g c = rw (handed_on _ _ c.from_residual.ensures.1) (cut_put_stopped c.requires.fit c.requires.cuts refl c.args.line.now refl (goes_lacking c.requires.ready c.in_err-waiting.ensures.err))
+returns-in_err-waiting g c = rw (handed_on _ _ c.from_residual.ensures.1) (cut_put_stopped c.requires.fit c.requires.cuts refl c.args.line.now refl refl (goes_lacking c.requires.ready c.in_err-waiting.ensures.err))
 
 pub slice_bounds-count_delimiters-count : goal.slice_bounds-count_delimiters-count
 slice_bounds-count_delimiters-count g c = grind (arith, common_steps)

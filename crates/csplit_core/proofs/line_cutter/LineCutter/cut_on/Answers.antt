@@ -1,11 +1,11 @@
-use Rattle.std.proofs.Common.{arith, refl}
+use Rattle.std.proofs.Common.{arith, inl, refl}
 use Rattle.std.proofs.lemmas.Grind.{common_steps}
 use Rattle.ports_core.proofs.HandedOn.{handed_on}
 use Rattle.csplit_core.proofs.TakeLemmas.{cut_on, cut_not_on, from_left, spread_fit, spread_ready}
 use Rattle.csplit_core.proofs.line_cutter.LineCutter.cut_on.Goals as goal
 
 pub returns-in_err-left : goal.returns-in_err-left
-returns-in_err-left g c = rw (handed_on _ _ c.from_residual.ensures.1) (grind (arith, common_steps))
+returns-in_err-left g c = rw (handed_on _ _ c.from_residual.ensures.1) (record { n = 0; within = omega arith; whole = inl refl; all = c.in_err-left.ensures.err; size = tt; found = tt })
 
 pub overflow_sub-size : goal.overflow_sub-size
 overflow_sub-size g c = grind (arith, common_steps)

@@ -10,7 +10,7 @@ returns-in-New-clause-visits g c first = rw (← c.self.view_is, c.in-New.is, �
 pub returns-in-Followed-clause-visits : goal.returns-in-Followed-clause-visits
 returns-in-Followed-clause-visits g c first =
     let ways = ways_of first c.args.by_name c.args.start in
-    rw (← c.self.view_is, c.in-Followed.is, ← c.as_str-text-in-Followed.ensures.value) (c.again.ensures.visits first ways.start)
+    rw (← c.self.view_is, c.in-Followed.is, ← c.as_str-text-in-Followed.ensures.value) (c.again.ensures.visits first ways.start ways.seeks)
 
 pub returns-in-Left-clause-visits : goal.returns-in-Left-clause-visits
 returns-in-Left-clause-visits g c first = rw (← c.self.view_is, c.in-Left.is) (grind (arith, common_steps, left_visited))

@@ -4,10 +4,10 @@ use Rattle.watch_core.specs.Snapshot.{latest}
 use Rattle.follow_core.specs.declared.name.Standing.TheVariants.{Followed, Left}
 use Rattle.follow_core.specs.Event.{begins_none}
 use Rattle.follow_core.specs.Look.{sound}
-use Rattle.follow_core.specs.inner.Giving.{Noted}
+use Rattle.follow_core.specs.inner.Giving.{Noted, Nothing}
 use Rattle.follow_core.specs.declared.visitor.Stop.TheVariants.{Over}
 use Rattle.follow_core.proofs.CallLemmas.{ends_can, follows_from, follows_stop, header_only, long_at, stops_early, opened_there}
-use Rattle.follow_core.proofs.LookLemmas.{first_gave, first_missing, first_started, first_unopened, gave_fails, gave_through}
+use Rattle.follow_core.proofs.LookLemmas.{first_gave, first_long, first_missing, first_started, first_unopened, gave_fails, gave_through}
 use Rattle.follow_core.proofs.visitor.Visitor.first.Goals as goal
 use Rattle.follow_core.proofs.visitor.Visitor.first.Goals.{then-by_name, else-by_name}
 
@@ -25,21 +25,21 @@ returns-in-Err-clause-visits g c first = first_unopened c.requires.name c.requir
 pub returns-in-Err-put-clause-visits : goal.returns-in-Err-put-clause-visits
 returns-in-Err-put-clause-visits g c first = gave_fails sound (Over c.in-Err-put.fault) c.requires.name c.requires.watchable
     (c.in-Ok-true.ensures.ok.file, c.in-Ok-true.ensures.ok.names)
-    (first_gave _ c.self.view_is c.in-Ok-true.ensures.ok c.in-Ok-true.field-0-test c.requires.name (λ t. refl) refl tt (stops_early _ (header_only {before = _} (Some c.in-Err-put.fault) ([], begins_none, tt) c.in-Err-put.ensures.puts)))
+    (first_gave _ c.self.view_is c.in-Ok-true.ensures.ok c.in-Ok-true.field-0-test c.requires.name (λ t. refl) refl tt tt (stops_early _ (header_only {before = _} (Some c.in-Err-put.fault) ([], begins_none, tt) c.in-Err-put.ensures.puts)))
     (refl, refl)
 
 pub write_start-requires-clause-readable : goal.write_start-requires-clause-readable
 write_start-requires-clause-readable g c = grind (arith, common_steps, opened_there)
 
 pub write_start-requires-clause-can : goal.write_start-requires-clause-can
-write_start-requires-clause-can g c = ends_can (header_only {told_in = false} {Is = Noted} {before = []} None tt c.in_default.ensures.puts) c.requires.can
+write_start-requires-clause-can g c = ends_can (header_only {told_in = false} {Is = Noted Nothing} {before = []} None tt c.in_default.ensures.puts) c.requires.can
 
 pub returns-in-Ok-clause-visits : goal.returns-in-Ok-clause-visits
 returns-in-Ok-clause-visits g c first = gave_through c.in-Ok.ensures.starts.fate c.requires.name c.requires.watchable
     (follows_from _ _ _ c.in-Ok.ensures.starts.fate None c.in-Ok-true.ensures.ok.names (λ t. c.in-Ok-true.ensures.ok.leads t ∙ ap (latest (g.W.Watch.seen c.args.watch.now)).leads c.requires.name) c.in-Ok.ensures.starts.keeps)
     (first_started _ c.self.view_is c.in-Ok-true.ensures.ok c.in-Ok-true.field-0-test c.requires.name c.requires.watchable (ap latest c.reopen.ensures.seen)
     (λ Is found. header_only {Is = Is} {before = []} None found c.in_default.ensures.puts) c.in-Ok.ensures.starts c.in-Ok.ensures.len)
-    (long_at c.args.place _ c.reopen.ensures.seen (sym c.in-Ok.ensures.starts.keeps) c.in-Ok.ensures.long)
+    (first_long (latest (g.W.Watch.seen c.args.watch.now)) c.in-Ok.len c.args.by_name c.in-Ok-true.ensures.ok c.in-Ok-true.field-0-test c.requires.watchable c.in-Ok.ensures.starts.keeps (long_at c.args.place _ c.reopen.ensures.seen (sym c.in-Ok.ensures.starts.keeps) c.in-Ok.ensures.long))
 
 pub returns-in-Err-write_start-clause-visits : goal.returns-in-Err-write_start-clause-visits
 returns-in-Err-write_start-clause-visits g c first = gave_fails c.in-Err-write_start.ensures.starts.fate c.in-Err-write_start.stop c.requires.name c.requires.watchable
@@ -49,4 +49,4 @@ returns-in-Err-write_start-clause-visits g c first = gave_fails c.in-Err-write_s
     c.stop-in-Err-write_start.ensures.tells
 
 pub returns-in-Err-put-clause-can : goal.returns-in-Err-put-clause-can
-returns-in-Err-put-clause-can g c = ends_can (header_only {told_in = false} {Is = Noted} {before = []} (Some c.in-Err-put.fault) tt c.in-Err-put.ensures.puts) c.requires.can
+returns-in-Err-put-clause-can g c = ends_can (header_only {told_in = false} {Is = Noted Nothing} {before = []} (Some c.in-Err-put.fault) tt c.in-Err-put.ensures.puts) c.requires.can

@@ -3,15 +3,16 @@ use Rattle.std.proofs.lemmas.Grind.{common_steps}
 use Rattle.watch_core.specs.Snapshot.{latest}
 use Rattle.std.proofs.lemmas.Result.{IfOk-weaker}
 use Rattle.follow_core.specs.inner.Giving.{stop_in}
-use Rattle.follow_core.proofs.CallLemmas.{ends_can, long_at, starts_copied, starts_unmeasured, starts_unsought}
+use Rattle.follow_core.proofs.CallLemmas.{ends_can, is_held, long_at, starts_copied, starts_unmeasured, starts_unsought}
 use Rattle.follow_core.proofs.StartLemmas.{contents_same}
+use Rattle.watch_core.specs.Watched.{watched_at}
 use Rattle.follow_core.proofs.visitor.Visitor.write_start.Goals as goal
 
 pub returns-in-Err-clause-starts : goal.returns-in-Err-clause-starts
 returns-in-Err-clause-starts g c = starts_unmeasured c.in-Err.ensures.err.0 c.in-Err.ensures.err.1
 
 pub returns-in-Err-find-clause-starts : goal.returns-in-Err-find-clause-starts
-returns-in-Err-find-clause-starts g c = starts_unsought c.self.view_is c.in-Ok.ensures.same c.in-Err-find.ensures.err.0 c.in-Err-find.ensures.err.1
+returns-in-Err-find-clause-starts g c = starts_unsought c.self.view_is c.in-Ok.ensures.same c.in-Err-find.ensures.err.0 c.in-Err-find.ensures.err.1 c.in-Err-find.ensures.sought
 
 pub invariant_of-self : goal.invariant_of-self
 invariant_of-self g c = grind (arith, common_steps)
@@ -20,10 +21,10 @@ pub invariant_of-self-2 : goal.invariant_of-self-2
 invariant_of-self-2 g c = grind (arith, common_steps)
 
 pub copy-requires-clause-found : goal.copy-requires-clause-found
-copy-requires-clause-found g c = long_at c.args.place _ (sym (c.find.ensures.seen ∙ c.open_len.ensures.seen)) (sym (c.in-Ok-find.ensures.same ∙ c.in-Ok.ensures.same)) (λ some. c.in-Ok.ensures.found)
+copy-requires-clause-found g c = long_at c.args.place _ (sym (c.find.ensures.seen ∙ c.open_len.ensures.seen)) (sym (c.in-Ok-find.ensures.same ∙ c.in-Ok.ensures.same)) (is_held (latest (g.W.Watch.seen c.args.watch.now)) (watched_at (g.W.Watch.watched c.args.watch.now) c.args.place).name _ (watched_at (g.W.Watch.watched c.args.watch.now) c.args.place).opened c.in-Ok.ensures.found)
 
 pub returns-clause-long : goal.returns-clause-long
-returns-clause-long g c = IfOk-weaker c.copy.result (λ n. n ≡ c.in-Ok.len) _ (λ n whole some. rw whole c.in-Ok.ensures.found) c.copy.ensures.len
+returns-clause-long g c = IfOk-weaker c.copy.result (λ n. n ≡ c.in-Ok.len) _ (λ n whole. rw whole (is_held (latest (g.W.Watch.seen c.args.watch.now)) (watched_at (g.W.Watch.watched c.args.watch.now) c.args.place).name _ (watched_at (g.W.Watch.watched c.args.watch.now) c.args.place).opened c.in-Ok.ensures.found)) c.copy.ensures.len
 
 pub returns-clause-starts : goal.returns-clause-starts
 returns-clause-starts g c =

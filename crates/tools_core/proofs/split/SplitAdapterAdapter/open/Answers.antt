@@ -1,7 +1,13 @@
-use Rattle.std.proofs.Common.{refl}
+use Rattle.std.proofs.Common.{refl, ap, rules}
+use Rattle.ports_core.specs.declared.names.Names.{Names}
+use Rattle.ports_core.proofs.PartLemmas.{nothing_out}
+use Rattle.ports_core.proofs.SlotSteps.{swept_none}
 use Rattle.ports_core.proofs.HandedOn.{fault_is}
-use Rattle.tools_core.proofs.AdapterLemmas.{no_memory}
+use Rattle.tools_core.proofs.AdapterLemmas.{no_memory, some_there}
 use Rattle.tools_core.proofs.split.SplitAdapterAdapter.open.Goals as goal
 
 pub returns-in_err-names-clause-err : goal.returns-in_err-names-clause-err
 returns-in_err-names-clause-err g c = fault_is _ _ _ c.from_residual.ensures.1 (no_memory refl c.requires.streams c.in_err-names.ensures.err)
+
+pub returns-clause-err : goal.returns-clause-err
+returns-clause-err g c = let named = ap (λ (names : Names). names.naming) c.in_ok-names.ensures.ok in rw (← c.settings.view_is, ← named) (search (rules, nothing_out, some_there, swept_none))

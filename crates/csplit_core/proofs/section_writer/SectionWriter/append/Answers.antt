@@ -1,9 +1,0 @@
-use Rattle.std.proofs.Common.{refl}
-use Rattle.ports_core.proofs.HandedOn.{of_write}
-use Rattle.ports_core.specs.inner.Write.{broke}
-use Rattle.csplit_core.specs.inner.Writer.{Appends}
-use Rattle.csplit_core.proofs.WriterLemmas.{stop_is}
-use Rattle.csplit_core.proofs.section_writer.SectionWriter.append.Goals as goal
-
-pub returns-in_err-write_whole : goal.returns-in_err-write_whole
-returns-in_err-write_whole g c = stop_is (Appends _ _ _ _ _ _ _ _) _ _ (of_write _ _ _ c.from_residual.ensures.1 c.in_err-write_whole.ensures.slot) (record { same = refl; current = tt; still = refl; wrote = broke c.in_err-write_whole.field-0.0.written c.in_err-write_whole.ensures.cut })

@@ -1,0 +1,46 @@
+//! How sections are made into files.
+ghost use Rattle.std.specs.Prelude.{◌≡◌, IfErr, IfOk};
+ghost use Rattle.csplit_core.specs.Output.{opening_of as opens};
+ghost use Rattle.csplit_core.specs.inner.Cutter.{tells_by, writer_for};
+ghost use Rattle.ports_core.specs.FileWriter.{seen_writer};
+
+use crate::Style;
+use ports_core::{Fault, FileWriter, Naming, Numbering, Opening, Tells};
+use std::alloc::Global;
+
+/// A writer of files that has begun no section.
+///
+/// # Errors
+///
+/// `Memory` where there is no room for what names begin with.
+pub(crate) fn writer_of(alloc: Global, style: &Style) -> Result<FileWriter, Fault>
+    ensures ok { IfOk result (λ writer. seen_writer writer ≡ writer_for style.now) }
+    ensures err { IfErr result (λ fault. fault ≡ Fault.Memory) }
+{
+    let tells = tells_of(style);
+    let naming = Naming::new(alloc, &style.prefix, Numbering::Decimal(style.digits), "")?;
+    Ok(FileWriter::new(alloc, naming, tells))
+}
+
+/// When a section gets its file: one that is skipped gets none, and an empty one may be left out.
+pub(crate) fn opening_of(style: &Style, is_kept: bool) -> Opening
+    ensures { result ≡ opens style.now is_kept }
+{
+    if !is_kept {
+        return Opening::Never;
+    }
+    if style.elide {
+        return Opening::Late;
+    }
+    Opening::AtOnce
+}
+
+/// What standard output is told of files.
+fn tells_of(style: &Style) -> Tells
+    ensures { result ≡ tells_by style.now }
+{
+    if style.quiet {
+        return Tells::Nothing;
+    }
+    Tells::Sizes
+}

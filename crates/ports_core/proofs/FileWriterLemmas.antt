@@ -1,0 +1,667 @@
+-- What the writer of files does: what it writes, whose the outputs are, and which faults come.
+use Rattle.std.proofs.lemmas.Grind.{common_steps}
+use Rattle.std.proofs.Common.{◌≡◌, ℕ, ◌+◌, ◌<◌, ◌≤◌, zero, suc, eqb, eq-eqb, ne_eqb, Bool, false, ◌||◌, IsTrue, List, [], ◌∷◌, ◌++◌, length, map, take, drop, replicate, decimal, Option, Some, None, IfNone, Result, Ok, Err, OnOk, IfErr, IsErrAnd, inl, inr, refl, sym, ◌∙◌, ap, subst, arith, rules, append-nil, length-append, zero-add}
+use Rattle.std.proofs.lemmas.Bool.{false≢true, cases_lt}
+use Rattle.std.proofs.lemmas.List.{length-map, take-append-drop, take_all}
+use Rattle.std.proofs.lemmas.List.Recursion.{or_push}
+use Rattle.std.proofs.Math.Bool.{or-false}
+use Rattle.std.proofs.Math.Seq.{take-append-add, take-append_seam, drop-append_seam}
+use Rattle.ports_core.specs.Draft.{Manner, Draft, share, files_from, told_of_files, part_with, part_of, size_of_file, output_of, made_of, shares_of, draft_part, with_bytes, with_next}
+use Rattle.ports_core.specs.FileWriter.{WriterState, Writes, IsCurrent, IsLast, IsOpenAt, IsReady, CanTell, OwnsFiles, Breaks, manner_in, NamesAll}
+use Rattle.ports_core.specs.Name.{Naming}
+use Rattle.ports_core.specs.Part.{File as PartFile, Part, OutputsAt, Begins, FilesBegin, IsNext, IsBeginning, Output, gets_lines, lines_for}
+use Rattle.ports_core.specs.Slot.{Slot, broke, numberless, with_written, told_of, has_file, slot_at, changed_at, opened, closes, with_broken, is_writable}
+use Rattle.ports_core.specs.Swept.{AreThere, is_among, Removes}
+use Rattle.ports_core.specs.FileWriter.{At, KeepsFiles, KeepsOrBreaks, Leaves, Reaches, Goes, new_writer, paused}
+use Rattle.ports_core.specs.inner.FileWriter.{MakesNone, unnamed, failed, Made, next_name, Appends, Makes, TellsSize}
+use Rattle.ports_core.specs.Turn.{AllClosed, InTurn, IsThere, LinesTo, fault_in}
+use Rattle.ports_core.specs.inner.Part.{HasLines}
+use Rattle.ports_core.specs.Slot.{KeepsBroken}
+use Rattle.ports_core.specs.inner.Write as short
+use Rattle.ports_core.specs.inner.Write.{Wrote, WritesShort}
+use Rattle.ports_core.specs.declared.fault.Fault.{Fault}
+use Rattle.ports_core.specs.declared.fault.Fault.TheVariants as fault
+use Rattle.ports_core.specs.declared.fault.Fault.TheVariants.{Memory}
+use Rattle.ports_core.specs.declared.file_writer.Current.{Current}
+use Rattle.ports_core.specs.declared.file_writer.Current.TheVariants.{File, Unopened, Skipped, Due}
+use Rattle.ports_core.specs.declared.file_writer.Opening.{Opening}
+use Rattle.ports_core.specs.declared.file_writer.Opening.TheVariants.{Never, Late, AtOnce}
+use Rattle.ports_core.specs.declared.file_writer.Tells.{Tells}
+use Rattle.ports_core.specs.declared.file_writer.Tells.TheVariants.{Nothing, Sizes}
+use Rattle.ports_core.specs.declared.slot.Mode.TheVariants.{Fresh}
+use Rattle.ports_core.specs.declared.slot.State.TheVariants as state
+use Rattle.ports_core.proofs.HandedOn.{handed_on}
+use Rattle.ports_core.proofs.PartLemmas.{begins_itself, begins_more, take_begins_after, files_begin_themselves, part_begins_itself, out_more, turn_between, turn_next, turn_last, lines_before}
+use Rattle.ports_core.proofs.PartSteps.{Becomes, becomes_again, with_last, halts_here, there_from, file_of, writes_to, opens, falls_wider, close_begins, closes_last, closes_not, lines_of_front}
+use Rattle.ports_core.proofs.ShareLemmas.{AreNamed, part_grows, bytes_begin, next_begins, begun_begins, has_told, closed_files, ended_files, ended_out, name_after, open_part, closed_part, none_part, still_made, late_made, made_or}
+use Rattle.ports_core.proofs.SlotLemmas.{length-changed_at}
+use Rattle.ports_core.proofs.SlotSteps.{KeepsMade, none_past, file_before, at_end, opened_last, writable_within, write_rose, close_rose, keeps_write, made_write, written_writable, made_short, keeps_open, writable_before, made_again, made_close, made_break, keeps_close, writable_elsewhere, keeps_again}
+use Rattle.ports_core.proofs.WriteLemmas.{none_written}
+use Rattle.ports_core.proofs.SweepLemmas.{by_place, left_apart, left_has, left_there, same_size}
+
+-- Outputs that have a part have another, as a file is opened or standard output gets a line; or a fault stops them in between.
+
+pub line_begins : {out : List ℕ} (line : List ℕ) {files : List PartFile} → Begins (record { out = out; files = files }) (record { out = out ++ line; files = files })
+line_begins {out} line {files} = record { out = begins_more out line; files = files_begin_themselves files }
+
+more_files : (front more : List PartFile) → FilesBegin front (front ++ more)
+more_files [] more = tt
+more_files (file ∷ front) more = (refl, refl, refl, inr refl, begins_itself file.bytes, more_files front more)
+
+pub file_begins : {out : List ℕ} (front : List PartFile) (file : PartFile) → Begins (record { out = out; files = front }) (with_last out front file)
+file_begins {out} front file = record { out = begins_itself out; files = more_files front (file ∷ []) }
+
+module _ (output : Output) (told : Bool) (front : List PartFile) where
+  pub lines_all : (fault : Fault) → LinesTo output (part_with output front) (length front) fault
+  lines_all fault = lines_before output (part_with output front) (length front) fault (subst (HasLines output (told_of_files output front)) (sym (take_all (length front) front (omega arith))) (has_told output front))
+
+  pub opens_not : {name : List ℕ} {high : Part} {old new : List Slot} {fault : Fault} → AllClosed front → Begins (part_with output front) high → IsNext (part_with output front) high name → MakesNone old name new fault
+      → Becomes output told (part_with output front) high old new (Some fault)
+  opens_not closed begins next (unnamed same) = halts_here begins (turn_next front closed) (lines_all _) same (λ before at. tt)
+  opens_not {name} closed begins next (failed _ (broke slot kept number is added)) = halts_here begins (turn_next front closed) (lines_all _) (number, (name, kept, next, is, added)) (λ before at. refl)
+  opens_not closed begins next (failed _ (numberless full same)) = halts_here begins (turn_next front closed) (lines_all _) same (λ before at. tt)
+
+-- standard output gets the line for the last file, which is closed
+module _ (line : PartFile → List ℕ) (told : Bool) (front : List PartFile) (file : PartFile) (shut : file.state ≡ state.Closed) where
+  line_added : (text : List ℕ) (old : List Slot) {new : List Slot} → new ≡ with_written 0 (told_of told text) old → Becomes (gets_lines line) told (with_last (lines_for line front) front file) (with_last (lines_for line front ++ text) front file) old new None
+  line_added text old {new} wrote = record { gets = λ before at. out_more told before (with_last (lines_for line front) front file) old new text at wrote }
+
+  -- the line of the last file alone is cut short
+  cut_short : (n : ℕ) → LinesTo (gets_lines line) (with_last (lines_for line front ++ take n (line file)) front file) (length front) (fault.Write 0)
+  cut_short n = record {
+    next = take n (line file);
+    all = ap (λ files. lines_for line files ++ take n (line file)) (sym (take-append_seam front (file ∷ [])));
+    cut = inr (
+      refl,
+      subst (IsBeginning (take n (line file))) (sym (ap (λ files. lines_for line (take 1 files)) (drop-append_seam front (file ∷ [])) ∙ told_line)) (drop n (line file), sym (take-append-drop n (line file))),
+    );
+  } where
+    told_line : lines_for line (file ∷ []) ≡ line file
+    told_line = grind (arith, common_steps)
+
+  pub tells_line : (old : List Slot) {new : List Slot} (fault : Option Fault) → AllClosed front → 0 < length old → Wrote told 0 (line file) old new fault
+      → Becomes (gets_lines line) told (with_last (lines_for line front) front file) (with_last (lines_for line front ++ line file) front file) old new fault
+  tells_line old None closed some wrote = line_added (line file) old wrote
+  tells_line old (Some _) closed some (short.broke n cut) =
+      becomes_again (line_begins (take n (line file))) (line_added (take n (line file)) old refl) (halts_here (record { out = take_begins_after n (lines_for line front) (line file); files = files_begin_themselves (front ++ file ∷ []) })
+      (turn_last front file (length front) refl closed) (cut_short n) (let size : length (with_written 0 (told_of told (take n (line file))) old) ≡ length old = length-changed_at 0 _ old in omega (arith, some), cut.slots) (λ before at. inl refl))
+
+-- a `?` handed a fault on
+pub stop_is : {T : Type 0} (P : Option Fault → Type 0) (result : Result T Fault) (fault : Fault) → IsErrAnd result (λ given. given ≡ fault) → P (Some fault) → P (fault_in result)
+stop_is P result fault handed holds = subst (λ given. P (fault_in given)) (sym (handed_on result fault handed)) holds
+
+-- From one state of the outputs to another. The writers follow from the steps.
+
+pub reaches_again : {output : Output} {told : Bool} {low middle high : Part} {old mid new : List Slot} {fault : Option Fault} {one two three : WriterState} → Begins low middle → Reaches output told one two low middle old mid None
+    → Reaches output told two three middle high mid new fault → Reaches output told one three low high old new fault
+reaches_again {output} {told} {high = high} {new = new} {fault} begins first second = record { there = λ before at. there_from output told _ before high new fault begins (second.there before (first.there before at)) }
+
+-- it was stopped on its way to more
+pub stops_wider : {output : Output} {told : Bool} {low middle high : Part} {old new : List Slot} {fault : Fault} {writer next : WriterState} → Reaches output told writer next low middle old new (Some fault) → Begins middle high → Reaches output told writer next low high old new (Some fault)
+stops_wider {output} {told} {low} {middle} {high} {new = new} {fault = fault} stops begins =
+    record { there = λ before at. turn_between output told before low low middle high fault new (part_begins_itself low) (stops.there before at) begins }
+
+-- a step that is known of the outputs alone, as long as the open file is the last
+pub reaches_by : {output : Output} {told : Bool} {low high : Part} {old new : List Slot} {fault : Option Fault} {writer next : WriterState} → KeepsFiles writer next old new → (IsLast writer.current old → Becomes output told low high old new fault)
+    → Reaches output told writer next low high old new fault
+reaches_by {output} {told} {low} {high} {old} {new} {fault} {writer} {next} keeps becomes = record { there = λ before at. by fault before at ((becomes at.owns.last).gets before at.outputs) } where
+  by : (fault : Option Fault) (before : List Slot) → At told writer before low old → IsThere output told (OutputsAt told before high new) before low high new fault → IsThere output told (At told next before high new) before low high new fault
+  by None before at outputs = record { owns = keeps.owns (length before) at.owns; outputs = outputs }
+  by (Some why) before at stops = stops
+
+-- the same of parts that are written otherwise
+pub reaches_as : {output : Output} {told : Bool} {low low' high high' : Part} {old new : List Slot} {fault : Option Fault} {writer next : WriterState} → low ≡ low' → high ≡ high' → Reaches output told writer next low' high' old new fault → Reaches output told writer next low high old new fault
+reaches_as {output} {told} {low} {high' = high'} {old} {new} {fault} is_low is_high reaches = grind (arith, common_steps)
+
+pub reaches_still : {output : Output} {told : Bool} {low high : Part} {slots : List Slot} {writer next : WriterState} → KeepsFiles writer next slots slots → low ≡ high → Reaches output told writer next low high slots slots None
+reaches_still {told = told} {slots = slots} {next = next} keeps is = record { there = λ before at. record { owns = keeps.owns (length before) at.owns; outputs = subst (λ part. OutputsAt told before part slots) is at.outputs } }
+
+-- want of memory leaves the outputs as they are
+
+pub in_turn : {output : Output} {told : Bool} {part : Part} (place : ℕ) {slots : List Slot} {writer next : WriterState} → InTurn part.files place → LinesTo output part place Memory → Reaches output told writer next part part slots slots (Some Memory)
+in_turn {part = part} place {slots} turn lines = search (rules, part_begins_itself)
+
+pub lacks_memory : {told : Bool} (manner : Manner) (draft : Draft) {slots : List Slot} {writer next : WriterState} → AreNamed manner (suc (length draft.ended)) → Reaches manner.output told writer next (draft_part manner draft) (draft_part manner draft) slots slots (Some Memory)
+lacks_memory {told} manner draft named = elim (made_or draft.opening draft.bytes) [
+  | inl none ↦
+      let is = none_part manner draft none in
+      reaches_as is is (in_turn (length (ended_files manner draft)) (turn_next (ended_files manner draft) (closed_files manner 0 draft.ended)) (lines_all manner.output told (ended_files manner draft) Memory))
+  | inr makes ↦
+      let is = open_part manner draft named makes in
+      reaches_as is is (in_turn (length (ended_files manner draft)) (turn_last (ended_files manner draft) _ _ refl (closed_files manner 0 draft.ended)) (lines_of_front manner.output _ (ended_files manner draft) _ Memory (has_told manner.output (ended_files manner draft))))
+]
+
+-- Outputs that were broken stay broken, and files stay the writer's own.
+
+-- what is so of a call that went well
+pub where_well : {A B : Type 0} (fault : Option Fault) → IfNone fault A → (A → B) → IfNone fault B
+where_well fault holds follows = grind (arith, common_steps)
+
+pub in_any : {A : Type 0} (fault : Option Fault) → A → IfNone fault A
+in_any fault holds = grind (arith, common_steps)
+
+where_both : {A B C : Type 0} (fault : Option Fault) → IfNone fault A → IfNone fault B → (A → B → C) → IfNone fault C
+where_both fault one two follows = grind (arith, common_steps)
+
+pub where_three : {A B C D : Type 0} (fault : Option Fault) → IfNone fault A → IfNone fault B → IfNone fault C → (A → B → C → D) → IfNone fault D
+where_three fault one two three follows = grind (arith, common_steps)
+
+pub well_in : {T : Type 0} (A : Type 0) (result : Result T Fault) → OnOk result A → IfNone (fault_in result) A
+well_in A result holds = grind (arith, common_steps)
+
+owns_again : {one two three : WriterState} {old mid new : List Slot} → KeepsFiles one two old mid → KeepsFiles two three mid new → KeepsFiles one three old new
+owns_again before after = record { owns = λ first own. after.owns first (before.owns first own); there = λ are. after.there (before.there are) }
+
+breaks_later : {output other : Output} (old mid new : List Slot) (fault : Fault) → other ≡ output → KeepsBroken old mid → Breaks other mid new fault → Breaks output old new fault
+breaks_later old mid new fault same keeps breaks = grind (arith, common_steps)
+
+slots_again : {output other : Output} (old mid new : List Slot) (fault : Option Fault) → other ≡ output → KeepsBroken old mid → KeepsOrBreaks other mid new fault → KeepsOrBreaks output old new fault
+slots_again old mid new None same first second = keeps_again old mid new first second
+slots_again old mid new (Some fault) same first second = breaks_later old mid new fault same first second
+
+pub leaves_again : {one two three : WriterState} {old mid new : List Slot} {fault : Option Fault} → Leaves one two old mid None → Leaves two three mid new fault → Leaves one three old new fault
+leaves_again {old = old} {mid} {new} {fault} first second = record {
+  tells = second.tells ∙ first.tells;
+  owns = owns_again first.owns second.owns;
+  slots = slots_again old mid new fault (ap output_of first.tells) first.slots second.slots;
+  output = where_well fault second.output (λ later can. later (first.output can));
+  ready = second.ready;
+}
+
+pub keeps_files : {writer : WriterState} {slots : List Slot} → KeepsFiles writer writer slots slots
+keeps_files = record { owns = λ first owns. owns; there = λ are. are }
+
+pub leaves_still : {writer : WriterState} {slots : List Slot} → IsReady writer slots → Leaves writer writer slots slots None
+leaves_still ready = record { tells = refl; owns = keeps_files; slots = λ place sound. sound; output = λ can. can; ready = ready }
+
+-- want of memory leaves them as they are
+pub leaves_lacking : {writer : WriterState} {slots : List Slot} → Leaves writer writer slots slots (Some Memory)
+leaves_lacking = record { tells = refl; owns = keeps_files; slots = tt; output = tt; ready = tt }
+
+-- the open file can be written
+pub at_file : {writer : WriterState} {slot size : ℕ} {slots : List Slot} → writer.current ≡ File slot size → IsReady writer slots → (2 ≤ slot) × IsTrue (is_writable slots slot)
+at_file {slots = slots} is ready = subst (λ current. IsOpenAt current slots) is ready.current
+
+-- and is the last output, where that is known of it
+pub last_file : (writer : WriterState) {slot size : ℕ} (slots : List Slot) → writer.current ≡ File slot size → IsLast writer.current slots → suc slot ≡ length slots
+last_file writer slots is last = subst (λ current. IsLast current slots) is last
+
+-- what can be told stays so, where standard output can still be written
+can_tell : (tells : Tells) (old new : List Slot) → (IsTrue (is_writable old 0) → IsTrue (is_writable new 0)) → CanTell tells old → CanTell tells new
+can_tell Nothing old new stays can = tt
+can_tell Sizes old new stays can = stays can
+
+-- The files are there, and stay the writer's own.
+
+there_still : (files : List ℕ) (old new : List Slot) → ((place : ℕ) → has_file (slot_at new place).state ≡ has_file (slot_at old place).state) → AreThere files old → AreThere files new
+there_still [] old new keeps are = tt
+there_still (place ∷ files) old new keeps are = ((are.0.0, subst IsTrue (sym (keeps place)) are.0.1), are.1, there_still files old new keeps are.2)
+
+pub there_same : (files : List ℕ) {old new : List Slot} → KeepsMade old new → AreThere files old → AreThere files new
+there_same files {old} {new} keeps are = there_still files old new keeps.same are
+
+pub owned_same : {writer next : WriterState} {old new : List Slot} → next.files ≡ writer.files → (IsLast writer.current old → IsLast next.current new) → KeepsMade old new → KeepsFiles writer next old new
+owned_same {writer} {old = old} {new} same last keeps = search (rules, there_same)
+
+-- one file more
+
+among_more : (place slot : ℕ) (files : List ℕ) → is_among place (files ++ slot ∷ []) ≡ (is_among place files || eqb place slot)
+among_more place slot files = or_push (is_among place) (eqb place) refl (λ one others. refl) files slot
+
+-- a file that is there stands before the end
+
+there_more : (files : List ℕ) (slots : List Slot) (name : List ℕ) {slot : ℕ} → slot ≡ length slots → 2 ≤ length slots → AreThere files slots → AreThere (files ++ slot ∷ []) (slots ++ opened name Fresh ∷ [])
+there_more [] slots name at two are = grind (arith, common_steps)
+there_more (place ∷ files) slots name {slot} at two are =
+    let within : place < length slots = (grind (arith, common_steps)) in (
+      (are.0.0, subst IsTrue (sym (file_before slots (opened name Fresh) place within)) are.0.1),
+      among_more place slot files ∙ ap (λ b. b || eqb place slot) are.1 ∙ ne_eqb place slot (λ same. omega (arith, within, at, same)),
+      there_more files slots name at two are.2,
+    )
+
+pub owned_opened : {writer next : WriterState} {slot : ℕ} {old new : List Slot} → 2 ≤ length old → Made writer old new next slot → KeepsFiles writer next old new
+owned_opened {writer} {next} {slot} {old} {new} two made = grind (arith, common_steps, by_place, or-false, among_more, opened_last, there_more, cases_lt, none_past, file_before, at_end, eq-eqb, false≢true)
+
+unmade_keeps : {name : List ℕ} {old new : List Slot} {f : Fault} → MakesNone old name new f → (place : ℕ) → has_file (slot_at new place).state ≡ has_file (slot_at old place).state
+unmade_keeps (unnamed same) place = grind (arith, common_steps)
+unmade_keeps {old = old} (failed _ (broke slot kept number is added)) place = grind (arith, common_steps)
+unmade_keeps (failed _ (numberless full same)) place = grind (arith, common_steps)
+
+pub owned_unopened : {writer : WriterState} {name : List ℕ} {old new : List Slot} {f : Fault} → MakesNone old name new f → KeepsFiles writer (record writer { current = Unopened }) old new
+owned_unopened {writer} {old = old} {new} none = grind (arith, common_steps, unmade_keeps, there_still)
+
+-- Which faults come
+
+pub make_breaks : (output : Output) {name : List ℕ} {old new : List Slot} {f : Fault} → MakesNone old name new f → Breaks output old new f
+make_breaks output (unnamed same) = tt
+make_breaks output {old = old} {new} (failed _ (broke slot kept number is added)) = grind (arith, common_steps)
+make_breaks output (failed _ (numberless full same)) = tt
+
+pub line_breaks : (told : Bool) (line : List ℕ) {old new : List Slot} {f : Fault} → IsTrue (is_writable old 0) → WritesShort told 0 line old new f → Breaks (output_of Sizes) old new f
+line_breaks told line {old} {new} can (short.broke n cut) = grind (arith, common_steps)
+
+-- The line with a file's size.
+
+one_left : (n all : ℕ) → n < all → take {A = ℕ} 1 (drop n (replicate all 10)) ≡ 10 ∷ []
+one_left zero (suc all) less = refl
+one_left (suc n) (suc all) less = one_left n all (omega arith)
+one_left n all less = absurd (omega arith)
+
+-- of a row of newlines the front was replaced by the digits, and one more is taken
+pub line_is : (size all : ℕ) {digits : List ℕ} (copied : List ℕ) → copied ≡ digits → digits ≡ decimal size → length digits < all → take (length digits + 1) (copied ++ drop (length digits) (replicate all 10)) ≡ decimal size ++ 10 ∷ []
+line_is size all {digits} copied same is fits = search (rules, take-append-add, one_left)
+
+abbrev pub state_of : WriterState → List ℕ → Current → WriterState
+state_of writer files current = record writer { files = files; current = current }
+
+-- What is begun
+
+pub now_is : {manner : Manner} {writer : WriterState} {draft : Draft} {current : Current} → writer.current ≡ current → Writes manner writer draft → IsCurrent draft.opening draft.bytes current
+now_is {draft = draft} is writes = subst (IsCurrent draft.opening draft.bytes) is writes.current
+
+-- all its files have names
+pub all_named : {manner : Manner} (writer : WriterState) (count : ℕ) → manner_in writer ≡ manner → AreNamed manner count
+all_named writer count same place less = ap (λ (those : Manner). those.has_name place) (sym same)
+
+-- Nothing is written: what is begun had no file, and has none
+
+pub goes_still : {told : Bool} {writer : WriterState} {change : Draft → Draft} (current : Current) {slots : List Slot} → IsReady writer slots → IsOpenAt current slots → (IsLast writer.current slots → IsLast current slots)
+    → ((draft : Draft) → IsCurrent draft.opening draft.bytes writer.current → (shares_of draft ≡ shares_of (change draft)) × IsCurrent (change draft).opening (change draft).bytes current)
+    → Goes told writer change slots slots (record writer { current = current }) None
+goes_still {writer = writer} {change} current {slots} ready at last stays = record {
+  leaves = record { tells = refl; owns = keeps; slots = λ place sound. sound; output = λ can. can; ready = record { named = ready.named; streams = ready.streams; output = ready.output; files = ready.files; current = at } };
+  reaches = λ manner draft writes. reaches_still keeps (ap (part_of manner) (stays draft writes.current).0);
+  writes = λ manner draft writes. let so = stays draft writes.current in record { same = writes.same; made = writes.made ∙ ap length so.0; current = so.1 };
+} where
+  keeps : KeepsFiles writer (record writer { current = current }) slots slots
+  keeps = record { owns = λ first owns. record { streams = owns.streams; within = owns.within; from = owns.from; own = owns.own; there = owns.there; last = last owns.last }; there = λ are. are }
+
+pub put_skipped : {told : Bool} {writer : WriterState} (bytes : List ℕ) {slots : List Slot} → writer.current ≡ Skipped → IsReady writer slots → Goes told writer (with_bytes bytes) slots slots writer None
+put_skipped {writer = writer} bytes is ready = goes_still writer.current ready ready.current (λ last. last) (λ draft now.
+    let never : draft.opening ≡ Never = subst (IsCurrent draft.opening draft.bytes) is now in (
+      ap (λ made. map (share state.Closed) draft.ended ++ map (share state.Open) made) (ap (λ opening. made_of opening draft.bytes) never ∙ sym (ap (λ opening. made_of opening (draft.bytes ++ bytes)) never)),
+      subst (IsCurrent draft.opening (draft.bytes ++ bytes)) (sym is) never,
+    ))
+
+-- nothing more is written
+pub put_nothing : {told : Bool} {writer : WriterState} {bytes : List ℕ} {slots : List Slot} → bytes ≡ [] → IsReady writer slots → Goes told writer (with_bytes bytes) slots slots writer None
+put_nothing {writer = writer} {bytes} none ready = goes_still writer.current ready ready.current (λ last. last) (λ draft now.
+    let same : draft.bytes ++ bytes ≡ draft.bytes = ap (λ those. draft.bytes ++ those) none ∙ append-nil draft.bytes in (
+      ap (λ those. map (share state.Closed) draft.ended ++ map (share state.Open) (made_of draft.opening those)) (sym same),
+      subst (λ those. IsCurrent draft.opening those writer.current) (sym same) now,
+    ))
+
+-- The open file gets more bytes, or breaks.
+
+file_now : {told : Bool} {writer next : WriterState} {slot size : ℕ} {bytes : List ℕ} {old new : List Slot} (fault : Option Fault) → writer.current ≡ File slot size → Appends told writer slot size bytes old new next fault → (more : ℕ) × (next.current ≡ File slot more)
+file_now {size = size} {bytes} None is appends = (size + length bytes, appends.current)
+file_now {size = size} (Some why) is appends = (size, appends.still ∙ is)
+
+wrote_slots : (told : Bool) (output : Output) (slot : ℕ) (bytes : List ℕ) (old new : List Slot) (fault : Option Fault) → (2 ≤ slot) × IsTrue (is_writable old slot) → Wrote told slot bytes old new fault → KeepsOrBreaks output old new fault
+wrote_slots told output slot bytes old new None at wrote = keeps_write slot _ old new wrote
+wrote_slots told output slot bytes old new (Some _) at (short.broke n cut) = (λ none. absurd (omega (arith, at.0, none)), write_rose told slot bytes n old new at.1 cut)
+
+wrote_made : (told : Bool) (slot : ℕ) (bytes : List ℕ) (old new : List Slot) (fault : Option Fault) → Wrote told slot bytes old new fault → KeepsMade old new
+wrote_made told slot bytes old new None wrote = made_write slot _ old new wrote
+wrote_made told slot bytes old new (Some f) wrote = made_short told slot bytes old new f wrote
+
+-- what can be written still can, where a write went well
+wrote_can : (told : Bool) (slot : ℕ) (bytes : List ℕ) (place : ℕ) (old new : List Slot) (fault : Option Fault) → Wrote told slot bytes old new fault → IfNone fault (IsTrue (is_writable old place) → IsTrue (is_writable new place))
+wrote_can told slot bytes place old new None wrote = λ can. written_writable old new place slot _ can wrote
+wrote_can told slot bytes place old new (Some f) wrote = tt
+
+-- a write to one of the outputs
+wrote_leaves : (told : Bool) {writer next : WriterState} (slot : ℕ) (bytes : List ℕ) {old new : List Slot} (fault : Option Fault) → next ≡ record writer { current = next.current } → (IsLast writer.current old → IsLast next.current new)
+    → KeepsOrBreaks (output_of writer.tells) old new fault → IfNone fault (IsOpenAt next.current new) → IsReady writer old → Wrote told slot bytes old new fault → Leaves writer next old new fault
+wrote_leaves told {writer} {next} slot bytes {old} {new} fault same last slots still ready wrote = record {
+  tells = ap (λ (w : WriterState). w.tells) same;
+  owns = owns;
+  slots = slots;
+  output = wrote_can told slot bytes 0 old new fault wrote;
+  ready = where_both fault (wrote_can told slot bytes 0 old new fault wrote) still (λ can at. record {
+    named = subst NamesAll (sym (ap (λ (w : WriterState). w.naming) same)) ready.named;
+    streams = (let two = ready.streams in omega (arith, two, made.size));
+    output = subst (λ tells. CanTell tells new) (sym (ap (λ (w : WriterState). w.tells) same)) (can_tell writer.tells old new can ready.output);
+    files = owns.there ready.files;
+    current = at;
+  });
+} where
+  made : KeepsMade old new
+  made = wrote_made told slot bytes old new fault wrote
+
+  owns : KeepsFiles writer next old new
+  owns = owned_same (ap (λ (w : WriterState). w.files) same) last made
+
+appends_leaves : {told : Bool} {writer next : WriterState} {slot size : ℕ} {bytes : List ℕ} {old new : List Slot} {fault : Option Fault} → writer.current ≡ File slot size → IsReady writer old → Appends told writer slot size bytes old new next fault
+    → Leaves writer next old new fault
+appends_leaves {told} {writer} {next} {slot} {bytes = bytes} {old} {new} {fault} is ready appends =
+    let at = at_file is ready in
+    let now = file_now fault is appends in
+    wrote_leaves told slot bytes fault appends.same
+    (λ last. subst (λ current. IsLast current new) (sym now.1) (last_file writer old is last ∙ sym (wrote_made told slot bytes old new fault appends.wrote).size))
+    (wrote_slots told (output_of writer.tells) slot bytes old new fault at appends.wrote)
+    (where_well fault (wrote_can told slot bytes slot old new fault appends.wrote) (λ can. subst (λ current. IsOpenAt current new) (sym now.1) (at.0, can at.1)))
+    ready appends.wrote
+
+pub put_file : {told : Bool} {writer next : WriterState} {slot size : ℕ} (bytes : List ℕ) {old new : List Slot} {fault : Option Fault} → writer.current ≡ File slot size → IsReady writer old → Appends told writer slot size bytes old new next fault
+    → Goes told writer (with_bytes bytes) old new next fault
+put_file {told} {writer} {next} {slot} {size} bytes {old} {new} {fault} is ready appends = record {
+  leaves = appends_leaves is ready appends;
+  reaches = λ manner draft writes. let now = now_is is writes in let named = all_named writer (suc (length draft.ended)) writes.same in
+      reaches_as (open_part manner draft named now.0) (open_part manner (with_bytes bytes draft) named (still_made draft.opening draft.bytes bytes now.0))
+      (reaches_by (appends_leaves is ready appends).owns (λ last. writes_to manner.output told (ended_out manner draft) (ended_files manner draft) (name_after manner draft)
+      draft.bytes bytes old fault (has_told manner.output (ended_files manner draft)) (closed_files manner 0 draft.ended) (last_file writer old is last) appends.wrote));
+  writes = where_well fault appends.current (λ current manner draft writes. let now = now_is is writes in record {
+    same = ap manner_in appends.same ∙ writes.same;
+    made = ap (λ (w : WriterState). length w.files) appends.same ∙ writes.made ∙ ap (λ made. length (map (share state.Closed) draft.ended ++ map (share state.Open) made)) now.0
+        ∙ length-append (map (share state.Closed) draft.ended) (share state.Open draft.bytes ∷ [])
+        ∙ sym (ap (λ made. length (map (share state.Closed) draft.ended ++ map (share state.Open) made)) (still_made draft.opening draft.bytes bytes now.0)
+        ∙ length-append (map (share state.Closed) draft.ended) (share state.Open (draft.bytes ++ bytes) ∷ []));
+    current = subst (IsCurrent draft.opening (draft.bytes ++ bytes)) (sym current) (still_made draft.opening draft.bytes bytes now.0, ap (λ n. n + length bytes) now.1 ∙ sym (length-append draft.bytes bytes));
+  });
+}
+
+-- What makes no file
+
+pub never_made : (draft : Draft) → draft.opening ≡ Never → made_of draft.opening draft.bytes ≡ []
+never_made draft is = ap (λ opening. made_of opening draft.bytes) is
+
+pub skipped_made : {current : Current} → current ≡ Skipped → (draft : Draft) → IsCurrent draft.opening draft.bytes current → made_of draft.opening draft.bytes ≡ []
+skipped_made is draft now = never_made draft (subst (IsCurrent draft.opening draft.bytes) is now)
+
+pub due_made : {current : Current} → current ≡ Due → (draft : Draft) → IsCurrent draft.opening draft.bytes current → made_of draft.opening draft.bytes ≡ []
+due_made is draft now =
+    let (late, none) : IsCurrent draft.opening draft.bytes Due = subst (IsCurrent draft.opening draft.bytes) is now in
+    ap (λ opening. made_of opening draft.bytes) late ∙ ap (made_of Late) none
+
+-- A file is made for what is begun.
+
+-- what is known where what is begun has no file, and one is made of it after a change
+pub record Unwritten (draft next : Draft) : Type 0 where
+  same : next.ended ≡ draft.ended
+  none : made_of draft.opening draft.bytes ≡ []
+  makes : made_of next.opening next.bytes ≡ next.bytes ∷ []
+
+unmade_count : {manner : Manner} {writer : WriterState} {draft : Draft} → made_of draft.opening draft.bytes ≡ [] → Writes manner writer draft → length writer.files ≡ length draft.ended
+unmade_count {draft = draft} none writes = writes.made ∙ ap (λ made. length (map (share state.Closed) draft.ended ++ map (share state.Open) made)) none ∙ ap length (append-nil (map (share state.Closed) draft.ended)) ∙ length-map draft.ended (share state.Closed)
+
+made_count : (draft : Draft) → made_of draft.opening draft.bytes ≡ draft.bytes ∷ [] → length (shares_of draft) ≡ length draft.ended + 1
+made_count draft makes = ap (λ made. length (map (share state.Closed) draft.ended ++ map (share state.Open) made)) makes ∙ length-append (map (share state.Closed) draft.ended) (share state.Open draft.bytes ∷ []) ∙ ap (λ n. n + 1) (length-map draft.ended (share state.Closed))
+
+-- its name
+due_name : {manner : Manner} {writer : WriterState} {draft : Draft} → made_of draft.opening draft.bytes ≡ [] → Writes manner writer draft → next_name writer ≡ name_after manner draft
+due_name {manner} {writer} {draft} none writes = ap (λ (those : Manner). those.name (length writer.files)) writes.same ∙ ap manner.name (unmade_count none writes)
+
+made_ready : {writer next : WriterState} {slot : ℕ} {old new : List Slot} → IsReady writer old → Made writer old new next slot → IsReady next new
+made_ready {writer} {next} {slot} {old} {new} ready made = record {
+  named = subst NamesAll (sym (ap (λ (w : WriterState). w.naming) made.same)) ready.named;
+  streams = (let two = ready.streams in let size : length new ≡ length old + 1 = ap length made.added ∙ length-append old (opened (next_name writer) Fresh ∷ []) in omega (arith, two, size));
+  output = subst (λ tells. CanTell tells new) (sym (ap (λ (w : WriterState). w.tells) made.same)) (can_tell writer.tells old new (writable_before old new 0 (opened (next_name writer) Fresh) (let two = ready.streams in omega (arith, two)) made.added) ready.output);
+  files = (owned_opened ready.streams made).there ready.files;
+  current = (grind (arith, common_steps));
+}
+
+made_leaves : {writer next : WriterState} {slot : ℕ} {old new : List Slot} → IsReady writer old → Made writer old new next slot → Leaves writer next old new None
+made_leaves {writer} {next} {old = old} {new} ready made = record {
+  tells = ap (λ (w : WriterState). w.tells) made.same;
+  owns = owned_opened ready.streams made;
+  slots = keeps_open _ old new made.added;
+  output = writable_before old new 0 (opened (next_name writer) Fresh) (let two = ready.streams in omega (arith, two)) made.added;
+  ready = made_ready ready made;
+}
+
+unmade_leaves : {writer next : WriterState} {old new : List Slot} {f : Fault} → Makes writer old new next (Err f) → Leaves writer next old new (Some f)
+unmade_leaves {writer} {old = old} {new} (same, none) = rw same (record { tells = refl; owns = owned_unopened none; slots = make_breaks (output_of writer.tells) none; output = tt; ready = tt })
+
+-- it was made
+made_becomes : {told : Bool} (manner : Manner) {writer made : WriterState} (draft : Draft) {slot : ℕ} {old new : List Slot} → next_name writer ≡ name_after manner draft → Made writer old new made slot
+    → Becomes manner.output told (part_with manner.output (ended_files manner draft)) (with_last (ended_out manner draft) (ended_files manner draft) (file_of (name_after manner draft) [] state.Open)) old new None
+made_becomes {told} manner draft {old = old} {new} name made = opens manner.output told (ended_out manner draft) (ended_files manner draft) (name_after manner draft) (made.added ∙ ap (λ those. old ++ opened those Fresh ∷ []) name)
+
+-- it could not be made
+pub goes_unmade : {told : Bool} {writer next : WriterState} {change : Draft → Draft} {old new : List Slot} {f : Fault}
+    → ((draft : Draft) → IsCurrent draft.opening draft.bytes writer.current → Unwritten draft (change draft)) → Makes writer old new next (Err f) → Goes told writer change old new next (Some f)
+goes_unmade {told} {writer} {change = change} {old} {new} {f} of makes = record {
+  leaves = unmade_leaves makes;
+  reaches = λ manner draft writes. let so = of draft writes.current in let named = all_named writer (suc (length (change draft).ended)) writes.same in
+      reaches_as (none_part manner draft so.none) refl (reaches_by (unmade_leaves makes).owns (λ last. opens_not manner.output told (ended_files manner draft) (closed_files manner 0 draft.ended)
+      (subst (λ part. Begins part (draft_part manner (change draft))) (ap (λ ended. part_of manner (map (share state.Closed) ended ++ [])) so.same ∙ ap (part_of manner) (append-nil (map (share state.Closed) draft.ended)))
+      (part_grows manner (map (share state.Closed) (change draft).ended) [] _ tt))
+      (record {
+        front = ended_files manner draft;
+        file = file_of (name_after manner draft) (change draft).bytes state.Open;
+        rest = [];
+        files = ap (λ (part : Part). part.files) (open_part manner (change draft) named so.makes) ∙ ap (λ ended. files_from manner 0 (map (share state.Closed) ended) ++ file_of (manner.name (length ended)) (change draft).bytes state.Open ∷ []) so.same;
+        place = refl;
+        name_is = refl;
+      })
+      (subst (λ name. MakesNone old name new f) (due_name so.none writes) makes.1)));
+  writes = tt;
+}
+
+-- and gets its first bytes, if there are any
+pub goes_made : {told : Bool} {writer made next : WriterState} {change : Draft → Draft} {slot : ℕ} (bytes : List ℕ) {old mid new : List Slot} {fault : Option Fault}
+    → ((draft : Draft) → IsCurrent draft.opening draft.bytes writer.current → Unwritten draft (change draft) × ((change draft).bytes ≡ bytes)) → IsReady writer old → Made writer old mid made slot
+    → Appends told made slot 0 bytes mid new next fault → Goes told writer change old new next fault
+goes_made {told} {writer} {made} {next} {change} {slot} bytes {old} {mid} {new} {fault} of ready makes appends = record {
+  leaves = leaves;
+  reaches = λ manner draft writes. let (so, are) = of draft writes.current in let named = all_named writer (suc (length (change draft).ended)) writes.same in
+      reaches_as (none_part manner draft so.none)
+      (open_part manner (change draft) named so.makes ∙ ap (λ ended. with_last (told_of_files manner.output (files_from manner 0 (map (share state.Closed) ended))) (files_from manner 0 (map (share state.Closed) ended)) (file_of (manner.name (length ended)) (change draft).bytes state.Open)) so.same
+      ∙ ap (λ those. with_last (ended_out manner draft) (ended_files manner draft) (file_of (name_after manner draft) those state.Open)) are)
+      (reaches_by leaves.owns (λ last. becomes_again (file_begins (ended_files manner draft) (file_of (name_after manner draft) [] state.Open)) (made_becomes manner draft (due_name so.none writes) makes)
+      (writes_to manner.output told (ended_out manner draft) (ended_files manner draft) (name_after manner draft) [] bytes mid fault
+      (has_told manner.output (ended_files manner draft)) (closed_files manner 0 draft.ended) (opened_last old mid slot (next_name writer) Fresh makes.place makes.added) appends.wrote)));
+  writes = where_well fault appends.current (λ current manner draft writes. let (so, are) = of draft writes.current in record {
+    same = ap manner_in appends.same ∙ ap manner_in makes.same ∙ writes.same;
+    made = ap (λ (w : WriterState). length w.files) appends.same ∙ ap (λ (w : WriterState). length w.files) makes.same ∙ length-append writer.files (slot ∷ []) ∙ ap (λ n. n + 1) (unmade_count so.none writes ∙ ap length (sym so.same)) ∙ sym (made_count (change draft) so.makes);
+    current = subst (IsCurrent (change draft).opening (change draft).bytes) (sym current) (so.makes, zero-add (length bytes) ∙ ap length (sym are));
+  });
+} where
+  is_file : made.current ≡ File slot 0
+  is_file = ap (λ (w : WriterState). w.current) makes.same
+
+  leaves : Leaves writer next old new fault
+  leaves = leaves_again (made_leaves ready makes) (appends_leaves is_file (made_ready ready makes) appends)
+
+-- The first bytes of what gets its file with them
+pub first_bytes : {current : Current} (bytes : List ℕ) → current ≡ Due → false ≡ eqb (length bytes) 0 → (draft : Draft) → IsCurrent draft.opening draft.bytes current → Unwritten draft (with_bytes bytes draft) × (draft.bytes ++ bytes ≡ bytes)
+first_bytes bytes is some draft now =
+    let (late, none) : IsCurrent draft.opening draft.bytes Due = subst (IsCurrent draft.opening draft.bytes) is now in
+    let all : draft.bytes ++ bytes ≡ bytes = ap (λ those. those ++ bytes) none in (
+      record {
+        same = refl;
+        none = due_made is draft now;
+        makes = ap (λ opening. made_of opening (draft.bytes ++ bytes)) late ∙ ap (made_of Late) all ∙ late_made bytes (grind (arith, common_steps)) ∙ ap (λ those. those ∷ []) (sym all);
+      },
+      all,
+    )
+
+-- What is begun where nothing is
+
+paused_ready : {writer : WriterState} {slots : List Slot} → IsReady writer slots → IsReady (paused writer) slots
+paused_ready ready = record { named = ready.named; streams = ready.streams; output = ready.output; files = ready.files; current = tt }
+
+-- what was begun had no file
+ended_none : (draft : Draft) → made_of draft.opening draft.bytes ≡ [] → draft.ended ++ made_of draft.opening draft.bytes ≡ draft.ended
+ended_none draft none = ap (λ made. draft.ended ++ made) none ∙ append-nil draft.ended
+
+-- what has no file is begun, after what has none
+pub begins_none : {told : Bool} {writer : WriterState} {opening : Opening} (current : Current) {slots : List Slot} → ((draft : Draft) → IsCurrent draft.opening draft.bytes writer.current → made_of draft.opening draft.bytes ≡ [])
+    → made_of opening [] ≡ [] → IsCurrent opening [] current → IsOpenAt current slots → IsLast current slots → IsReady writer slots → Goes told writer (with_next opening) slots slots (record writer { current = current }) None
+begins_none {opening = opening} current before none is_current at last ready = goes_still current ready at (λ was. last) (λ draft now.
+    let had = before draft now in (
+      ap (λ made. map (share state.Closed) draft.ended ++ map (share state.Open) made) (had ∙ sym none) ∙ ap (λ ended. map (share state.Closed) ended ++ map (share state.Open) (made_of opening [])) (sym (ended_none draft had)),
+      is_current,
+    ))
+
+pub begin_none : {told : Bool} {writer : WriterState} {opening : Opening} (current : Current) {slots : List Slot} → made_of opening [] ≡ [] → IsCurrent opening [] current → IsOpenAt current slots → IsLast current slots → IsReady writer slots
+    → Goes told (paused writer) (with_next opening) slots slots (record writer { current = current }) None
+begin_none current none is_current at last ready = begins_none current never_made none is_current at last (paused_ready ready)
+
+-- what has one at once is begun
+pub at_once : {opening : Opening} → opening ≡ AtOnce → (draft : Draft) → draft.opening ≡ Never → Unwritten draft (with_next opening draft)
+at_once {opening} is draft never = record {
+  same = ended_none draft (never_made draft never);
+  none = never_made draft never;
+  makes = ap (λ those. made_of those []) is;
+}
+
+pub begin_made : {told : Bool} {writer next : WriterState} {opening : Opening} {slot : ℕ} {old new : List Slot} → opening ≡ AtOnce → IsReady writer old → Made writer old new next slot → Goes told (paused writer) (with_next opening) old new next None
+begin_made {told} {writer} {next} {opening} {slot} {old} {new} is ready made =
+    goes_made [] (λ draft never. (at_once is draft never, refl)) (paused_ready ready) (record { place = made.place; added = made.added; same = made.same })
+    (record { same = refl; current = (grind (arith, common_steps)); still = tt; wrote = none_written told slot })
+
+-- before anything was begun
+pub new_owns : (naming : Naming) (tells : Tells) {slots : List Slot} → 2 ≤ length slots → OwnsFiles (new_writer naming tells) (length slots) slots
+new_owns naming tells {slots} two = grind (arith, common_steps)
+
+-- What is begun ends, and what is next begins.
+
+-- it has no file
+pub end_none : {told : Bool} {writer : WriterState} {current : Current} {slots : List Slot} → current ≡ Skipped → ((draft : Draft) → IsCurrent draft.opening draft.bytes writer.current → made_of draft.opening draft.bytes ≡ []) → IsReady writer slots
+    → Goes told writer (with_next Never) slots slots (record writer { current = current }) None
+end_none {current = current} {slots} is none ready = begins_none current none refl (subst (IsCurrent Never []) (sym is) refl) (subst (λ now. IsOpenAt now slots) (sym is) tt) (subst (λ now. IsLast now slots) (sym is) tt) ready
+
+-- it has one
+
+file_ends : {manner : Manner} {writer : WriterState} {draft : Draft} (slot size : ℕ) → writer.current ≡ File slot size → Writes manner writer draft → Writes manner (paused writer) (with_next Never draft)
+file_ends {manner} {writer} {draft} slot size is writes =
+    let makes = (now_is is writes).0 in record {
+      same = writes.same;
+      made = writes.made ∙ made_count draft makes ∙ sym (length-append (map (share state.Closed) (draft.ended ++ made_of draft.opening draft.bytes)) [] ∙ (grind (arith, common_steps, length-map, length-append, makes)));
+      current = refl;
+    }
+
+file_closed : {writer : WriterState} {old new : List Slot} → KeepsMade old new → KeepsFiles writer (paused writer) old new
+file_closed keeps = owned_same refl (λ last. tt) keeps
+
+closed_can : (slot : ℕ) (old new : List Slot) → 2 ≤ slot → new ≡ changed_at slot closes old → IsTrue (is_writable old 0) → IsTrue (is_writable new 0)
+closed_can slot old new two closed can = writable_elsewhere old new 0 slot closes (λ same. omega (arith, two, same)) closed can
+
+closed_leaves : {writer : WriterState} (slot size : ℕ) {old new : List Slot} → writer.current ≡ File slot size → IsReady writer old → new ≡ changed_at slot closes old → Leaves writer (paused writer) old new None
+closed_leaves {writer} slot size {old} {new} is ready closed =
+    let at = at_file is ready in
+    let made = made_close slot old new at.1 closed in record {
+      tells = refl;
+      owns = file_closed made;
+      slots = keeps_close slot old new closed;
+      output = closed_can slot old new at.0 closed;
+      ready = record {
+        named = ready.named;
+        streams = (let two = ready.streams in omega (arith, two, made.size));
+        output = can_tell writer.tells old new (closed_can slot old new at.0 closed) ready.output;
+        files = there_same writer.files made ready.files;
+        current = tt;
+      };
+    }
+
+-- the file breaks as it is closed
+pub close_not : {told : Bool} {writer : WriterState} (slot size : ℕ) {old new : List Slot} {f : Fault} → writer.current ≡ File slot size → IsReady writer old → f ≡ fault.Write slot → new ≡ with_broken slot (changed_at slot closes old)
+    → Goes told writer (with_next Never) old new (paused writer) (Some f)
+close_not {told} {writer} slot size {old} {new} is ready which broken = subst (λ f. Goes told writer (with_next Never) old new (paused writer) (Some f)) (sym which) (record {
+  leaves = record { tells = refl; owns = owns; slots = (let at = at_file is ready in (λ none. absurd (omega (arith, at.0, none)), close_rose slot old new at.1 (writable_within slot old at.1) broken)); output = tt; ready = tt };
+  reaches = λ manner draft writes. let now = now_is is writes in let named = all_named writer (suc (length draft.ended)) writes.same in
+      reaches_as (open_part manner draft named now.0) (closed_part manner draft named now.0)
+      (reaches_by owns (λ last. falls_wider (closes_not manner.output told (ended_out manner draft) (ended_files manner draft) (name_after manner draft) draft.bytes old
+      (has_told manner.output (ended_files manner draft)) (closed_files manner 0 draft.ended) (last_file writer old is last) broken) (line_begins _)));
+  writes = tt;
+}) where
+  owns : KeepsFiles writer (paused writer) old new
+  owns = file_closed (made_again old (changed_at slot closes old) new (made_close slot old _ (at_file is ready).1 refl) (made_break slot _ new broken))
+
+-- it is told of, or standard output breaks
+tells_file : (tells : Tells) (output : Output) (told : Bool) (size : ℕ) (front : List PartFile) (file : PartFile) (old : List Slot) {new : List Slot} (fault : Option Fault) → output_of tells ≡ output → file.state ≡ state.Closed → size ≡ length file.bytes
+    → AllClosed front → 0 < length old → TellsSize told tells size old new fault
+    → Becomes output told (with_last (told_of_files output front) front file) (with_last (told_of_files output front ++ told_of_files output (file ∷ [])) front file) old new fault
+tells_file Nothing output told size front file old fault is shut size_is closed some (well, same) = grind (arith, common_steps, append-nil)
+tells_file Sizes output told size front file old {new} fault is shut size_is closed some wrote = rw (← is) (rw line_told (tells_line size_of_file told front file shut old fault closed some (subst (λ n. Wrote told 0 (decimal n ++ 10 ∷ []) old new fault) size_is wrote))) where
+  line_told : lines_for size_of_file (file ∷ []) ≡ size_of_file file
+  line_told = grind (arith, common_steps)
+
+told_leaves : (told : Bool) (writer : WriterState) (size : ℕ) {old new : List Slot} (fault : Option Fault) (tells : Tells) → writer.tells ≡ tells → IsReady (paused writer) old → TellsSize told tells size old new fault → Leaves (paused writer) (paused writer) old new fault
+told_leaves told writer size fault Nothing is ready (well, same) = rw (well, same) (leaves_still ready)
+told_leaves told writer size {old} {new} fault Sizes is ready wrote =
+    let can : IsTrue (is_writable old 0) = subst (λ tells. CanTell tells old) is ready.output in
+    wrote_leaves told 0 (decimal size ++ 10 ∷ []) fault refl (λ last. tt) (rw is (slots fault can wrote)) (in_any fault tt) ready wrote where
+      slots : (fault : Option Fault) → IsTrue (is_writable old 0) → Wrote told 0 (decimal size ++ 10 ∷ []) old new fault → KeepsOrBreaks (output_of Sizes) old new fault
+      slots None can wrote = keeps_write 0 _ old new wrote
+      slots (Some f) can wrote = line_breaks told (decimal size ++ 10 ∷ []) can wrote
+
+pub end_told : {told : Bool} {writer : WriterState} (slot size : ℕ) {old mid new : List Slot} {fault : Option Fault} → writer.current ≡ File slot size → IsReady writer old → mid ≡ changed_at slot closes old → TellsSize told writer.tells size mid new fault
+    → Goes told writer (with_next Never) old new (paused writer) fault
+end_told {told} {writer} slot size {old} {mid} {new} {fault} is ready closed tells = record {
+  leaves = leaves;
+  reaches = λ manner draft writes. let now = now_is is writes in let named = all_named writer (suc (length draft.ended)) writes.same in
+      reaches_as (open_part manner draft named now.0) (closed_part manner draft named now.0) (reaches_by leaves.owns (λ last. becomes_again
+      (close_begins (ended_out manner draft) (ended_files manner draft) (name_after manner draft) draft.bytes)
+      (closes_last manner.output told (ended_out manner draft) (ended_files manner draft) (name_after manner draft) draft.bytes old (last_file writer old is last) closed)
+      (tells_file writer.tells manner.output told size (ended_files manner draft) (file_of (name_after manner draft) draft.bytes state.Closed) mid fault (ap (λ (those : Manner). those.output) writes.same) refl now.1 (closed_files manner 0 draft.ended)
+      (let two = paused_now.streams in omega (arith, two)) tells)));
+  writes = in_any fault (λ manner draft writes. file_ends slot size is writes);
+} where
+  paused_now : IsReady (paused writer) mid
+  paused_now = (closed_leaves slot size is ready closed).ready
+
+  leaves : Leaves writer (paused writer) old new fault
+  leaves = leaves_again (closed_leaves slot size is ready closed) (told_leaves told writer size fault writer.tells refl paused_now tells)
+
+-- One change after another
+
+pub goes_again : {told : Bool} {one two three : WriterState} {first second : Draft → Draft} (both : Draft → Draft) {old mid new : List Slot} {fault : Option Fault} → ((draft : Draft) → second (first draft) ≡ both draft)
+    → ((manner : Manner) (draft : Draft) → Begins (draft_part manner draft) (draft_part manner (first draft))) → Goes told one first old mid two None → Goes told two second mid new three fault → Goes told one both old new three fault
+goes_again {three = three} {first} {second} both {fault = fault} is begins before after = record {
+  leaves = leaves_again before.leaves after.leaves;
+  reaches = λ manner draft writes. reaches_again (begins manner draft) (before.reaches manner draft writes) (reaches_as refl (ap (draft_part manner) (sym (is draft))) (after.reaches manner (first draft) (before.writes manner draft writes)));
+  writes = where_well fault after.writes (λ more manner draft writes. subst (Writes manner three) (is draft) (more manner (first draft) (before.writes manner draft writes)));
+}
+
+-- it was stopped on its way to more
+pub goes_wider : {told : Bool} {writer next : WriterState} {low : Draft → Draft} (high : Draft → Draft) {old new : List Slot} {fault : Fault} → ((manner : Manner) (draft : Draft) → Begins (draft_part manner (low draft)) (draft_part manner (high draft)))
+    → Goes told writer low old new next (Some fault) → Goes told writer high old new next (Some fault)
+goes_wider high begins stopped = record { leaves = stopped.leaves; reaches = λ manner draft writes. stops_wider (stopped.reaches manner draft writes) (begins manner draft); writes = tt }
+
+pub next_not_ended : {told : Bool} {writer next : WriterState} (opening : Opening) {old new : List Slot} {f : Fault} → Goes told writer (with_next Never) old new next (Some f) → Goes told writer (with_next opening) old new next (Some f)
+next_not_ended opening ended = goes_wider (with_next opening) (λ manner draft. begun_begins manner opening draft) ended
+
+-- what is next begins where what was begun has ended
+next_after : (opening : Opening) (draft : Draft) → with_next opening (with_next Never draft) ≡ with_next opening draft
+next_after opening draft = ap (λ ended. record { ended = ended; opening = opening; bytes = [] }) (append-nil (draft.ended ++ made_of draft.opening draft.bytes))
+
+pub next_begun : {told : Bool} {writer mid next : WriterState} {opening : Opening} {old between new : List Slot} {fault : Option Fault} → Goes told writer (with_next Never) old between mid None → mid.current ≡ Skipped
+    → Goes told (paused mid) (with_next opening) between new next fault → Goes told writer (with_next opening) old new next fault
+next_begun {told} {mid = mid} {next} {opening} {between = between} {new} {fault} ended none start = goes_again (with_next opening) (next_after opening) (λ manner draft. next_begins manner Never draft) ended
+    (subst (λ current. Goes told (record mid { current = current }) (with_next opening) between new next fault) (sym none) start)
+
+-- More bytes after others
+
+again : (draft : Draft) (a b : List ℕ) → with_bytes b (with_bytes a draft) ≡ with_bytes (a ++ b) draft
+again draft a b = grind (arith, common_steps)
+
+pub goes_more : {told : Bool} {one two three : WriterState} (a b : List ℕ) {old mid new : List Slot} {fault : Option Fault} → Goes told one (with_bytes a) old mid two None → Goes told two (with_bytes b) mid new three fault → Goes told one (with_bytes (a ++ b)) old new three fault
+goes_more a b first second = goes_again (with_bytes (a ++ b)) (λ draft. again draft a b) (λ manner draft. bytes_begin manner a draft) first second
+
+-- it was stopped among them
+pub stops_among : {told : Bool} {writer next : WriterState} (a b : List ℕ) {old new : List Slot} {fault : Fault} → Goes told writer (with_bytes a) old new next (Some fault) → Goes told writer (with_bytes (a ++ b)) old new next (Some fault)
+stops_among a b stopped = goes_wider (with_bytes (a ++ b)) (λ manner draft. subst (λ those. Begins (draft_part manner (with_bytes a draft)) (draft_part manner those)) (again draft a b) (bytes_begin manner b (with_bytes a draft))) stopped
+
+pub goes_as : {told : Bool} {writer next : WriterState} {a b : List ℕ} {old new : List Slot} {fault : Option Fault} → a ≡ b → Goes told writer (with_bytes a) old new next fault → Goes told writer (with_bytes b) old new next fault
+goes_as {told} {writer} {next} {old = old} {new} {fault} is goes = subst (λ bytes. Goes told writer (with_bytes bytes) old new next fault) is goes
+
+-- the last call only wants memory
+pub goes_or_lacks : {told : Bool} {writer next : WriterState} {bytes : List ℕ} {old new : List Slot} (result : Result (Unit {0}) Fault) → Goes told writer (with_bytes bytes) old new next None → IfErr result (λ fault. fault ≡ Memory)
+    → Goes told writer (with_bytes bytes) old new next (fault_in result)
+goes_or_lacks (Ok done) went lacks = went
+goes_or_lacks {told} {writer} {next} {bytes} {old} {new} (Err fault) went lacks = subst (λ why. Goes told writer (with_bytes bytes) old new next (Some why)) (sym lacks) (record {
+  leaves = leaves_again went.leaves leaves_lacking;
+  reaches = λ manner draft writes. reaches_again (bytes_begin manner bytes draft) (went.reaches manner draft writes) (lacks_memory manner (with_bytes bytes draft) (all_named writer (suc (length draft.ended)) writes.same));
+  writes = tt;
+})
+
+pub goes_lacking : {told : Bool} {writer : WriterState} {bytes : List ℕ} {slots : List Slot} {fault : Fault} → IsReady writer slots → fault ≡ Memory → Goes told writer (with_bytes bytes) slots slots writer (Some fault)
+goes_lacking {bytes = bytes} {fault = fault} ready lacks = stops_among [] bytes (goes_or_lacks (Err fault) (put_nothing refl ready) lacks)
+
+-- The files are removed.
+
+pub files_left : {writer next : WriterState} {old new : List Slot} → next.current ≡ writer.current → Removes writer.files old next.files new → KeepsFiles writer next old new
+files_left {writer} {next} {old} {new} same removes = search (rules, same_size, left_has, left_there, false≢true, left_apart)

@@ -1,0 +1,213 @@
+-- The files of shares, and what standard output is told of them: what begins what, and the last file.
+use Rattle.std.proofs.lemmas.Grind.{common_steps}
+use Rattle.std.proofs.Common.{◌≡◌, ℕ, ◌+◌, ◌<◌, suc, Bool, true, false, cond, List, [], ◌∷◌, ◌++◌, ◌⊎◌, length, map, inl, inr, refl, sym, ◌∙◌, ap, arith, append_assoc, append-nil}
+use Rattle.std.proofs.lemmas.Bool.{cond_both}
+use Rattle.std.proofs.lemmas.List.{map-append, length-map}
+use Rattle.ports_core.specs.Draft.{Manner, Share, share, file_at, files_from, told_of_files, part_with, part_of, made_of, Draft, shares_of, draft_part, with_bytes, with_next}
+use Rattle.ports_core.specs.Part.{File, nothing, Begins, FilesBegin, IsBeginning, Output, gets_none, gets_bytes, gets_lines, lines_for}
+use Rattle.ports_core.specs.Slot.{is_open}
+use Rattle.ports_core.specs.Turn.{AllClosed}
+use Rattle.ports_core.specs.inner.Part.{HasLines}
+use Rattle.ports_core.specs.inner.Shares.{SharesBegin}
+use Rattle.ports_core.specs.declared.file_writer.Opening.{Opening}
+use Rattle.ports_core.specs.declared.file_writer.Opening.TheVariants.{Never, Late, AtOnce}
+use Rattle.ports_core.specs.declared.slot.State.{State}
+use Rattle.ports_core.specs.declared.slot.State.TheVariants.{Open, Closed}
+use Rattle.ports_core.proofs.PartLemmas.{begins_itself, begins_more}
+use Rattle.ports_core.proofs.PartSteps.{with_last, file_of}
+
+-- Shares that begin others
+
+pub shares_after : (front low high : List Share) → SharesBegin low high → SharesBegin (front ++ low) (front ++ high)
+shares_after [] low high begins = begins
+shares_after (share ∷ front) low high begins = (inr refl, begins_itself share.bytes, shares_after front low high begins)
+
+pub shares_wider : (low high more : List Share) → SharesBegin low high → SharesBegin low (high ++ more)
+shares_wider [] high more begins = tt
+shares_wider (share ∷ low) [] more begins = absurd begins
+shares_wider (share ∷ low) (whole ∷ high) more begins = (begins.0, begins.1, shares_wider low high more begins.2)
+
+-- an open share begins one of more bytes, whatever its state
+pub made_begin : (opening : Opening) (state : State) (low high : List ℕ) → IsBeginning low high → SharesBegin (map (share Open) (made_of opening low)) (map (share state) (made_of opening high))
+made_begin Never state low high begins = tt
+made_begin Late state [] high begins = tt
+made_begin Late state (byte ∷ low) [] (rest, is) = absurd (cc)
+made_begin Late state (byte ∷ low) (first ∷ high) begins = (inl refl, begins, tt)
+made_begin AtOnce state low high begins = (inl refl, begins, tt)
+
+-- Their files begin the files of those
+
+files_by : (manner : Manner) (has : Bool) (place : ℕ) (one other : Share) (low high : List File) → (one.state ≡ Open) ⊎ (one ≡ other) → IsBeginning one.bytes other.bytes → FilesBegin low high
+    → FilesBegin (cond has (file_at manner place one ∷ low) []) (cond has (file_at manner place other ∷ high) [])
+files_by manner true place one other low high kept first rest = grind (arith, common_steps)
+files_by manner false place one other low high kept first rest = tt
+
+pub files_begin : (manner : Manner) (place : ℕ) (low high : List Share) → SharesBegin low high → FilesBegin (files_from manner place low) (files_from manner place high)
+files_begin manner place [] high begins = tt
+files_begin manner place (share ∷ low) [] begins = absurd begins
+files_begin manner place (share ∷ low) (whole ∷ high) begins =
+    files_by manner (manner.has_name place) place share whole (files_from manner (place + 1) low) (files_from manner (place + 1) high) begins.0 begins.1 (files_begin manner (place + 1) low high begins.2)
+
+-- What standard output is told of them
+
+pub told-append : (output : Output) (a b : List File) → told_of_files output (a ++ b) ≡ told_of_files output a ++ told_of_files output b
+told-append gets_none a b = refl
+told-append gets_bytes a b = refl
+told-append (gets_lines line) [] b = refl
+told-append (gets_lines line) (file ∷ a) b =
+    ap (λ rest. cond (is_open file.state) [] (line file) ++ rest) (told-append (gets_lines line) a b) ∙ sym (append_assoc (cond (is_open file.state) [] (line file)) (lines_for line a) (lines_for line b))
+
+pub has_told : (output : Output) (files : List File) → HasLines output (told_of_files output files) files
+has_told gets_none files = tt
+has_told gets_bytes files = tt
+has_told (gets_lines line) files = refl
+
+-- where there are none
+pub nothing_part : (output : Output) → part_with output [] ≡ nothing
+nothing_part gets_none = refl
+nothing_part gets_bytes = refl
+nothing_part (gets_lines line) = refl
+
+pub nothing_told : (output : Output) → HasLines output [] []
+nothing_told gets_none = tt
+nothing_told gets_bytes = tt
+nothing_told (gets_lines line) = refl
+
+-- nothing of open files
+pub open_untold : (output : Output) (manner : Manner) (place : ℕ) (bytes : List (List ℕ)) → told_of_files output (files_from manner place (map (share Open) bytes)) ≡ []
+open_untold gets_none manner place bytes = refl
+open_untold gets_bytes manner place bytes = refl
+open_untold (gets_lines line) manner place [] = refl
+open_untold (gets_lines line) manner place (one ∷ bytes) = cond_both (manner.has_name place) _ _ (λ files. lines_for line files ≡ []) (λ is. open_untold (gets_lines line) manner (place + 1) bytes) (λ is. refl)
+
+began : (a b c : List ℕ) → IsBeginning b c → IsBeginning (a ++ b) (a ++ c)
+began a b c (rest, is) = (rest, ap (λ those. a ++ those) is ∙ sym (append_assoc a b rest))
+
+told_by : (line : File → List ℕ) (has : Bool) (file : File) (low high : List File) → IsBeginning (lines_for line low) (lines_for line high) → IsBeginning (lines_for line (cond has (file ∷ low) [])) (lines_for line (cond has (file ∷ high) []))
+told_by line true file low high begins = began (cond (is_open file.state) [] (line file)) _ _ begins
+told_by line false file low high begins = begins_itself []
+
+-- nor does it lose what it was told, as the last shares grow
+told_grows : (output : Output) (manner : Manner) (place : ℕ) (front : List Share) (low : List (List ℕ)) (high : List Share)
+    → IsBeginning (told_of_files output (files_from manner place (front ++ map (share Open) low))) (told_of_files output (files_from manner place (front ++ high)))
+told_grows gets_none manner place front low high = begins_itself []
+told_grows gets_bytes manner place front low high = begins_itself []
+told_grows (gets_lines line) manner place [] low high = rw (open_untold (gets_lines line) manner place low) (_, refl)
+told_grows (gets_lines line) manner place (one ∷ front) low high =
+    told_by line (manner.has_name place) (file_at manner place one) (files_from manner (place + 1) (front ++ map (share Open) low)) (files_from manner (place + 1) (front ++ high)) (told_grows (gets_lines line) manner (place + 1) front low high)
+
+-- what is written of shares whose last ones are open, and go on
+pub part_grows : (manner : Manner) (front : List Share) (low : List (List ℕ)) (high : List Share) → SharesBegin (map (share Open) low) high → Begins (part_of manner (front ++ map (share Open) low)) (part_of manner (front ++ high))
+part_grows manner front low high begins = record {
+  out = told_grows manner.output manner 0 front low high;
+  files = files_begin manner 0 _ _ (shares_after front _ high begins);
+}
+
+-- What is written of a draft only grows.
+
+pub bytes_begin : (manner : Manner) (bytes : List ℕ) (draft : Draft) → Begins (draft_part manner draft) (draft_part manner (with_bytes bytes draft))
+bytes_begin manner bytes draft = part_grows manner (map (share Closed) draft.ended) (made_of draft.opening draft.bytes) _ (made_begin draft.opening Open draft.bytes (draft.bytes ++ bytes) (begins_more draft.bytes bytes))
+
+pub next_shares : (opening : Opening) (draft : Draft) → shares_of (with_next opening draft) ≡ map (share Closed) draft.ended ++ (map (share Closed) (made_of draft.opening draft.bytes) ++ map (share Open) (made_of opening []))
+next_shares opening draft =
+    ap (λ front. front ++ map (share Open) (made_of opening [])) (map-append (share Closed) draft.ended (made_of draft.opening draft.bytes))
+    ∙ append_assoc (map (share Closed) draft.ended) (map (share Closed) (made_of draft.opening draft.bytes)) (map (share Open) (made_of opening []))
+
+pub next_begins : (manner : Manner) (opening : Opening) (draft : Draft) → Begins (draft_part manner draft) (draft_part manner (with_next opening draft))
+next_begins manner opening draft = rw (next_shares opening draft)
+    (part_grows manner (map (share Closed) draft.ended) (made_of draft.opening draft.bytes) _ (shares_wider _ (map (share Closed) (made_of draft.opening draft.bytes)) _ (made_begin draft.opening Closed draft.bytes draft.bytes (begins_itself draft.bytes))))
+
+-- and what is begun after it comes after what is written
+pub begun_begins : (manner : Manner) (opening : Opening) (draft : Draft) → Begins (draft_part manner (with_next Never draft)) (draft_part manner (with_next opening draft))
+begun_begins manner opening draft = part_grows manner (map (share Closed) (draft.ended ++ made_of draft.opening draft.bytes)) [] (map (share Open) (made_of opening [])) tt
+
+-- Files that all have names
+
+-- these places have names
+abbrev pub AreNamed : Manner → ℕ → Type 0
+AreNamed manner count = (place : ℕ) → place < count → manner.has_name place ≡ true
+
+-- the place after the next ones is that after the first of them
+one_on : (n m : ℕ) → n + suc m ≡ n + 1 + m
+one_on n m = omega arith
+
+-- the files of shares, and then of those after them
+files_on : (manner : Manner) (place : ℕ) (front rest : List Share) → AreNamed manner (place + length front) → files_from manner place (front ++ rest) ≡ files_from manner place front ++ files_from manner (place + length front) rest
+files_on manner place [] rest named = ap (λ n. files_from manner n rest) (let e : place ≡ place + 0 = omega arith in e)
+files_on manner place (one ∷ front) rest named = cc (
+  named place (omega arith),
+  one_on place (length front),
+  files_on manner (place + 1) front rest (λ other less. named other (omega (arith, less))),
+)
+
+pub closed_files : (manner : Manner) (place : ℕ) (ended : List (List ℕ)) → AllClosed (files_from manner place (map (share Closed) ended))
+closed_files manner place [] = tt
+closed_files manner place (one ∷ ended) = cond_both (manner.has_name place) _ _ AllClosed (λ is. (refl, closed_files manner (place + 1) ended)) (λ is. tt)
+
+-- The files that ended, and one more
+
+abbrev pub ended_files : Manner → Draft → List File
+ended_files manner draft = files_from manner 0 (map (share Closed) draft.ended)
+
+abbrev pub ended_out : Manner → Draft → List ℕ
+ended_out manner draft = told_of_files manner.output (ended_files manner draft)
+
+abbrev pub name_after : Manner → Draft → List ℕ
+name_after manner draft = manner.name (length draft.ended)
+
+files_with : (manner : Manner) (draft : Draft) (state : State) (bytes : List ℕ) → AreNamed manner (suc (length draft.ended)) → files_from manner 0 (map (share Closed) draft.ended ++ share state bytes ∷ []) ≡ ended_files manner draft ++ file_of (name_after manner draft) bytes state ∷ []
+files_with manner draft state bytes named =
+    let count : length (map (share Closed) draft.ended) ≡ length draft.ended = length-map draft.ended (share Closed) in
+    files_on manner 0 (map (share Closed) draft.ended) (share state bytes ∷ []) (λ place less. named place (omega (arith, less, count)))
+    ∙ ap (λ rest. ended_files manner draft ++ rest) (ap (λ n. files_from manner n (share state bytes ∷ [])) (let e : 0 + length (map (share Closed) draft.ended) ≡ length draft.ended = omega (arith, count) in e)
+    ∙ ap (λ has. cond has (file_at manner (length draft.ended) (share state bytes) ∷ []) []) (named (length draft.ended) (omega arith)))
+
+part_last : (manner : Manner) (draft : Draft) (state : State) (bytes : List ℕ) → AreNamed manner (suc (length draft.ended))
+    → part_of manner (map (share Closed) draft.ended ++ share state bytes ∷ []) ≡ with_last (ended_out manner draft ++ told_of_files manner.output (file_of (name_after manner draft) bytes state ∷ [])) (ended_files manner draft) (file_of (name_after manner draft) bytes state)
+part_last manner draft state bytes named =
+    ap (part_with manner.output) (files_with manner draft state bytes named)
+    ∙ ap (λ out. with_last out (ended_files manner draft) (file_of (name_after manner draft) bytes state)) (told-append manner.output (ended_files manner draft) (file_of (name_after manner draft) bytes state ∷ []))
+
+last_untold : (output : Output) (name bytes : List ℕ) → told_of_files output (file_of name bytes Open ∷ []) ≡ []
+last_untold gets_none name bytes = refl
+last_untold gets_bytes name bytes = refl
+last_untold (gets_lines line) name bytes = refl
+
+-- the last one is open
+pub open_part : (manner : Manner) (draft : Draft) → AreNamed manner (suc (length draft.ended)) → made_of draft.opening draft.bytes ≡ draft.bytes ∷ []
+    → draft_part manner draft ≡ with_last (ended_out manner draft) (ended_files manner draft) (file_of (name_after manner draft) draft.bytes Open)
+open_part manner draft named makes =
+    ap (λ made. part_of manner (map (share Closed) draft.ended ++ map (share Open) made)) makes
+    ∙ part_last manner draft Open draft.bytes named
+    ∙ ap (λ line. with_last (ended_out manner draft ++ line) (ended_files manner draft) (file_of (name_after manner draft) draft.bytes Open)) (last_untold manner.output (name_after manner draft) draft.bytes)
+    ∙ ap (λ out. with_last out (ended_files manner draft) (file_of (name_after manner draft) draft.bytes Open)) (append-nil (ended_out manner draft))
+
+-- it is closed, and nothing is begun
+pub closed_part : (manner : Manner) (draft : Draft) → AreNamed manner (suc (length draft.ended)) → made_of draft.opening draft.bytes ≡ draft.bytes ∷ []
+    → draft_part manner (with_next Never draft)
+    ≡ with_last (ended_out manner draft ++ told_of_files manner.output (file_of (name_after manner draft) draft.bytes Closed ∷ [])) (ended_files manner draft) (file_of (name_after manner draft) draft.bytes Closed)
+closed_part manner draft named makes =
+    ap (part_of manner) (next_shares Never draft ∙ ap (λ made. map (share Closed) draft.ended ++ (map (share Closed) made ++ [])) makes) ∙ part_last manner draft Closed draft.bytes named
+
+-- there is none
+pub none_part : (manner : Manner) (draft : Draft) → made_of draft.opening draft.bytes ≡ [] → draft_part manner draft ≡ part_with manner.output (ended_files manner draft)
+none_part manner draft none =
+    ap (λ made. part_of manner (map (share Closed) draft.ended ++ map (share Open) made)) none ∙ ap (part_of manner) (append-nil (map (share Closed) draft.ended))
+
+-- there is one, or none
+pub made_or : (opening : Opening) (bytes : List ℕ) → (made_of opening bytes ≡ []) ⊎ (made_of opening bytes ≡ bytes ∷ [])
+made_or Never bytes = inl refl
+made_or Late [] = inl refl
+made_or Late (byte ∷ bytes) = inr refl
+made_or AtOnce bytes = inr refl
+
+-- what makes a file still does with more bytes
+pub still_made : (opening : Opening) (bytes more : List ℕ) → made_of opening bytes ≡ bytes ∷ [] → made_of opening (bytes ++ more) ≡ (bytes ++ more) ∷ []
+still_made Never bytes more is = absurd (cc)
+still_made Late [] more is = absurd (cc)
+still_made Late (byte ∷ bytes) more is = refl
+still_made AtOnce bytes more is = refl
+
+pub late_made : (bytes : List ℕ) → 0 < length bytes → made_of Late bytes ≡ bytes ∷ []
+late_made [] some = absurd (omega (arith, some))
+late_made (byte ∷ bytes) some = refl

@@ -1,0 +1,11 @@
+use Rattle.std.proofs.lemmas.Grind.{common_steps}
+use Rattle.std.proofs.Common.{arith}
+use Rattle.std.proofs.lemmas.Result.{IfOk-weaker}
+use Rattle.ports_core.proofs.CounterLemmas.{front_small, pushed}
+use Rattle.ports_core.proofs.numbering.+push_number.Goals as goal
+
+pub push_number-requires : goal.push_number-requires
+push_number-requires t c = grind (arith, common_steps, front_small)
+
+pub returns : goal.returns
+returns t c = grind (arith, common_steps, IfOk-weaker, pushed)

@@ -1,0 +1,92 @@
+-- What a tool has written that writes one file after another: the files that ended, and the one that is open.
+use Rattle.std.specs.Prelude.{ℕ, ◌+◌, Bool, false, List, [], ◌∷◌, ◌++◌, length, map, decimal, if◌then◌else◌}
+use Rattle.ports_core.specs.Part.{File, Part, Output, gets_none, gets_bytes, gets_lines, lines_for}
+use Rattle.ports_core.specs.declared.file_writer.Opening.{Opening}
+use Rattle.ports_core.specs.declared.file_writer.Opening.TheVariants.{Never, Late, AtOnce}
+use Rattle.ports_core.specs.declared.file_writer.Tells.{Tells}
+use Rattle.ports_core.specs.declared.file_writer.Tells.TheVariants.{Nothing, Sizes}
+use Rattle.ports_core.specs.declared.slot.Mode.TheVariants.{Fresh}
+use Rattle.ports_core.specs.declared.slot.State.{State}
+use Rattle.ports_core.specs.declared.slot.State.TheVariants.{Open, Closed}
+
+-- how files are made
+pub record Manner : Type 0 where
+  -- whether the file at a place has a name, and which
+  pub has_name : ℕ → Bool
+  pub name : ℕ → List ℕ
+  -- what standard output is told of them
+  pub output : Output
+
+-- what a file gets, and whether it is still open
+pub record Share : Type 0 where
+  pub state : State
+  pub bytes : List ℕ
+
+abbrev pub share : State → List ℕ → Share
+share state bytes = record { state = state; bytes = bytes }
+
+abbrev pub file_at : Manner → ℕ → Share → File
+file_at manner place one = record {
+  name = manner.name place;
+  mode = Fresh;
+  bytes = one.bytes;
+  state = one.state;
+  is_broken = false;
+}
+
+-- the files of these shares, named from a place on, as far as there are names
+abbrev pub files_from : Manner → ℕ → List Share → List File
+files_from manner place [] = []
+files_from manner place (one ∷ shares) = if manner.has_name place
+    then file_at manner place one ∷ files_from manner (place + 1) shares else []
+
+-- what standard output is told of files
+abbrev pub told_of_files : Output → List File → List ℕ
+told_of_files gets_none files = []
+told_of_files gets_bytes files = []
+told_of_files (gets_lines line) files = lines_for line files
+
+abbrev pub part_with : Output → List File → Part
+part_with output files = record { out = told_of_files output files; files = files }
+
+-- what is written of these shares
+abbrev pub part_of : Manner → List Share → Part
+part_of manner shares = part_with manner.output (files_from manner 0 shares)
+
+-- the size of a file, in bytes, as a line
+abbrev pub size_of_file : File → List ℕ
+size_of_file file = decimal (length file.bytes) ++ 10 ∷ []
+
+abbrev pub output_of : Tells → Output
+output_of Nothing = gets_none
+output_of Sizes = gets_lines size_of_file
+
+-- the file that these bytes make, if they make one
+abbrev pub made_of : Opening → List ℕ → List (List ℕ)
+made_of Never bytes = []
+made_of Late [] = []
+made_of Late (byte ∷ bytes) = (byte ∷ bytes) ∷ []
+made_of AtOnce bytes = bytes ∷ []
+
+pub record Draft : Type 0 where
+  -- what the files that ended have
+  pub ended : List (List ℕ)
+  -- when what is begun gets its file, and what it has so far
+  pub opening : Opening
+  pub bytes : List ℕ
+
+-- the shares of all files
+abbrev pub shares_of : Draft → List Share
+shares_of draft = map (share Closed) draft.ended ++ map (share Open) (made_of draft.opening draft.bytes)
+
+abbrev pub draft_part : Manner → Draft → Part
+draft_part manner draft = part_of manner (shares_of draft)
+
+-- what is begun gets more bytes
+abbrev pub with_bytes : List ℕ → Draft → Draft
+with_bytes bytes draft = record draft { bytes = draft.bytes ++ bytes }
+
+-- it ends, and the next begins
+abbrev pub with_next : Opening → Draft → Draft
+with_next opening draft =
+    record { ended = draft.ended ++ made_of draft.opening draft.bytes; opening = opening; bytes = [] }

@@ -1,0 +1,249 @@
+//! Writing one file after another: each is opened when it is due, and closed before the next.
+ghost use Rattle.std.specs.Prelude.{◌≡◌, ◌+◌, ◌<◌, ◌≤◌, ◌^◌, ◌++◌, ◌∷◌, [], length, decimal, vec_capacity, vec_len, IfErr, IsTrue, OnOk};
+ghost use Rattle.ports_core.specs.Draft.{with_bytes, with_next};
+ghost use Rattle.ports_core.specs.FileWriter.{CanTell, IsReady, seen_writer, size_of};
+ghost use Rattle.ports_core.specs.Slot.{is_writable};
+ghost use Rattle.ports_core.specs.Swept.{AreThere, Removes};
+ghost use Rattle.ports_core.specs.FileWriter.{Goes, new_writer, paused};
+ghost use Rattle.ports_core.specs.inner.FileWriter.{Appends, Makes, TellsSize};
+ghost use Rattle.ports_core.specs.Turn.{fault_in};
+ghost use Rattle.ports_core.specs.inner.Write.{Wrote};
+ghost use Rattle.ports_core.specs.declared.file_writer.Current.TheVariants.{File, Skipped};
+ghost use Rattle.ports_core.specs.declared.file_writer.Opening.TheVariants.{Never};
+
+use crate::{Fault, Mode, Naming, Outs, sweep_files, write_whole};
+use itoa::Buffer;
+use std::alloc::Global;
+
+/// When what is begun gets its file.
+#[derive(Clone, Copy)]
+pub enum Opening {
+    /// It is skipped, and gets none.
+    Never,
+    /// With its first byte; without any it has none.
+    Late,
+    /// As it begins.
+    AtOnce,
+}
+
+/// What standard output is told of files.
+#[derive(Clone, Copy)]
+pub enum Tells {
+    /// Nothing.
+    Nothing,
+    /// The size of each in bytes, as a line, once it is closed.
+    Sizes,
+}
+
+/// What bytes go to.
+#[derive(Clone, Copy)]
+pub enum Current {
+    /// No file: they are skipped.
+    Skipped,
+    /// The next file, which is opened with the first of them.
+    Due,
+    /// A file that is open.
+    File {
+        /// Its output.
+        slot: usize,
+        /// How many bytes it has.
+        size: u64,
+    },
+    /// A file that could not be opened. Nothing follows but `clear`.
+    Unopened,
+}
+
+/// Writes files one after another, and knows their outputs.
+#[derive(Drop)]
+pub struct FileWriter {
+    naming: Naming,
+    tells: Tells,
+    /// The outputs of the files that were made, in order, but of those that were removed.
+    files: Vec<usize>,
+    current: Current,
+}
+
+impl FileWriter {
+    /// A writer that has begun nothing, and names its files so, by their places from 0 on. Its calls ask for a naming in which
+    /// each place has a name.
+    pub fn new(alloc: Global, naming: Naming, tells: Tells) -> FileWriter
+        ensures { seen_writer result ≡ new_writer naming tells }
+    {
+        FileWriter {
+            naming,
+            tells,
+            files: Vec::new(alloc),
+            current: Current::Skipped,
+        }
+    }
+
+    /// Writes more bytes of what is begun.
+    ///
+    /// # Errors
+    ///
+    /// `Write` where the file broke; `Memory` and `Open` where it is opened now, and there is no room for its name, or it
+    /// can't be opened.
+    pub fn put<O: Outs>(&mut self, bytes: &[u8], outs: &mut O) -> Result<(), Fault>
+        requires ready { IsReady (seen_writer self.old) (O.slots outs.old) }
+        requires fits { size_of self.old.current + length bytes.now < 2 ^ 64 }
+        ensures goes { Goes O.told (seen_writer self.old) (with_bytes bytes.now) (O.slots outs.old) (O.slots outs.new) (seen_writer self.new) (fault_in result) }
+        ensures size { OnOk result (size_of self.new.current ≤ size_of self.old.current + length bytes.now) }
+    {
+        match self.current {
+            Current::Skipped => Ok(()),
+            Current::Due => {
+                if bytes.is_empty() {
+                    return Ok(());
+                }
+                let slot = self.make_file(outs)?;
+                self.append(slot, 0, bytes, outs)
+            }
+            Current::File { slot, size } => self.append(slot, size, bytes, outs),
+            Current::Unopened => Err(Fault::Failed),
+        }
+    }
+
+    /// Begins what gets its file as this says. A file that was open is left as it is, and gets no more.
+    ///
+    /// # Errors
+    ///
+    /// `Memory` where there is no room for a name, `Open` where the file can't be opened.
+    pub fn begin<O: Outs>(&mut self, opening: Opening, outs: &mut O) -> Result<(), Fault>
+        requires { IsReady (seen_writer self.old) (O.slots outs.old) }
+        ensures goes { Goes O.told (paused (seen_writer self.old)) (with_next opening) (O.slots outs.old) (O.slots outs.new) (seen_writer self.new) (fault_in result) }
+        ensures size { OnOk result (size_of self.new.current ≡ 0) }
+        ensures made { IfErr result (λ fault. (seen_writer self.new).files ≡ (seen_writer self.old).files) }
+    {
+        match opening {
+            Opening::Never => self.current = Current::Skipped,
+            Opening::Late => self.current = Current::Due,
+            Opening::AtOnce => {
+                self.make_file(outs)?;
+            }
+        }
+        Ok(())
+    }
+
+    /// Ends what is begun, and begins what gets its file as this says.
+    ///
+    /// # Errors
+    ///
+    /// `Write` where the file or standard output broke, `Memory` and `Open` as `begin`.
+    pub fn next<O: Outs>(&mut self, opening: Opening, outs: &mut O) -> Result<(), Fault>
+        requires { IsReady (seen_writer self.old) (O.slots outs.old) }
+        ensures goes { Goes O.told (seen_writer self.old) (with_next opening) (O.slots outs.old) (O.slots outs.new) (seen_writer self.new) (fault_in result) }
+        ensures size { OnOk result (size_of self.new.current ≡ 0) }
+    {
+        self.end(outs)?;
+        self.begin(opening, outs)
+    }
+
+    /// Ends what is begun: closes its file, and tells of it.
+    ///
+    /// # Errors
+    ///
+    /// `Write` where the file or standard output broke.
+    pub fn end<O: Outs>(&mut self, outs: &mut O) -> Result<(), Fault>
+        requires { IsReady (seen_writer self.old) (O.slots outs.old) }
+        ensures goes { Goes O.told (seen_writer self.old) (with_next Never) (O.slots outs.old) (O.slots outs.new) (seen_writer self.new) (fault_in result) }
+        ensures none { OnOk result (self.new.current ≡ Skipped) }
+    {
+        match self.current {
+            Current::Skipped => Ok(()),
+            Current::Due => {
+                self.current = Current::Skipped;
+                Ok(())
+            }
+            Current::File { slot, size } => {
+                self.current = Current::Skipped;
+                outs.close(slot)?;
+                tell_size(self.tells, size, outs)
+            }
+            Current::Unopened => Err(Fault::Failed),
+        }
+    }
+
+    /// Removes all files that are still there, in order. One that can't be removed is broken and closed, and the next
+    /// is tried.
+    pub fn clear<O: Outs>(&mut self, outs: &mut O)
+        requires { AreThere (seen_writer self.old).files (O.slots outs.old) }
+        ensures same { seen_writer self.new ≡ record (seen_writer self.old) { files = (seen_writer self.new).files } }
+        ensures removes { Removes (seen_writer self.old).files (O.slots outs.old) (seen_writer self.new).files (O.slots outs.new) }
+    {
+        let left = sweep_files(&mut self.files, outs);
+        self.files.truncate(left);
+    }
+
+    /// Makes the next file, to which bytes go then, and returns its output.
+    fn make_file<O: Outs>(&mut self, outs: &mut O) -> Result<usize, Fault>
+        requires { IsReady (seen_writer self.old) (O.slots outs.old) }
+        ensures { Makes (seen_writer self.old) (O.slots outs.old) (O.slots outs.new) (seen_writer self.new) result }
+    {
+        self.current = Current::Unopened;
+        let Some(name) = self.naming.name_at(self.files.len() as u64)? else {
+            unreachable!()
+        };
+        self.files.reserve(1)?;
+        let slot = outs.open(name.as_str(), Mode::Fresh)?;
+        add(&mut self.files, slot);
+        self.current = Current::File { slot, size: 0 };
+        Ok(slot)
+    }
+
+    /// Writes these bytes to the open file, which has `size` bytes.
+    fn append<O: Outs>(
+        &mut self,
+        slot: usize,
+        size: u64,
+        bytes: &[u8],
+        outs: &mut O,
+    ) -> Result<(), Fault>
+        requires writable { IsTrue (is_writable (O.slots outs.old) slot) }
+        requires fits { size + length bytes.now < 2 ^ 64 }
+        ensures { Appends O.told (seen_writer self.old) slot size bytes.now (O.slots outs.old) (O.slots outs.new) (seen_writer self.new) (fault_in result) }
+    {
+        write_whole(outs, slot, bytes)?;
+        self.current = Current::File {
+            slot,
+            size: size + bytes.len() as u64,
+        };
+        Ok(())
+    }
+}
+
+/// Appends an output to those of the files, where there is room for it.
+fn add(files: &mut Vec<usize>, slot: usize)
+    requires { vec_len files.old < vec_capacity files.old }
+    ensures { files.new.items ≡ files.old.items ++ slot ∷ [] }
+{
+    match files.push(slot) {
+        Ok(()) => {}
+        Err(_) => unreachable!(),
+    }
+}
+
+/// Tells the size of a file that is closed, where sizes are told.
+fn tell_size<O: Outs>(tells: Tells, size: u64, outs: &mut O) -> Result<(), Fault>
+    requires { CanTell tells (O.slots outs.old) }
+    ensures { TellsSize O.told tells size (O.slots outs.old) (O.slots outs.new) (fault_in result) }
+{
+    match tells {
+        Tells::Nothing => Ok(()),
+        Tells::Sizes => write_size(size, outs),
+    }
+}
+
+/// How many bytes the longest size line has.
+const LONGEST_LINE: usize = 21;
+
+/// Writes the size of a file to standard output, and a newline, as one line.
+fn write_size<O: Outs>(size: u64, outs: &mut O) -> Result<(), Fault>
+    requires { IsTrue (is_writable (O.slots outs.old) 0) }
+    ensures { Wrote O.told 0 (decimal size ++ 10 ∷ []) (O.slots outs.old) (O.slots outs.new) (fault_in result) }
+{
+    let mut buffer = Buffer::new();
+    let digits = buffer.format(size).as_bytes();
+    let mut line = [b'\n'; LONGEST_LINE];
+    line[..digits.len()].copy_from_slice(digits);
+    Ok(write_whole(outs, 0, &line[..digits.len() + 1])?)
+}

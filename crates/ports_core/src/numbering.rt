@@ -1,0 +1,145 @@
+ghost use Rattle.std.specs.Prelude.{nat_lt, ◌≡◌, ◌++◌, ◌∷◌, [], ◌+◌, ◌-◌, ◌*◌, ◌≤◌, ◌<◌, ◌^◌, replicate, decimal, string_bytes, IsTrue, IfOk, SomeIff};
+ghost use Rattle.ports_core.specs.Name.{radix, written, suffix_at, has_suffix, widening_suffix, zero_filled, IsWide, block_size};
+ghost use Rattle.ports_core.specs.inner.Name.{IsInBlock};
+
+use crate::Alphabet;
+use itoa::Buffer;
+use std::alloc::AllocError;
+
+/// How a name writes the number of its place.
+#[derive(Clone, Copy)]
+pub enum Numbering {
+    /// With this many characters of the alphabet, as many places as these can number (POSIX.1-2017, XCU split, `-a`).
+    Fixed(Alphabet, u32),
+    /// With this many characters of the alphabet, at least 1, and with more of them before the first character becomes
+    /// the last of the alphabet: so there is always a next number, and they stay in order (GNU coreutils manual, split).
+    Widening(Alphabet, u32),
+    /// In decimal, filled with zeros on the left to this many digits, and whole where it has more (POSIX.1-2017, XCU
+    /// csplit, `-n`).
+    Decimal(u32),
+}
+
+impl Numbering {
+    /// Whether a place has a number.
+    pub(crate) fn has(self, place: u64) -> bool
+        ensures { result ≡ has_suffix self place }
+    {
+        match self {
+            Numbering::Fixed(alphabet, width) => is_counted(alphabet, width, place),
+            Numbering::Widening(..) | Numbering::Decimal(_) => true,
+        }
+    }
+
+    /// Appends the number of a place that has one.
+    pub(crate) fn push(self, name: &mut String, place: u64) -> Result<(), AllocError>
+        requires wide { IsWide self }
+        requires has { IsTrue (has_suffix self place) }
+        ensures { IfOk result (λ _. string_bytes name.new ≡ string_bytes name.old ++ suffix_at self place) }
+    {
+        match self {
+            Numbering::Fixed(alphabet, width) => {
+                push_number(name, alphabet, width as usize, place)
+            }
+            Numbering::Widening(alphabet, width) => push_widened(name, alphabet, width, place),
+            Numbering::Decimal(digits) => push_decimal(name, digits as usize, place),
+        }
+    }
+}
+
+/// Whether a number can be written with this many digits.
+fn is_counted(alphabet: Alphabet, digits: u32, number: u64) -> bool
+    ensures { result ≡ nat_lt number (radix alphabet ^ digits) }
+{
+    match alphabet.radix().checked_pow(digits) {
+        Some(count) => number < count,
+        None => true,
+    }
+}
+
+/// Appends the number of a place among those that widen.
+fn push_widened(
+    name: &mut String,
+    alphabet: Alphabet,
+    width: u32,
+    place: u64,
+) -> Result<(), AllocError>
+    requires { 0 < width }
+    ensures { IfOk result (λ _. string_bytes name.new ≡ string_bytes name.old ++ widening_suffix alphabet width place) }
+{
+    let (block, number) = block_at(alphabet, width, place);
+    push_copies(name, alphabet.last(), block)?;
+    push_number(name, alphabet, width as usize + block, number)
+}
+
+/// How many times numbers have widened before the one at this place, and its number among those of its width.
+fn block_at(alphabet: Alphabet, width: u32, place: u64) -> (usize, u64)
+    requires { 0 < width }
+    ensures block { IsInBlock alphabet width place result.0 result.1 }
+    ensures few { 2 * result.0 ≤ place }
+{
+    let mut block = 0;
+    let mut number = place;
+    let mut size = first_block(alphabet, width);
+    'blocks: while let Some(names) = size
+        && names <= number
+    {
+        number -= names;
+        block += 1;
+        size = names.checked_mul(alphabet.radix());
+    }
+    (block, number)
+}
+
+/// How many names there are before they widen. None where 64 bits don't count them.
+fn first_block(alphabet: Alphabet, width: u32) -> Option<u64>
+    requires { 0 < width }
+    ensures { SomeIff result (block_size alphabet width 0 < 2 ^ 64) (block_size alphabet width 0) }
+{
+    let power = alphabet.radix().checked_pow(width - 1)?;
+    (alphabet.radix() - 1).checked_mul(power)
+}
+
+/// Appends a number with this many digits.
+fn push_number(
+    name: &mut String,
+    alphabet: Alphabet,
+    digits: usize,
+    number: u64,
+) -> Result<(), AllocError>
+    requires { number < radix alphabet ^ digits }
+    ensures { IfOk result (λ _. string_bytes name.new ≡ string_bytes name.old ++ written alphabet digits number) }
+{
+    if digits == 0 {
+        return Ok(());
+    }
+    let radix = alphabet.radix();
+    push_number(name, alphabet, digits - 1, number / radix)?;
+    push_ascii(name, alphabet.character((number % radix) as u8))
+}
+
+/// Appends a number in decimal, with zeros before it where it has fewer digits.
+fn push_decimal(name: &mut String, digits: usize, number: u64) -> Result<(), AllocError>
+    ensures { IfOk result (λ _. string_bytes name.new ≡ string_bytes name.old ++ zero_filled digits (decimal number)) }
+{
+    let mut buffer = Buffer::new();
+    let text = buffer.format(number);
+    push_copies(name, b'0', digits.saturating_sub(text.len()))?;
+    name.push_str(text)
+}
+
+fn push_copies(name: &mut String, character: u8, count: usize) -> Result<(), AllocError>
+    requires { character < 128 }
+    ensures { IfOk result (λ _. string_bytes name.new ≡ string_bytes name.old ++ replicate count character) }
+{
+    'copies: for _ in 0..count {
+        push_ascii(name, character)?;
+    }
+    Ok(())
+}
+
+fn push_ascii(name: &mut String, character: u8) -> Result<(), AllocError>
+    requires { character < 128 }
+    ensures { IfOk result (λ _. string_bytes name.new ≡ string_bytes name.old ++ character ∷ []) }
+{
+    name.push(character as char)
+}

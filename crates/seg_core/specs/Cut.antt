@@ -1,0 +1,17 @@
+-- How an input is cut into files.
+use Rattle.std.specs.Prelude.{ℕ, ◌<◌}
+use Rattle.seg_core.specs.declared.cut.Cut.{Cut}
+use Rattle.seg_core.specs.declared.cut.Cut.TheVariants.{Parts, Round}
+use Rattle.seg_core.specs.declared.cut.Limit.{Limit}
+use Rattle.seg_core.specs.declared.cut.Limit.TheVariants.{Lines, Bytes, LineBytes}
+
+-- how many lines or bytes a part has at the most
+abbrev pub most : Limit → ℕ
+most (Lines n delim) = n
+most (Bytes n) = n
+most (LineBytes n delim) = n
+
+-- the number of a cut is at least 1
+abbrev pub IsPositive : Cut → Type 0
+IsPositive (Parts limit) = 0 < most limit
+IsPositive (Round n delim) = 0 < n

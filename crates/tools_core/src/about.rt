@@ -1,0 +1,39 @@
+//! A text about a tool or the program, in place of its work.
+ghost use Rattle.std.specs.Prelude.{◌≡◌};
+ghost use Rattle.ports_core.specs.Slot.{streams};
+ghost use Rattle.tools_core.specs.About.{TellsText};
+ghost use Rattle.words_core.specs.Help.{text_about};
+
+use ports_core::{Fault, Outs, Tool, tell, write_whole};
+use std::alloc::Global;
+use words_core::{Topic, text_about};
+
+/// The output of a text.
+const STANDARD_OUTPUT: usize = 0;
+
+/// Writes a text about this tool, or the program, to standard output, or says why it can't be written, and returns the status.
+pub(crate) fn tell_about<O: Outs>(alloc: Global, tool: Tool, topic: Topic, outs: &mut O) -> u8
+    requires { O.slots outs.old ≡ streams }
+    ensures { TellsText O.told tool (text_about tool topic) (O.slots outs.new) result }
+{
+    match text_about(alloc, tool, topic) {
+        Ok(text) => tell_text(alloc, tool, &text, outs),
+        Err(fault) => {
+            tell(alloc, tool, &fault, outs);
+            1
+        }
+    }
+}
+
+fn tell_text<O: Outs>(alloc: Global, tool: Tool, text: &[u8], outs: &mut O) -> u8
+    requires { O.slots outs.old ≡ streams }
+    ensures { TellsText O.told tool text.now (O.slots outs.new) result }
+{
+    match write_whole(outs, STANDARD_OUTPUT, text) {
+        Ok(()) => 0,
+        Err(cut) => {
+            tell(alloc, tool, &Fault::from(cut), outs);
+            1
+        }
+    }
+}

@@ -1,0 +1,7 @@
+use Rattle.std.proofs.Common.{◌≡◌, ◌++◌, map, drop}
+use Rattle.words_core.specs.Help.{tool_lines}
+use Rattle.words_core.specs.Table.{tool_seen}
+use Rattle.words_core.proofs.help.write_tools.Given as goal
+
+abbrev pub invariant-loop-row : goal.invariant-loop-row
+invariant-loop-row l = l.text.items ++ tool_lines (map tool_seen (drop l.row-index l.rows)) ≡ l.fn.text.items ++ tool_lines (map tool_seen l.rows)

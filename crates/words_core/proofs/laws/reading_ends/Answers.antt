@@ -1,0 +1,64 @@
+use Rattle.std.proofs.Common.{◌≡◌, ℕ, ◌+◌, ◌⊎◌, List, [], ◌∷◌, ◌++◌, length, Result, Ok, Err, inl, inr, refl, sym, ap, ◌∙◌, arith, append_assoc}
+use Rattle.std.proofs.lemmas.Grind.{common_steps}
+use Rattle.ports_core.specs.declared.fault.Fault.{Fault}
+use Rattle.words_core.specs.declared.spelling.State.{State}
+use Rattle.words_core.specs.declared.spelling.State.TheVariants.{Reading, Ended}
+use Rattle.words_core.specs.declared.table.Choice.{Choice}
+use Rattle.words_core.specs.Table.{OptionRow, csplit_table, head_table, program_table, split_table, tail_table, tee_table, tools}
+use Rattle.words_core.specs.Given.{Given, bare, joined, nothing}
+use Rattle.words_core.specs.Laws.{IsLast, LeaveTheRest}
+use Rattle.words_core.specs.Spelling.{Meaning, foremost, given_before, meaning_of, onward, spelled}
+use Rattle.words_core.proofs.ValueLemmas.{last_name}
+use Rattle.words_core.proofs.laws.reading_ends.Goals as goal
+
+-- what nothing is before, and what two are before
+
+before_nothing : (meant : Result Given Fault) → given_before nothing meant ≡ meant
+before_nothing (Ok given) = refl
+before_nothing (Err fault) = refl
+
+before_both : (first next : Given) (meant : Result Given Fault) → given_before first (given_before next meant) ≡ given_before (joined first next) meant
+before_both first next (Ok given) = grind (arith, common_steps, append_assoc)
+before_both first next (Err fault) = refl
+
+module _ (rows : List OptionRow) where
+  leaves : (first : List (List ℕ)) (place : ℕ) (meant : Result Meaning Fault) → ((next : State) → LeaveTheRest rows first (place + 1) next)
+      → ((fault : Fault) × ((more : List (List ℕ)) → onward (spelled rows (first ++ more) (place + 1)) meant ≡ Err fault))
+      ⊎ ((given : Given) × (next : State) × ((more : List (List ℕ)) → onward (spelled rows (first ++ more) (place + 1)) meant ≡ given_before given (spelled rows more (place + 1 + length first) next)))
+  leaves first place (Err fault) rest = inl (fault, λ more. refl)
+  leaves first place (Ok meaning) rest = elim (rest meaning.next) [
+    | inl (fault, is) ↦ inl (fault, λ more. ap (given_before meaning.given) (is more))
+    | inr (given, next, is) ↦ inr (joined meaning.given given, next, λ more. ap (given_before meaning.given) (is more) ∙ before_both meaning.given given (spelled rows more (place + 1 + length first) next))
+  ]
+
+  leave_the_rest : (first : List (List ℕ)) (place : ℕ) (state : State) → LeaveTheRest rows first place state
+  leave_the_rest [] place state = inr (
+    nothing,
+    state,
+    λ more.
+        let here : place ≡ place + 0 = omega arith in
+        ap (λ at. spelled rows more at state) here ∙ sym (before_nothing (spelled rows more (place + 0) state)),
+  )
+  leave_the_rest (word ∷ first) place state =
+      let here : place + 1 + length first ≡ place + length (word ∷ first) = omega arith in
+      rw here at (leaves first place (meaning_of rows state place word) (λ next. leave_the_rest first (place + 1) next))
+
+nothing_more : (rows : List OptionRow) (words : List (List ℕ)) (place : ℕ) → spelled rows words place Ended ≡ Ok nothing
+nothing_more rows [] place = refl
+nothing_more rows (word ∷ words) place = ap (given_before nothing) (nothing_more rows words (place + 1))
+
+last_ends : (rows : List OptionRow) (name : List ℕ) (choice : Choice) (words : List (List ℕ)) (place : ℕ) → IsLast rows name choice → spelled rows ((45 ∷ 45 ∷ name) ∷ words) place Reading ≡ Ok (bare choice place)
+last_ends rows name choice words place is = rw (last_name name place is, nothing_more rows words (place + 1))
+
+pub returns : goal.returns
+unfolding tools foremost program_table
+returns c = record {
+  left = leave_the_rest;
+  last = last_ends;
+  head = λ words. rw (nothing_more head_table words 2);
+  tail = λ words. rw (nothing_more tail_table words 2);
+  split = λ words. rw (nothing_more split_table words 2);
+  csplit = λ words. rw (nothing_more csplit_table words 2);
+  tee = λ words. rw (nothing_more tee_table words 2);
+  program = λ words. refl;
+}

@@ -1,0 +1,72 @@
+-- The texts of help and of the version. Each line of help has at most 80 characters: two blanks, what is typed, and from
+-- column 33 on what it does.
+use Rattle.std.specs.Prelude.{ℕ, List, [], ◌∷◌, ◌++◌, codes, drop, length, Option, Some, None}
+use Rattle.ports_core.specs.Text.{tool_name}
+use Rattle.ports_core.specs.declared.tool.Tool.{Tool}
+use Rattle.ports_core.specs.declared.tool.Tool.TheVariants.{Cutters}
+use Rattle.words_core.specs.declared.settings.Topic.{Topic}
+use Rattle.words_core.specs.declared.settings.Topic.TheVariants.{Help, Version}
+use Rattle.words_core.specs.declared.table.Takes.{Takes}
+use Rattle.words_core.specs.declared.table.Takes.TheVariants as takes
+use Rattle.words_core.specs.Table.{OptionRow, ToolRow, program_table, row_named, tools}
+
+-- what is typed, filled with blanks up to the column of what it does
+abbrev pub filled : List ℕ → List ℕ
+filled typed = typed ++ drop (length typed) (codes "                              ")
+
+abbrev pub line : List ℕ → List ℕ → List ℕ
+line typed does = codes "  " ++ filled typed ++ does ++ codes "\n"
+
+-- the names of an option, with a comma and a blank between them
+abbrev pub listed : (before : List ℕ) → List (List ℕ) → List ℕ
+listed before [] = []
+listed before (name ∷ names) = before ++ name ++ listed (codes ", ") names
+
+abbrev pub value_listed : Takes → List ℕ → List ℕ
+value_listed (takes.Value kind) value = codes "=" ++ value
+value_listed (takes.Optional kind) value = codes "[=" ++ value ++ codes "]"
+value_listed other value = []
+
+abbrev pub option_line : OptionRow → List ℕ
+option_line row = line (listed [] row.names ++ value_listed row.takes row.value) row.does
+
+abbrev pub option_lines : List OptionRow → List ℕ
+option_lines [] = []
+option_lines (row ∷ rows) = option_line row ++ option_lines rows
+
+abbrev pub tool_lines : List ToolRow → List ℕ
+tool_lines [] = []
+tool_lines (row ∷ rows) = line row.name row.does ++ tool_lines rows
+
+-- the help of the tool in this row, or of the program
+
+abbrev pub tool_help : ToolRow → List ℕ
+tool_help row =
+    codes "Usage: cutters " ++ row.name ++ codes " [OPTION]... " ++ row.operands ++ codes "\n" ++ row.name ++ codes " "
+    ++ row.does ++ codes ".\n\n" ++ option_lines row.options ++ codes "\nThe manual: man cutters-" ++ row.name
+    ++ codes "\n"
+
+abbrev pub program_help : List ℕ
+program_help =
+    codes "Usage: cutters TOOL [OPTION]... [OPERAND]...\ncutters is these tools in one program.\n\n" ++ tool_lines tools
+    ++ option_lines program_table ++ codes "\nThe manual: man cutters\n"
+
+abbrev pub help_by : Option ToolRow → List ℕ
+help_by None = program_help
+help_by (Some row) = tool_help row
+
+abbrev pub help_of : Tool → List ℕ
+help_of tool = help_by (row_named tools (tool_name tool))
+
+-- the version
+
+abbrev pub after_name : Tool → List ℕ
+after_name Cutters = codes " "
+after_name tool = codes " (cutters) "
+
+abbrev pub version_of : Tool → List ℕ
+version_of tool = tool_name tool ++ after_name tool ++ codes "1.1.0" ++ codes "\n"
+
+abbrev pub text_about : Tool → Topic → List ℕ
+text_about tool Help = help_of tool
+text_about tool Version = version_of tool
