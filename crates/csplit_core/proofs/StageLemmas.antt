@@ -4,17 +4,16 @@ use Rattle.bre_core.specs.Pattern.{Pattern}
 use Rattle.seg_core.specs.Window.{Window}
 use Rattle.ports_core.specs.Slot.{Slot, is_writable}
 use Rattle.ports_core.specs.declared.fault.Fault.{Fault}
-use Rattle.ports_core.specs.declared.fault.Fault.TheVariants.{Memory}
+use Rattle.ports_core.specs.declared.fault.Fault.TheVariants.{Suffixes, Memory}
 use Rattle.ports_core.proofs.PartLemmas.{nothing_begins_part, outputs_count, stopped_in_turn, lines_before}
 use Rattle.ports_core.specs.Turn.{LinesTo}
 use Rattle.ports_core.specs.inner.Part.{HasLines}
 use Rattle.csplit_core.proofs.CutterLemmas.{draft_is, settled_part_is, whole_part_is, runs_to, live_part, live_taken, keeps_on, reaches_then, same_by, settled_same}
 use Rattle.csplit_core.specs.Csplit.{settled_of, whole_of, verdict_of, waiting, waiting_of, csplit_work, settled_by, verdict_by}
 use Rattle.ports_core.specs.Draft.{Draft, draft_part, with_bytes, with_next}
-use Rattle.ports_core.specs.inner.FileWriter.{nothing_yet}
 use Rattle.ports_core.specs.declared.file_writer.Opening.{Opening}
 use Rattle.ports_core.specs.declared.file_writer.Opening.TheVariants.{Never}
-use Rattle.ports_core.specs.FileWriter.{new_writer, paused, Goes, Reaches, At, KeepsFiles}
+use Rattle.ports_core.specs.FileWriter.{new_writer, paused, Goes, Leaves, Reaches, At, KeepsFiles}
 use Rattle.ports_core.proofs.ShareLemmas.{bytes_begin, next_begins, has_told, nothing_part, nothing_told}
 use Rattle.csplit_core.specs.Input.{newline, all_lines, open_line}
 use Rattle.csplit_core.specs.Operand.{Operand, Line}
@@ -23,19 +22,20 @@ use Rattle.csplit_core.specs.Plan.{State, start, Step, Ending, below, Runs, miss
 use Rattle.csplit_core.specs.Planned.{plan, Plan}
 use Rattle.csplit_core.specs.laws.PlanLaws.{plan_runs, plan_once}
 use Rattle.csplit_core.specs.Progress.{state_of, AimsAt, EndsHere}
-use Rattle.csplit_core.specs.inner.Cutter.{BegunNot, tells_by, writer_for, AreSeen, Turns, MovesOn, Opened, settled_part, whole_part, IsJudged, EndsAll, IsWhole, Takes, IsLine, Clears, Keeps, Closed, Closes, ended_so, Judges, Passes, Sweeps, ended_well, ended_short}
+use Rattle.csplit_core.specs.inner.Cutter.{BegunNot, new_for, tells_by, writer_for, AreSeen, Turns, MovesOn, Opened, settled_part, whole_part, IsJudged, EndsAll, IsWhole, Takes, IsLine, Clears, Keeps, Closed, Closes, ended_so, Judges, Passes, Sweeps, ended_well, ended_short}
 use Rattle.csplit_core.specs.Section.{settled_end, is_final, whole_end, bytes_of, waiting_lines, whole_sections}
 use Rattle.csplit_core.specs.declared.progress.Progress.{Progress}
 use Rattle.csplit_core.specs.declared.progress.Turn.{Turn}
 use Rattle.csplit_core.specs.declared.progress.Turn.TheVariants.{Below, Missed, Above}
-use Rattle.ports_core.specs.FileWriter.{WriterState, Writes, size_of, IsReady as CanWrite, Breaks, OwnsFiles, CanTell, manner_in}
+use Rattle.ports_core.specs.FileWriter.{WriterState, Writes, size_of, IsReady as CanWrite, IsManner, Breaks, OwnsFiles, CanTell, manner_in}
+use Rattle.ports_core.specs.declared.file_writer.Keeps.TheVariants.{All}
 use Rattle.ports_core.specs.Draft.{Manner, size_of_file, output_of}
 use Rattle.ports_core.specs.Name.{name_at}
 use Rattle.ports_core.specs.declared.file_writer.Tells.TheVariants.{Nothing, Sizes}
 use Rattle.csplit_core.specs.Cutter.{CutterState, most_next, pattern_next, kept_next, next_of, most_by, pattern_by, kept_by, settled_draft, IsFit, Stands, suppress_in, state_in, text_from, draft_by, IsLive, IsPast, IsSound, load}
 use Rattle.csplit_core.proofs.TryLemmas.{turn_ends, left_is}
 use Rattle.ports_core.proofs.SlotSteps.{none_past}
-use Rattle.ports_core.proofs.FileWriterLemmas.{new_owns, in_turn, lacks_memory, files_left, goes_as, reaches_as, stops_wider, in_any, leaves_again, reaches_again, leaves_lacking, where_well}
+use Rattle.ports_core.proofs.FileWriterLemmas.{breaks_as, new_owns, in_turn, lacks_memory, files_left, goes_as, reaches_as, stops_wider, in_any, leaves_again, reaches_again, leaves_lacking, where_well}
 use Rattle.std.proofs.lemmas.List.{drop_all, drop-map, append-nil, take-append-drop}
 use Rattle.seg_core.specs.Line.{line_count, first_lines, after_lines, delimiters, ends_with, LastEndsAt}
 use Rattle.seg_core.proofs.FirstLines.{first_lines-all, first_lines_then_rest, lines_of-after_lines}
@@ -43,6 +43,7 @@ use Rattle.csplit_core.specs.inner.PlanLaws.{EndsAs, AreWithin}
 use Rattle.csplit_core.specs.laws.SectionLaws.{ends_as, are_within, closed_still, ends_with as whole_grows}
 use Rattle.csplit_core.proofs.LineLemmas.{count_from, from_further, bytes_marked, length-all_lines, all_complete, lines_then_open, all_lines-append, joined_line, open_is_line, open_complete, first_complete, front_is, no_newline, tail_is, piece_lines, piece_open, lines_whole, lines_more, open_more}
 use Rattle.csplit_core.proofs.WholeLemmas.{ends_after_all}
+use Rattle.std.proofs.lemmas.Bool.{false≢true}
 use Rattle.std.proofs.lemmas.Bool.Decides.{nat_tests}
 use Rattle.std.proofs.lemmas.Grind.{common_steps}
 use Rattle.std.proofs.Math.Nat.{min-eq_left}
@@ -64,6 +65,9 @@ first_only run some = grind (arith, common_steps)
 
 -- the first section, without a byte, is what is settled
 
+abbrev nothing_yet : Draft
+nothing_yet = record { ended = []; opening = Never; bytes = [] }
+
 abbrev first_draft : Style → Bool → Draft
 first_draft style kept = with_next (opening_of style kept) nothing_yet
 
@@ -74,18 +78,22 @@ first_settled style operands =
 first_part : (style : Style) (operands : List Operand) → draft_part (manner_of style) (first_draft style (kept_by operands)) ≡ settled_of style operands []
 first_part style operands = ap (draft_part (manner_of style)) (first_settled style operands) ∙ settled_part_is style operands []
 
+-- 64 bits count more files than come
+first_manner : (style : Style) → IsManner (manner_of style) (manner_in (writer_for style))
+first_manner style = record { name = refl; output = by style.quiet; has = λ place less. (grind (arith, common_steps)) } where
+  by : (quiet : Bool) → output_of (cond quiet Nothing Sizes) ≡ cond quiet gets_none (gets_lines size_of_file)
+  by true = refl
+  by false = refl
+
+first_owns : (style : Style) {slots : List Slot} → 2 ≤ length slots → OwnsFiles (writer_for style) (length slots) slots
+first_owns style two = let owns = new_owns (naming_of style) (tells_by style) All two in record { streams = owns.streams; within = owns.within; from = owns.from; own = owns.own; there = owns.there; last = tt }
+
 -- the first writer has been given nothing
 first_writes : (style : Style) → Writes (manner_of style) (writer_for style) nothing_yet
-first_writes style = record { same = manner_is style.quiet; made = refl; current = refl } where
-  manner_is : (quiet : Bool) → manner_in (new_writer (naming_of style) (cond quiet Nothing Sizes)) ≡ record { has_name = λ place. true; name = name_at (naming_of style); output = cond quiet gets_none (gets_lines size_of_file) }
-  manner_is true = refl
-  manner_is false = refl
+first_writes style = record { same = first_manner style; made = refl; named = λ place less. refl; current = refl }
 
-pub first_ready : (style : Style) {writer : WriterState} {slots : List Slot} → writer ≡ writer_for style → 2 ≤ length slots → IsTrue (is_writable slots 0) → CanWrite writer slots
-first_ready style {slots = slots} is two can = rw is (record { named = named; streams = two; output = can_tell style.quiet; files = tt; current = tt }) where
-  named : (place : ℕ) → place < 2 ^ 64 → nat_lt place (2 ^ 64) ≡ true
-  named place less = grind (arith, common_steps)
-
+pub first_ready : (style : Style) {writer : WriterState} {slots : List Slot} → writer ≡ new_for style → 2 ≤ length slots → IsTrue (is_writable slots 0) → CanWrite writer slots
+first_ready style {slots = slots} is two can = rw is (record { streams = two; output = can_tell style.quiet; files = tt; current = tt }) where
   can_tell : (quiet : Bool) → CanTell (cond quiet Nothing Sizes) slots
   can_tell true = tt
   can_tell false = can
@@ -141,10 +149,11 @@ first_opened told {style} {operands} {old} {new} {writer} aim two begun none say
       operands_are = refl;
       stands = first_stands operands style (begun.writes (manner_of style) nothing_yet (first_writes style)) ends (is_final ends.ending) refl;
       reaches = reaches_as (sym (nothing_part (sizes_wanted style))) (sym (first_part style operands)) (begun.reaches (manner_of style) nothing_yet (first_writes style));
-      owns = begun.leaves.owns.owns (length old) (new_owns (naming_of style) (tells_by style) two);
+      owns = begun.leaves.owns.owns (length old) (first_owns style two);
       ready = begun.leaves.ready;
       output = begun.leaves.output;
-      tells = ap output_of begun.leaves.tells ∙ ap (λ (manner : Manner). manner.output) (first_writes style).same;
+      manner = subst (IsManner (manner_of style)) (sym begun.leaves.manner) (first_manner style);
+      all = begun.leaves.keeps;
       sound = record { fit = (grind (arith, common_steps)); aim = (grind (arith, common_steps)) };
       size = ap (max 0) none';
     }
@@ -153,7 +162,7 @@ first_opened told {style} {operands} {old} {new} {writer} aim two begun none say
 
 pub opened_at : (told : Bool) {style : Style} {suppress : Bool} {operands : List Operand} {next : Option Operand} {opening : Opening} {old new : List Slot} {first writer : WriterState} {progress : Progress} {aim : Turn} {window : Window} {sought : Option Pattern}
     → next ≡ next_of operands → window ≡ record { most = most_next next; delim = newline; held = [] } → sought ≡ pattern_next next → opening ≡ opening_of style (kept_next next)
-    → suppress ≡ style.suppress → first ≡ writer_for style → 2 ≤ length old → Goes told (paused first) (with_next opening) old new writer None
+    → suppress ≡ style.suppress → first ≡ new_for style → 2 ≤ length old → Goes told (paused first) (with_next opening) old new writer None
     → size_of writer.current ≡ 0 → progress ≡ first_progress
     → ((lines : List Line) → AreSeen suppress lines 0 (state_of operands progress) false → Turns suppress lines (state_of operands progress) aim) → (progress.matched ≤ 0 → MovesOn operands 0 progress aim)
     → Opened told style operands old new (opened operands style writer progress aim window sought)
@@ -173,12 +182,12 @@ begun_not : {told : Bool} {style : Style} {opening : Opening} {old new : List Sl
     → BegunNot told style (draft_part (manner_of style) (with_next opening nothing_yet)) old new f
 begun_not {style = style} {old = old} {new} {f = f} two goes none = record {
   reaches = reaches_as (sym (nothing_part (sizes_wanted style))) refl (record { there = (goes.reaches (manner_of style) nothing_yet (first_writes style)).there });
-  breaks = subst (λ output. Breaks output old new f) (ap (λ (manner : Manner). manner.output) (first_writes style).same) goes.leaves.slots;
-  none = λ place past. (goes.leaves.owns.owns (length old) (new_owns (naming_of style) (tells_by style) two)).own place past ∙ ap (is_among place) none;
+  breaks = breaks_as old new f (first_manner style) goes.leaves.slots;
+  none = λ place past. (goes.leaves.owns.owns (length old) (first_owns style two)).own goes.leaves.keeps place past ∙ ap (is_among place) none;
 }
 
 pub opened_not : (told : Bool) {style : Style} (operands : List Operand) {next : Option Operand} {opening : Opening} {old new : List Slot}
-    {first writer : WriterState} {fault : Fault} → next ≡ next_of operands → opening ≡ opening_of style (kept_next next) → first ≡ writer_for style → 2 ≤ length old
+    {first writer : WriterState} {fault : Fault} → next ≡ next_of operands → opening ≡ opening_of style (kept_next next) → first ≡ new_for style → 2 ≤ length old
     → Goes told (paused first) (with_next opening) old new writer (Some fault) → writer.files ≡ first.files
     → BegunNot told style (settled_of style operands []) old new fault
 opened_not told {style} operands {opening = opening} {old} {new} {writer = writer} {fault} next_is opening_is made two begun same =
@@ -511,24 +520,34 @@ settled_by_cases {stage} {x} piece holds (inr differs) = grind (arith, common_st
 settled_then : {stage : CsplitState} {x : List ℕ} (piece : List ℕ) → Holds stage x → settled_part stage.cutter (whole_lines x ++ whole_lines (stage.rest ++ piece)) ≡ (work stage).settled (x ++ piece)
 settled_then {stage} piece holds = settled_by_cases piece holds (below_or_not stage.cutter.aim)
 
+-- the outputs stay its own
+pub owns_on : {stage next : CsplitState} {old new : List Slot} {fault : Option Fault} → Leaves stage.cutter.writer next.cutter.writer old new fault → (first : ℕ) → Owns stage first old → Owns next first new
+owns_on leaves first own = record { writer = leaves.owns.owns first own.writer; all = leaves.keeps ∙ own.all }
+
 -- the outputs at it, which are the writer's own
 stands_so : (told : Bool) {before : List Slot} {stage : CsplitState} {x : List ℕ} {now : List Slot} → StandsAt Holds Owns stage told before x ((work stage).settled x) now → At told stage.cutter.writer before (settled_part stage.cutter (whole_lines x)) now
 stands_so told {before} {stage} {x} {now} at = grind (arith, common_steps, settled_is)
 
 -- faults
 
-not_verdict : (output : Output) (old new : List Slot) (fault : Fault) → Breaks output old new fault → is_verdict fault ≡ false
-not_verdict output old new fault breaks = grind (arith, common_steps)
+not_verdict : (style : Style) (old new : List Slot) (fault : Fault) {own : Manner} → IsManner (manner_of style) own → Breaks own old new fault → is_verdict fault ≡ false
+not_verdict style old new fault same breaks = by fault (breaks_as old new fault same breaks) where
+  by : (fault : Fault) → Breaks (manner_of style) old new fault → is_verdict fault ≡ false
+  by Suffixes breaks = absurd (false≢true (sym breaks.2))
+  by fault breaks = grind (arith, common_steps)
 
-met_by : {Lacks : Type 0} → Lacks → (Ends : Fault → Type 0) {output other : Output} (old new : List Slot) (fault : Fault) → output ≡ other → Breaks output old new fault
-    → IsMet (record { output = other; files = true; feeding = record { memory = true; files = true }; closing = record { memory = true; files = true } }) (record { memory = true; files = true }) Lacks Ends old new fault
-met_by lacks Ends old new fault same breaks = grind (arith, common_steps)
+met_by : {Lacks : Type 0} → Lacks → (Ends : Fault → Type 0) (style : Style) (old new : List Slot) (fault : Fault) {own : Manner} → IsManner (manner_of style) own → Breaks own old new fault
+    → IsMet (record { output = sizes_wanted style; files = true; feeding = record { memory = true; files = true }; closing = record { memory = true; files = true } }) (record { memory = true; files = true }) Lacks Ends old new fault
+met_by {Lacks} lacks Ends style old new fault same breaks = by fault (breaks_as old new fault same breaks) where
+  by : (fault : Fault) → Breaks (manner_of style) old new fault → IsMet (record { output = sizes_wanted style; files = true; feeding = record { memory = true; files = true }; closing = record { memory = true; files = true } }) (record { memory = true; files = true }) Lacks Ends old new fault
+  by Suffixes breaks = absurd (false≢true (sym breaks.2))
+  by fault breaks = grind (arith, common_steps)
 
 -- a piece
 
 holds_by : {told : Bool} {stage next : CsplitState} {piece : List ℕ} {old new : List Slot} {x : List ℕ} → Passes told stage piece old new next (Ok tt) → Holds stage x → (stage.cutter.aim ≡ Below) ⊎ (stage.cutter.aim ≡ Below → ⊥) → Holds next (x ++ piece)
-holds_by {stage = stage} {piece} {x} passed holds (inl is_below) = record {
-  stands = (search (rules, lines_more, still_past, lines_whole, is_past));
+holds_by {stage = stage} {next} {piece} {x} passed holds (inl is_below) = record {
+  stands = inr (rw (passed.passed.still is_below) (subst (IsPast stage.cutter) (sym (lines_more x piece)) (still_past (whole_lines (open_line x ++ piece)) (lines_whole x) (is_past is_below holds.stands))));
   live = λ differs. absurd (differs (ap (λ (c : CutterState). c.aim) (passed.passed.still is_below) ∙ is_below));
   past = λ still. passed.passed.past still holds.past;
 }
@@ -554,9 +573,9 @@ module _ (told : Bool) (stage next : CsplitState) (piece : List ℕ) (old new : 
       ((passed.took.reaches (whole_lines x) (lines_whole x) at.holds.stands).there before (stands_so told at)).outputs
   puts_out (Err fault) stopped = tt
 
-  pub cuts_off : (result : Result (Unit {0}) Fault) → Passes told stage piece old new next result → IfErr result (CutsOff Holds Owns work stage piece told old new)
-  cuts_off (Ok done) passed = tt
-  cuts_off (Err fault) stopped = λ before x at. engine.cut (not_verdict _ old new fault stopped.took.keeps.writer.slots)
+  pub cuts_off : (result : Result (Unit {0}) Fault) → Passes told stage piece old new next result → IsReady stage old → IfErr result (CutsOff Holds Owns work stage piece told old new)
+  cuts_off (Ok done) passed ready = tt
+  cuts_off (Err fault) stopped ready = λ before x at. engine.cut (not_verdict stage.cutter.style old new fault ready.manner stopped.took.keeps.writer.slots)
       (subst (λ low. StoppedBetween (work stage).means.output told before low ((work stage).settled (x ++ piece)) fault new) (settled_is stage x)
       (subst (λ high. StoppedBetween (work stage).means.output told before (settled_part stage.cutter (whole_lines x)) high fault new) (settled_then piece at.holds)
       (stopped_in_turn (work stage).means.output told before _ _ fault new (has_settled stage (whole_lines x)) ((stopped.took.reaches (whole_lines x) (lines_whole x) at.holds.stands).there before (stands_so told at)))))
@@ -565,7 +584,7 @@ module _ (told : Bool) (stage next : CsplitState) (piece : List ℕ) (old new : 
   pass_ready (Ok done) passes ready taken fits = record {
     writer = passes.took.keeps.writer.ready;
     output = passes.took.keeps.writer.output ready.output;
-    tells = ap output_of passes.took.keeps.writer.tells ∙ ready.tells ∙ ap sizes_wanted (sym passes.took.keeps.style);
+    manner = rw (passes.took.keeps.style, passes.took.keeps.writer.manner) ready.manner;
     sound = passes.took.went.sound;
     unbroken = passes.passed.unbroken;
     room = (let size = passes.passed.size in let room = ready.room in omega (arith, size, room, taken));
@@ -575,7 +594,7 @@ module _ (told : Bool) (stage next : CsplitState) (piece : List ℕ) (old new : 
 
   pub pass_met : (result : Result (Unit {0}) Fault) → Passes told stage piece old new next result → IsReady stage old → IfErr result (IsMet (work stage).means (work stage).means.feeding (true ≡ true) (EndsWith Holds work stage piece) old new)
   pass_met (Ok done) passed ready = tt
-  pass_met (Err fault) passed ready = met_by refl (EndsWith Holds work stage piece) old new fault ready.tells passed.took.keeps.writer.slots
+  pass_met (Err fault) passed ready = met_by refl (EndsWith Holds work stage piece) stage.cutter.style old new fault ready.manner passed.took.keeps.writer.slots
 
 -- the end
 
@@ -605,8 +624,8 @@ module _ (told : Bool) (stage next : CsplitState) (old new : List Slot) where
   pub ends_there : Closed told stage old new next None → {verdict : Option Fault} → Judges next.cutter verdict → {fault : Fault} → verdict ≡ Some fault → EndsThere Holds work stage fault
   ends_there closed judges is x holds = sym (judged_then closed judges holds) ∙ is
 
-  pub ends_short : {fault : Fault} → Closed told stage old new next (Some fault) → EndsShort Holds Owns work stage told old new fault
-  ends_short {fault} stopped before x at = engine.cut (not_verdict _ old new fault stopped.keeps.writer.slots)
+  pub ends_short : {fault : Fault} → Closed told stage old new next (Some fault) → IsReady stage old → EndsShort Holds Owns work stage told old new fault
+  ends_short {fault} stopped ready before x at = engine.cut (not_verdict stage.cutter.style old new fault ready.manner stopped.keeps.writer.slots)
       (subst (λ low. StoppedBetween (work stage).means.output told before low ((work stage).whole x) fault new) (settled_is stage x)
       (subst (λ high. StoppedBetween (work stage).means.output told before (settled_part stage.cutter (whole_lines x)) high fault new) (whole_then stage x at.holds)
       (stopped_in_turn (work stage).means.output told before _ _ fault new (has_settled stage (whole_lines x)) ((stopped.reaches (whole_lines x) (lines_whole x) at.holds.stands).there before (stands_so told at)))))
@@ -616,7 +635,7 @@ module _ (told : Bool) (stage next : CsplitState) (old new : List Slot) where
       → EndsShort Holds Owns work stage told old cleared fault
   ends_judged closed judges is kind cleared swept before x at =
       engine.judged kind new (whole_out closed at)
-      (subst (λ (style : Style). Swept (not style.keep) (length before) new cleared) closed.keeps.style (swept (length before) (closed.keeps.writer.owns.owns (length before) at.owns)))
+      (subst (λ (style : Style). Swept (not style.keep) (length before) new cleared) closed.keeps.style (swept (length before) (owns_on closed.keeps.writer (length before) at.owns)))
 
   met_there : (fault : Fault) → is_verdict fault ≡ true → (slots : List Slot) → EndsThere Holds work stage fault → IsMet (work stage).means (work stage).means.closing (Unit {0}) (EndsThere Holds work stage) old slots fault
   met_there fault kind slots ends = grind (arith, common_steps)
@@ -638,21 +657,21 @@ module _ (told : Bool) (stage next : CsplitState) (old new : List Slot) where
   end_writable closes ready = tt
 
   pub end_own : {result : Result (Unit {0}) Fault} → Closes told stage old new next result → KeepsOwn Owns stage next old new
-  end_own (ended_well closed none) first own = closed.keeps.writer.owns.owns first own
-  end_own (ended_short fault stopped) first own = stopped.keeps.writer.owns.owns first own
-  end_own (ended_so fault mid reached closed some kind swept) first own = swept.owns first (closed.keeps.writer.owns.owns first own)
+  end_own (ended_well closed none) first own = owns_on closed.keeps.writer first own
+  end_own (ended_short fault stopped) first own = owns_on stopped.keeps.writer first own
+  end_own (ended_so fault mid reached closed some kind swept) first own = swept.owns first (owns_on closed.keeps.writer first own)
 
   pub end_there : (result : Result (Unit {0}) Fault) → Closes told stage old new next result → AreThere (files stage) old → AreThere (files next) new
   end_there result fact are = grind (arith, common_steps)
 
-  pub end_cut : {result : Result (Unit {0}) Fault} → Closes told stage old new next result → IfErr result (EndsShort Holds Owns work stage told old new)
-  end_cut (ended_well closed none) = tt
-  end_cut (ended_short fault stopped) = ends_short told stage next old new stopped
-  end_cut (ended_so fault mid reached closed some kind swept) = ends_judged told stage mid old reached closed some refl kind new swept.swept
+  pub end_cut : {result : Result (Unit {0}) Fault} → Closes told stage old new next result → IsReady stage old → IfErr result (EndsShort Holds Owns work stage told old new)
+  end_cut (ended_well closed none) ready = tt
+  end_cut (ended_short fault stopped) ready = ends_short told stage next old new stopped ready
+  end_cut (ended_so fault mid reached closed some kind swept) ready = ends_judged told stage mid old reached closed some refl kind new swept.swept
 
   pub end_met : {result : Result (Unit {0}) Fault} → Closes told stage old new next result → IsReady stage old → IfErr result (IsMet (work stage).means (work stage).means.closing (Unit {0}) (EndsThere Holds work stage) old new)
   end_met (ended_well closed none) ready = tt
-  end_met (ended_short fault stopped) ready = met_by tt (EndsThere Holds work stage) old new fault ready.tells stopped.keeps.writer.slots
+  end_met (ended_short fault stopped) ready = met_by tt (EndsThere Holds work stage) stage.cutter.style old new fault ready.manner stopped.keeps.writer.slots
   end_met (ended_so fault mid reached closed some kind swept) ready =
       met_there told stage mid old reached fault kind new (ends_there told stage mid old reached closed some refl)
 
@@ -660,7 +679,7 @@ module _ (told : Bool) (stage next : CsplitState) (old new : List Slot) where
 none_stands : (told : Bool) (style : Style) {before slots : List Slot} → 2 ≤ length slots → OutputsAt told before nothing slots → At told (writer_for style) before nothing slots
 none_stands told style {before} {slots} two at =
     let size : length slots ≡ length before + 0 = outputs_count told before nothing slots at in
-    record { owns = subst (λ n. OwnsFiles (writer_for style) n slots) (let e : length slots ≡ length before = omega (arith, size) in e) (new_owns (naming_of style) (tells_by style) two); outputs = at }
+    record { owns = subst (λ n. OwnsFiles (writer_for style) n slots) (let e : length slots ≡ length before = omega (arith, size) in e) (first_owns style two); outputs = at }
 
 -- the first section began, or could not; the operands are as they are handed over
 pub begins_at : (told : Bool) (style : Style) {given operands : List Operand} {writer : WriterState} {old new : List Slot} → given ≡ operands → 2 ≤ length old → Reaches (sizes_wanted style) told (writer_for style) writer nothing (settled_of style given []) old new None
@@ -681,7 +700,10 @@ module _ (view : CutterState) (stage : CsplitState) (next : CutterState) (old ne
   clears = subst (λ (cutter : CutterState). Clears cutter old new next) is clears_view
 
   pub files_kept : KeepsFiles stage.cutter.writer next.writer old new
-  files_kept = files_left (ap (λ (c : CutterState). c.writer.current) clears.same) clears.removes
+  files_kept = files_left (ap (λ (c : CutterState). c.writer.keeps) clears.same) (ap (λ (c : CutterState). c.writer.current) clears.same) clears.removes
+
+  pub kept_own : {other : CsplitState} → other.cutter ≡ next → (first : ℕ) → Owns stage first old → Owns other first new
+  kept_own same first own = record { writer = rw same (files_kept.owns first own.writer); all = ap (λ (c : CutterState). c.writer.keeps) (same ∙ clears.same) ∙ own.all }
 
   pub cleared_swept : (keep : Bool) → keep ≡ false → (first : ℕ) → Owns stage first old → Swept (not keep) first old new
-  cleared_swept keep none first own = subst (λ k. Swept (not k) first old new) (sym none) (all_cleared first stage.cutter.writer.files next.writer.files old new clears.removes own.there own.from own.own)
+  cleared_swept keep none first own = subst (λ k. Swept (not k) first old new) (sym none) (all_cleared first stage.cutter.writer.files next.writer.files old new clears.removes own.writer.there own.writer.from (own.writer.own own.all))

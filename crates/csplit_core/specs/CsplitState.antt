@@ -1,13 +1,13 @@
 -- What contracts see of the stage that takes in bytes, and what its calls do.
 use Rattle.std.specs.Prelude.{◌≡◌, ◌≢◌, ℕ, ◌+◌, ◌<◌, ◌≤◌, ◌^◌, List, [], length, IsTrue}
 use Rattle.seg_core.specs.Line.{delimiters, first_lines}
-use Rattle.ports_core.specs.Draft.{output_of}
-use Rattle.ports_core.specs.FileWriter.{OwnsFiles, IsReady as CanWrite}
+use Rattle.ports_core.specs.FileWriter.{OwnsFiles, IsManner, IsReady as CanWrite, manner_in}
 use Rattle.ports_core.specs.Slot.{Slot, is_writable}
+use Rattle.ports_core.specs.declared.file_writer.Keeps.TheVariants.{All}
 use Rattle.ports_core.specs.Work.{Work}
 use Rattle.csplit_core.specs.Csplit.{csplit_work}
 use Rattle.csplit_core.specs.Cutter.{CutterState, IsSound, Stands, load}
-use Rattle.csplit_core.specs.Output.{sizes_wanted}
+use Rattle.csplit_core.specs.Output.{manner_of}
 use Rattle.csplit_core.specs.Input.{newline, open_line}
 use Rattle.csplit_core.specs.declared.progress.Turn.TheVariants.{Below}
 
@@ -36,15 +36,17 @@ pub record Holds (stage : CsplitState) (x : List ℕ) : Type 0 where
 pub record IsReady (stage : CsplitState) (slots : List Slot) : Type 0 where
   pub writer : CanWrite stage.cutter.writer slots
   pub output : IsTrue (is_writable slots 0)
-  -- it tells sizes just where they are wanted
-  pub tells : output_of stage.cutter.writer.tells ≡ sizes_wanted stage.cutter.style
+  -- its files are named as they are asked for, and it tells sizes just where they are wanted
+  pub manner : IsManner (manner_of stage.cutter.style) (manner_in stage.cutter.writer)
   pub sound : IsSound stage.cutter
   pub unbroken : delimiters newline stage.rest ≡ 0
   pub room : load stage.cutter + length stage.rest ≤ stage.taken
   pub few : stage.taken < 2 ^ 63
 
-abbrev pub Owns : CsplitState → ℕ → List Slot → Type 0
-Owns stage first slots = OwnsFiles stage.cutter.writer first slots
+-- from this place on the outputs that have a file are its own
+pub record Owns (stage : CsplitState) (first : ℕ) (slots : List Slot) : Type 0 where
+  pub writer : OwnsFiles stage.cutter.writer first slots
+  pub all : stage.cutter.writer.keeps ≡ All
 
 -- the outputs of the files that it made and didn't remove
 abbrev pub files : CsplitState → List ℕ

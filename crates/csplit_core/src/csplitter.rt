@@ -6,7 +6,7 @@ ghost use Rattle.ports_core.specs.Part.{OutputsAt, StoppedBetween, nothing};
 ghost use Rattle.ports_core.specs.Slot.{Slot, is_writable};
 ghost use Rattle.ports_core.specs.Swept.{AreThere, HasNoFiles};
 ghost use Rattle.csplit_core.specs.Csplit.{csplit_work, settled_by};
-ghost use Rattle.csplit_core.specs.Output.{sizes_wanted};
+ghost use Rattle.csplit_core.specs.Output.{manner_of, sizes_wanted};
 ghost use Rattle.csplit_core.specs.inner.Cutter.{Closes, Passes, IsLine, Takes};
 ghost use Rattle.csplit_core.specs.CsplitState.{Holds, IsReady, Owns, files, work};
 ghost use Rattle.csplit_core.specs.Cutter.{IsSound, load};
@@ -72,7 +72,7 @@ impl<'o> Csplitter<'o> {
         ensures there { IfOk result (λ engine. AreThere (files engine.stage) (O.slots outs.new)) }
         ensures outputs { OnOk result ((before : List Slot) → OutputsAt O.told before nothing (O.slots outs.old) → OutputsAt O.told before (settled_by style operands.now []) (O.slots outs.new)) }
         ensures cut { IfErr result (λ fault. (before : List Slot) → OutputsAt O.told before nothing (O.slots outs.old) → StoppedBetween (sizes_wanted style) O.told before nothing (settled_by style operands.now []) fault (O.slots outs.new)) }
-        ensures refused { IfErr result (Breaks (sizes_wanted style) (O.slots outs.old) (O.slots outs.new)) }
+        ensures refused { IfErr result (Breaks (manner_of style) (O.slots outs.old) (O.slots outs.new)) }
         ensures none { IfErr result (λ fault. HasNoFiles (length (O.slots outs.old)) (O.slots outs.new)) }
     {
         let cutter = LineCutter::open(alloc, operands.as_slice(), style, outs)?;
@@ -215,5 +215,5 @@ impl<'o> Stage for Csplitter<'o> {
 
     ghost lawful = { λ stage. lawful stage.cutter.style stage.cutter.operands };
 
-    ghost there = { λ stage first slots owns. owns.there };
+    ghost there = { λ stage first slots owns. owns.writer.there };
 }

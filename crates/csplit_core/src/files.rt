@@ -1,11 +1,11 @@
 //! How sections are made into files.
 ghost use Rattle.std.specs.Prelude.{◌≡◌, IfErr, IfOk};
 ghost use Rattle.csplit_core.specs.Output.{opening_of as opens};
-ghost use Rattle.csplit_core.specs.inner.Cutter.{tells_by, writer_for};
+ghost use Rattle.csplit_core.specs.inner.Cutter.{new_for, tells_by};
 ghost use Rattle.ports_core.specs.FileWriter.{seen_writer};
 
 use crate::Style;
-use ports_core::{Fault, FileWriter, Naming, Numbering, Opening, Tells};
+use ports_core::{Fault, FileWriter, Keeps, Naming, Numbering, Opening, Tells};
 use std::alloc::Global;
 
 /// A writer of files that has begun no section.
@@ -14,12 +14,12 @@ use std::alloc::Global;
 ///
 /// `Memory` where there is no room for what names begin with.
 pub(crate) fn writer_of(alloc: Global, style: &Style) -> Result<FileWriter, Fault>
-    ensures ok { IfOk result (λ writer. seen_writer writer ≡ writer_for style.now) }
+    ensures ok { IfOk result (λ writer. seen_writer writer ≡ new_for style.now) }
     ensures err { IfErr result (λ fault. fault ≡ Fault.Memory) }
 {
     let tells = tells_of(style);
     let naming = Naming::new(alloc, &style.prefix, Numbering::Decimal(style.digits), "")?;
-    Ok(FileWriter::new(alloc, naming, tells))
+    Ok(FileWriter::new(alloc, naming, tells, Keeps::All))
 }
 
 /// When a section gets its file: one that is skipped gets none, and an empty one may be left out.

@@ -1,19 +1,20 @@
 -- What the writer of files does: what it writes, whose the outputs are, and which faults come.
 use Rattle.std.proofs.lemmas.Grind.{common_steps}
-use Rattle.std.proofs.Common.{◌≡◌, ℕ, ◌+◌, ◌<◌, ◌≤◌, zero, suc, eqb, eq-eqb, ne_eqb, Bool, false, ◌||◌, IsTrue, List, [], ◌∷◌, ◌++◌, length, map, take, drop, replicate, decimal, Option, Some, None, IfNone, Result, Ok, Err, OnOk, IfErr, IsErrAnd, inl, inr, refl, sym, ◌∙◌, ap, subst, arith, rules, append-nil, length-append, zero-add}
+use Rattle.std.proofs.Common.{◌≡◌, ℕ, ◌+◌, ◌<◌, ◌≤◌, ◌^◌, zero, suc, eqb, eq-eqb, ne_eqb, Bool, true, false, ◌||◌, IsTrue, List, [], ◌∷◌, ◌++◌, ◌⊎◌, length, map, take, drop, replicate, decimal, Option, Some, None, IfNone, IfSome, Result, Ok, Err, OnOk, IfErr, IsErrAnd, inl, inr, refl, sym, ◌∙◌, ap, subst, arith, rules, append-nil, length-append}
 use Rattle.std.proofs.lemmas.Bool.{false≢true, cases_lt}
 use Rattle.std.proofs.lemmas.List.{length-map, take-append-drop, take_all}
 use Rattle.std.proofs.lemmas.List.Recursion.{or_push}
 use Rattle.std.proofs.Math.Bool.{or-false}
 use Rattle.std.proofs.Math.Seq.{take-append-add, take-append_seam, drop-append_seam}
-use Rattle.ports_core.specs.Draft.{Manner, Draft, share, files_from, told_of_files, part_with, part_of, size_of_file, output_of, made_of, shares_of, draft_part, with_bytes, with_next}
-use Rattle.ports_core.specs.FileWriter.{WriterState, Writes, IsCurrent, IsLast, IsOpenAt, IsReady, CanTell, OwnsFiles, Breaks, manner_in, NamesAll}
+use Rattle.ports_core.specs.Draft.{Manner, AreNamed, Draft, share, files_from, told_of_files, part_with, part_of, size_of_file, output_of, made_of, shares_of, draft_part, with_bytes, with_next, manner_by}
+use Rattle.ports_core.specs.FileWriter.{WriterState, Writes, CanCount, IsCounted, IsCurrent, IsLast, IsOpenAt, IsReady, IsManner, IsWrite, CanTell, OwnsFiles, Breaks, RunsShort, manner_in}
 use Rattle.ports_core.specs.Name.{Naming}
-use Rattle.ports_core.specs.Part.{File as PartFile, Part, OutputsAt, Begins, FilesBegin, IsNext, IsBeginning, Output, gets_lines, lines_for}
-use Rattle.ports_core.specs.Slot.{Slot, broke, numberless, with_written, told_of, has_file, slot_at, changed_at, opened, closes, with_broken, is_writable}
+use Rattle.ports_core.specs.Names.{next_name, has_next, OpensNone, no_memory, no_file, no_name}
+use Rattle.ports_core.specs.Part.{File as PartFile, Part, OutputsAt, Begins, FilesBegin, IsNext, IsBeginning, Output, gets_lines, lines_for, writes}
+use Rattle.ports_core.specs.Slot.{Slot, with_written, told_of, has_file, slot_at, changed_at, opened, closes, with_broken, is_writable}
 use Rattle.ports_core.specs.Swept.{AreThere, is_among, Removes}
 use Rattle.ports_core.specs.FileWriter.{At, KeepsFiles, KeepsOrBreaks, Leaves, Reaches, Goes, new_writer, paused}
-use Rattle.ports_core.specs.inner.FileWriter.{MakesNone, unnamed, failed, Made, next_name, Appends, Makes, TellsSize}
+use Rattle.ports_core.specs.inner.FileWriter.{MakesNone, Made, Appends, TellsSize, CountsOn, files_with}
 use Rattle.ports_core.specs.Turn.{AllClosed, InTurn, IsThere, LinesTo, fault_in}
 use Rattle.ports_core.specs.inner.Part.{HasLines}
 use Rattle.ports_core.specs.Slot.{KeepsBroken}
@@ -21,21 +22,25 @@ use Rattle.ports_core.specs.inner.Write as short
 use Rattle.ports_core.specs.inner.Write.{Wrote, WritesShort}
 use Rattle.ports_core.specs.declared.fault.Fault.{Fault}
 use Rattle.ports_core.specs.declared.fault.Fault.TheVariants as fault
-use Rattle.ports_core.specs.declared.fault.Fault.TheVariants.{Memory}
+use Rattle.ports_core.specs.declared.fault.Fault.TheVariants.{Memory, Suffixes}
 use Rattle.ports_core.specs.declared.file_writer.Current.{Current}
 use Rattle.ports_core.specs.declared.file_writer.Current.TheVariants.{File, Unopened, Skipped, Due}
+use Rattle.ports_core.specs.declared.file_writer.Keeps.{Keeps}
+use Rattle.ports_core.specs.declared.file_writer.Keeps.TheVariants.{Open as OpenOne, All}
 use Rattle.ports_core.specs.declared.file_writer.Opening.{Opening}
 use Rattle.ports_core.specs.declared.file_writer.Opening.TheVariants.{Never, Late, AtOnce}
 use Rattle.ports_core.specs.declared.file_writer.Tells.{Tells}
 use Rattle.ports_core.specs.declared.file_writer.Tells.TheVariants.{Nothing, Sizes}
+use Rattle.ports_core.specs.declared.names.Names.{Names}
 use Rattle.ports_core.specs.declared.slot.Mode.TheVariants.{Fresh}
 use Rattle.ports_core.specs.declared.slot.State.TheVariants as state
 use Rattle.ports_core.proofs.HandedOn.{handed_on}
 use Rattle.ports_core.proofs.PartLemmas.{begins_itself, begins_more, take_begins_after, files_begin_themselves, part_begins_itself, out_more, turn_between, turn_next, turn_last, lines_before}
 use Rattle.ports_core.proofs.PartSteps.{Becomes, becomes_again, with_last, halts_here, there_from, file_of, writes_to, opens, falls_wider, close_begins, closes_last, closes_not, lines_of_front}
-use Rattle.ports_core.proofs.ShareLemmas.{AreNamed, part_grows, bytes_begin, next_begins, begun_begins, has_told, closed_files, ended_files, ended_out, name_after, open_part, closed_part, none_part, still_made, late_made, made_or}
+use Rattle.ports_core.proofs.OpenLemmas.{opens_marks, opens_at}
+use Rattle.ports_core.proofs.ShareLemmas.{stopped_part, part_grows, bytes_begin, next_begins, begun_begins, has_told, closed_files, ended_files, ended_out, name_after, open_part, closed_part, none_part, still_made, late_made, made_or}
 use Rattle.ports_core.proofs.SlotLemmas.{length-changed_at}
-use Rattle.ports_core.proofs.SlotSteps.{KeepsMade, none_past, file_before, at_end, opened_last, writable_within, write_rose, close_rose, keeps_write, made_write, written_writable, made_short, keeps_open, writable_before, made_again, made_close, made_break, keeps_close, writable_elsewhere, keeps_again}
+use Rattle.ports_core.proofs.SlotSteps.{KeepsMade, none_past, file_before, at_end, opened_last, writable_within, write_rose, close_rose, keeps_write, made_write, written_writable, made_short, keeps_open, writable_before, made_again, open_rose, opened_writable, made_close, made_break, keeps_close, writable_elsewhere, keeps_again}
 use Rattle.ports_core.proofs.WriteLemmas.{none_written}
 use Rattle.ports_core.proofs.SweepLemmas.{by_place, left_apart, left_has, left_there, same_size}
 
@@ -55,11 +60,9 @@ module _ (output : Output) (told : Bool) (front : List PartFile) where
   pub lines_all : (fault : Fault) → LinesTo output (part_with output front) (length front) fault
   lines_all fault = lines_before output (part_with output front) (length front) fault (subst (HasLines output (told_of_files output front)) (sym (take_all (length front) front (omega arith))) (has_told output front))
 
-  pub opens_not : {name : List ℕ} {high : Part} {old new : List Slot} {fault : Fault} → AllClosed front → Begins (part_with output front) high → IsNext (part_with output front) high name → MakesNone old name new fault
+  pub opens_not : {names next : Names} {high : Part} {old new : List Slot} {fault : Fault} → AllClosed front → Begins (part_with output front) high → (names.drawn < 2 ^ 64 → IsTrue (has_next names) → IsNext (part_with output front) high (next_name names)) → OpensNone names next old new fault
       → Becomes output told (part_with output front) high old new (Some fault)
-  opens_not closed begins next (unnamed same) = halts_here begins (turn_next front closed) (lines_all _) same (λ before at. tt)
-  opens_not {name} closed begins next (failed _ (broke slot kept number is added)) = halts_here begins (turn_next front closed) (lines_all _) (number, (name, kept, next, is, added)) (λ before at. refl)
-  opens_not closed begins next (failed _ (numberless full same)) = halts_here begins (turn_next front closed) (lines_all _) same (λ before at. tt)
+  opens_not closed begins is_next none = halts_here begins (turn_next front closed) (lines_all _) (opens_marks _ is_next none) (λ before at. opens_at (length before) refl none)
 
 -- standard output gets the line for the last file, which is closed
 module _ (line : PartFile → List ℕ) (told : Bool) (front : List PartFile) (file : PartFile) (shut : file.state ≡ state.Closed) where
@@ -102,9 +105,9 @@ stops_wider {output} {told} {low} {middle} {high} {new = new} {fault = fault} st
     record { there = λ before at. turn_between output told before low low middle high fault new (part_begins_itself low) (stops.there before at) begins }
 
 -- a step that is known of the outputs alone, as long as the open file is the last
-pub reaches_by : {output : Output} {told : Bool} {low high : Part} {old new : List Slot} {fault : Option Fault} {writer next : WriterState} → KeepsFiles writer next old new → (IsLast writer.current old → Becomes output told low high old new fault)
+pub reaches_by : {output : Output} {told : Bool} {low high : Part} {old new : List Slot} {fault : Option Fault} {writer next : WriterState} → KeepsFiles writer next old new → ((first : ℕ) → IsLast writer.current first old → Becomes output told low high old new fault)
     → Reaches output told writer next low high old new fault
-reaches_by {output} {told} {low} {high} {old} {new} {fault} {writer} {next} keeps becomes = record { there = λ before at. by fault before at ((becomes at.owns.last).gets before at.outputs) } where
+reaches_by {output} {told} {low} {high} {old} {new} {fault} {writer} {next} keeps becomes = record { there = λ before at. by fault before at ((becomes (length before) at.owns.last).gets before at.outputs) } where
   by : (fault : Option Fault) (before : List Slot) → At told writer before low old → IsThere output told (OutputsAt told before high new) before low high new fault → IsThere output told (At told next before high new) before low high new fault
   by None before at outputs = record { owns = keeps.owns (length before) at.owns; outputs = outputs }
   by (Some why) before at stops = stops
@@ -121,17 +124,29 @@ reaches_still {told = told} {slots = slots} {next = next} keeps is = record { th
 pub in_turn : {output : Output} {told : Bool} {part : Part} (place : ℕ) {slots : List Slot} {writer next : WriterState} → InTurn part.files place → LinesTo output part place Memory → Reaches output told writer next part part slots slots (Some Memory)
 in_turn {part = part} place {slots} turn lines = search (rules, part_begins_itself)
 
-pub lacks_memory : {told : Bool} (manner : Manner) (draft : Draft) {slots : List Slot} {writer next : WriterState} → AreNamed manner (suc (length draft.ended)) → Reaches manner.output told writer next (draft_part manner draft) (draft_part manner draft) slots slots (Some Memory)
+made_count : (draft : Draft) → made_of draft.opening draft.bytes ≡ draft.bytes ∷ [] → length (shares_of draft) ≡ length draft.ended + 1
+made_count draft makes = ap (λ made. length (map (share state.Closed) draft.ended ++ map (share state.Open) made)) makes ∙ length-append (map (share state.Closed) draft.ended) (share state.Open draft.bytes ∷ []) ∙ ap (λ n. n + 1) (length-map draft.ended (share state.Closed))
+
+-- with an open file, those that ended and this one have names
+named_last : (manner : Manner) (draft : Draft) → AreNamed manner (length (shares_of draft)) → made_of draft.opening draft.bytes ≡ draft.bytes ∷ [] → AreNamed manner (suc (length draft.ended))
+named_last manner draft named makes place less = named place (omega (arith, less, made_count draft makes))
+
+pub lacks_memory : {told : Bool} (manner : Manner) (draft : Draft) {slots : List Slot} {writer next : WriterState} → AreNamed manner (length (shares_of draft)) → Reaches manner.output told writer next (draft_part manner draft) (draft_part manner draft) slots slots (Some Memory)
 lacks_memory {told} manner draft named = elim (made_or draft.opening draft.bytes) [
   | inl none ↦
       let is = none_part manner draft none in
       reaches_as is is (in_turn (length (ended_files manner draft)) (turn_next (ended_files manner draft) (closed_files manner 0 draft.ended)) (lines_all manner.output told (ended_files manner draft) Memory))
   | inr makes ↦
-      let is = open_part manner draft named makes in
+      let is = open_part manner draft (named_last manner draft named makes) makes in
       reaches_as is is (in_turn (length (ended_files manner draft)) (turn_last (ended_files manner draft) _ _ refl (closed_files manner 0 draft.ended)) (lines_of_front manner.output _ (ended_files manner draft) _ Memory (has_told manner.output (ended_files manner draft))))
 ]
 
 -- Outputs that were broken stay broken, and files stay the writer's own.
+
+-- what is so of a call that ended for want of names
+where_short : {A B : Type 0} (fault : Option Fault) → IfSome fault (λ fault. fault ≡ Suffixes → A) → (A → B) → IfSome fault (λ fault. fault ≡ Suffixes → B)
+where_short None holds follows = tt
+where_short (Some why) holds follows = λ is. follows (holds is)
 
 -- what is so of a call that went well
 pub where_well : {A B : Type 0} (fault : Option Fault) → IfNone fault A → (A → B) → IfNone fault B
@@ -152,18 +167,20 @@ well_in A result holds = grind (arith, common_steps)
 owns_again : {one two three : WriterState} {old mid new : List Slot} → KeepsFiles one two old mid → KeepsFiles two three mid new → KeepsFiles one three old new
 owns_again before after = record { owns = λ first own. after.owns first (before.owns first own); there = λ are. after.there (before.there are) }
 
-breaks_later : {output other : Output} (old mid new : List Slot) (fault : Fault) → other ≡ output → KeepsBroken old mid → Breaks other mid new fault → Breaks output old new fault
+pub breaks_later : {manner other : Manner} (old mid new : List Slot) (fault : Fault) → other ≡ manner → KeepsBroken old mid → Breaks other mid new fault → Breaks manner old new fault
 breaks_later old mid new fault same keeps breaks = grind (arith, common_steps)
 
-slots_again : {output other : Output} (old mid new : List Slot) (fault : Option Fault) → other ≡ output → KeepsBroken old mid → KeepsOrBreaks other mid new fault → KeepsOrBreaks output old new fault
+slots_again : {manner other : Manner} (old mid new : List Slot) (fault : Option Fault) → other ≡ manner → KeepsBroken old mid → KeepsOrBreaks other mid new fault → KeepsOrBreaks manner old new fault
 slots_again old mid new None same first second = keeps_again old mid new first second
 slots_again old mid new (Some fault) same first second = breaks_later old mid new fault same first second
 
 pub leaves_again : {one two three : WriterState} {old mid new : List Slot} {fault : Option Fault} → Leaves one two old mid None → Leaves two three mid new fault → Leaves one three old new fault
 leaves_again {old = old} {mid} {new} {fault} first second = record {
+  manner = second.manner ∙ first.manner;
   tells = second.tells ∙ first.tells;
+  keeps = second.keeps ∙ first.keeps;
   owns = owns_again first.owns second.owns;
-  slots = slots_again old mid new fault (ap output_of first.tells) first.slots second.slots;
+  slots = slots_again old mid new fault first.manner first.slots second.slots;
   output = where_well fault second.output (λ later can. later (first.output can));
   ready = second.ready;
 }
@@ -172,19 +189,19 @@ pub keeps_files : {writer : WriterState} {slots : List Slot} → KeepsFiles writ
 keeps_files = record { owns = λ first owns. owns; there = λ are. are }
 
 pub leaves_still : {writer : WriterState} {slots : List Slot} → IsReady writer slots → Leaves writer writer slots slots None
-leaves_still ready = record { tells = refl; owns = keeps_files; slots = λ place sound. sound; output = λ can. can; ready = ready }
+leaves_still ready = record { manner = refl; tells = refl; keeps = refl; owns = keeps_files; slots = λ place sound. sound; output = λ can. can; ready = ready }
 
 -- want of memory leaves them as they are
 pub leaves_lacking : {writer : WriterState} {slots : List Slot} → Leaves writer writer slots slots (Some Memory)
-leaves_lacking = record { tells = refl; owns = keeps_files; slots = tt; output = tt; ready = tt }
+leaves_lacking = record { manner = refl; tells = refl; keeps = refl; owns = keeps_files; slots = tt; output = tt; ready = tt }
 
 -- the open file can be written
 pub at_file : {writer : WriterState} {slot size : ℕ} {slots : List Slot} → writer.current ≡ File slot size → IsReady writer slots → (2 ≤ slot) × IsTrue (is_writable slots slot)
 at_file {slots = slots} is ready = subst (λ current. IsOpenAt current slots) is ready.current
 
 -- and is the last output, where that is known of it
-pub last_file : (writer : WriterState) {slot size : ℕ} (slots : List Slot) → writer.current ≡ File slot size → IsLast writer.current slots → suc slot ≡ length slots
-last_file writer slots is last = subst (λ current. IsLast current slots) is last
+pub last_file : (writer : WriterState) {slot size first : ℕ} (slots : List Slot) → writer.current ≡ File slot size → IsLast writer.current first slots → (first ≤ slot) × (suc slot ≡ length slots)
+last_file writer {first = first} slots is last = subst (λ current. IsLast current first slots) is last
 
 -- what can be told stays so, where standard output can still be written
 can_tell : (tells : Tells) (old new : List Slot) → (IsTrue (is_writable old 0) → IsTrue (is_writable new 0)) → CanTell tells old → CanTell tells new
@@ -200,8 +217,8 @@ there_still (place ∷ files) old new keeps are = ((are.0.0, subst IsTrue (sym (
 pub there_same : (files : List ℕ) {old new : List Slot} → KeepsMade old new → AreThere files old → AreThere files new
 there_same files {old} {new} keeps are = there_still files old new keeps.same are
 
-pub owned_same : {writer next : WriterState} {old new : List Slot} → next.files ≡ writer.files → (IsLast writer.current old → IsLast next.current new) → KeepsMade old new → KeepsFiles writer next old new
-owned_same {writer} {old = old} {new} same last keeps = search (rules, there_same)
+pub owned_same : {writer next : WriterState} {old new : List Slot} → next.files ≡ writer.files → next.keeps ≡ writer.keeps → ((first : ℕ) → IsLast writer.current first old → IsLast next.current first new) → KeepsMade old new → KeepsFiles writer next old new
+owned_same {writer} {old = old} {new} same keeps_as last keeps = search (rules, there_same)
 
 -- one file more
 
@@ -219,26 +236,58 @@ there_more (place ∷ files) slots name {slot} at two are =
       there_more files slots name at two are.2,
     )
 
+there_before : (files : List ℕ) (old : List Slot) (one : Slot) {new : List Slot} → new ≡ old ++ one ∷ [] → AreThere files old → AreThere files new
+there_before [] old one added are = tt
+there_before (place ∷ files) old one {new} added are =
+    let within : place < length old = (grind (arith, common_steps)) in
+    ((are.0.0, subst IsTrue (sym (ap (λ slots. has_file (slot_at slots place).state) added ∙ file_before old one place within)) are.0.1), are.1, there_before files old one added are.2)
+
+opened_by : (keeps : Keeps) {writer : WriterState} {slot : ℕ} {old new : List Slot} (name : List ℕ) {names : Names} → 2 ≤ length old → writer.keeps ≡ keeps → slot ≡ length old → new ≡ old ++ opened name Fresh ∷ []
+    → KeepsFiles writer (record writer { names = names; files = files_with keeps writer.files slot; current = File slot 0 }) old new
+opened_by OpenOne {writer} {slot} {old} {new} name two is at added = record {
+  owns = λ first owns. record {
+    streams = owns.streams;
+    within = (let e : length new ≡ length old + 1 = ap length added ∙ length-append old _ in omega (arith, owns.within, e));
+    from = owns.from;
+    own = λ all. absurd (let same : OpenOne ≡ All = sym is ∙ all in cc);
+    there = there_before writer.files old (opened name Fresh) added owns.there;
+    last = (omega (arith, at, owns.within), (let e : length new ≡ length old + 1 = ap length added ∙ length-append old _ in omega (arith, at, e)));
+  };
+  there = there_before writer.files old (opened name Fresh) added;
+}
+opened_by All {writer} {slot} {old} {new} name two is at added = grind (arith, common_steps, by_place, or-false, among_more, there_more, cases_lt, none_past, file_before, at_end, eq-eqb, false≢true)
+
 pub owned_opened : {writer next : WriterState} {slot : ℕ} {old new : List Slot} → 2 ≤ length old → Made writer old new next slot → KeepsFiles writer next old new
-owned_opened {writer} {next} {slot} {old} {new} two made = grind (arith, common_steps, by_place, or-false, among_more, opened_last, there_more, cases_lt, none_past, file_before, at_end, eq-eqb, false≢true)
+owned_opened {writer} {old = old} {new} two made = rw made.same (opened_by writer.keeps (next_name writer.names) two refl made.place made.added)
 
-unmade_keeps : {name : List ℕ} {old new : List Slot} {f : Fault} → MakesNone old name new f → (place : ℕ) → has_file (slot_at new place).state ≡ has_file (slot_at old place).state
-unmade_keeps (unnamed same) place = grind (arith, common_steps)
-unmade_keeps {old = old} (failed _ (broke slot kept number is added)) place = grind (arith, common_steps)
-unmade_keeps (failed _ (numberless full same)) place = grind (arith, common_steps)
+unmade_keeps : {names next : Names} {old new : List Slot} {f : Fault} → OpensNone names next old new f → (place : ℕ) → has_file (slot_at new place).state ≡ has_file (slot_at old place).state
+unmade_keeps (no_memory same) place = grind (arith, common_steps)
+unmade_keeps {old = old} (no_file slot kept number few has drew is added) place = grind (arith, common_steps)
+unmade_keeps (no_name few none same) place = grind (arith, common_steps)
 
-pub owned_unopened : {writer : WriterState} {name : List ℕ} {old new : List Slot} {f : Fault} → MakesNone old name new f → KeepsFiles writer (record writer { current = Unopened }) old new
-owned_unopened {writer} {old = old} {new} none = grind (arith, common_steps, unmade_keeps, there_still)
+unmade_within : {names next : Names} {old new : List Slot} {f : Fault} → OpensNone names next old new f → length old ≤ length new
+unmade_within (no_memory same) = grind (arith, common_steps)
+unmade_within {old = old} (no_file slot kept number few has drew is added) = grind (arith, common_steps, length-append)
+unmade_within (no_name few none same) = grind (arith, common_steps)
+
+pub owned_unopened : {writer : WriterState} {names next : Names} {old new : List Slot} {f : Fault} → OpensNone names next old new f → KeepsFiles writer (record writer { names = next; current = Unopened }) old new
+owned_unopened {writer} {old = old} {new} none = grind (arith, common_steps, unmade_keeps, unmade_within, there_still)
 
 -- Which faults come
 
-pub make_breaks : (output : Output) {name : List ℕ} {old new : List Slot} {f : Fault} → MakesNone old name new f → Breaks output old new f
-make_breaks output (unnamed same) = tt
-make_breaks output {old = old} {new} (failed _ (broke slot kept number is added)) = grind (arith, common_steps)
-make_breaks output (failed _ (numberless full same)) = tt
+-- the manner in which files are made may be said otherwise
+pub breaks_as : {manner own : Manner} (old new : List Slot) (fault : Fault) → IsManner manner own → Breaks own old new fault → Breaks manner old new fault
+breaks_as old new (fault.Write slot) same (out, rose) = (λ none. subst (λ output. writes output ≡ true) same.output (out none), rose)
+breaks_as old new Suffixes same (place, few, none) = (place, few, sym (same.has place few) ∙ none)
+breaks_as old new fault same breaks = breaks
 
-pub line_breaks : (told : Bool) (line : List ℕ) {old new : List Slot} {f : Fault} → IsTrue (is_writable old 0) → WritesShort told 0 line old new f → Breaks (output_of Sizes) old new f
-line_breaks told line {old} {new} can (short.broke n cut) = grind (arith, common_steps)
+pub make_breaks : (output : Output) {names next : Names} {old new : List Slot} {f : Fault} → OpensNone names next old new f → Breaks (manner_by names.naming output) old new f
+make_breaks output (no_memory same) = tt
+make_breaks output {old = old} {new} (no_file slot kept number few has drew is added) = open_rose slot kept old new number added
+make_breaks output {names} (no_name few none same) = (names.drawn, few, none)
+
+pub line_breaks : (told : Bool) (naming : Naming) (line : List ℕ) {old new : List Slot} {f : Fault} → IsTrue (is_writable old 0) → WritesShort told 0 line old new f → Breaks (manner_by naming (output_of Sizes)) old new f
+line_breaks told naming line {old} {new} can (short.broke n cut) = grind (arith, common_steps)
 
 -- The line with a file's size.
 
@@ -251,55 +300,58 @@ one_left n all less = absurd (omega arith)
 pub line_is : (size all : ℕ) {digits : List ℕ} (copied : List ℕ) → copied ≡ digits → digits ≡ decimal size → length digits < all → take (length digits + 1) (copied ++ drop (length digits) (replicate all 10)) ≡ decimal size ++ 10 ∷ []
 line_is size all {digits} copied same is fits = search (rules, take-append-add, one_left)
 
-abbrev pub state_of : WriterState → List ℕ → Current → WriterState
-state_of writer files current = record writer { files = files; current = current }
-
 -- What is begun
 
-pub now_is : {manner : Manner} {writer : WriterState} {draft : Draft} {current : Current} → writer.current ≡ current → Writes manner writer draft → IsCurrent draft.opening draft.bytes current
-now_is {draft = draft} is writes = subst (IsCurrent draft.opening draft.bytes) is writes.current
+pub now_is : {manner : Manner} {writer : WriterState} {draft : Draft} {current : Current} → writer.current ≡ current → Writes manner writer draft → IsCurrent writer.tells draft.opening draft.bytes current
+now_is {writer = writer} {draft} is writes = subst (IsCurrent writer.tells draft.opening draft.bytes) is writes.current
 
--- all its files have names
-pub all_named : {manner : Manner} (writer : WriterState) (count : ℕ) → manner_in writer ≡ manner → AreNamed manner count
-all_named writer count same place less = ap (λ (those : Manner). those.has_name place) (sym same)
+-- all its files have names, the open one too
+file_named : {manner : Manner} {writer : WriterState} {draft : Draft} → made_of draft.opening draft.bytes ≡ draft.bytes ∷ [] → Writes manner writer draft → AreNamed manner (suc (length draft.ended))
+file_named {manner} {draft = draft} makes writes = named_last manner draft writes.named makes
 
 -- Nothing is written: what is begun had no file, and has none
 
-pub goes_still : {told : Bool} {writer : WriterState} {change : Draft → Draft} (current : Current) {slots : List Slot} → IsReady writer slots → IsOpenAt current slots → (IsLast writer.current slots → IsLast current slots)
-    → ((draft : Draft) → IsCurrent draft.opening draft.bytes writer.current → (shares_of draft ≡ shares_of (change draft)) × IsCurrent (change draft).opening (change draft).bytes current)
+pub goes_still : {told : Bool} {writer : WriterState} {change : Draft → Draft} (current : Current) {slots : List Slot} → IsReady writer slots → IsOpenAt current slots → ((first : ℕ) → IsLast writer.current first slots → IsLast current first slots)
+    → ((draft : Draft) → IsCurrent writer.tells draft.opening draft.bytes writer.current → (shares_of draft ≡ shares_of (change draft)) × IsCurrent writer.tells (change draft).opening (change draft).bytes current)
     → Goes told writer change slots slots (record writer { current = current }) None
 goes_still {writer = writer} {change} current {slots} ready at last stays = record {
-  leaves = record { tells = refl; owns = keeps; slots = λ place sound. sound; output = λ can. can; ready = record { named = ready.named; streams = ready.streams; output = ready.output; files = ready.files; current = at } };
+  leaves = record { manner = refl; tells = refl; keeps = refl; owns = keeps; slots = λ place sound. sound; output = λ can. can; ready = record { streams = ready.streams; output = ready.output; files = ready.files; current = at } };
   reaches = λ manner draft writes. reaches_still keeps (ap (part_of manner) (stays draft writes.current).0);
-  writes = λ manner draft writes. let so = stays draft writes.current in record { same = writes.same; made = writes.made ∙ ap length so.0; current = so.1 };
+  short = tt;
+  writes = λ manner draft writes. let so = stays draft writes.current in record { same = writes.same; made = writes.made ∙ ap length so.0; named = subst (λ shares. AreNamed manner (length shares)) so.0 writes.named; current = so.1 };
 } where
   keeps : KeepsFiles writer (record writer { current = current }) slots slots
-  keeps = record { owns = λ first owns. record { streams = owns.streams; within = owns.within; from = owns.from; own = owns.own; there = owns.there; last = last owns.last }; there = λ are. are }
+  keeps = record { owns = λ first owns. record { streams = owns.streams; within = owns.within; from = owns.from; own = owns.own; there = owns.there; last = last first owns.last }; there = λ are. are }
 
 pub put_skipped : {told : Bool} {writer : WriterState} (bytes : List ℕ) {slots : List Slot} → writer.current ≡ Skipped → IsReady writer slots → Goes told writer (with_bytes bytes) slots slots writer None
-put_skipped {writer = writer} bytes is ready = goes_still writer.current ready ready.current (λ last. last) (λ draft now.
-    let never : draft.opening ≡ Never = subst (IsCurrent draft.opening draft.bytes) is now in (
+put_skipped {writer = writer} bytes is ready = goes_still writer.current ready ready.current (λ first last. last) (λ draft now.
+    let never : draft.opening ≡ Never = subst (IsCurrent writer.tells draft.opening draft.bytes) is now in (
       ap (λ made. map (share state.Closed) draft.ended ++ map (share state.Open) made) (ap (λ opening. made_of opening draft.bytes) never ∙ sym (ap (λ opening. made_of opening (draft.bytes ++ bytes)) never)),
-      subst (IsCurrent draft.opening (draft.bytes ++ bytes)) (sym is) never,
+      subst (IsCurrent writer.tells draft.opening (draft.bytes ++ bytes)) (sym is) never,
     ))
 
 -- nothing more is written
 pub put_nothing : {told : Bool} {writer : WriterState} {bytes : List ℕ} {slots : List Slot} → bytes ≡ [] → IsReady writer slots → Goes told writer (with_bytes bytes) slots slots writer None
-put_nothing {writer = writer} {bytes} none ready = goes_still writer.current ready ready.current (λ last. last) (λ draft now.
+put_nothing {writer = writer} {bytes} none ready = goes_still writer.current ready ready.current (λ first last. last) (λ draft now.
     let same : draft.bytes ++ bytes ≡ draft.bytes = ap (λ those. draft.bytes ++ those) none ∙ append-nil draft.bytes in (
       ap (λ those. map (share state.Closed) draft.ended ++ map (share state.Open) (made_of draft.opening those)) (sym same),
-      subst (λ those. IsCurrent draft.opening those writer.current) (sym same) now,
+      subst (λ those. IsCurrent writer.tells draft.opening those writer.current) (sym same) now,
     ))
 
 -- The open file gets more bytes, or breaks.
 
 file_now : {told : Bool} {writer next : WriterState} {slot size : ℕ} {bytes : List ℕ} {old new : List Slot} (fault : Option Fault) → writer.current ≡ File slot size → Appends told writer slot size bytes old new next fault → (more : ℕ) × (next.current ≡ File slot more)
-file_now {size = size} {bytes} None is appends = (size + length bytes, appends.current)
+file_now None is appends = (appends.current.0, appends.current.1)
 file_now {size = size} (Some why) is appends = (size, appends.still ∙ is)
 
-wrote_slots : (told : Bool) (output : Output) (slot : ℕ) (bytes : List ℕ) (old new : List Slot) (fault : Option Fault) → (2 ≤ slot) × IsTrue (is_writable old slot) → Wrote told slot bytes old new fault → KeepsOrBreaks output old new fault
-wrote_slots told output slot bytes old new None at wrote = keeps_write slot _ old new wrote
-wrote_slots told output slot bytes old new (Some _) at (short.broke n cut) = (λ none. absurd (omega (arith, at.0, none)), write_rose told slot bytes n old new at.1 cut)
+wrote_slots : (told : Bool) (manner : Manner) (slot : ℕ) (bytes : List ℕ) (old new : List Slot) (fault : Option Fault) → (2 ≤ slot) × IsTrue (is_writable old slot) → Wrote told slot bytes old new fault → KeepsOrBreaks manner old new fault
+wrote_slots told manner slot bytes old new None at wrote = keeps_write slot _ old new wrote
+wrote_slots told manner slot bytes old new (Some _) at (short.broke n cut) = (λ none. absurd (omega (arith, at.0, none)), write_rose told slot bytes n old new at.1 cut)
+
+-- a write never wants for names
+pub never_short : (P : Type 0) (told : Bool) (slot : ℕ) (bytes : List ℕ) (old new : List Slot) (fault : Option Fault) → Wrote told slot bytes old new fault → IfSome fault (λ fault. fault ≡ Suffixes → P)
+never_short P told slot bytes old new None wrote = tt
+never_short P told slot bytes old new (Some _) (short.broke n cut) = λ is. absurd (cc)
 
 wrote_made : (told : Bool) (slot : ℕ) (bytes : List ℕ) (old new : List Slot) (fault : Option Fault) → Wrote told slot bytes old new fault → KeepsMade old new
 wrote_made told slot bytes old new None wrote = made_write slot _ old new wrote
@@ -311,15 +363,16 @@ wrote_can told slot bytes place old new None wrote = λ can. written_writable ol
 wrote_can told slot bytes place old new (Some f) wrote = tt
 
 -- a write to one of the outputs
-wrote_leaves : (told : Bool) {writer next : WriterState} (slot : ℕ) (bytes : List ℕ) {old new : List Slot} (fault : Option Fault) → next ≡ record writer { current = next.current } → (IsLast writer.current old → IsLast next.current new)
-    → KeepsOrBreaks (output_of writer.tells) old new fault → IfNone fault (IsOpenAt next.current new) → IsReady writer old → Wrote told slot bytes old new fault → Leaves writer next old new fault
+wrote_leaves : (told : Bool) {writer next : WriterState} (slot : ℕ) (bytes : List ℕ) {old new : List Slot} (fault : Option Fault) → next ≡ record writer { current = next.current } → ((first : ℕ) → IsLast writer.current first old → IsLast next.current first new)
+    → KeepsOrBreaks (manner_in writer) old new fault → IfNone fault (IsOpenAt next.current new) → IsReady writer old → Wrote told slot bytes old new fault → Leaves writer next old new fault
 wrote_leaves told {writer} {next} slot bytes {old} {new} fault same last slots still ready wrote = record {
+  manner = ap manner_in same;
   tells = ap (λ (w : WriterState). w.tells) same;
+  keeps = ap (λ (w : WriterState). w.keeps) same;
   owns = owns;
   slots = slots;
   output = wrote_can told slot bytes 0 old new fault wrote;
   ready = where_both fault (wrote_can told slot bytes 0 old new fault wrote) still (λ can at. record {
-    named = subst NamesAll (sym (ap (λ (w : WriterState). w.naming) same)) ready.named;
     streams = (let two = ready.streams in omega (arith, two, made.size));
     output = subst (λ tells. CanTell tells new) (sym (ap (λ (w : WriterState). w.tells) same)) (can_tell writer.tells old new can ready.output);
     files = owns.there ready.files;
@@ -330,7 +383,7 @@ wrote_leaves told {writer} {next} slot bytes {old} {new} fault same last slots s
   made = wrote_made told slot bytes old new fault wrote
 
   owns : KeepsFiles writer next old new
-  owns = owned_same (ap (λ (w : WriterState). w.files) same) last made
+  owns = owned_same (ap (λ (w : WriterState). w.files) same) (ap (λ (w : WriterState). w.keeps) same) last made
 
 appends_leaves : {told : Bool} {writer next : WriterState} {slot size : ℕ} {bytes : List ℕ} {old new : List Slot} {fault : Option Fault} → writer.current ≡ File slot size → IsReady writer old → Appends told writer slot size bytes old new next fault
     → Leaves writer next old new fault
@@ -338,27 +391,41 @@ appends_leaves {told} {writer} {next} {slot} {bytes = bytes} {old} {new} {fault}
     let at = at_file is ready in
     let now = file_now fault is appends in
     wrote_leaves told slot bytes fault appends.same
-    (λ last. subst (λ current. IsLast current new) (sym now.1) (last_file writer old is last ∙ sym (wrote_made told slot bytes old new fault appends.wrote).size))
-    (wrote_slots told (output_of writer.tells) slot bytes old new fault at appends.wrote)
+    (λ first last. let was = last_file writer old is last in subst (λ current. IsLast current first new) (sym now.1) (was.0, was.1 ∙ sym (wrote_made told slot bytes old new fault appends.wrote).size))
+    (wrote_slots told (manner_in writer) slot bytes old new fault at appends.wrote)
     (where_well fault (wrote_can told slot bytes slot old new fault appends.wrote) (λ can. subst (λ current. IsOpenAt current new) (sym now.1) (at.0, can at.1)))
     ready appends.wrote
+
+-- bytes can be counted where 64 bits count them
+pub can_count : (tells : Tells) (size : ℕ) (bytes : List ℕ) → size + length bytes < 2 ^ 64 → CanCount tells size bytes
+can_count Nothing size bytes few = tt
+can_count Sizes size bytes few = few
+
+-- the bytes that are counted
+counted_on : (tells : Tells) (had bytes : List ℕ) (size more : ℕ) → IsCounted tells had size → CountsOn tells size bytes more → IsCounted tells (had ++ bytes) more
+counted_on Nothing had bytes size more is on = tt
+counted_on Sizes had bytes size more is on = on ∙ ap (λ n. n + length bytes) is ∙ sym (length-append had bytes)
+
+none_counted : (tells : Tells) → IsCounted tells [] 0
+none_counted Nothing = tt
+none_counted Sizes = refl
 
 pub put_file : {told : Bool} {writer next : WriterState} {slot size : ℕ} (bytes : List ℕ) {old new : List Slot} {fault : Option Fault} → writer.current ≡ File slot size → IsReady writer old → Appends told writer slot size bytes old new next fault
     → Goes told writer (with_bytes bytes) old new next fault
 put_file {told} {writer} {next} {slot} {size} bytes {old} {new} {fault} is ready appends = record {
   leaves = appends_leaves is ready appends;
-  reaches = λ manner draft writes. let now = now_is is writes in let named = all_named writer (suc (length draft.ended)) writes.same in
+  reaches = λ manner draft writes. let now = now_is is writes in let named = file_named now.0 writes in
       reaches_as (open_part manner draft named now.0) (open_part manner (with_bytes bytes draft) named (still_made draft.opening draft.bytes bytes now.0))
-      (reaches_by (appends_leaves is ready appends).owns (λ last. writes_to manner.output told (ended_out manner draft) (ended_files manner draft) (name_after manner draft)
-      draft.bytes bytes old fault (has_told manner.output (ended_files manner draft)) (closed_files manner 0 draft.ended) (last_file writer old is last) appends.wrote));
-  writes = where_well fault appends.current (λ current manner draft writes. let now = now_is is writes in record {
-    same = ap manner_in appends.same ∙ writes.same;
-    made = ap (λ (w : WriterState). length w.files) appends.same ∙ writes.made ∙ ap (λ made. length (map (share state.Closed) draft.ended ++ map (share state.Open) made)) now.0
-        ∙ length-append (map (share state.Closed) draft.ended) (share state.Open draft.bytes ∷ [])
-        ∙ sym (ap (λ made. length (map (share state.Closed) draft.ended ++ map (share state.Open) made)) (still_made draft.opening draft.bytes bytes now.0)
-        ∙ length-append (map (share state.Closed) draft.ended) (share state.Open (draft.bytes ++ bytes) ∷ []));
-    current = subst (IsCurrent draft.opening (draft.bytes ++ bytes)) (sym current) (still_made draft.opening draft.bytes bytes now.0, ap (λ n. n + length bytes) now.1 ∙ sym (length-append draft.bytes bytes));
-  });
+      (reaches_by (appends_leaves is ready appends).owns (λ first last. writes_to manner.output told (ended_out manner draft) (ended_files manner draft) (name_after manner draft)
+      draft.bytes bytes old fault (has_told manner.output (ended_files manner draft)) (closed_files manner 0 draft.ended) (last_file writer old is last).1 appends.wrote));
+  short = never_short _ told slot bytes old new fault appends.wrote;
+  writes = where_well fault appends.current (λ current manner draft writes. let now = now_is is writes in let grown = still_made draft.opening draft.bytes bytes now.0 in
+      let count : length (shares_of draft) ≡ length (shares_of (with_bytes bytes draft)) = made_count draft now.0 ∙ sym (made_count (with_bytes bytes draft) grown) in record {
+        same = subst (IsManner manner) (sym (ap manner_in appends.same)) writes.same;
+        made = ap (λ (w : WriterState). w.names.drawn) appends.same ∙ writes.made ∙ count;
+        named = subst (AreNamed manner) count writes.named;
+        current = rw current.1 (grown, subst (λ tells. IsCounted tells (draft.bytes ++ bytes) current.0) (sym (ap (λ (w : WriterState). w.tells) appends.same)) (counted_on writer.tells draft.bytes bytes size current.0 now.1 current.2));
+      });
 }
 
 -- What makes no file
@@ -366,12 +433,12 @@ put_file {told} {writer} {next} {slot} {size} bytes {old} {new} {fault} is ready
 pub never_made : (draft : Draft) → draft.opening ≡ Never → made_of draft.opening draft.bytes ≡ []
 never_made draft is = ap (λ opening. made_of opening draft.bytes) is
 
-pub skipped_made : {current : Current} → current ≡ Skipped → (draft : Draft) → IsCurrent draft.opening draft.bytes current → made_of draft.opening draft.bytes ≡ []
-skipped_made is draft now = never_made draft (subst (IsCurrent draft.opening draft.bytes) is now)
+pub skipped_made : (tells : Tells) {current : Current} → current ≡ Skipped → (draft : Draft) → IsCurrent tells draft.opening draft.bytes current → made_of draft.opening draft.bytes ≡ []
+skipped_made tells is draft now = never_made draft (subst (IsCurrent tells draft.opening draft.bytes) is now)
 
-pub due_made : {current : Current} → current ≡ Due → (draft : Draft) → IsCurrent draft.opening draft.bytes current → made_of draft.opening draft.bytes ≡ []
-due_made is draft now =
-    let (late, none) : IsCurrent draft.opening draft.bytes Due = subst (IsCurrent draft.opening draft.bytes) is now in
+pub due_made : (tells : Tells) {current : Current} → current ≡ Due → (draft : Draft) → IsCurrent tells draft.opening draft.bytes current → made_of draft.opening draft.bytes ≡ []
+due_made tells is draft now =
+    let (late, none) : IsCurrent tells draft.opening draft.bytes Due = subst (IsCurrent tells draft.opening draft.bytes) is now in
     ap (λ opening. made_of opening draft.bytes) late ∙ ap (made_of Late) none
 
 -- A file is made for what is begun.
@@ -382,81 +449,125 @@ pub record Unwritten (draft next : Draft) : Type 0 where
   none : made_of draft.opening draft.bytes ≡ []
   makes : made_of next.opening next.bytes ≡ next.bytes ∷ []
 
-unmade_count : {manner : Manner} {writer : WriterState} {draft : Draft} → made_of draft.opening draft.bytes ≡ [] → Writes manner writer draft → length writer.files ≡ length draft.ended
-unmade_count {draft = draft} none writes = writes.made ∙ ap (λ made. length (map (share state.Closed) draft.ended ++ map (share state.Open) made)) none ∙ ap length (append-nil (map (share state.Closed) draft.ended)) ∙ length-map draft.ended (share state.Closed)
+unmade_shares : (draft : Draft) → made_of draft.opening draft.bytes ≡ [] → length (shares_of draft) ≡ length draft.ended
+unmade_shares draft none = ap (λ made. length (map (share state.Closed) draft.ended ++ map (share state.Open) made)) none ∙ ap length (append-nil (map (share state.Closed) draft.ended)) ∙ length-map draft.ended (share state.Closed)
 
-made_count : (draft : Draft) → made_of draft.opening draft.bytes ≡ draft.bytes ∷ [] → length (shares_of draft) ≡ length draft.ended + 1
-made_count draft makes = ap (λ made. length (map (share state.Closed) draft.ended ++ map (share state.Open) made)) makes ∙ length-append (map (share state.Closed) draft.ended) (share state.Open draft.bytes ∷ []) ∙ ap (λ n. n + 1) (length-map draft.ended (share state.Closed))
+unmade_count : {manner : Manner} {writer : WriterState} {draft : Draft} → made_of draft.opening draft.bytes ≡ [] → Writes manner writer draft → writer.names.drawn ≡ length draft.ended
+unmade_count {draft = draft} none writes = writes.made ∙ unmade_shares draft none
 
 -- its name
-due_name : {manner : Manner} {writer : WriterState} {draft : Draft} → made_of draft.opening draft.bytes ≡ [] → Writes manner writer draft → next_name writer ≡ name_after manner draft
-due_name {manner} {writer} {draft} none writes = ap (λ (those : Manner). those.name (length writer.files)) writes.same ∙ ap manner.name (unmade_count none writes)
+due_name : {manner : Manner} {writer : WriterState} {draft : Draft} → made_of draft.opening draft.bytes ≡ [] → Writes manner writer draft → next_name writer.names ≡ name_after manner draft
+due_name {manner} {writer} {draft} none writes = ap (λ name. name writer.names.drawn) writes.same.name ∙ ap manner.name (unmade_count none writes)
+
+-- whether it has one
+due_has : {manner : Manner} {writer : WriterState} {draft : Draft} → writer.names.drawn < 2 ^ 64 → made_of draft.opening draft.bytes ≡ [] → Writes manner writer draft → has_next writer.names ≡ manner.has_name (length draft.ended)
+due_has {manner} {writer} {draft} few none writes = writes.same.has writer.names.drawn few ∙ ap manner.has_name (unmade_count none writes)
+
+-- all files up to it have names then
+due_named : {manner : Manner} {writer : WriterState} {draft : Draft} (next : Draft) → writer.names.drawn < 2 ^ 64 → Unwritten draft next → Writes manner writer draft → IsTrue (has_next writer.names) → AreNamed manner (suc (length next.ended))
+due_named {manner} {writer} {draft} next few so writes has = subst (λ ended. AreNamed manner (suc (length ended))) (sym so.same) (λ place less. elim (cases_lt place (length draft.ended)) [
+  | inl before ↦ writes.named place (omega (arith, before, unmade_shares draft so.none))
+  | inr past ↦ (let e : place ≡ length draft.ended = omega (arith, past, less) in ap manner.has_name e ∙ sym (due_has few so.none writes) ∙ has)
+])
+
+made_size : {writer next : WriterState} {slot : ℕ} {old new : List Slot} → Made writer old new next slot → length new ≡ length old + 1
+made_size {writer} {old = old} made = ap length made.added ∙ length-append old (opened (next_name writer.names) Fresh ∷ [])
 
 made_ready : {writer next : WriterState} {slot : ℕ} {old new : List Slot} → IsReady writer old → Made writer old new next slot → IsReady next new
 made_ready {writer} {next} {slot} {old} {new} ready made = record {
-  named = subst NamesAll (sym (ap (λ (w : WriterState). w.naming) made.same)) ready.named;
-  streams = (let two = ready.streams in let size : length new ≡ length old + 1 = ap length made.added ∙ length-append old (opened (next_name writer) Fresh ∷ []) in omega (arith, two, size));
-  output = subst (λ tells. CanTell tells new) (sym (ap (λ (w : WriterState). w.tells) made.same)) (can_tell writer.tells old new (writable_before old new 0 (opened (next_name writer) Fresh) (let two = ready.streams in omega (arith, two)) made.added) ready.output);
+  streams = (let two = ready.streams in omega (arith, two, made_size made));
+  output = subst (λ tells. CanTell tells new) (sym (ap (λ (w : WriterState). w.tells) made.same)) (can_tell writer.tells old new (writable_before old new 0 (opened (next_name writer.names) Fresh) (let two = ready.streams in omega (arith, two)) made.added) ready.output);
   files = (owned_opened ready.streams made).there ready.files;
-  current = (grind (arith, common_steps));
+  current = subst (λ current. IsOpenAt current new) (sym (ap (λ (w : WriterState). w.current) made.same)) (let two = ready.streams in omega (arith, two, made.place), opened_writable old new slot (next_name writer.names) Fresh made.place made.added);
 }
 
 made_leaves : {writer next : WriterState} {slot : ℕ} {old new : List Slot} → IsReady writer old → Made writer old new next slot → Leaves writer next old new None
 made_leaves {writer} {next} {old = old} {new} ready made = record {
+  manner = ap manner_in made.same;
   tells = ap (λ (w : WriterState). w.tells) made.same;
+  keeps = ap (λ (w : WriterState). w.keeps) made.same;
   owns = owned_opened ready.streams made;
   slots = keeps_open _ old new made.added;
-  output = writable_before old new 0 (opened (next_name writer) Fresh) (let two = ready.streams in omega (arith, two)) made.added;
+  output = writable_before old new 0 (opened (next_name writer.names) Fresh) (let two = ready.streams in omega (arith, two)) made.added;
   ready = made_ready ready made;
 }
 
-unmade_leaves : {writer next : WriterState} {old new : List Slot} {f : Fault} → Makes writer old new next (Err f) → Leaves writer next old new (Some f)
-unmade_leaves {writer} {old = old} {new} (same, none) = rw same (record { tells = refl; owns = owned_unopened none; slots = make_breaks (output_of writer.tells) none; output = tt; ready = tt })
+unmade_leaves : {writer next : WriterState} {old new : List Slot} {f : Fault} → MakesNone writer old new next f → Leaves writer next old new (Some f)
+unmade_leaves {writer} {next} {old} {new} {f} makes = rw makes.same (record {
+  manner = ap (λ naming. manner_by naming (output_of writer.tells)) makes.naming;
+  tells = refl;
+  keeps = refl;
+  owns = owned_unopened makes.none;
+  slots = make_breaks (output_of writer.tells) makes.none;
+  output = tt;
+  ready = tt;
+})
 
 -- it was made
-made_becomes : {told : Bool} (manner : Manner) {writer made : WriterState} (draft : Draft) {slot : ℕ} {old new : List Slot} → next_name writer ≡ name_after manner draft → Made writer old new made slot
+made_becomes : {told : Bool} (manner : Manner) {writer made : WriterState} (draft : Draft) {slot : ℕ} {old new : List Slot} → next_name writer.names ≡ name_after manner draft → Made writer old new made slot
     → Becomes manner.output told (part_with manner.output (ended_files manner draft)) (with_last (ended_out manner draft) (ended_files manner draft) (file_of (name_after manner draft) [] state.Open)) old new None
 made_becomes {told} manner draft {old = old} {new} name made = opens manner.output told (ended_out manner draft) (ended_files manner draft) (name_after manner draft) (made.added ∙ ap (λ those. old ++ opened those Fresh ∷ []) name)
 
 -- it could not be made
-pub goes_unmade : {told : Bool} {writer next : WriterState} {change : Draft → Draft} {old new : List Slot} {f : Fault}
-    → ((draft : Draft) → IsCurrent draft.opening draft.bytes writer.current → Unwritten draft (change draft)) → Makes writer old new next (Err f) → Goes told writer change old new next (Some f)
-goes_unmade {told} {writer} {change = change} {old} {new} {f} of makes = record {
-  leaves = unmade_leaves makes;
-  reaches = λ manner draft writes. let so = of draft writes.current in let named = all_named writer (suc (length (change draft).ended)) writes.same in
-      reaches_as (none_part manner draft so.none) refl (reaches_by (unmade_leaves makes).owns (λ last. opens_not manner.output told (ended_files manner draft) (closed_files manner 0 draft.ended)
-      (subst (λ part. Begins part (draft_part manner (change draft))) (ap (λ ended. part_of manner (map (share state.Closed) ended ++ [])) so.same ∙ ap (part_of manner) (append-nil (map (share state.Closed) draft.ended)))
-      (part_grows manner (map (share state.Closed) (change draft).ended) [] _ tt))
-      (record {
-        front = ended_files manner draft;
-        file = file_of (name_after manner draft) (change draft).bytes state.Open;
-        rest = [];
-        files = ap (λ (part : Part). part.files) (open_part manner (change draft) named so.makes) ∙ ap (λ ended. files_from manner 0 (map (share state.Closed) ended) ++ file_of (manner.name (length ended)) (change draft).bytes state.Open ∷ []) so.same;
-        place = refl;
-        name_is = refl;
-      })
-      (subst (λ name. MakesNone old name new f) (due_name so.none writes) makes.1)));
-  writes = tt;
-}
+module _ {writer next : WriterState} {change : Draft → Draft} {old new : List Slot} {f : Fault} (of : (draft : Draft) → IsCurrent writer.tells draft.opening draft.bytes writer.current → Unwritten draft (change draft)) (makes : MakesNone writer old new next f) where
+  unmade_begins : (manner : Manner) (draft : Draft) → Unwritten draft (change draft) → Begins (part_with manner.output (ended_files manner draft)) (draft_part manner (change draft))
+  unmade_begins manner draft so = subst (λ part. Begins part (draft_part manner (change draft))) (ap (λ ended. part_of manner (map (share state.Closed) ended ++ [])) so.same ∙ ap (part_of manner) (append-nil (map (share state.Closed) draft.ended)))
+      (part_grows manner (map (share state.Closed) (change draft).ended) [] _ tt)
+
+  unmade_next : (manner : Manner) (draft : Draft) → Unwritten draft (change draft) → Writes manner writer draft → writer.names.drawn < 2 ^ 64 → IsTrue (has_next writer.names) → IsNext (part_with manner.output (ended_files manner draft)) (draft_part manner (change draft)) (next_name writer.names)
+  unmade_next manner draft so writes few has = record {
+    front = ended_files manner draft;
+    file = file_of (name_after manner draft) (change draft).bytes state.Open;
+    rest = [];
+    files = ap (λ (part : Part). part.files) (open_part manner (change draft) (due_named (change draft) few so writes has) so.makes) ∙ ap (λ ended. files_from manner 0 (map (share state.Closed) ended) ++ file_of (manner.name (length ended)) (change draft).bytes state.Open ∷ []) so.same;
+    place = refl;
+    name_is = sym (due_name so.none writes);
+  }
+
+  -- names ran out: the part after the change has no file more
+  unmade_short : (told : Bool) → f ≡ Suffixes → (manner : Manner) (draft : Draft) → Writes manner writer draft → RunsShort told writer change manner draft old new
+  unmade_short told is manner draft writes = ran (subst (OpensNone writer.names next.names old new) is makes.none) where
+    so : Unwritten draft (change draft)
+    so = of draft writes.current
+
+    ran : OpensNone writer.names next.names old new Suffixes → RunsShort told writer change manner draft old new
+    ran (no_name few none same) =
+        let lacks : manner.has_name (length (change draft).ended) ≡ false = ap (λ ended. manner.has_name (length ended)) so.same ∙ sym (due_has few so.none writes) ∙ none in record {
+          none = lacks;
+          all = λ before at. rw (same, stopped_part manner (change draft) lacks, so.same, ← append-nil (map (share state.Closed) draft.ended)) (subst (λ made. OutputsAt told before (part_of manner (map (share state.Closed) draft.ended ++ map (share state.Open) made)) old) so.none at.outputs);
+        }
+
+  pub goes_unmade : {told : Bool} → Goes told writer change old new next (Some f)
+  goes_unmade {told} = record {
+    leaves = unmade_leaves makes;
+    reaches = λ manner draft writes. let so = of draft writes.current in
+        reaches_as (none_part manner draft so.none) refl (reaches_by (unmade_leaves makes).owns (λ first last. opens_not manner.output told (ended_files manner draft) (closed_files manner 0 draft.ended)
+        (unmade_begins manner draft so) (unmade_next manner draft so writes) makes.none));
+    short = unmade_short told;
+    writes = tt;
+  }
 
 -- and gets its first bytes, if there are any
 pub goes_made : {told : Bool} {writer made next : WriterState} {change : Draft → Draft} {slot : ℕ} (bytes : List ℕ) {old mid new : List Slot} {fault : Option Fault}
-    → ((draft : Draft) → IsCurrent draft.opening draft.bytes writer.current → Unwritten draft (change draft) × ((change draft).bytes ≡ bytes)) → IsReady writer old → Made writer old mid made slot
+    → ((draft : Draft) → IsCurrent writer.tells draft.opening draft.bytes writer.current → Unwritten draft (change draft) × ((change draft).bytes ≡ bytes)) → IsReady writer old → Made writer old mid made slot
     → Appends told made slot 0 bytes mid new next fault → Goes told writer change old new next fault
 goes_made {told} {writer} {made} {next} {change} {slot} bytes {old} {mid} {new} {fault} of ready makes appends = record {
   leaves = leaves;
-  reaches = λ manner draft writes. let (so, are) = of draft writes.current in let named = all_named writer (suc (length (change draft).ended)) writes.same in
+  reaches = λ manner draft writes. let (so, are) = of draft writes.current in
       reaches_as (none_part manner draft so.none)
-      (open_part manner (change draft) named so.makes ∙ ap (λ ended. with_last (told_of_files manner.output (files_from manner 0 (map (share state.Closed) ended))) (files_from manner 0 (map (share state.Closed) ended)) (file_of (manner.name (length ended)) (change draft).bytes state.Open)) so.same
+      (open_part manner (change draft) (due_named (change draft) makes.few so writes makes.named) so.makes ∙ ap (λ ended. with_last (told_of_files manner.output (files_from manner 0 (map (share state.Closed) ended))) (files_from manner 0 (map (share state.Closed) ended)) (file_of (manner.name (length ended)) (change draft).bytes state.Open)) so.same
       ∙ ap (λ those. with_last (ended_out manner draft) (ended_files manner draft) (file_of (name_after manner draft) those state.Open)) are)
-      (reaches_by leaves.owns (λ last. becomes_again (file_begins (ended_files manner draft) (file_of (name_after manner draft) [] state.Open)) (made_becomes manner draft (due_name so.none writes) makes)
+      (reaches_by leaves.owns (λ first last. becomes_again (file_begins (ended_files manner draft) (file_of (name_after manner draft) [] state.Open)) (made_becomes manner draft (due_name so.none writes) makes)
       (writes_to manner.output told (ended_out manner draft) (ended_files manner draft) (name_after manner draft) [] bytes mid fault
-      (has_told manner.output (ended_files manner draft)) (closed_files manner 0 draft.ended) (opened_last old mid slot (next_name writer) Fresh makes.place makes.added) appends.wrote)));
-  writes = where_well fault appends.current (λ current manner draft writes. let (so, are) = of draft writes.current in record {
-    same = ap manner_in appends.same ∙ ap manner_in makes.same ∙ writes.same;
-    made = ap (λ (w : WriterState). length w.files) appends.same ∙ ap (λ (w : WriterState). length w.files) makes.same ∙ length-append writer.files (slot ∷ []) ∙ ap (λ n. n + 1) (unmade_count so.none writes ∙ ap length (sym so.same)) ∙ sym (made_count (change draft) so.makes);
-    current = subst (IsCurrent (change draft).opening (change draft).bytes) (sym current) (so.makes, zero-add (length bytes) ∙ ap length (sym are));
-  });
+      (has_told manner.output (ended_files manner draft)) (closed_files manner 0 draft.ended) (opened_last old mid slot (next_name writer.names) Fresh makes.place makes.added) appends.wrote)));
+  short = never_short _ told slot bytes mid new fault appends.wrote;
+  writes = where_well fault appends.current (λ current manner draft writes. let (so, are) = of draft writes.current in
+      let count : length (shares_of (change draft)) ≡ length draft.ended + 1 = made_count (change draft) so.makes ∙ ap (λ ended. length ended + 1) so.same in record {
+        same = subst (IsManner manner) (sym (ap manner_in appends.same ∙ ap manner_in makes.same)) writes.same;
+        made = ap (λ (w : WriterState). w.names.drawn) appends.same ∙ ap (λ (w : WriterState). w.names.drawn) makes.same ∙ ap (λ n. n + 1) (unmade_count so.none writes) ∙ sym count;
+        named = λ place less. due_named (change draft) makes.few so writes makes.named place (omega (arith, less, made_count (change draft) so.makes));
+        current = rw current.1 (so.makes, subst (λ tells. IsCounted tells (change draft).bytes current.0) (sym (ap (λ (w : WriterState). w.tells) appends.same)) (rw are (counted_on made.tells [] bytes 0 current.0 (none_counted made.tells) current.2)));
+      });
 } where
   is_file : made.current ≡ File slot 0
   is_file = ap (λ (w : WriterState). w.current) makes.same
@@ -465,13 +576,13 @@ goes_made {told} {writer} {made} {next} {change} {slot} bytes {old} {mid} {new} 
   leaves = leaves_again (made_leaves ready makes) (appends_leaves is_file (made_ready ready makes) appends)
 
 -- The first bytes of what gets its file with them
-pub first_bytes : {current : Current} (bytes : List ℕ) → current ≡ Due → false ≡ eqb (length bytes) 0 → (draft : Draft) → IsCurrent draft.opening draft.bytes current → Unwritten draft (with_bytes bytes draft) × (draft.bytes ++ bytes ≡ bytes)
-first_bytes bytes is some draft now =
-    let (late, none) : IsCurrent draft.opening draft.bytes Due = subst (IsCurrent draft.opening draft.bytes) is now in
+pub first_bytes : (tells : Tells) {current : Current} (bytes : List ℕ) → current ≡ Due → false ≡ eqb (length bytes) 0 → (draft : Draft) → IsCurrent tells draft.opening draft.bytes current → Unwritten draft (with_bytes bytes draft) × (draft.bytes ++ bytes ≡ bytes)
+first_bytes tells bytes is some draft now =
+    let (late, none) : IsCurrent tells draft.opening draft.bytes Due = subst (IsCurrent tells draft.opening draft.bytes) is now in
     let all : draft.bytes ++ bytes ≡ bytes = ap (λ those. those ++ bytes) none in (
       record {
         same = refl;
-        none = due_made is draft now;
+        none = due_made tells is draft now;
         makes = ap (λ opening. made_of opening (draft.bytes ++ bytes)) late ∙ ap (made_of Late) all ∙ late_made bytes (grind (arith, common_steps)) ∙ ap (λ those. those ∷ []) (sym all);
       },
       all,
@@ -480,22 +591,22 @@ first_bytes bytes is some draft now =
 -- What is begun where nothing is
 
 paused_ready : {writer : WriterState} {slots : List Slot} → IsReady writer slots → IsReady (paused writer) slots
-paused_ready ready = record { named = ready.named; streams = ready.streams; output = ready.output; files = ready.files; current = tt }
+paused_ready ready = record { streams = ready.streams; output = ready.output; files = ready.files; current = tt }
 
 -- what was begun had no file
 ended_none : (draft : Draft) → made_of draft.opening draft.bytes ≡ [] → draft.ended ++ made_of draft.opening draft.bytes ≡ draft.ended
 ended_none draft none = ap (λ made. draft.ended ++ made) none ∙ append-nil draft.ended
 
 -- what has no file is begun, after what has none
-pub begins_none : {told : Bool} {writer : WriterState} {opening : Opening} (current : Current) {slots : List Slot} → ((draft : Draft) → IsCurrent draft.opening draft.bytes writer.current → made_of draft.opening draft.bytes ≡ [])
-    → made_of opening [] ≡ [] → IsCurrent opening [] current → IsOpenAt current slots → IsLast current slots → IsReady writer slots → Goes told writer (with_next opening) slots slots (record writer { current = current }) None
-begins_none {opening = opening} current before none is_current at last ready = goes_still current ready at (λ was. last) (λ draft now.
+pub begins_none : {told : Bool} {writer : WriterState} {opening : Opening} (current : Current) {slots : List Slot} → ((draft : Draft) → IsCurrent writer.tells draft.opening draft.bytes writer.current → made_of draft.opening draft.bytes ≡ [])
+    → made_of opening [] ≡ [] → IsCurrent writer.tells opening [] current → IsOpenAt current slots → ((first : ℕ) → IsLast current first slots) → IsReady writer slots → Goes told writer (with_next opening) slots slots (record writer { current = current }) None
+begins_none {opening = opening} current before none is_current at last ready = goes_still current ready at (λ first was. last first) (λ draft now.
     let had = before draft now in (
       ap (λ made. map (share state.Closed) draft.ended ++ map (share state.Open) made) (had ∙ sym none) ∙ ap (λ ended. map (share state.Closed) ended ++ map (share state.Open) (made_of opening [])) (sym (ended_none draft had)),
       is_current,
     ))
 
-pub begin_none : {told : Bool} {writer : WriterState} {opening : Opening} (current : Current) {slots : List Slot} → made_of opening [] ≡ [] → IsCurrent opening [] current → IsOpenAt current slots → IsLast current slots → IsReady writer slots
+pub begin_none : {told : Bool} {writer : WriterState} {opening : Opening} (current : Current) {slots : List Slot} → made_of opening [] ≡ [] → IsCurrent writer.tells opening [] current → IsOpenAt current slots → ((first : ℕ) → IsLast current first slots) → IsReady writer slots
     → Goes told (paused writer) (with_next opening) slots slots (record writer { current = current }) None
 begin_none current none is_current at last ready = begins_none current never_made none is_current at last (paused_ready ready)
 
@@ -507,34 +618,45 @@ at_once {opening} is draft never = record {
   makes = ap (λ those. made_of those []) is;
 }
 
+-- it could not be made
+pub begin_unmade : {told : Bool} {writer next : WriterState} {opening : Opening} {old new : List Slot} {f : Fault} → opening ≡ AtOnce → MakesNone writer old new next f → Goes told (paused writer) (with_next opening) old new next (Some f)
+begin_unmade is makes = goes_unmade (at_once is) (record { same = makes.same; naming = makes.naming; none = makes.none })
+
+counts_none : (tells : Tells) → CountsOn tells 0 [] 0
+counts_none Nothing = omega arith
+counts_none Sizes = refl
+
 pub begin_made : {told : Bool} {writer next : WriterState} {opening : Opening} {slot : ℕ} {old new : List Slot} → opening ≡ AtOnce → IsReady writer old → Made writer old new next slot → Goes told (paused writer) (with_next opening) old new next None
 begin_made {told} {writer} {next} {opening} {slot} {old} {new} is ready made =
-    goes_made [] (λ draft never. (at_once is draft never, refl)) (paused_ready ready) (record { place = made.place; added = made.added; same = made.same })
-    (record { same = refl; current = (grind (arith, common_steps)); still = tt; wrote = none_written told slot })
+    goes_made [] (λ draft never. (at_once is draft never, refl)) (paused_ready ready) (record { few = made.few; named = made.named; place = made.place; added = made.added; same = made.same })
+    (record { same = refl; current = (0, ap (λ (w : WriterState). w.current) made.same, counts_none next.tells); still = tt; wrote = none_written told slot })
 
 -- before anything was begun
-pub new_owns : (naming : Naming) (tells : Tells) {slots : List Slot} → 2 ≤ length slots → OwnsFiles (new_writer naming tells) (length slots) slots
-new_owns naming tells {slots} two = grind (arith, common_steps)
+pub new_owns : (naming : Naming) (tells : Tells) (keeps : Keeps) {slots : List Slot} → 2 ≤ length slots → OwnsFiles (new_writer naming tells keeps) (length slots) slots
+new_owns naming tells keeps {slots} two = grind (arith, common_steps)
 
 -- What is begun ends, and what is next begins.
 
 -- it has no file
-pub end_none : {told : Bool} {writer : WriterState} {current : Current} {slots : List Slot} → current ≡ Skipped → ((draft : Draft) → IsCurrent draft.opening draft.bytes writer.current → made_of draft.opening draft.bytes ≡ []) → IsReady writer slots
+pub end_none : {told : Bool} {writer : WriterState} {current : Current} {slots : List Slot} → current ≡ Skipped → ((draft : Draft) → IsCurrent writer.tells draft.opening draft.bytes writer.current → made_of draft.opening draft.bytes ≡ []) → IsReady writer slots
     → Goes told writer (with_next Never) slots slots (record writer { current = current }) None
-end_none {current = current} {slots} is none ready = begins_none current none refl (subst (IsCurrent Never []) (sym is) refl) (subst (λ now. IsOpenAt now slots) (sym is) tt) (subst (λ now. IsLast now slots) (sym is) tt) ready
+end_none {writer = writer} {current} {slots} is none ready = begins_none current none refl (subst (IsCurrent writer.tells Never []) (sym is) refl) (subst (λ now. IsOpenAt now slots) (sym is) tt) (λ first. subst (λ now. IsLast now first slots) (sym is) tt) ready
 
 -- it has one
 
 file_ends : {manner : Manner} {writer : WriterState} {draft : Draft} (slot size : ℕ) → writer.current ≡ File slot size → Writes manner writer draft → Writes manner (paused writer) (with_next Never draft)
 file_ends {manner} {writer} {draft} slot size is writes =
-    let makes = (now_is is writes).0 in record {
+    let makes = (now_is is writes).0 in
+    let count : length (shares_of draft) ≡ length (shares_of (with_next Never draft)) = made_count draft makes
+    ∙ sym (length-append (map (share state.Closed) (draft.ended ++ made_of draft.opening draft.bytes)) [] ∙ (grind (arith, common_steps, length-map, length-append, makes))) in record {
       same = writes.same;
-      made = writes.made ∙ made_count draft makes ∙ sym (length-append (map (share state.Closed) (draft.ended ++ made_of draft.opening draft.bytes)) [] ∙ (grind (arith, common_steps, length-map, length-append, makes)));
+      made = writes.made ∙ count;
+      named = subst (AreNamed manner) count writes.named;
       current = refl;
     }
 
 file_closed : {writer : WriterState} {old new : List Slot} → KeepsMade old new → KeepsFiles writer (paused writer) old new
-file_closed keeps = owned_same refl (λ last. tt) keeps
+file_closed keeps = owned_same refl refl (λ first last. tt) keeps
 
 closed_can : (slot : ℕ) (old new : List Slot) → 2 ≤ slot → new ≡ changed_at slot closes old → IsTrue (is_writable old 0) → IsTrue (is_writable new 0)
 closed_can slot old new two closed can = writable_elsewhere old new 0 slot closes (λ same. omega (arith, two, same)) closed can
@@ -543,12 +665,13 @@ closed_leaves : {writer : WriterState} (slot size : ℕ) {old new : List Slot} �
 closed_leaves {writer} slot size {old} {new} is ready closed =
     let at = at_file is ready in
     let made = made_close slot old new at.1 closed in record {
+      manner = refl;
       tells = refl;
+      keeps = refl;
       owns = file_closed made;
       slots = keeps_close slot old new closed;
       output = closed_can slot old new at.0 closed;
       ready = record {
-        named = ready.named;
         streams = (let two = ready.streams in omega (arith, two, made.size));
         output = can_tell writer.tells old new (closed_can slot old new at.0 closed) ready.output;
         files = there_same writer.files made ready.files;
@@ -560,11 +683,12 @@ closed_leaves {writer} slot size {old} {new} is ready closed =
 pub close_not : {told : Bool} {writer : WriterState} (slot size : ℕ) {old new : List Slot} {f : Fault} → writer.current ≡ File slot size → IsReady writer old → f ≡ fault.Write slot → new ≡ with_broken slot (changed_at slot closes old)
     → Goes told writer (with_next Never) old new (paused writer) (Some f)
 close_not {told} {writer} slot size {old} {new} is ready which broken = subst (λ f. Goes told writer (with_next Never) old new (paused writer) (Some f)) (sym which) (record {
-  leaves = record { tells = refl; owns = owns; slots = (let at = at_file is ready in (λ none. absurd (omega (arith, at.0, none)), close_rose slot old new at.1 (writable_within slot old at.1) broken)); output = tt; ready = tt };
-  reaches = λ manner draft writes. let now = now_is is writes in let named = all_named writer (suc (length draft.ended)) writes.same in
+  leaves = record { manner = refl; tells = refl; keeps = refl; owns = owns; slots = (let at = at_file is ready in (λ none. absurd (omega (arith, at.0, none)), close_rose slot old new at.1 (writable_within slot old at.1) broken)); output = tt; ready = tt };
+  reaches = λ manner draft writes. let now = now_is is writes in let named = file_named now.0 writes in
       reaches_as (open_part manner draft named now.0) (closed_part manner draft named now.0)
-      (reaches_by owns (λ last. falls_wider (closes_not manner.output told (ended_out manner draft) (ended_files manner draft) (name_after manner draft) draft.bytes old
-      (has_told manner.output (ended_files manner draft)) (closed_files manner 0 draft.ended) (last_file writer old is last) broken) (line_begins _)));
+      (reaches_by owns (λ first last. falls_wider (closes_not manner.output told (ended_out manner draft) (ended_files manner draft) (name_after manner draft) draft.bytes old
+      (has_told manner.output (ended_files manner draft)) (closed_files manner 0 draft.ended) (last_file writer old is last).1 broken) (line_begins _)));
+  short = λ short_is. absurd (cc);
   writes = tt;
 }) where
   owns : KeepsFiles writer (paused writer) old new
@@ -583,21 +707,38 @@ told_leaves : (told : Bool) (writer : WriterState) (size : ℕ) {old new : List 
 told_leaves told writer size fault Nothing is ready (well, same) = rw (well, same) (leaves_still ready)
 told_leaves told writer size {old} {new} fault Sizes is ready wrote =
     let can : IsTrue (is_writable old 0) = subst (λ tells. CanTell tells old) is ready.output in
-    wrote_leaves told 0 (decimal size ++ 10 ∷ []) fault refl (λ last. tt) (rw is (slots fault can wrote)) (in_any fault tt) ready wrote where
-      slots : (fault : Option Fault) → IsTrue (is_writable old 0) → Wrote told 0 (decimal size ++ 10 ∷ []) old new fault → KeepsOrBreaks (output_of Sizes) old new fault
+    wrote_leaves told 0 (decimal size ++ 10 ∷ []) fault refl (λ first last. tt) (rw is (slots fault can wrote)) (in_any fault tt) ready wrote where
+      slots : (fault : Option Fault) → IsTrue (is_writable old 0) → Wrote told 0 (decimal size ++ 10 ∷ []) old new fault → KeepsOrBreaks (manner_by writer.names.naming (output_of Sizes)) old new fault
       slots None can wrote = keeps_write 0 _ old new wrote
-      slots (Some f) can wrote = line_breaks told (decimal size ++ 10 ∷ []) can wrote
+      slots (Some f) can wrote = line_breaks told writer.names.naming (decimal size ++ 10 ∷ []) can wrote
+
+-- what can go wrong there is a write
+pub tells_write : (told : Bool) (tells : Tells) (size : ℕ) (old new : List Slot) (result : Result (Unit {0}) Fault) → TellsSize told tells size old new (fault_in result) → IfErr result IsWrite
+tells_write told tells size old new (Ok done) tells_it = tt
+tells_write told Nothing size old new (Err f) (well, same) = absurd (cc)
+tells_write told Sizes size old new (Err _) (short.broke n cut) = (0, refl)
+
+-- where sizes are told, what is told is that of the file
+is_size : (tells : Tells) (bytes : List ℕ) (size : ℕ) → IsCounted tells bytes size → (told : Bool) (old new : List Slot) (fault : Option Fault) → TellsSize told tells size old new fault → TellsSize told tells (length bytes) old new fault
+is_size Nothing bytes size is told old new fault tells = tells
+is_size Sizes bytes size is told old new fault tells = subst (λ n. Wrote told 0 (decimal n ++ 10 ∷ []) old new fault) is tells
+
+-- telling a size wants no names
+told_short : (P : Type 0) (told : Bool) (tells : Tells) (size : ℕ) (old new : List Slot) (fault : Option Fault) → TellsSize told tells size old new fault → IfSome fault (λ fault. fault ≡ Suffixes → P)
+told_short P told Nothing size old new fault (well, same) = rw well tt
+told_short P told Sizes size old new fault wrote = never_short P told 0 (decimal size ++ 10 ∷ []) old new fault wrote
 
 pub end_told : {told : Bool} {writer : WriterState} (slot size : ℕ) {old mid new : List Slot} {fault : Option Fault} → writer.current ≡ File slot size → IsReady writer old → mid ≡ changed_at slot closes old → TellsSize told writer.tells size mid new fault
     → Goes told writer (with_next Never) old new (paused writer) fault
 end_told {told} {writer} slot size {old} {mid} {new} {fault} is ready closed tells = record {
   leaves = leaves;
-  reaches = λ manner draft writes. let now = now_is is writes in let named = all_named writer (suc (length draft.ended)) writes.same in
-      reaches_as (open_part manner draft named now.0) (closed_part manner draft named now.0) (reaches_by leaves.owns (λ last. becomes_again
+  reaches = λ manner draft writes. let now = now_is is writes in let named = file_named now.0 writes in
+      reaches_as (open_part manner draft named now.0) (closed_part manner draft named now.0) (reaches_by leaves.owns (λ first last. becomes_again
       (close_begins (ended_out manner draft) (ended_files manner draft) (name_after manner draft) draft.bytes)
-      (closes_last manner.output told (ended_out manner draft) (ended_files manner draft) (name_after manner draft) draft.bytes old (last_file writer old is last) closed)
-      (tells_file writer.tells manner.output told size (ended_files manner draft) (file_of (name_after manner draft) draft.bytes state.Closed) mid fault (ap (λ (those : Manner). those.output) writes.same) refl now.1 (closed_files manner 0 draft.ended)
-      (let two = paused_now.streams in omega (arith, two)) tells)));
+      (closes_last manner.output told (ended_out manner draft) (ended_files manner draft) (name_after manner draft) draft.bytes old (last_file writer old is last).1 closed)
+      (tells_file writer.tells manner.output told (length draft.bytes) (ended_files manner draft) (file_of (name_after manner draft) draft.bytes state.Closed) mid fault writes.same.output refl refl (closed_files manner 0 draft.ended)
+      (let two = paused_now.streams in omega (arith, two)) (is_size writer.tells draft.bytes size now.1 told mid new fault tells))));
+  short = told_short _ told writer.tells size mid new fault tells;
   writes = in_any fault (λ manner draft writes. file_ends slot size is writes);
 } where
   paused_now : IsReady (paused writer) mid
@@ -610,19 +751,35 @@ end_told {told} {writer} slot size {old} {mid} {new} {fault} is ready closed tel
 
 pub goes_again : {told : Bool} {one two three : WriterState} {first second : Draft → Draft} (both : Draft → Draft) {old mid new : List Slot} {fault : Option Fault} → ((draft : Draft) → second (first draft) ≡ both draft)
     → ((manner : Manner) (draft : Draft) → Begins (draft_part manner draft) (draft_part manner (first draft))) → Goes told one first old mid two None → Goes told two second mid new three fault → Goes told one both old new three fault
-goes_again {three = three} {first} {second} both {fault = fault} is begins before after = record {
+goes_again {told} {three = three} {first} {second} both {new = new} {fault} is begins before after = record {
   leaves = leaves_again before.leaves after.leaves;
   reaches = λ manner draft writes. reaches_again (begins manner draft) (before.reaches manner draft writes) (reaches_as refl (ap (draft_part manner) (sym (is draft))) (after.reaches manner (first draft) (before.writes manner draft writes)));
+  short = where_short fault after.short (λ short manner draft writes. let ran = short manner (first draft) (before.writes manner draft writes) in record {
+    none = subst (λ draft. manner.has_name (length draft.ended) ≡ false) (is draft) ran.none;
+    all = λ old at. subst (λ draft. OutputsAt told old (draft_part manner draft) new) (is draft) (ran.all old ((before.reaches manner draft writes).there old at));
+  });
   writes = where_well fault after.writes (λ more manner draft writes. subst (Writes manner three) (is draft) (more manner (first draft) (before.writes manner draft writes)));
 }
 
--- it was stopped on its way to more
+-- it was stopped on its way to more, where names didn't run out, or as many ended
 pub goes_wider : {told : Bool} {writer next : WriterState} {low : Draft → Draft} (high : Draft → Draft) {old new : List Slot} {fault : Fault} → ((manner : Manner) (draft : Draft) → Begins (draft_part manner (low draft)) (draft_part manner (high draft)))
-    → Goes told writer low old new next (Some fault) → Goes told writer high old new next (Some fault)
-goes_wider high begins stopped = record { leaves = stopped.leaves; reaches = λ manner draft writes. stops_wider (stopped.reaches manner draft writes) (begins manner draft); writes = tt }
+    → ((fault ≡ Suffixes → ⊥) ⊎ ((draft : Draft) → (low draft).ended ≡ (high draft).ended)) → Goes told writer low old new next (Some fault) → Goes told writer high old new next (Some fault)
+goes_wider {told} {writer} {low = low} high {old} {new} {fault} begins same stopped = record {
+  leaves = stopped.leaves;
+  reaches = λ manner draft writes. stops_wider (stopped.reaches manner draft writes) (begins manner draft);
+  short = λ is manner draft writes. by same is manner draft (stopped.short is manner draft writes);
+  writes = tt;
+} where
+  by : ((fault ≡ Suffixes → ⊥) ⊎ ((draft : Draft) → (low draft).ended ≡ (high draft).ended)) → fault ≡ Suffixes → (manner : Manner) (draft : Draft) → RunsShort told writer low manner draft old new → RunsShort told writer high manner draft old new
+  by (inl other) is manner draft ran = absurd (other is)
+  by (inr ended) is manner draft ran =
+      let none : manner.has_name (length (high draft).ended) ≡ false = subst (λ ended. manner.has_name (length ended) ≡ false) (ended draft) ran.none in record {
+        none = none;
+        all = λ before at. subst (λ part. OutputsAt told before part new) (stopped_part manner (low draft) ran.none ∙ ap (λ ended. part_of manner (map (share state.Closed) ended)) (ended draft) ∙ sym (stopped_part manner (high draft) none)) (ran.all before at);
+      }
 
-pub next_not_ended : {told : Bool} {writer next : WriterState} (opening : Opening) {old new : List Slot} {f : Fault} → Goes told writer (with_next Never) old new next (Some f) → Goes told writer (with_next opening) old new next (Some f)
-next_not_ended opening ended = goes_wider (with_next opening) (λ manner draft. begun_begins manner opening draft) ended
+pub next_not_ended : {told : Bool} {writer next : WriterState} (opening : Opening) {old new : List Slot} {f : Fault} → IsWrite f → Goes told writer (with_next Never) old new next (Some f) → Goes told writer (with_next opening) old new next (Some f)
+next_not_ended opening broke ended = goes_wider (with_next opening) (λ manner draft. begun_begins manner opening draft) (inl (λ short. absurd (let e : fault.Write broke.0 ≡ Suffixes = sym broke.1 ∙ short in cc))) ended
 
 -- what is next begins where what was begun has ended
 next_after : (opening : Opening) (draft : Draft) → with_next opening (with_next Never draft) ≡ with_next opening draft
@@ -643,7 +800,7 @@ goes_more a b first second = goes_again (with_bytes (a ++ b)) (λ draft. again d
 
 -- it was stopped among them
 pub stops_among : {told : Bool} {writer next : WriterState} (a b : List ℕ) {old new : List Slot} {fault : Fault} → Goes told writer (with_bytes a) old new next (Some fault) → Goes told writer (with_bytes (a ++ b)) old new next (Some fault)
-stops_among a b stopped = goes_wider (with_bytes (a ++ b)) (λ manner draft. subst (λ those. Begins (draft_part manner (with_bytes a draft)) (draft_part manner those)) (again draft a b) (bytes_begin manner b (with_bytes a draft))) stopped
+stops_among a b stopped = goes_wider (with_bytes (a ++ b)) (λ manner draft. subst (λ those. Begins (draft_part manner (with_bytes a draft)) (draft_part manner those)) (again draft a b) (bytes_begin manner b (with_bytes a draft))) (inr (λ draft. refl)) stopped
 
 pub goes_as : {told : Bool} {writer next : WriterState} {a b : List ℕ} {old new : List Slot} {fault : Option Fault} → a ≡ b → Goes told writer (with_bytes a) old new next fault → Goes told writer (with_bytes b) old new next fault
 goes_as {told} {writer} {next} {old = old} {new} {fault} is goes = subst (λ bytes. Goes told writer (with_bytes bytes) old new next fault) is goes
@@ -654,7 +811,8 @@ pub goes_or_lacks : {told : Bool} {writer next : WriterState} {bytes : List ℕ}
 goes_or_lacks (Ok done) went lacks = went
 goes_or_lacks {told} {writer} {next} {bytes} {old} {new} (Err fault) went lacks = subst (λ why. Goes told writer (with_bytes bytes) old new next (Some why)) (sym lacks) (record {
   leaves = leaves_again went.leaves leaves_lacking;
-  reaches = λ manner draft writes. reaches_again (bytes_begin manner bytes draft) (went.reaches manner draft writes) (lacks_memory manner (with_bytes bytes draft) (all_named writer (suc (length draft.ended)) writes.same));
+  reaches = λ manner draft writes. reaches_again (bytes_begin manner bytes draft) (went.reaches manner draft writes) (lacks_memory manner (with_bytes bytes draft) (went.writes manner draft writes).named);
+  short = λ is. absurd (cc);
   writes = tt;
 })
 
@@ -663,5 +821,5 @@ goes_lacking {bytes = bytes} {fault = fault} ready lacks = stops_among [] bytes 
 
 -- The files are removed.
 
-pub files_left : {writer next : WriterState} {old new : List Slot} → next.current ≡ writer.current → Removes writer.files old next.files new → KeepsFiles writer next old new
-files_left {writer} {next} {old} {new} same removes = search (rules, same_size, left_has, left_there, false≢true, left_apart)
+pub files_left : {writer next : WriterState} {old new : List Slot} → next.keeps ≡ writer.keeps → next.current ≡ writer.current → Removes writer.files old next.files new → KeepsFiles writer next old new
+files_left {writer} {next} {old} {new} same_keeps same removes = search (rules, same_size, left_has, left_there, false≢true, left_apart)

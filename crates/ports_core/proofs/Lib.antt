@@ -20,4 +20,5 @@ pub mod AgreedLemmas
 pub mod Runs
 pub mod PartSteps
 pub mod ShareLemmas
+pub mod OpenLemmas
 pub mod FileWriterLemmas

@@ -1,9 +1,9 @@
 -- The files of shares, and what standard output is told of them: what begins what, and the last file.
 use Rattle.std.proofs.lemmas.Grind.{common_steps}
-use Rattle.std.proofs.Common.{◌≡◌, ℕ, ◌+◌, ◌<◌, suc, Bool, true, false, cond, List, [], ◌∷◌, ◌++◌, ◌⊎◌, length, map, inl, inr, refl, sym, ◌∙◌, ap, arith, append_assoc, append-nil}
+use Rattle.std.proofs.Common.{◌≡◌, ℕ, ◌+◌, ◌<◌, suc, Bool, true, false, cond, List, [], ◌∷◌, ◌++◌, ◌⊎◌, length, map, inl, inr, refl, sym, ◌∙◌, ap, subst, arith, append_assoc, append-nil, zero-add}
 use Rattle.std.proofs.lemmas.Bool.{cond_both}
 use Rattle.std.proofs.lemmas.List.{map-append, length-map}
-use Rattle.ports_core.specs.Draft.{Manner, Share, share, file_at, files_from, told_of_files, part_with, part_of, made_of, Draft, shares_of, draft_part, with_bytes, with_next}
+use Rattle.ports_core.specs.Draft.{Manner, AreNamed, Share, share, file_at, files_from, told_of_files, part_with, part_of, made_of, Draft, shares_of, draft_part, with_bytes, with_next}
 use Rattle.ports_core.specs.Part.{File, nothing, Begins, FilesBegin, IsBeginning, Output, gets_none, gets_bytes, gets_lines, lines_for}
 use Rattle.ports_core.specs.Slot.{is_open}
 use Rattle.ports_core.specs.Turn.{AllClosed}
@@ -123,10 +123,6 @@ begun_begins manner opening draft = part_grows manner (map (share Closed) (draft
 
 -- Files that all have names
 
--- these places have names
-abbrev pub AreNamed : Manner → ℕ → Type 0
-AreNamed manner count = (place : ℕ) → place < count → manner.has_name place ≡ true
-
 -- the place after the next ones is that after the first of them
 one_on : (n m : ℕ) → n + suc m ≡ n + 1 + m
 one_on n m = omega arith
@@ -139,6 +135,16 @@ files_on manner place (one ∷ front) rest named = cc (
   one_on place (length front),
   files_on manner (place + 1) front rest (λ other less. named other (omega (arith, less))),
 )
+
+-- where the place after these has no name, more of them make no file
+files_stop : (manner : Manner) (place : ℕ) (ended : List (List ℕ)) (rest : List Share) → manner.has_name (place + length ended) ≡ false
+    → files_from manner place (map (share Closed) ended ++ rest) ≡ files_from manner place (map (share Closed) ended)
+files_stop manner place [] [] none = refl
+files_stop manner place [] (one ∷ rest) none = grind (arith, common_steps)
+files_stop manner place (one ∷ ended) rest none = cc (files_stop manner (place + 1) ended rest (subst (λ n. manner.has_name n ≡ false) (one_on place (length ended)) none))
+
+pub stopped_part : (manner : Manner) (draft : Draft) → manner.has_name (length draft.ended) ≡ false → draft_part manner draft ≡ part_of manner (map (share Closed) draft.ended)
+stopped_part manner draft none = ap (part_with manner.output) (files_stop manner 0 draft.ended _ (subst (λ n. manner.has_name n ≡ false) (sym (zero-add (length draft.ended))) none))
 
 pub closed_files : (manner : Manner) (place : ℕ) (ended : List (List ℕ)) → AllClosed (files_from manner place (map (share Closed) ended))
 closed_files manner place [] = tt

@@ -1,5 +1,6 @@
 -- What a tool has written that writes one file after another: the files that ended, and the one that is open.
-use Rattle.std.specs.Prelude.{ℕ, ◌+◌, Bool, false, List, [], ◌∷◌, ◌++◌, length, map, decimal, if◌then◌else◌}
+use Rattle.std.specs.Prelude.{◌≡◌, ℕ, ◌+◌, ◌<◌, Bool, true, false, List, [], ◌∷◌, ◌++◌, length, map, decimal, if◌then◌else◌}
+use Rattle.ports_core.specs.Name.{Naming, has_name, name_at}
 use Rattle.ports_core.specs.Part.{File, Part, Output, gets_none, gets_bytes, gets_lines, lines_for}
 use Rattle.ports_core.specs.declared.file_writer.Opening.{Opening}
 use Rattle.ports_core.specs.declared.file_writer.Opening.TheVariants.{Never, Late, AtOnce}
@@ -16,6 +17,14 @@ pub record Manner : Type 0 where
   pub name : ℕ → List ℕ
   -- what standard output is told of them
   pub output : Output
+
+-- files with these names, of which standard output is told this
+abbrev pub manner_by : Naming → Output → Manner
+manner_by naming output = record { has_name = has_name naming; name = name_at naming; output = output }
+
+-- the first `count` places have names
+abbrev pub AreNamed : Manner → ℕ → Type 0
+AreNamed manner count = (place : ℕ) → place < count → manner.has_name place ≡ true
 
 -- what a file gets, and whether it is still open
 pub record Share : Type 0 where

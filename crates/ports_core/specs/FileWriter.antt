@@ -1,7 +1,7 @@
 -- What contracts see of the writer of files, and what its calls do.
-use Rattle.std.specs.Prelude.{◌≡◌, ℕ, ◌<◌, ◌≤◌, ◌^◌, suc, Bool, true, List, [], ◌∷◌, length, Option, Some, None, IfNone, IsTrue}
-use Rattle.ports_core.specs.Draft.{Manner, Draft, output_of, made_of, shares_of, draft_part}
-use Rattle.ports_core.specs.Name.{Naming, has_name, name_at}
+use Rattle.std.specs.Prelude.{◌≡◌, ℕ, ◌+◌, ◌<◌, ◌≤◌, ◌^◌, suc, Bool, true, false, List, [], ◌∷◌, length, Option, Some, None, IfNone, IfSome, IsTrue}
+use Rattle.ports_core.specs.Draft.{Manner, Draft, AreNamed, output_of, made_of, shares_of, draft_part, manner_by}
+use Rattle.ports_core.specs.Name.{Naming}
 use Rattle.ports_core.specs.Part.{Part, Output, OutputsAt, writes}
 use Rattle.ports_core.specs.Slot.{Slot, Rose, KeepsBroken, has_file, is_writable, slot_at}
 use Rattle.ports_core.specs.Swept.{AreThere, is_among}
@@ -11,15 +11,20 @@ use Rattle.ports_core.specs.declared.fault.Fault.TheVariants as why
 use Rattle.ports_core.specs.declared.file_writer.Current.{Current}
 use Rattle.ports_core.specs.declared.file_writer.Current.TheVariants.{Skipped, Due, File, Unopened}
 use Rattle.ports_core.specs.declared.file_writer.FileWriter.{FileWriter}
+use Rattle.ports_core.specs.declared.file_writer.Keeps.{Keeps}
+use Rattle.ports_core.specs.declared.file_writer.Keeps.TheVariants.{All}
 use Rattle.ports_core.specs.declared.file_writer.Opening.{Opening}
 use Rattle.ports_core.specs.declared.file_writer.Opening.TheVariants.{Never, Late}
 use Rattle.ports_core.specs.declared.file_writer.Tells.{Tells}
 use Rattle.ports_core.specs.declared.file_writer.Tells.TheVariants.{Nothing, Sizes}
+use Rattle.ports_core.specs.declared.names.Names.{Names}
 
 pub record WriterState : Type 0 where
-  pub naming : Naming
+  -- the names of its files, and how many of them were drawn
+  pub names : Names
   pub tells : Tells
-  -- the outputs of the files that it made and didn't remove, in order
+  pub keeps : Keeps
+  -- where all are kept, the outputs of the files that it made and didn't remove, in order
   pub files : List ℕ
   -- what bytes go to
   pub current : Current
@@ -27,55 +32,78 @@ pub record WriterState : Type 0 where
 -- what contracts see of it
 abbrev pub seen_writer : FileWriter → WriterState
 seen_writer writer = record {
-  naming = writer.naming;
+  names = writer.names;
   tells = writer.tells;
+  keeps = writer.keeps;
   files = writer.files.items;
   current = writer.current;
 }
 
 -- how it makes files
 abbrev pub manner_in : WriterState → Manner
-manner_in writer = record {
-  has_name = λ place. true;
-  name = name_at writer.naming;
-  output = output_of writer.tells;
-}
+manner_in writer = manner_by writer.names.naming (output_of writer.tells)
 
--- how many bytes the open file has
+-- a file is open
+abbrev pub is_file : Current → Bool
+is_file Skipped = false
+is_file Due = false
+is_file (File slot size) = true
+is_file Unopened = false
+
+-- how many bytes the open file has, where sizes are told
 abbrev pub size_of : Current → ℕ
 size_of Skipped = 0
 size_of Due = 0
 size_of (File slot size) = size
 size_of Unopened = 0
 
+-- where sizes are told, these bytes are counted
+abbrev pub IsCounted : Tells → List ℕ → ℕ → Type 0
+IsCounted Nothing bytes size = Unit {0}
+IsCounted Sizes bytes size = size ≡ length bytes
+
+-- and they can be, after as many as there are
+abbrev pub CanCount : Tells → ℕ → List ℕ → Type 0
+CanCount Nothing size bytes = Unit {0}
+CanCount Sizes size bytes = size + length bytes < 2 ^ 64
+
 -- what is begun gets its file so, and has these bytes so far
-abbrev pub IsCurrent : Opening → List ℕ → Current → Type 0
-IsCurrent opening bytes Skipped = opening ≡ Never
-IsCurrent opening bytes Due = (opening ≡ Late) × (bytes ≡ [])
-IsCurrent opening bytes (File slot size) = (made_of opening bytes ≡ bytes ∷ []) × (size ≡ length bytes)
-IsCurrent opening bytes Unopened = ⊥
+abbrev pub IsCurrent : Tells → Opening → List ℕ → Current → Type 0
+IsCurrent tells opening bytes Skipped = opening ≡ Never
+IsCurrent tells opening bytes Due = (opening ≡ Late) × (bytes ≡ [])
+IsCurrent tells opening bytes (File slot size) = (made_of opening bytes ≡ bytes ∷ []) × IsCounted tells bytes size
+IsCurrent tells opening bytes Unopened = ⊥
+
+-- this is the writer's own manner, as far as 64 bits count files
+pub record IsManner (manner own : Manner) : Type 0 where
+  pub name : own.name ≡ manner.name
+  pub output : own.output ≡ manner.output
+  pub has : (place : ℕ) → place < 2 ^ 64 → own.has_name place ≡ manner.has_name place
 
 -- it makes files in this manner, and can have been given this
 pub record Writes (manner : Manner) (writer : WriterState) (draft : Draft) : Type 0 where
-  pub same : manner_in writer ≡ manner
-  pub made : length writer.files ≡ length (shares_of draft)
-  pub current : IsCurrent draft.opening draft.bytes writer.current
+  pub same : IsManner manner (manner_in writer)
+  pub made : writer.names.drawn ≡ length (shares_of draft)
+  pub named : AreNamed manner (length (shares_of draft))
+  pub current : IsCurrent writer.tells draft.opening draft.bytes writer.current
 
--- the open file is the last output
-abbrev pub IsLast : Current → List Slot → Type 0
-IsLast Skipped slots = Unit {0}
-IsLast Due slots = Unit {0}
-IsLast (File slot size) slots = suc slot ≡ length slots
-IsLast Unopened slots = Unit {0}
+-- the open file is the last output, and doesn't stand before this place
+abbrev pub IsLast : Current → ℕ → List Slot → Type 0
+IsLast Skipped first slots = Unit {0}
+IsLast Due first slots = Unit {0}
+IsLast (File slot size) first slots = (first ≤ slot) × (suc slot ≡ length slots)
+IsLast Unopened first slots = Unit {0}
 
--- from this place on its files are just the outputs that have one, and the open one is the last
+-- from this place on those are its files, and the open one is the last; where all are kept, they are just the outputs that
+-- have a file
 pub record OwnsFiles (writer : WriterState) (first : ℕ) (slots : List Slot) : Type 0 where
   pub streams : 2 ≤ first
   pub within : first ≤ length slots
   pub from : (place : ℕ) → is_among place writer.files ≡ true → first ≤ place
-  pub own : (place : ℕ) → first ≤ place → has_file (slot_at slots place).state ≡ is_among place writer.files
+  pub own : writer.keeps ≡ All → (place : ℕ) → first ≤ place
+      → has_file (slot_at slots place).state ≡ is_among place writer.files
   pub there : AreThere writer.files slots
-  pub last : IsLast writer.current slots
+  pub last : IsLast writer.current first slots
 
 -- the open file can be written
 abbrev pub IsOpenAt : Current → List Slot → Type 0
@@ -89,31 +117,30 @@ abbrev pub CanTell : Tells → List Slot → Type 0
 CanTell Nothing slots = Unit {0}
 CanTell Sizes slots = IsTrue (is_writable slots 0)
 
--- as many files as 64 bits count have a name
-abbrev pub NamesAll : Naming → Type 0
-NamesAll naming = (place : ℕ) → place < 2 ^ 64 → IsTrue (has_name naming place)
-
 -- the outputs that it goes on with can be written, and its files are there. Others may have opened outputs too.
 pub record IsReady (writer : WriterState) (slots : List Slot) : Type 0 where
-  pub named : NamesAll writer.naming
   pub streams : 2 ≤ length slots
   pub output : CanTell writer.tells slots
   pub files : AreThere writer.files slots
   pub current : IsOpenAt writer.current slots
 
 -- The faults of a call that writes: a slot broke in the call where the fault names one. Standard output is written only
--- where it is told anything.
-abbrev pub Breaks : Output → List Slot → List Slot → Fault → Type 0
-Breaks output old new why.Memory = Unit {0}
-Breaks output old new (why.Write slot) = (slot ≡ 0 → writes output ≡ true) × Rose slot old new
-Breaks output old new (why.Open slot) = Rose slot old new
-Breaks output old new why.Suffixes = ⊥
-Breaks output old new (why.Read slot) = ⊥
-Breaks output old new (why.NoMatch operand repetition) = ⊥
-Breaks output old new (why.Range operand repetition) = ⊥
-Breaks output old new (why.Usage kind word) = ⊥
-Breaks output old new why.Failed = ⊥
-Breaks output old new why.TooLong = ⊥
+-- where it is told anything, and names run out only where a place has none.
+abbrev pub Breaks : Manner → List Slot → List Slot → Fault → Type 0
+Breaks manner old new why.Memory = Unit {0}
+Breaks manner old new (why.Write slot) = (slot ≡ 0 → writes manner.output ≡ true) × Rose slot old new
+Breaks manner old new (why.Open slot) = Rose slot old new
+Breaks manner old new why.Suffixes = (place : ℕ) × (place < 2 ^ 64) × (manner.has_name place ≡ false)
+Breaks manner old new (why.Read slot) = ⊥
+Breaks manner old new (why.NoMatch operand repetition) = ⊥
+Breaks manner old new (why.Range operand repetition) = ⊥
+Breaks manner old new (why.Usage kind word) = ⊥
+Breaks manner old new why.Failed = ⊥
+Breaks manner old new why.TooLong = ⊥
+
+-- an output broke
+abbrev pub IsWrite : Fault → Type 0
+IsWrite fault = (slot : ℕ) × (fault ≡ why.Write slot)
 
 -- What calls do
 
@@ -134,25 +161,40 @@ pub record KeepsFiles (writer next : WriterState) (old new : List Slot) : Type 0
   pub there : AreThere writer.files old → AreThere next.files new
 
 -- no slot that was broken is sound again, where the call went well; else it broke one, if its fault names one
-abbrev pub KeepsOrBreaks : Output → List Slot → List Slot → Option Fault → Type 0
-KeepsOrBreaks output old new None = KeepsBroken old new
-KeepsOrBreaks output old new (Some fault) = Breaks output old new fault
+abbrev pub KeepsOrBreaks : Manner → List Slot → List Slot → Option Fault → Type 0
+KeepsOrBreaks manner old new None = KeepsBroken old new
+KeepsOrBreaks manner old new (Some fault) = Breaks manner old new fault
 
 -- What any call leaves of a writer and its outputs.
 pub record Leaves (writer next : WriterState) (old new : List Slot) (fault : Option Fault) : Type 0 where
+  pub manner : manner_in next ≡ manner_in writer
   pub tells : next.tells ≡ writer.tells
+  pub keeps : next.keeps ≡ writer.keeps
   pub owns : KeepsFiles writer next old new
-  pub slots : KeepsOrBreaks (output_of writer.tells) old new fault
+  pub slots : KeepsOrBreaks (manner_in writer) old new fault
   pub output : IfNone fault (IsTrue (is_writable old 0) → IsTrue (is_writable new 0))
   pub ready : IfNone fault (IsReady next new)
 
--- a writer that has begun nothing
-abbrev pub new_writer : Naming → Tells → WriterState
-new_writer naming tells = record { naming = naming; tells = tells; files = []; current = Skipped }
+-- a writer that has made no file, where the first is made with its first byte
+abbrev pub new_writer : Naming → Tells → Keeps → WriterState
+new_writer naming tells keeps = record {
+  names = record { naming = naming; drawn = 0 };
+  tells = tells;
+  keeps = keeps;
+  files = [];
+  current = Due;
+}
 
 -- the writer as it is where nothing is begun
 abbrev pub paused : WriterState → WriterState
 paused writer = record writer { current = Skipped }
+
+-- names ran out for what was to be begun: the outputs have all that has a name
+pub record RunsShort (told : Bool) (writer : WriterState) (change : Draft → Draft) (manner : Manner) (draft : Draft)
+    (old new : List Slot) : Type 0 where
+  pub none : manner.has_name (length (change draft).ended) ≡ false
+  pub all : (before : List Slot) → At told writer before (draft_part manner draft) old
+      → OutputsAt told before (draft_part manner (change draft)) new
 
 -- The files changed as this says, and so did the outputs; or a fault stopped them.
 pub record Goes (told : Bool) (writer : WriterState) (change : Draft → Draft) (old new : List Slot) (next : WriterState)
@@ -161,5 +203,7 @@ pub record Goes (told : Bool) (writer : WriterState) (change : Draft → Draft) 
   pub reaches : (manner : Manner) (draft : Draft) → Writes manner writer draft
       → Reaches manner.output told writer next (draft_part manner draft) (draft_part manner (change draft)) old new
       fault
+  pub short : IfSome fault (λ fault. fault ≡ why.Suffixes → (manner : Manner) (draft : Draft)
+      → Writes manner writer draft → RunsShort told writer change manner draft old new)
   pub writes : IfNone fault ((manner : Manner) (draft : Draft) → Writes manner writer draft
       → Writes manner next (change draft))

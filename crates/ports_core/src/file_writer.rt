@@ -1,19 +1,18 @@
 //! Writing one file after another: each is opened when it is due, and closed before the next.
-ghost use Rattle.std.specs.Prelude.{◌≡◌, ◌+◌, ◌<◌, ◌≤◌, ◌^◌, ◌++◌, ◌∷◌, [], length, decimal, vec_capacity, vec_len, IfErr, IsTrue, OnOk};
+ghost use Rattle.std.specs.Prelude.{◌≡◌, ◌+◌, ◌<◌, ◌≤◌, ◌++◌, ◌∷◌, [], length, decimal, true, vec_capacity, vec_len, IfErr, IsTrue, OnOk};
 ghost use Rattle.ports_core.specs.Draft.{with_bytes, with_next};
-ghost use Rattle.ports_core.specs.FileWriter.{CanTell, IsReady, seen_writer, size_of};
+ghost use Rattle.ports_core.specs.FileWriter.{CanCount, CanTell, Goes, IsReady, IsWrite, is_file, new_writer, paused, seen_writer, size_of};
 ghost use Rattle.ports_core.specs.Slot.{is_writable};
 ghost use Rattle.ports_core.specs.Swept.{AreThere, Removes};
-ghost use Rattle.ports_core.specs.FileWriter.{Goes, new_writer, paused};
-ghost use Rattle.ports_core.specs.inner.FileWriter.{Appends, Makes, TellsSize};
+ghost use Rattle.ports_core.specs.inner.FileWriter.{Appends, Makes, TellsSize, files_with};
 ghost use Rattle.ports_core.specs.Turn.{fault_in};
 ghost use Rattle.ports_core.specs.inner.Write.{Wrote};
-ghost use Rattle.ports_core.specs.declared.file_writer.Current.TheVariants.{File, Skipped};
+ghost use Rattle.ports_core.specs.declared.file_writer.Current.TheVariants.{Skipped};
 ghost use Rattle.ports_core.specs.declared.file_writer.Opening.TheVariants.{Never};
 
-use crate::{Fault, Mode, Naming, Outs, sweep_files, write_whole};
+use crate::{Fault, Names, Naming, Outs, sweep_files, write_whole};
 use itoa::Buffer;
-use std::alloc::Global;
+use std::alloc::{AllocError, Global};
 
 /// When what is begun gets its file.
 #[derive(Clone, Copy)]
@@ -35,6 +34,15 @@ pub enum Tells {
     Sizes,
 }
 
+/// Whose outputs are kept.
+#[derive(Clone, Copy)]
+pub enum Keeps {
+    /// That of the open file: files stay.
+    Open,
+    /// Those of all files, so that they can be removed.
+    All,
+}
+
 /// What bytes go to.
 #[derive(Clone, Copy)]
 pub enum Current {
@@ -46,48 +54,58 @@ pub enum Current {
     File {
         /// Its output.
         slot: usize,
-        /// How many bytes it has.
+        /// How many bytes it has, where sizes are told.
         size: u64,
     },
     /// A file that could not be opened. Nothing follows but `clear`.
     Unopened,
 }
 
-/// Writes files one after another, and knows their outputs.
+/// Writes files one after another. It takes memory for names, and for the outputs of all files where they are kept.
 #[derive(Drop)]
 pub struct FileWriter {
-    naming: Naming,
+    names: Names,
     tells: Tells,
-    /// The outputs of the files that were made, in order, but of those that were removed.
+    keeps: Keeps,
+    /// Where all are kept, the outputs of the files that were made, in order, but of those that were removed.
     files: Vec<usize>,
     current: Current,
 }
 
 impl FileWriter {
-    /// A writer that has begun nothing, and names its files so, by their places from 0 on. Its calls ask for a naming in which
-    /// each place has a name.
-    pub fn new(alloc: Global, naming: Naming, tells: Tells) -> FileWriter
-        ensures { seen_writer result ≡ new_writer naming tells }
+    /// A writer that has made no file, and makes the first with its first byte, unless something else is begun.
+    pub fn new(alloc: Global, naming: Naming, tells: Tells, keeps: Keeps) -> FileWriter
+        ensures { seen_writer result ≡ new_writer naming tells keeps }
     {
         FileWriter {
-            naming,
+            names: Names { naming, drawn: 0 },
             tells,
+            keeps,
             files: Vec::new(alloc),
-            current: Current::Skipped,
+            current: Current::Due,
         }
+    }
+
+    /// Whether a file is open.
+    pub fn is_open(&self) -> bool
+        ensures { result ≡ is_file self.now.current }
+    {
+        matches!(self.current, Current::File { .. })
     }
 
     /// Writes more bytes of what is begun.
     ///
     /// # Errors
     ///
-    /// `Write` where the file broke; `Memory` and `Open` where it is opened now, and there is no room for its name, or it
-    /// can't be opened.
+    /// `Write` where the file broke; `Memory`, `Open` and `Suffixes` where it is opened now, and there is no room for its
+    /// name, it can't be opened, or no name is left.
     pub fn put<O: Outs>(&mut self, bytes: &[u8], outs: &mut O) -> Result<(), Fault>
         requires ready { IsReady (seen_writer self.old) (O.slots outs.old) }
-        requires fits { size_of self.old.current + length bytes.now < 2 ^ 64 }
+        requires fits { CanCount self.old.tells (size_of self.old.current) bytes.now }
         ensures goes { Goes O.told (seen_writer self.old) (with_bytes bytes.now) (O.slots outs.old) (O.slots outs.new) (seen_writer self.new) (fault_in result) }
         ensures size { OnOk result (size_of self.new.current ≤ size_of self.old.current + length bytes.now) }
+        ensures open { OnOk result (is_file self.old.current ≡ true → is_file self.new.current ≡ true) }
+        ensures broke { IfErr result (λ fault. is_file self.old.current ≡ true → IsWrite fault) }
     {
         match self.current {
             Current::Skipped => Ok(()),
@@ -107,7 +125,7 @@ impl FileWriter {
     ///
     /// # Errors
     ///
-    /// `Memory` where there is no room for a name, `Open` where the file can't be opened.
+    /// `Memory` where there is no room for a name, `Open` where the file can't be opened, `Suffixes` where no name is left.
     pub fn begin<O: Outs>(&mut self, opening: Opening, outs: &mut O) -> Result<(), Fault>
         requires { IsReady (seen_writer self.old) (O.slots outs.old) }
         ensures goes { Goes O.told (paused (seen_writer self.old)) (with_next opening) (O.slots outs.old) (O.slots outs.new) (seen_writer self.new) (fault_in result) }
@@ -128,7 +146,7 @@ impl FileWriter {
     ///
     /// # Errors
     ///
-    /// `Write` where the file or standard output broke, `Memory` and `Open` as `begin`.
+    /// `Write` where the file or standard output broke, and those of `begin`.
     pub fn next<O: Outs>(&mut self, opening: Opening, outs: &mut O) -> Result<(), Fault>
         requires { IsReady (seen_writer self.old) (O.slots outs.old) }
         ensures goes { Goes O.told (seen_writer self.old) (with_next opening) (O.slots outs.old) (O.slots outs.new) (seen_writer self.new) (fault_in result) }
@@ -147,6 +165,7 @@ impl FileWriter {
         requires { IsReady (seen_writer self.old) (O.slots outs.old) }
         ensures goes { Goes O.told (seen_writer self.old) (with_next Never) (O.slots outs.old) (O.slots outs.new) (seen_writer self.new) (fault_in result) }
         ensures none { OnOk result (self.new.current ≡ Skipped) }
+        ensures broke { IfErr result IsWrite }
     {
         match self.current {
             Current::Skipped => Ok(()),
@@ -180,17 +199,14 @@ impl FileWriter {
         ensures { Makes (seen_writer self.old) (O.slots outs.old) (O.slots outs.new) (seen_writer self.new) result }
     {
         self.current = Current::Unopened;
-        let Some(name) = self.naming.name_at(self.files.len() as u64)? else {
-            unreachable!()
-        };
-        self.files.reserve(1)?;
-        let slot = outs.open(name.as_str(), Mode::Fresh)?;
-        add(&mut self.files, slot);
+        make_room(&mut self.files, self.keeps)?;
+        let slot = self.names.open_next(outs)?;
+        keep(&mut self.files, self.keeps, slot);
         self.current = Current::File { slot, size: 0 };
         Ok(slot)
     }
 
-    /// Writes these bytes to the open file, which has `size` bytes.
+    /// Writes these bytes to the open file, of which `size` bytes are counted.
     fn append<O: Outs>(
         &mut self,
         slot: usize,
@@ -199,15 +215,37 @@ impl FileWriter {
         outs: &mut O,
     ) -> Result<(), Fault>
         requires writable { IsTrue (is_writable (O.slots outs.old) slot) }
-        requires fits { size + length bytes.now < 2 ^ 64 }
+        requires fits { CanCount self.old.tells size bytes.now }
         ensures { Appends O.told (seen_writer self.old) slot size bytes.now (O.slots outs.old) (O.slots outs.new) (seen_writer self.new) (fault_in result) }
     {
         write_whole(outs, slot, bytes)?;
         self.current = Current::File {
             slot,
-            size: size + bytes.len() as u64,
+            size: size.saturating_add(bytes.len() as u64),
         };
         Ok(())
+    }
+}
+
+/// Makes room for one more output, where all are kept.
+fn make_room(files: &mut Vec<usize>, keeps: Keeps) -> Result<(), AllocError>
+    ensures same { files.new.items ≡ files.old.items }
+    ensures room { OnOk result (keeps ≡ Keeps.All → vec_len files.new < vec_capacity files.new) }
+{
+    match keeps {
+        Keeps::Open => Ok(()),
+        Keeps::All => files.reserve(1),
+    }
+}
+
+/// Keeps the output of one more file, where all are kept.
+fn keep(files: &mut Vec<usize>, keeps: Keeps, slot: usize)
+    requires { keeps ≡ Keeps.All → vec_len files.old < vec_capacity files.old }
+    ensures { files.new.items ≡ files_with keeps files.old.items slot }
+{
+    match keeps {
+        Keeps::Open => {}
+        Keeps::All => add(files, slot),
     }
 }
 

@@ -32,7 +32,7 @@ pub use alphabet::Alphabet;
 pub use dir_in::DirIn;
 pub use dir_out::DirOut;
 pub use fault::{Fault, UsageKind};
-pub use file_writer::{Current, FileWriter, Opening, Tells};
+pub use file_writer::{Current, FileWriter, Keeps, Opening, Tells};
 pub use guarded::Guarded;
 pub use input_files::{InputFiles, id_of};
 pub use inputs::{Inputs, STANDARD_INPUT};

@@ -80,11 +80,12 @@ pub opened_short : {E : Type 0} (told : Bool) {begun asked : Work} {opening : Ne
 opened_short told old new (Ok e) Why Left is two stops cut why left = tt
 opened_short told old new (Err fault) Why Left is two stops cut why left = grind (arith, common_steps, nothing_out, some_there)
 
-pub csplit_halts : (style : Style) (operands : List Operand) (old new : List Slot) (fault : Fault) → Breaks (sizes_wanted style) old new fault
+pub csplit_halts : (style : Style) (operands : List Operand) (old new : List Slot) (fault : Fault) → Breaks (manner_of style) old new fault
     → (is_verdict fault ≡ false) × Stops (call_of (csplit_work style operands) (record { memory = true; files = true }) [] nothing ((csplit_work style operands).settled [])) new fault
 csplit_halts style operands old new Memory breaks = (refl, refl)
 csplit_halts style operands old new (Write slot) breaks = (refl, (breaks.0, λ none. absurd (false≢true (sym none)), breaks.1.1))
 csplit_halts style operands old new (Open slot) breaks = (refl, (refl, refl))
+csplit_halts style operands old new Suffixes breaks = absurd (false≢true (sym breaks.2))
 csplit_halts style operands old new fault breaks = absurd breaks
 
 pub whatever : {E : Type 0} (P : E → Type 0) (result : Result E Fault) → ((e : E) → P e) → IfOk result P

@@ -16,9 +16,10 @@ use Rattle.ports_core.specs.Swept.{Removes, AreThere, RemovesIf, HasNoFiles}
 use Rattle.ports_core.specs.declared.fault.Fault.{Fault}
 use Rattle.ports_core.specs.declared.fault.Fault.TheVariants.{Memory}
 use Rattle.csplit_core.specs.Csplit.{settled_of, whole_of, verdict_of}
-use Rattle.ports_core.specs.Draft.{draft_part, output_of}
-use Rattle.ports_core.specs.FileWriter.{WriterState, OwnsFiles, IsReady, Breaks, size_of}
-use Rattle.ports_core.specs.FileWriter.{Leaves, Reaches, new_writer}
+use Rattle.ports_core.specs.Draft.{draft_part}
+use Rattle.ports_core.specs.FileWriter.{WriterState, OwnsFiles, IsManner, IsReady, Breaks, manner_in, size_of}
+use Rattle.ports_core.specs.FileWriter.{Leaves, Reaches, new_writer, paused}
+use Rattle.ports_core.specs.declared.file_writer.Keeps.TheVariants.{All}
 use Rattle.ports_core.specs.declared.file_writer.Tells.{Tells}
 use Rattle.ports_core.specs.declared.file_writer.Tells.TheVariants.{Nothing, Sizes}
 use Rattle.csplit_core.specs.Input.{newline, without_newline, marked, all_lines, open_line}
@@ -367,13 +368,17 @@ abbrev pub tells_by : Style → Tells
 tells_by style = if style.quiet then Nothing else Sizes
 
 -- a writer that has begun no section
+abbrev pub new_for : Style → WriterState
+new_for style = new_writer (naming_of style) (tells_by style) All
+
+-- and where nothing is begun
 abbrev pub writer_for : Style → WriterState
-writer_for style = new_writer (naming_of style) (tells_by style)
+writer_for style = paused (new_for style)
 
 -- The first section could not begin, of which this part is due: a file could not be made, or there was no memory.
 pub record BegunNot (told : Bool) (style : Style) (part : Part) (old new : List Slot) (fault : Fault) : Type 0 where
   pub reaches : Reaches (sizes_wanted style) told (writer_for style) (writer_for style) nothing part old new (Some fault)
-  pub breaks : Breaks (sizes_wanted style) old new fault
+  pub breaks : Breaks (manner_of style) old new fault
   -- no file was made
   pub none : HasNoFiles (length old) new
 
@@ -387,7 +392,8 @@ pub record Opened (told : Bool) (style : Style) (operands : List Operand) (old n
   pub owns : OwnsFiles cutter.writer (length old) new
   pub ready : IsReady cutter.writer new
   pub output : IsTrue (is_writable old 0) → IsTrue (is_writable new 0)
-  pub tells : output_of cutter.writer.tells ≡ sizes_wanted style
+  pub manner : IsManner (manner_of style) (manner_in cutter.writer)
+  pub all : cutter.writer.keeps ≡ All
   pub sound : IsSound cutter
   pub size : load cutter ≡ 0
 

@@ -22,10 +22,10 @@ returns-clause-ready g c =
     let opened = c.in_ok-cutter.ensures in
     let none : length c.new.result.items ≡ 0 = ap length empty in
     subst (λ (guard : GuardState CsplitState). IsReady guard.stage (g.O.Outs.slots c.open.new.outs)) (sym c.new-2.ensures)
-    (record { writer = opened.ready; output = opened.output c.requires.output; tells = opened.tells ∙ ap sizes_wanted (sym opened.asked); sound = opened.sound; unbroken = ap (delimiters newline) empty; room = (let size = opened.size in omega (arith, size, none)); few = omega arith })
+    (record { writer = opened.ready; output = opened.output c.requires.output; manner = rw opened.asked opened.manner; sound = opened.sound; unbroken = ap (delimiters newline) empty; room = (let size = opened.size in omega (arith, size, none)); few = omega arith })
 
 pub returns-clause-owns : goal.returns-clause-owns
-returns-clause-owns g c = subst (λ (guard : GuardState CsplitState). Owns guard.stage (length (g.O.Outs.slots c.args.outs.now)) (g.O.Outs.slots c.open.new.outs)) (sym c.new-2.ensures) c.in_ok-cutter.ensures.owns
+returns-clause-owns g c = subst (λ (guard : GuardState CsplitState). Owns guard.stage (length (g.O.Outs.slots c.args.outs.now)) (g.O.Outs.slots c.open.new.outs)) (sym c.new-2.ensures) (record { writer = c.in_ok-cutter.ensures.owns; all = c.in_ok-cutter.ensures.all })
 
 pub returns-clause-outputs : goal.returns-clause-outputs
 returns-clause-outputs g c = begins_at g.O.Outs.told c.args.style c.as_slice.ensures c.requires.streams c.in_ok-cutter.ensures.reaches

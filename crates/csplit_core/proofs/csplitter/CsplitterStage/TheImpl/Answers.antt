@@ -1,7 +1,7 @@
 use Rattle.std.proofs.Common.{arith}
 use Rattle.csplit_core.specs.Csplit.{csplit_work}
 use Rattle.csplit_core.proofs.CutterLemmas.{same_by}
-use Rattle.csplit_core.proofs.StageLemmas.{held_is, cuts_off, end_cut, end_met, end_outputs, end_own, end_same, end_there, end_writable, pass_met, pass_ready, puts_out, takes_in}
+use Rattle.csplit_core.proofs.StageLemmas.{held_is, cuts_off, end_cut, end_met, end_outputs, end_own, end_same, end_there, end_writable, owns_on, pass_met, pass_ready, puts_out, takes_in}
 use Rattle.csplit_core.proofs.csplitter.CsplitterStage.TheImpl.Goals as goal
 
 pub pass-tells : goal.pass-tells
@@ -15,9 +15,9 @@ pass-tells g c =
       holds = takes_in told stage next piece _ _ c.result c.ensures.passes;
       outputs = puts_out told stage next piece _ _ c.result c.ensures.passes;
       ready = pass_ready told stage next piece _ _ c.result c.ensures.passes c.requires.ready c.ensures.taken c.requires.fits;
-      owns = c.ensures.passes.took.keeps.writer.owns.owns;
+      owns = owns_on c.ensures.passes.took.keeps.writer;
       there = c.ensures.passes.took.keeps.writer.owns.there;
-      cut = cuts_off told stage next piece _ _ c.result c.ensures.passes;
+      cut = cuts_off told stage next piece _ _ c.result c.ensures.passes c.requires.ready;
       met = pass_met told stage next piece _ _ c.result c.ensures.passes c.requires.ready;
     }
 
@@ -32,7 +32,7 @@ finish-tells g c =
       writable = end_writable told stage next _ _ c.ensures.closes c.requires.ready;
       owns = end_own told stage next _ _ c.ensures.closes;
       there = end_there told stage next _ _ c.result c.ensures.closes;
-      cut = end_cut told stage next _ _ c.ensures.closes;
+      cut = end_cut told stage next _ _ c.ensures.closes c.requires.ready;
       met = end_met told stage next _ _ c.ensures.closes c.requires.ready;
     }
 
