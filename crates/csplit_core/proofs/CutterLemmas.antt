@@ -28,7 +28,8 @@ use Rattle.ports_core.specs.Slot.{Slot}
 use Rattle.ports_core.specs.declared.fault.Fault.{Fault}
 use Rattle.ports_core.specs.FileWriter.{Goes, Reaches, Leaves}
 use Rattle.ports_core.specs.FileWriter.{WriterState, Writes, IsReady, size_of}
-use Rattle.ports_core.proofs.FileWriterLemmas.{leaves_again, leaves_still, keeps_files, reaches_again, reaches_as, reaches_still, where_three, stops_wider, goes_as, goes_more, stops_among, goes_or_lacks, put_nothing}
+use Rattle.ports_core.proofs.FileWriterLemmas.{leaves_again, leaves_still, keeps_files, reaches_again, reaches_as, reaches_still, where_three, stops_wider, put_nothing}
+use Rattle.ports_core.proofs.WriterSteps.{goes_as, goes_more, stops_among, goes_or_lacks}
 use Rattle.std.proofs.Math.Nat.{min-eq_left, min-eq_right}
 use Rattle.std.proofs.Math.Seq.{take-add, take-append-add}
 use Rattle.seg_core.specs.Window.{Window, without_first}

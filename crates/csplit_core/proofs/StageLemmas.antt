@@ -35,7 +35,8 @@ use Rattle.ports_core.specs.declared.file_writer.Tells.TheVariants.{Nothing, Siz
 use Rattle.csplit_core.specs.Cutter.{CutterState, most_next, pattern_next, kept_next, next_of, most_by, pattern_by, kept_by, settled_draft, IsFit, Stands, suppress_in, state_in, text_from, draft_by, IsLive, IsPast, IsSound, load}
 use Rattle.csplit_core.proofs.TryLemmas.{turn_ends, left_is}
 use Rattle.ports_core.proofs.SlotSteps.{none_past}
-use Rattle.ports_core.proofs.FileWriterLemmas.{breaks_as, new_owns, in_turn, lacks_memory, files_left, goes_as, reaches_as, stops_wider, in_any, leaves_again, reaches_again, leaves_lacking, where_well}
+use Rattle.ports_core.proofs.FileWriterLemmas.{breaks_as, same_manner, new_owns, in_turn, lacks_memory, reaches_as, stops_wider, in_any, leaves_again, reaches_again, leaves_lacking, where_well}
+use Rattle.ports_core.proofs.WriterSteps.{files_left, goes_as}
 use Rattle.std.proofs.lemmas.List.{drop_all, drop-map, append-nil, take-append-drop}
 use Rattle.seg_core.specs.Line.{line_count, first_lines, after_lines, delimiters, ends_with, LastEndsAt}
 use Rattle.seg_core.proofs.FirstLines.{first_lines-all, first_lines_then_rest, lines_of-after_lines}
@@ -152,7 +153,7 @@ first_opened told {style} {operands} {old} {new} {writer} aim two begun none say
       owns = begun.leaves.owns.owns (length old) (first_owns style two);
       ready = begun.leaves.ready;
       output = begun.leaves.output;
-      manner = subst (IsManner (manner_of style)) (sym begun.leaves.manner) (first_manner style);
+      manner = subst (IsManner (manner_of style)) (sym (same_manner begun.leaves)) (first_manner style);
       all = begun.leaves.keeps;
       sound = record { fit = (grind (arith, common_steps)); aim = (grind (arith, common_steps)) };
       size = ap (max 0) none';
@@ -584,7 +585,7 @@ module _ (told : Bool) (stage next : CsplitState) (piece : List ℕ) (old new : 
   pass_ready (Ok done) passes ready taken fits = record {
     writer = passes.took.keeps.writer.ready;
     output = passes.took.keeps.writer.output ready.output;
-    manner = rw (passes.took.keeps.style, passes.took.keeps.writer.manner) ready.manner;
+    manner = rw (passes.took.keeps.style, same_manner passes.took.keeps.writer) ready.manner;
     sound = passes.took.went.sound;
     unbroken = passes.passed.unbroken;
     room = (let size = passes.passed.size in let room = ready.room in omega (arith, size, room, taken));

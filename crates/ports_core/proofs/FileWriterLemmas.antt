@@ -1,6 +1,6 @@
 -- What the writer of files does: what it writes, whose the outputs are, and which faults come.
 use Rattle.std.proofs.lemmas.Grind.{common_steps}
-use Rattle.std.proofs.Common.{◌≡◌, ℕ, ◌+◌, ◌<◌, ◌≤◌, ◌^◌, zero, suc, eqb, eq-eqb, ne_eqb, Bool, true, false, ◌||◌, IsTrue, List, [], ◌∷◌, ◌++◌, ◌⊎◌, length, map, take, drop, replicate, decimal, Option, Some, None, IfNone, IfSome, Result, Ok, Err, OnOk, IfErr, IsErrAnd, inl, inr, refl, sym, ◌∙◌, ap, subst, arith, rules, append-nil, length-append}
+use Rattle.std.proofs.Common.{◌≡◌, ℕ, ◌+◌, ◌<◌, ◌≤◌, ◌^◌, zero, suc, eqb, eq-eqb, ne_eqb, Bool, true, false, ◌||◌, IsTrue, List, [], ◌∷◌, ◌++◌, length, map, take, drop, replicate, decimal, Option, Some, None, IfNone, IfSome, Result, Ok, Err, OnOk, IfErr, IsErrAnd, inl, inr, refl, sym, ◌∙◌, ap, subst, arith, rules, append-nil, length-append}
 use Rattle.std.proofs.lemmas.Bool.{false≢true, cases_lt}
 use Rattle.std.proofs.lemmas.List.{length-map, take-append-drop, take_all}
 use Rattle.std.proofs.lemmas.List.Recursion.{or_push}
@@ -12,7 +12,7 @@ use Rattle.ports_core.specs.Name.{Naming}
 use Rattle.ports_core.specs.Names.{next_name, has_next, OpensNone, no_memory, no_file, no_name}
 use Rattle.ports_core.specs.Part.{File as PartFile, Part, OutputsAt, Begins, FilesBegin, IsNext, IsBeginning, Output, gets_lines, lines_for, writes}
 use Rattle.ports_core.specs.Slot.{Slot, with_written, told_of, has_file, slot_at, changed_at, opened, closes, with_broken, is_writable}
-use Rattle.ports_core.specs.Swept.{AreThere, is_among, Removes}
+use Rattle.ports_core.specs.Swept.{AreThere, is_among}
 use Rattle.ports_core.specs.FileWriter.{At, KeepsFiles, KeepsOrBreaks, Leaves, Reaches, Goes, new_writer, paused}
 use Rattle.ports_core.specs.inner.FileWriter.{MakesNone, Made, Appends, TellsSize, CountsOn, files_with}
 use Rattle.ports_core.specs.Turn.{AllClosed, InTurn, IsThere, LinesTo, fault_in}
@@ -38,11 +38,11 @@ use Rattle.ports_core.proofs.HandedOn.{handed_on}
 use Rattle.ports_core.proofs.PartLemmas.{begins_itself, begins_more, take_begins_after, files_begin_themselves, part_begins_itself, out_more, turn_between, turn_next, turn_last, lines_before}
 use Rattle.ports_core.proofs.PartSteps.{Becomes, becomes_again, with_last, halts_here, there_from, file_of, writes_to, opens, falls_wider, close_begins, closes_last, closes_not, lines_of_front}
 use Rattle.ports_core.proofs.OpenLemmas.{opens_marks, opens_at}
-use Rattle.ports_core.proofs.ShareLemmas.{stopped_part, part_grows, bytes_begin, next_begins, begun_begins, has_told, closed_files, ended_files, ended_out, name_after, open_part, closed_part, none_part, still_made, late_made, made_or}
+use Rattle.ports_core.proofs.ShareLemmas.{stopped_part, part_grows, has_told, closed_files, ended_files, ended_out, name_after, open_part, closed_part, none_part, still_made, late_made, made_or}
 use Rattle.ports_core.proofs.SlotLemmas.{length-changed_at}
 use Rattle.ports_core.proofs.SlotSteps.{KeepsMade, none_past, file_before, at_end, opened_last, writable_within, write_rose, close_rose, keeps_write, made_write, written_writable, made_short, keeps_open, writable_before, made_again, open_rose, opened_writable, made_close, made_break, keeps_close, writable_elsewhere, keeps_again}
 use Rattle.ports_core.proofs.WriteLemmas.{none_written}
-use Rattle.ports_core.proofs.SweepLemmas.{by_place, left_apart, left_has, left_there, same_size}
+use Rattle.ports_core.proofs.SweepLemmas.{by_place}
 
 -- Outputs that have a part have another, as a file is opened or standard output gets a line; or a fault stops them in between.
 
@@ -144,7 +144,7 @@ lacks_memory {told} manner draft named = elim (made_or draft.opening draft.bytes
 -- Outputs that were broken stay broken, and files stay the writer's own.
 
 -- what is so of a call that ended for want of names
-where_short : {A B : Type 0} (fault : Option Fault) → IfSome fault (λ fault. fault ≡ Suffixes → A) → (A → B) → IfSome fault (λ fault. fault ≡ Suffixes → B)
+pub where_short : {A B : Type 0} (fault : Option Fault) → IfSome fault (λ fault. fault ≡ Suffixes → A) → (A → B) → IfSome fault (λ fault. fault ≡ Suffixes → B)
 where_short None holds follows = tt
 where_short (Some why) holds follows = λ is. follows (holds is)
 
@@ -174,13 +174,17 @@ slots_again : {manner other : Manner} (old mid new : List Slot) (fault : Option 
 slots_again old mid new None same first second = keeps_again old mid new first second
 slots_again old mid new (Some fault) same first second = breaks_later old mid new fault same first second
 
+-- how files are made stays
+pub same_manner : {writer next : WriterState} {old new : List Slot} {fault : Option Fault} → Leaves writer next old new fault → manner_in next ≡ manner_in writer
+same_manner leaves = cc (leaves.naming, leaves.tells)
+
 pub leaves_again : {one two three : WriterState} {old mid new : List Slot} {fault : Option Fault} → Leaves one two old mid None → Leaves two three mid new fault → Leaves one three old new fault
 leaves_again {old = old} {mid} {new} {fault} first second = record {
-  manner = second.manner ∙ first.manner;
+  naming = second.naming ∙ first.naming;
   tells = second.tells ∙ first.tells;
   keeps = second.keeps ∙ first.keeps;
   owns = owns_again first.owns second.owns;
-  slots = slots_again old mid new fault first.manner first.slots second.slots;
+  slots = slots_again old mid new fault (same_manner first) first.slots second.slots;
   output = where_well fault second.output (λ later can. later (first.output can));
   ready = second.ready;
 }
@@ -189,11 +193,11 @@ pub keeps_files : {writer : WriterState} {slots : List Slot} → KeepsFiles writ
 keeps_files = record { owns = λ first owns. owns; there = λ are. are }
 
 pub leaves_still : {writer : WriterState} {slots : List Slot} → IsReady writer slots → Leaves writer writer slots slots None
-leaves_still ready = record { manner = refl; tells = refl; keeps = refl; owns = keeps_files; slots = λ place sound. sound; output = λ can. can; ready = ready }
+leaves_still ready = record { naming = refl; tells = refl; keeps = refl; owns = keeps_files; slots = λ place sound. sound; output = λ can. can; ready = ready }
 
 -- want of memory leaves them as they are
 pub leaves_lacking : {writer : WriterState} {slots : List Slot} → Leaves writer writer slots slots (Some Memory)
-leaves_lacking = record { manner = refl; tells = refl; keeps = refl; owns = keeps_files; slots = tt; output = tt; ready = tt }
+leaves_lacking = record { naming = refl; tells = refl; keeps = refl; owns = keeps_files; slots = tt; output = tt; ready = tt }
 
 -- the open file can be written
 pub at_file : {writer : WriterState} {slot size : ℕ} {slots : List Slot} → writer.current ≡ File slot size → IsReady writer slots → (2 ≤ slot) × IsTrue (is_writable slots slot)
@@ -315,7 +319,7 @@ pub goes_still : {told : Bool} {writer : WriterState} {change : Draft → Draft}
     → ((draft : Draft) → IsCurrent writer.tells draft.opening draft.bytes writer.current → (shares_of draft ≡ shares_of (change draft)) × IsCurrent writer.tells (change draft).opening (change draft).bytes current)
     → Goes told writer change slots slots (record writer { current = current }) None
 goes_still {writer = writer} {change} current {slots} ready at last stays = record {
-  leaves = record { manner = refl; tells = refl; keeps = refl; owns = keeps; slots = λ place sound. sound; output = λ can. can; ready = record { streams = ready.streams; output = ready.output; files = ready.files; current = at } };
+  leaves = record { naming = refl; tells = refl; keeps = refl; owns = keeps; slots = λ place sound. sound; output = λ can. can; ready = record { streams = ready.streams; output = ready.output; files = ready.files; current = at } };
   reaches = λ manner draft writes. reaches_still keeps (ap (part_of manner) (stays draft writes.current).0);
   short = tt;
   writes = λ manner draft writes. let so = stays draft writes.current in record { same = writes.same; made = writes.made ∙ ap length so.0; named = subst (λ shares. AreNamed manner (length shares)) so.0 writes.named; current = so.1 };
@@ -366,7 +370,7 @@ wrote_can told slot bytes place old new (Some f) wrote = tt
 wrote_leaves : (told : Bool) {writer next : WriterState} (slot : ℕ) (bytes : List ℕ) {old new : List Slot} (fault : Option Fault) → next ≡ record writer { current = next.current } → ((first : ℕ) → IsLast writer.current first old → IsLast next.current first new)
     → KeepsOrBreaks (manner_in writer) old new fault → IfNone fault (IsOpenAt next.current new) → IsReady writer old → Wrote told slot bytes old new fault → Leaves writer next old new fault
 wrote_leaves told {writer} {next} slot bytes {old} {new} fault same last slots still ready wrote = record {
-  manner = ap manner_in same;
+  naming = ap (λ (w : WriterState). w.names.naming) same;
   tells = ap (λ (w : WriterState). w.tells) same;
   keeps = ap (λ (w : WriterState). w.keeps) same;
   owns = owns;
@@ -483,7 +487,7 @@ made_ready {writer} {next} {slot} {old} {new} ready made = record {
 
 made_leaves : {writer next : WriterState} {slot : ℕ} {old new : List Slot} → IsReady writer old → Made writer old new next slot → Leaves writer next old new None
 made_leaves {writer} {next} {old = old} {new} ready made = record {
-  manner = ap manner_in made.same;
+  naming = ap (λ (w : WriterState). w.names.naming) made.same;
   tells = ap (λ (w : WriterState). w.tells) made.same;
   keeps = ap (λ (w : WriterState). w.keeps) made.same;
   owns = owned_opened ready.streams made;
@@ -494,7 +498,7 @@ made_leaves {writer} {next} {old = old} {new} ready made = record {
 
 unmade_leaves : {writer next : WriterState} {old new : List Slot} {f : Fault} → MakesNone writer old new next f → Leaves writer next old new (Some f)
 unmade_leaves {writer} {next} {old} {new} {f} makes = rw makes.same (record {
-  manner = ap (λ naming. manner_by naming (output_of writer.tells)) makes.naming;
+  naming = makes.naming;
   tells = refl;
   keeps = refl;
   owns = owned_unopened makes.none;
@@ -534,6 +538,7 @@ module _ {writer next : WriterState} {change : Draft → Draft} {old new : List 
     ran (no_name few none same) =
         let lacks : manner.has_name (length (change draft).ended) ≡ false = ap (λ ended. manner.has_name (length ended)) so.same ∙ sym (due_has few so.none writes) ∙ none in record {
           none = lacks;
+          begun = so.makes;
           all = λ before at. rw (same, stopped_part manner (change draft) lacks, so.same, ← append-nil (map (share state.Closed) draft.ended)) (subst (λ made. OutputsAt told before (part_of manner (map (share state.Closed) draft.ended ++ map (share state.Open) made)) old) so.none at.outputs);
         }
 
@@ -665,7 +670,7 @@ closed_leaves : {writer : WriterState} (slot size : ℕ) {old new : List Slot} �
 closed_leaves {writer} slot size {old} {new} is ready closed =
     let at = at_file is ready in
     let made = made_close slot old new at.1 closed in record {
-      manner = refl;
+      naming = refl;
       tells = refl;
       keeps = refl;
       owns = file_closed made;
@@ -683,7 +688,7 @@ closed_leaves {writer} slot size {old} {new} is ready closed =
 pub close_not : {told : Bool} {writer : WriterState} (slot size : ℕ) {old new : List Slot} {f : Fault} → writer.current ≡ File slot size → IsReady writer old → f ≡ fault.Write slot → new ≡ with_broken slot (changed_at slot closes old)
     → Goes told writer (with_next Never) old new (paused writer) (Some f)
 close_not {told} {writer} slot size {old} {new} is ready which broken = subst (λ f. Goes told writer (with_next Never) old new (paused writer) (Some f)) (sym which) (record {
-  leaves = record { manner = refl; tells = refl; keeps = refl; owns = owns; slots = (let at = at_file is ready in (λ none. absurd (omega (arith, at.0, none)), close_rose slot old new at.1 (writable_within slot old at.1) broken)); output = tt; ready = tt };
+  leaves = record { naming = refl; tells = refl; keeps = refl; owns = owns; slots = (let at = at_file is ready in (λ none. absurd (omega (arith, at.0, none)), close_rose slot old new at.1 (writable_within slot old at.1) broken)); output = tt; ready = tt };
   reaches = λ manner draft writes. let now = now_is is writes in let named = file_named now.0 writes in
       reaches_as (open_part manner draft named now.0) (closed_part manner draft named now.0)
       (reaches_by owns (λ first last. falls_wider (closes_not manner.output told (ended_out manner draft) (ended_files manner draft) (name_after manner draft) draft.bytes old
@@ -746,80 +751,3 @@ end_told {told} {writer} slot size {old} {mid} {new} {fault} is ready closed tel
 
   leaves : Leaves writer (paused writer) old new fault
   leaves = leaves_again (closed_leaves slot size is ready closed) (told_leaves told writer size fault writer.tells refl paused_now tells)
-
--- One change after another
-
-pub goes_again : {told : Bool} {one two three : WriterState} {first second : Draft → Draft} (both : Draft → Draft) {old mid new : List Slot} {fault : Option Fault} → ((draft : Draft) → second (first draft) ≡ both draft)
-    → ((manner : Manner) (draft : Draft) → Begins (draft_part manner draft) (draft_part manner (first draft))) → Goes told one first old mid two None → Goes told two second mid new three fault → Goes told one both old new three fault
-goes_again {told} {three = three} {first} {second} both {new = new} {fault} is begins before after = record {
-  leaves = leaves_again before.leaves after.leaves;
-  reaches = λ manner draft writes. reaches_again (begins manner draft) (before.reaches manner draft writes) (reaches_as refl (ap (draft_part manner) (sym (is draft))) (after.reaches manner (first draft) (before.writes manner draft writes)));
-  short = where_short fault after.short (λ short manner draft writes. let ran = short manner (first draft) (before.writes manner draft writes) in record {
-    none = subst (λ draft. manner.has_name (length draft.ended) ≡ false) (is draft) ran.none;
-    all = λ old at. subst (λ draft. OutputsAt told old (draft_part manner draft) new) (is draft) (ran.all old ((before.reaches manner draft writes).there old at));
-  });
-  writes = where_well fault after.writes (λ more manner draft writes. subst (Writes manner three) (is draft) (more manner (first draft) (before.writes manner draft writes)));
-}
-
--- it was stopped on its way to more, where names didn't run out, or as many ended
-pub goes_wider : {told : Bool} {writer next : WriterState} {low : Draft → Draft} (high : Draft → Draft) {old new : List Slot} {fault : Fault} → ((manner : Manner) (draft : Draft) → Begins (draft_part manner (low draft)) (draft_part manner (high draft)))
-    → ((fault ≡ Suffixes → ⊥) ⊎ ((draft : Draft) → (low draft).ended ≡ (high draft).ended)) → Goes told writer low old new next (Some fault) → Goes told writer high old new next (Some fault)
-goes_wider {told} {writer} {low = low} high {old} {new} {fault} begins same stopped = record {
-  leaves = stopped.leaves;
-  reaches = λ manner draft writes. stops_wider (stopped.reaches manner draft writes) (begins manner draft);
-  short = λ is manner draft writes. by same is manner draft (stopped.short is manner draft writes);
-  writes = tt;
-} where
-  by : ((fault ≡ Suffixes → ⊥) ⊎ ((draft : Draft) → (low draft).ended ≡ (high draft).ended)) → fault ≡ Suffixes → (manner : Manner) (draft : Draft) → RunsShort told writer low manner draft old new → RunsShort told writer high manner draft old new
-  by (inl other) is manner draft ran = absurd (other is)
-  by (inr ended) is manner draft ran =
-      let none : manner.has_name (length (high draft).ended) ≡ false = subst (λ ended. manner.has_name (length ended) ≡ false) (ended draft) ran.none in record {
-        none = none;
-        all = λ before at. subst (λ part. OutputsAt told before part new) (stopped_part manner (low draft) ran.none ∙ ap (λ ended. part_of manner (map (share state.Closed) ended)) (ended draft) ∙ sym (stopped_part manner (high draft) none)) (ran.all before at);
-      }
-
-pub next_not_ended : {told : Bool} {writer next : WriterState} (opening : Opening) {old new : List Slot} {f : Fault} → IsWrite f → Goes told writer (with_next Never) old new next (Some f) → Goes told writer (with_next opening) old new next (Some f)
-next_not_ended opening broke ended = goes_wider (with_next opening) (λ manner draft. begun_begins manner opening draft) (inl (λ short. absurd (let e : fault.Write broke.0 ≡ Suffixes = sym broke.1 ∙ short in cc))) ended
-
--- what is next begins where what was begun has ended
-next_after : (opening : Opening) (draft : Draft) → with_next opening (with_next Never draft) ≡ with_next opening draft
-next_after opening draft = ap (λ ended. record { ended = ended; opening = opening; bytes = [] }) (append-nil (draft.ended ++ made_of draft.opening draft.bytes))
-
-pub next_begun : {told : Bool} {writer mid next : WriterState} {opening : Opening} {old between new : List Slot} {fault : Option Fault} → Goes told writer (with_next Never) old between mid None → mid.current ≡ Skipped
-    → Goes told (paused mid) (with_next opening) between new next fault → Goes told writer (with_next opening) old new next fault
-next_begun {told} {mid = mid} {next} {opening} {between = between} {new} {fault} ended none start = goes_again (with_next opening) (next_after opening) (λ manner draft. next_begins manner Never draft) ended
-    (subst (λ current. Goes told (record mid { current = current }) (with_next opening) between new next fault) (sym none) start)
-
--- More bytes after others
-
-again : (draft : Draft) (a b : List ℕ) → with_bytes b (with_bytes a draft) ≡ with_bytes (a ++ b) draft
-again draft a b = grind (arith, common_steps)
-
-pub goes_more : {told : Bool} {one two three : WriterState} (a b : List ℕ) {old mid new : List Slot} {fault : Option Fault} → Goes told one (with_bytes a) old mid two None → Goes told two (with_bytes b) mid new three fault → Goes told one (with_bytes (a ++ b)) old new three fault
-goes_more a b first second = goes_again (with_bytes (a ++ b)) (λ draft. again draft a b) (λ manner draft. bytes_begin manner a draft) first second
-
--- it was stopped among them
-pub stops_among : {told : Bool} {writer next : WriterState} (a b : List ℕ) {old new : List Slot} {fault : Fault} → Goes told writer (with_bytes a) old new next (Some fault) → Goes told writer (with_bytes (a ++ b)) old new next (Some fault)
-stops_among a b stopped = goes_wider (with_bytes (a ++ b)) (λ manner draft. subst (λ those. Begins (draft_part manner (with_bytes a draft)) (draft_part manner those)) (again draft a b) (bytes_begin manner b (with_bytes a draft))) (inr (λ draft. refl)) stopped
-
-pub goes_as : {told : Bool} {writer next : WriterState} {a b : List ℕ} {old new : List Slot} {fault : Option Fault} → a ≡ b → Goes told writer (with_bytes a) old new next fault → Goes told writer (with_bytes b) old new next fault
-goes_as {told} {writer} {next} {old = old} {new} {fault} is goes = subst (λ bytes. Goes told writer (with_bytes bytes) old new next fault) is goes
-
--- the last call only wants memory
-pub goes_or_lacks : {told : Bool} {writer next : WriterState} {bytes : List ℕ} {old new : List Slot} (result : Result (Unit {0}) Fault) → Goes told writer (with_bytes bytes) old new next None → IfErr result (λ fault. fault ≡ Memory)
-    → Goes told writer (with_bytes bytes) old new next (fault_in result)
-goes_or_lacks (Ok done) went lacks = went
-goes_or_lacks {told} {writer} {next} {bytes} {old} {new} (Err fault) went lacks = subst (λ why. Goes told writer (with_bytes bytes) old new next (Some why)) (sym lacks) (record {
-  leaves = leaves_again went.leaves leaves_lacking;
-  reaches = λ manner draft writes. reaches_again (bytes_begin manner bytes draft) (went.reaches manner draft writes) (lacks_memory manner (with_bytes bytes draft) (went.writes manner draft writes).named);
-  short = λ is. absurd (cc);
-  writes = tt;
-})
-
-pub goes_lacking : {told : Bool} {writer : WriterState} {bytes : List ℕ} {slots : List Slot} {fault : Fault} → IsReady writer slots → fault ≡ Memory → Goes told writer (with_bytes bytes) slots slots writer (Some fault)
-goes_lacking {bytes = bytes} {fault = fault} ready lacks = stops_among [] bytes (goes_or_lacks (Err fault) (put_nothing refl ready) lacks)
-
--- The files are removed.
-
-pub files_left : {writer next : WriterState} {old new : List Slot} → next.keeps ≡ writer.keeps → next.current ≡ writer.current → Removes writer.files old next.files new → KeepsFiles writer next old new
-files_left {writer} {next} {old} {new} same_keeps same removes = search (rules, same_size, left_has, left_there, false≢true, left_apart)

@@ -124,7 +124,7 @@ begun_begins manner opening draft = part_grows manner (map (share Closed) (draft
 -- Files that all have names
 
 -- the place after the next ones is that after the first of them
-one_on : (n m : ℕ) → n + suc m ≡ n + 1 + m
+pub one_on : (n m : ℕ) → n + suc m ≡ n + 1 + m
 one_on n m = omega arith
 
 -- the files of shares, and then of those after them
@@ -137,14 +137,13 @@ files_on manner place (one ∷ front) rest named = cc (
 )
 
 -- where the place after these has no name, more of them make no file
-files_stop : (manner : Manner) (place : ℕ) (ended : List (List ℕ)) (rest : List Share) → manner.has_name (place + length ended) ≡ false
-    → files_from manner place (map (share Closed) ended ++ rest) ≡ files_from manner place (map (share Closed) ended)
+pub files_stop : (manner : Manner) (place : ℕ) (front rest : List Share) → manner.has_name (place + length front) ≡ false → files_from manner place (front ++ rest) ≡ files_from manner place front
 files_stop manner place [] [] none = refl
 files_stop manner place [] (one ∷ rest) none = grind (arith, common_steps)
-files_stop manner place (one ∷ ended) rest none = cc (files_stop manner (place + 1) ended rest (subst (λ n. manner.has_name n ≡ false) (one_on place (length ended)) none))
+files_stop manner place (one ∷ front) rest none = cc (files_stop manner (place + 1) front rest (subst (λ n. manner.has_name n ≡ false) (one_on place (length front)) none))
 
 pub stopped_part : (manner : Manner) (draft : Draft) → manner.has_name (length draft.ended) ≡ false → draft_part manner draft ≡ part_of manner (map (share Closed) draft.ended)
-stopped_part manner draft none = ap (part_with manner.output) (files_stop manner 0 draft.ended _ (subst (λ n. manner.has_name n ≡ false) (sym (zero-add (length draft.ended))) none))
+stopped_part manner draft none = ap (part_with manner.output) (files_stop manner 0 (map (share Closed) draft.ended) _ (subst (λ n. manner.has_name n ≡ false) (sym (zero-add (length (map (share Closed) draft.ended)) ∙ length-map draft.ended (share Closed))) none))
 
 pub closed_files : (manner : Manner) (place : ℕ) (ended : List (List ℕ)) → AllClosed (files_from manner place (map (share Closed) ended))
 closed_files manner place [] = tt

@@ -167,7 +167,7 @@ KeepsOrBreaks manner old new (Some fault) = Breaks manner old new fault
 
 -- What any call leaves of a writer and its outputs.
 pub record Leaves (writer next : WriterState) (old new : List Slot) (fault : Option Fault) : Type 0 where
-  pub manner : manner_in next ≡ manner_in writer
+  pub naming : next.names.naming ≡ writer.names.naming
   pub tells : next.tells ≡ writer.tells
   pub keeps : next.keeps ≡ writer.keeps
   pub owns : KeepsFiles writer next old new
@@ -193,6 +193,7 @@ paused writer = record writer { current = Skipped }
 pub record RunsShort (told : Bool) (writer : WriterState) (change : Draft → Draft) (manner : Manner) (draft : Draft)
     (old new : List Slot) : Type 0 where
   pub none : manner.has_name (length (change draft).ended) ≡ false
+  pub begun : made_of (change draft).opening (change draft).bytes ≡ (change draft).bytes ∷ []
   pub all : (before : List Slot) → At told writer before (draft_part manner draft) old
       → OutputsAt told before (draft_part manner (change draft)) new
 

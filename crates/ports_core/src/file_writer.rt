@@ -104,7 +104,7 @@ impl FileWriter {
         requires fits { CanCount self.old.tells (size_of self.old.current) bytes.now }
         ensures goes { Goes O.told (seen_writer self.old) (with_bytes bytes.now) (O.slots outs.old) (O.slots outs.new) (seen_writer self.new) (fault_in result) }
         ensures size { OnOk result (size_of self.new.current ≤ size_of self.old.current + length bytes.now) }
-        ensures open { OnOk result (is_file self.old.current ≡ true → is_file self.new.current ≡ true) }
+        ensures stays { OnOk result (is_file self.old.current ≡ true → is_file self.new.current ≡ true) }
         ensures broke { IfErr result (λ fault. is_file self.old.current ≡ true → IsWrite fault) }
     {
         match self.current {

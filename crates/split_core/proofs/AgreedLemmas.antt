@@ -23,9 +23,10 @@ use Rattle.seg_core.specs.Cut.{IsPositive}
 use Rattle.split_core.specs.PartsState.{parts_work}
 use Rattle.split_core.specs.Round.{round_plan, round_work}
 use Rattle.split_core.specs.laws.CutLaws.{short_some, full_from, whole_of_none, whole_some, rest_short}
-use Rattle.split_core.specs.laws.ShareLaws.{cut_first, one_on, parts_on, settled_count}
+use Rattle.split_core.specs.laws.ShareLaws.{cut_first, parts_on, settled_count}
 use Rattle.split_core.specs.laws.WorkLaws.{parts_lawful, round_lawful}
-use Rattle.split_core.proofs.MoveLemmas.{named_before}
+use Rattle.split_core.proofs.FilesLemmas.{named_before}
+use Rattle.ports_core.proofs.ShareLemmas.{one_on}
 use Rattle.split_core.proofs.SectionLemmas.{settled_list, settled_bytes, list_all}
 use Rattle.split_core.proofs.CutLaws.{bytes_of_shares, lines_stay}
 

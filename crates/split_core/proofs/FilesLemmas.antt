@@ -8,7 +8,7 @@ use Rattle.std.proofs.lemmas.List.{append-nil, take-append-drop, get_or_append_l
 use Rattle.std.proofs.lemmas.List.FromFn.{length-map-range_with_len, take-map-range_with_len, map-range_with_len_more}
 use Rattle.std.proofs.lemmas.Result.{IfErr-weaker, on_ok_weaker}
 use Rattle.ports_core.specs.Name.{Naming, name_at, has_name}
-use Rattle.ports_core.specs.Names.{next_name, has_next}
+use Rattle.ports_core.specs.Names.{next_name, has_next, OpensNone, no_memory, no_name, no_file}
 use Rattle.ports_core.specs.declared.names.Names.{Names}
 use Rattle.ports_core.specs.Slot.{Slot, changed_at, slot_at, opened, adds, closes, is_closable, with_written, with_broken, told_of}
 use Rattle.ports_core.specs.Part.{File, Part, OutputsAt, StoppedBetween, gets_none, FilesBegin, Begins, IsNext, IsAt, Marks}
@@ -20,7 +20,8 @@ use Rattle.split_core.specs.Split.{Share, share, file_at, only_files}
 use Rattle.split_core.specs.FilesState.{FilesState}
 use Rattle.split_core.specs.Round.{AreReady, output_at}
 use Rattle.split_core.specs.laws.ShareLaws.{kept_file}
-use Rattle.split_core.proofs.MoveLemmas.{breaks_later, opens_marks, opens_at}
+use Rattle.ports_core.proofs.OpenLemmas.{opens_marks, opens_at}
+use Rattle.ports_core.proofs.FileWriterLemmas.{breaks_later}
 use Rattle.split_core.specs.inner.Sharing.{part_by, all_open, only_at, StandAt, KeepsFiles, IsOfFiles, Adds, Leaves, Grow, Halts, closed_first, Opens, HaveClosed, ClosesAll, with_opened}
 use Rattle.std.proofs.lemmas.Bool.{cases_lt, false≢true, eq-eqb, ne_eqb}
 use Rattle.ports_core.specs.inner.Write as short
@@ -29,10 +30,15 @@ use Rattle.ports_core.specs.declared.fault.Fault.TheVariants as fault
 use Rattle.ports_core.proofs.SlotLemmas.{length-changed_at}
 use Rattle.ports_core.proofs.WriteLemmas.{writable-written}
 use Rattle.ports_core.proofs.FileLemmas.{Makes, file_more, file_changes, write_makes, close_makes, gets, ended}
-use Rattle.split_core.specs.inner.Moves.{WritesTo, OpensNone, no_memory, no_name, no_file, wants_memory, breaks_write, breaks_open}
+use Rattle.ports_core.specs.Turn.{fault_in}
+use Rattle.ports_core.specs.inner.Write.{Wrote}
 use Rattle.ports_core.specs.Engine.{is_verdict}
 use Rattle.ports_core.specs.Slot.{KeepsBroken}
 use Rattle.split_core.specs.Sharing.{CannotOpen}
+
+-- what has a name after a place, has one there
+pub named_before : (names : Naming) (place more : ℕ) → has_name names more ≡ true → place ≤ more → has_name names place ≡ true
+named_before names place more is less = search rules
 
 -- Files by their places
 
@@ -288,19 +294,19 @@ owned_opened {files} {old} name drawn is first owns = grind (arith, common_steps
 -- the file could not be opened: then a name was drawn for it, or no output was added
 owned_unopened : (files : FilesState) (names : Names) {old new : List Slot} {why : Fault} → files.names.drawn ≡ length files.outputs → OpensNone files.names names old new why
     → KeepsFiles files old (record files { names = names }) new
-owned_unopened files names drawn (no_memory has same) first owns = record { stand = owns.stand; last = λ also. owns.last drawn ∙ sym (ap length same) }
-owned_unopened files names drawn (no_name has same) first owns = record { stand = owns.stand; last = λ also. owns.last drawn ∙ sym (ap length same) }
-owned_unopened files names drawn (no_file slot kept at has drew is made) first owns =
+owned_unopened files names drawn (no_memory same) first owns = record { stand = owns.stand; last = λ also. owns.last drawn ∙ sym (ap length same) }
+owned_unopened files names drawn (no_name few none same) first owns = record { stand = owns.stand; last = λ also. owns.last drawn ∙ sym (ap length same) }
+owned_unopened files names drawn (no_file slot kept at few has drew is made) first owns =
     record { stand = owns.stand; last = λ also. absurd (omega (arith, also, drawn, ap (λ (those : Names). those.drawn) drew)) }
 
 fails_caused : {names next : Names} {old new : List Slot} {why : Fault} → IsTrue (has_next names) → OpensNone names next old new why → CannotOpen old new why
-fails_caused has (no_memory left same) = inl refl
-fails_caused {old = old} {new} has (no_file slot kept at _ drew is made) = inr (slot, refl, open_rose slot kept old new at made)
-fails_caused has (no_name none same) = absurd (false≢true (sym none ∙ has))
+fails_caused has (no_memory same) = inl refl
+fails_caused {old = old} {new} has (no_file slot kept at few _ drew is made) = inr (slot, refl, open_rose slot kept old new at made)
+fails_caused has (no_name few none same) = absurd (false≢true (sym none ∙ has))
 
-of_files : {old new : List Slot} {why : Fault} → CannotOpen old new why → IsOfFiles old new why
-of_files {old} {new} (inl none) = subst (IsOfFiles old new) (sym none) (wants_memory, λ named. false≢true (ap is_verdict named))
-of_files {old} {new} (inr (slot, is, rose)) = subst (IsOfFiles old new) (sym is) (breaks_open slot rose, λ named. false≢true (ap is_verdict named))
+of_files : (old new : List Slot) {why : Fault} → CannotOpen old new why → IsOfFiles old new why
+of_files old new (inl none) = subst (IsOfFiles old new) (sym none) tt
+of_files old new (inr (slot, is, rose)) = subst (IsOfFiles old new) (sym is) rose
 
 pub cannot_later : (old mid new : List Slot) {why : Fault} → KeepsBroken old mid → CannotOpen mid new why → CannotOpen old new why
 cannot_later old mid new stay (inl none) = inl none
@@ -337,8 +343,8 @@ pub reached_not : (told : Bool) (files : FilesState) {names : Names} {old new : 
     → names.naming ≡ files.names.naming → (IsTrue (has_next files.names) → OpensNone files.names names old new why)
     → Opens told files place (place + 1) old (record files { names = names }) new (Err why)
 reached_not told files {names} {old} {new} place {why} ready here named same unopened = record {
-  adds = adds_not told files _ place (place + 1) why (omega arith) (omega arith) (omega arith) same (owned_unopened files names ready.drawn fails) (of_files caused) (λ i out. refl)
-      (opens_marks _ (λ has. (ap (name_at files.names.naming) ready.drawn, omega arith)) fails) (λ first. opens_at first here fails);
+  adds = adds_not told files _ place (place + 1) why (omega arith) (omega arith) (omega arith) same (owned_unopened files names ready.drawn fails) (of_files old new caused) (λ i out. refl)
+      (opens_marks _ (λ few has. (ap (name_at files.names.naming) ready.drawn, omega arith)) fails) (λ first. opens_at first here fails);
   caused = caused;
 } where
   has : IsTrue (has_next files.names)
@@ -381,7 +387,7 @@ writes told {files} {had = had} {has} place bytes within is at are = changes tol
 
 -- bytes were written to a file that is open, or it broke among them
 pub written : (told : Bool) {files : FilesState} {old new : List Slot} (place : ℕ) (bytes : List ℕ) (result : Result (Unit {0}) Fault) → AreReady files old → place < length files.outputs
-    → WritesTo told (output_at files place) bytes old new result
+    → Wrote told (output_at files place) bytes old new (fault_in result)
     → Adds told files (only_at place bytes) place (place + 1) old files new result
 written told {files} {old} {new} place bytes (Ok done) ready within is =
     grind (arith, common_steps, owned_same, written_size, ready_written, keeps_write, none_outside, outputs_as, writes)
@@ -391,7 +397,7 @@ written told {files} {old} {new} place bytes (Err _) ready within (short.broke n
   ready = tt;
   opened = tt;
   sound = tt;
-  caused = (breaks_write slot (ready.closable place within).0 (write_rose told slot bytes n old new (ready.closable place within).1 cut), λ named. false≢true (ap is_verdict named));
+  caused = (λ none. absurd (omega (arith, none, (ready.closable place within).0)), write_rose told slot bytes n old new (ready.closable place within).1 cut);
   outside = none_outside place bytes;
   leaves = λ before had has at are. halts place (all_open (λ i. had i ++ only_at place (take n bytes) i)) (length files.outputs) (omega arith) (omega arith)
       (omega arith)
@@ -414,7 +420,7 @@ written told {files} {old} {new} place bytes (Err _) ready within (short.broke n
 
 -- there was no room for any of it
 pub no_room : (told : Bool) (files : FilesState) (more : ℕ → List ℕ) (to : ℕ) {slots : List Slot} → ((i : ℕ) → to ≤ i → more i ≡ []) → Adds told files more 0 to slots files slots (Err fault.Memory)
-no_room told files more to none = adds_not told files more 0 to fault.Memory (omega arith) (omega arith) (omega arith) refl (λ first owns. owns) (of_files (inl refl)) (λ i out. none i (omega (arith, out))) refl (λ first. tt)
+no_room told files more to {slots} none = adds_not told files more 0 to fault.Memory (omega arith) (omega arith) (omega arith) refl (λ first owns. owns) (of_files slots slots (inl refl)) (λ i out. none i (omega (arith, out))) refl (λ first. tt)
 
 -- Closing
 
@@ -482,9 +488,9 @@ sent_within reached = search rules
 
 pub sent : {told : Bool} {files between : FilesState} {old mid new : List Slot} {place slot : ℕ} (bytes : List ℕ) (result : Result (Unit {0}) Fault)
     → Opens told files place (place + 1) old between mid (Ok tt) → slot ≡ output_at between place
-    → WritesTo told slot bytes mid new result → Adds told files (only_at place bytes) place (place + 1) old between new result
+    → Wrote told slot bytes mid new (fault_in result) → Adds told files (only_at place bytes) place (place + 1) old between new result
 sent {told} {between = between} {mid = mid} {new} {place} bytes result reached slot_is wrote = adds_then result reached.adds (written told place bytes result reached.adds.ready (sent_within reached)
-    (subst (λ at. WritesTo told at bytes mid new result) slot_is wrote)) (omega arith) (omega arith) (omega arith)
+    (subst (λ at. Wrote told at bytes mid new (fault_in result)) slot_is wrote)) (omega arith) (omega arith) (omega arith)
 
 -- a file that couldn't be reached stops the write to it as well
 pub sent_unreached : {told : Bool} {files next : FilesState} {old new : List Slot} {place : ℕ} (bytes : List ℕ) {why : Fault} → Opens told files place (place + 1) old next new (Err why)

@@ -2,7 +2,6 @@ pub mod RoundLemmas
 pub mod AgreedLemmas
 pub mod CutLaws
 pub mod UndecidedLemmas
-pub mod MoveLemmas
 pub mod FilesLemmas
 pub mod DealLemmas
 pub mod PartsLemmas

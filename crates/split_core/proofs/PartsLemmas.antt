@@ -1,566 +1,560 @@
 -- What each call on parts leaves: a step of a piece, a piece that is taken in step by step, the end of the input, and what the stage owes.
 use Rattle.std.proofs.lemmas.Grind.{common_steps}
-use Rattle.std.proofs.Common.{◌≡◌, ℕ, ◌+◌, ◌-◌, ◌<◌, ◌≤◌, suc, List, [], ◌∷◌, ◌++◌, length, map, Bool, true, false, eqb, Some, None, Result, Ok, Err, OnOk, IfErr, refl, sym, ◌∙◌, ap, subst, add-one, arith, length-append, rules, take, drop, IfOk, append_assoc, not, cond, zero-add}
-use Rattle.std.proofs.lemmas.List.{append-nil, drop-take, take-append-drop, length-map}
+use Rattle.std.proofs.Common.{◌≡◌, ℕ, ◌+◌, ◌-◌, ◌<◌, ◌≤◌, zero, suc, List, [], ◌∷◌, ◌++◌, ◌⊎◌, length, map, Bool, true, false, Option, Some, None, IfNone, IfSome, Result, Ok, Err, OnOk, IfErr, IfOk, inl, inr, refl, sym, ◌∙◌, ap, subst, arith, length-append, rules, take, drop, append_assoc, not, cond, zero-add}
+use Rattle.std.proofs.lemmas.List.{append-nil, drop-take, take-append-drop, length-map, map-append}
+use Rattle.std.proofs.Math.Seq.{take-length, drop-append_seam}
 use Rattle.std.proofs.lemmas.Bool.{false≢true}
-use Rattle.std.proofs.lemmas.Result.{IfErr-weaker, on_ok_weaker}
-use Rattle.ports_core.specs.Name.{Naming, has_name, name_at}
-use Rattle.ports_core.specs.Names.{next_name}
-use Rattle.ports_core.specs.Slot.{Slot, Rose, changed_at, opened, closes, with_broken, is_closable}
-use Rattle.ports_core.specs.declared.slot.Mode.TheVariants.{Fresh}
-use Rattle.ports_core.specs.declared.slot.State.{State}
-use Rattle.ports_core.specs.declared.fault.Fault.{Fault}
-use Rattle.ports_core.specs.declared.fault.Fault.TheVariants as fault
-use Rattle.ports_core.proofs.SlotLemmas.{length-changed_at}
-use Rattle.seg_core.specs.declared.cut.Limit.{Limit}
-use Rattle.seg_core.specs.Cut.{most}
-use Rattle.split_core.specs.Parts.{unless_empty, cut_up, settled_rest, waiting_rest, parts}
-use Rattle.split_core.specs.Split.{Share, share, is_some, are_named, named, settled_parts, only_files}
-use Rattle.split_core.specs.laws.DealLaws.{is_some_of}
-use Rattle.split_core.specs.laws.ShareLaws.{shares_after, part_begins, settled_on, settled_grow, are_named_more, settled_count}
-use Rattle.split_core.proofs.CutLaws.{shut_more, cut_two, shut_map, shares_trans}
-use Rattle.split_core.specs.PartsState.{PartsState, IsReady, is_given, Lacks, Stands}
-use Rattle.split_core.specs.inner.CutLaws.{AllShut, cut_so, SharesBegin, whole_parts}
-use Rattle.split_core.specs.inner.Moves.{Keeps, KeepsFile, Breaks, Draft, draft, written, Begun, gets, turns, Moves, HasFile, there, made, HasNone, Extends, Turns, Shuts, WritesTo, breaks_write, numbers, Takes, Steps, Finishes, CannotClose, wants_memory, lacks_names}
-use Rattle.split_core.proofs.MoveLemmas.{close_goes, goes_same, goes_then, goes_wider, keeps_still, keeps_then, moves_then, on_ok, open_breaks, open_goes, open_stops, owned_ended, owned_opened, owned_same, owned_unopened, write_breaks, write_goes, last_turn, shut_files, met_closing, met_files, owns_last, same_files}
-use Rattle.ports_core.proofs.SlotSteps as slot_steps
-use Rattle.std.proofs.Math.Seq.{take-length}
-use Rattle.ports_core.specs.Turn.{InTurn}
-use Rattle.ports_core.specs.inner.Write.{broke}
-use Rattle.ports_core.proofs.PartLemmas.{turn_next, stopped_in_turn}
-use Rattle.ports_core.proofs.PartSteps.{halts_here}
-use Rattle.ports_core.proofs.SlotSteps.{keeps_close, keeps_same, rose_later, writable_within, write_rose}
-use Rattle.ports_core.specs.declared.slot.State.TheVariants as file_state
-use Rattle.split_core.specs.declared.step.Step.{Step}
-use Rattle.split_core.specs.declared.step.Step.TheVariants.{Goes, Ends, Begins, Waits}
-use Rattle.split_core.specs.laws.CutLaws.{cut_on, cut_none, first_some, settled_some, settled_then_waiting}
-use Rattle.split_core.specs.inner.Step.{IsTurned, Leads}
-use Rattle.split_core.specs.inner.Moves as run
-use Rattle.split_core.proofs.AgreedLemmas.{one_of}
-use Rattle.ports_core.specs.Part.{OutputsAt}
-use Rattle.ports_core.specs.Engine.{CutsOff, EndsWith, EndsThere, is_verdict}
+use Rattle.ports_core.specs.Draft.{Manner, Draft, share, Share, made_of, shares_of, draft_part, output_of, part_of, with_bytes, with_next}
+use Rattle.ports_core.specs.Engine.{CutsOff, EndsWith, EndsThere, IsMet, StandsAt, is_verdict}
 use Rattle.ports_core.specs.Engine as engine
-use Rattle.ports_core.specs.declared.fault.Fault.TheVariants.{Suffixes}
-use Rattle.ports_core.specs.declared.slot.State.TheVariants.{Closed}
-use Rattle.split_core.specs.PartsState.{work}
+use Rattle.ports_core.specs.FileWriter.{WriterState, Writes, At, Breaks, Goes, IsCurrent, IsReady as CanWrite, IsWrite, Leaves, RunsShort, is_file, manner_in}
+use Rattle.ports_core.specs.Name.{Naming, has_name}
+use Rattle.ports_core.specs.Part.{Begins as PartBegins, Output, OutputsAt, gets_none, writes}
+use Rattle.ports_core.specs.Slot.{Slot}
+use Rattle.ports_core.specs.Turn.{fault_in}
+use Rattle.ports_core.specs.inner.Shares.{SharesBegin}
+use Rattle.ports_core.specs.declared.fault.Fault.{Fault}
+use Rattle.ports_core.specs.declared.fault.Fault.TheVariants.{Memory, Write, Open, Suffixes}
+use Rattle.ports_core.specs.declared.file_writer.Current.{Current}
+use Rattle.ports_core.specs.declared.file_writer.Current.TheVariants.{Skipped, Due, File, Unopened}
+use Rattle.ports_core.specs.declared.file_writer.Opening.TheVariants.{Never, Late}
+use Rattle.ports_core.specs.declared.file_writer.Tells.{Tells}
+use Rattle.ports_core.specs.declared.file_writer.Tells.TheVariants.{Nothing}
+use Rattle.ports_core.specs.declared.slot.State.TheVariants as file_state
+use Rattle.ports_core.proofs.FileWriterLemmas.{goes_still, in_any, keeps_files, leaves_again, leaves_still, put_nothing, reaches_again, reaches_as, reaches_still, stops_wider, where_short, where_well}
+use Rattle.ports_core.proofs.WriterSteps.{GrowsOn, goes_again, goes_as, goes_lacking, goes_more, goes_wider, stops_among}
+use Rattle.ports_core.proofs.PartLemmas.{begins_itself, begins_trans, kept_trans, stopped_in_turn}
+use Rattle.ports_core.proofs.ShareLemmas.{bytes_begin, made_begin, next_begins, shares_after, shares_wider, still_made}
+use Rattle.seg_core.specs.Cut.{most}
+use Rattle.seg_core.specs.declared.cut.Limit.{Limit}
+use Rattle.split_core.specs.Parts.{cut_up, parts, settled_rest, unless_empty, waiting_rest}
+use Rattle.split_core.specs.PartsState.{PartsState, IsReady, Lacks, Stands, names_of, work}
+use Rattle.split_core.specs.Split.{are_named, draft_of, manner_of, named, only_files, settled_parts, split_means}
 use Rattle.split_core.specs.Ways as ways
 use Rattle.split_core.specs.declared.splitter.Splitter.TheVariants as way
-use Rattle.split_core.specs.inner.Ways.{PassesBy, FinishesBy}
+use Rattle.split_core.specs.declared.step.Step.{Step}
+use Rattle.split_core.specs.declared.step.Step.TheVariants.{Goes as GoesOn, Ends, Begins, Waits}
+use Rattle.split_core.specs.inner.CutLaws.{cut_so, whole_parts}
+use Rattle.split_core.specs.inner.Sharing.{CannotClose, always_named}
+use Rattle.split_core.specs.inner.Step.{IsTurned, Leads}
+use Rattle.split_core.specs.inner.Takes.{Emptying, Extends, Finishes, LacksNames, Moves, Steps, Takes, Turns, numbers, settled_part, turns, whole_part}
+use Rattle.split_core.specs.inner.Ways.{FinishesBy, PassesBy}
+use Rattle.split_core.specs.laws.CutLaws.{cut_none, cut_on, first_some, rest_short, settled_some, settled_then_waiting}
+use Rattle.split_core.specs.laws.ShareLaws.{are_named_more, named_short, part_begins, settled_count, settled_end, settled_grow, shares_fewer}
+use Rattle.split_core.proofs.AgreedLemmas.{one_of}
+use Rattle.split_core.proofs.CutLaws.{cut_two}
 
--- shares
+pub on_ok : {P : Type 0} (result : Result (Unit {0}) Fault) → P → OnOk result P
+on_ok (Ok done) is = is
+on_ok (Err f) is = tt
 
-pub some_share : (now : State) (bytes : List ℕ) → is_some bytes ≡ true → map (share now) (unless_empty bytes) ≡ share now bytes ∷ []
-some_share now [] is = absurd (false≢true is)
-some_share now (byte ∷ bytes) is = refl
+-- Which faults come
 
-pub none_begun : (begun : List ℕ) → is_some begun ≡ false → begun ≡ []
-none_begun [] is = refl
-none_begun (byte ∷ begun) is = absurd (false≢true (sym is))
+pub unjudged : (manner : Manner) (old new : List Slot) (fault : Fault) → Breaks manner old new fault → (fault ≡ Suffixes → ⊥) → is_verdict fault ≡ false
+unjudged manner old new Memory breaks named = refl
+unjudged manner old new (Write slot) breaks named = refl
+unjudged manner old new (Open slot) breaks named = refl
+unjudged manner old new Suffixes breaks named = absurd (named refl)
+unjudged manner old new fault breaks named = absurd breaks
 
-pub count_one : (shares : List Share) (one : Share) → length (shares ++ one ∷ []) ≡ suc (length shares)
-count_one shares one = length-append shares (one ∷ []) ∙ add-one (length shares)
+-- where all places have names, they don't run out
+pub none_lacks : (old new : List Slot) {fault : Fault} → Breaks always_named old new fault → fault ≡ Suffixes → ⊥
+none_lacks old new breaks is = false≢true (sym (subst (Breaks always_named old new) is breaks).2)
 
--- a part of which some bytes are written
-written_some : (those : Draft) → is_some those.begun ≡ true → written those ≡ those.shares ++ share file_state.Open those.begun ∷ []
-written_some those some = ap (λ more. those.shares ++ more) (some_share file_state.Open those.begun some)
+pub met_files : (Why : Fault → Type 0) (manner : Manner) (old new : List Slot) (fault : Fault) → manner.output ≡ gets_none → Breaks manner old new fault → (fault ≡ Suffixes → Why fault) → IsMet split_means split_means.feeding (true ≡ true) Why old new fault
+met_files Why manner old new Memory same breaks ends = (refl, refl)
+met_files Why manner old new (Write slot) same breaks ends = (λ none. subst (λ output. writes output ≡ true) same (breaks.0 none), λ none. absurd (false≢true (sym none)), breaks.1)
+met_files Why manner old new (Open slot) same breaks ends = (refl, refl, breaks)
+met_files Why manner old new Suffixes same breaks ends = ends refl
+met_files Why manner old new fault same breaks ends = absurd breaks
 
-written_count : (those : Draft) → is_some those.begun ≡ true → length (written those) ≡ suc (length those.shares)
-written_count those some = ap length (written_some those some) ∙ count_one those.shares (share file_state.Open those.begun)
+pub met_closing : (Why : Fault → Type 0) (old new : List Slot) {fault : Fault} → CannotClose old new fault → IsMet split_means split_means.closing (Unit {0}) Why old new fault
+met_closing Why old new why = grind (arith, common_steps)
 
--- its name is there
-begun_named : {parts : PartsState} {those : Draft} → Begun parts those → is_some those.begun ≡ true
-    → (parts.names.drawn ≡ suc (length those.shares)) × (has_name parts.names.naming (length those.shares) ≡ true)
-begun_named {parts} {those} has some =
-    let count = written_count those some in (has.drawn ∙ count, ap (are_named parts.names.naming) (sym count) ∙ has.enough)
+-- What waits goes to what is begun.
 
--- writing to its file, whatever is left to wait
-write_keeps : (told : Bool) (parts : PartsState) (held : List ℕ) {slot : ℕ} (bytes : List ℕ) {old new : List Slot} (result : Result (Unit {0}) Fault)
-    → parts.current ≡ Some slot → is_closable old slot → WritesTo told slot bytes old new result → Keeps parts old new (record parts { waiting = held }) result
-write_keeps told parts held {slot} bytes {old} {new} (Ok done) is can wrote =
-    grind (arith, common_steps, owned_same, slot_steps.written_size slot _ old new wrote, slot_steps.keeps_write, slot_steps.written_writable)
-write_keeps told parts held {slot} bytes {old} {new} (Err f) is can short =
-    grind (arith, common_steps, owned_same, slot_steps.short_size told slot bytes old new f short, write_breaks)
+pub all_held : {told : Bool} {writer : WriterState} {held : List ℕ} {most : ℕ} {slots : List Slot} → CanWrite writer slots → Emptying told writer writer held held most most slots slots
+all_held ready = record { gone = []; both = refl; goes = put_nothing refl ready; stays = λ is. is; same = refl }
 
--- closing it
+module _ {told : Bool} {writer now : WriterState} {held left : List ℕ} {most now_most : ℕ} {old slots : List Slot} (so_far : Emptying told writer now held left most now_most old slots) (front rest : List ℕ) (is : left ≡ front ++ rest) where
+  gone_on : held ≡ (so_far.gone ++ front) ++ rest
+  gone_on = so_far.both ∙ ap (λ those. so_far.gone ++ those) is ∙ sym (append_assoc so_far.gone front rest)
 
--- where none of it is written, nothing ends
-turn_nothing : (those : Draft) → those.begun ≡ [] → turns [] those ≡ those
-turn_nothing those none = search rules
+  pub empties : {next : WriterState} {after : List ℕ} {next_most : ℕ} {new : List Slot} → Goes told now (with_bytes front) slots new next None → (is_file now.current ≡ true → is_file next.current ≡ true) → next_most ≡ now_most → after ≡ drop (length front) left
+      → Emptying told writer next held after most next_most old new
+  empties went stays same dropped = record {
+    gone = so_far.gone ++ front;
+    both = gone_on ∙ ap (λ those. (so_far.gone ++ front) ++ those) (sym (dropped ∙ ap (drop (length front)) is ∙ drop-append_seam front rest));
+    goes = goes_more so_far.gone front so_far.goes went;
+    stays = λ file. stays (so_far.stays file);
+    same = same ∙ so_far.same;
+  }
 
-pub shuts_none : (told : Bool) (parts : PartsState) {slots : List Slot} → IsReady parts.current slots → parts.current ≡ None
-    → Shuts told parts slots slots parts (Ok tt)
-shuts_none told parts ready none = record {
-  same = ap (λ current. record parts { current = current }) none;
-  moves = record {
-    same = refl;
-    keeps = keeps_still ready;
-    begun = λ those has. subst (Begun parts) (sym (turn_nothing those (empty those has))) has;
-    goes = λ those has. goes_same (ap written (sym (turn_nothing those (empty those has))));
-  };
-  caused = tt;
-} where
-  empty : (those : Draft) → Begun parts those → those.begun ≡ []
-  empty those has = none_begun those.begun (sym has.given ∙ ap is_given none)
+  pub empties_short : {next : WriterState} {new : List Slot} {fault : Fault} → Goes told now (with_bytes front) slots new next (Some fault) → Goes told writer (with_bytes held) old new next (Some fault)
+  empties_short stopped = goes_as (sym gone_on) (stops_among (so_far.gone ++ front) rest (goes_more so_far.gone front so_far.goes stopped))
 
--- no part is begun once one was closed
-shut_begun : {parts : PartsState} {those : Draft} → Begun parts those → is_some those.begun ≡ true → Begun (record parts { current = None }) (turns [] those)
-shut_begun {parts} {those} has some = search (rules, begun_named, some_share, shut_more, append-nil, count_one)
+pub emptied : {told : Bool} {writer now : WriterState} {held left : List ℕ} {most now_most : ℕ} {old slots : List Slot} → Emptying told writer now held left most now_most old slots → left ≡ [] → Goes told writer (with_bytes held) old slots now None
+emptied so_far none = goes_as (sym (so_far.both ∙ ap (λ those. so_far.gone ++ those) none ∙ append-nil so_far.gone)) so_far.goes
 
-pub shuts_some : (told : Bool) (parts next : PartsState) {slot : ℕ} {old new : List Slot} (result : Result (Unit {0}) Fault) → IsReady parts.current old
-    → parts.current ≡ Some slot → next ≡ record parts { current = None } → OnOk result (new ≡ changed_at slot closes old)
-    → IfErr result (λ f. (f ≡ fault.Write slot) × (new ≡ with_broken slot (changed_at slot closes old))) → Shuts told parts old new next result
-shuts_some told parts next {slot} {old} {new} result ready is next_is ok err = subst (λ those. Shuts told parts old new those result) (sym next_is) (record {
-  same = refl;
-  moves = record {
-    same = on_ok result refl;
-    keeps = grind (arith, common_steps, is, owned_ended, size result ok err, on_ok_weaker, keeps_close, can, writable_within, rose, breaks_write, ok, err);
-    begun = on_ok result (λ those has. shut_begun has (some those has));
-    goes = λ those has. rw (written_some those (some those has), append-nil (those.shares ++ map (share file_state.Closed) (unless_empty those.begun)), some_share file_state.Closed those.begun (some those has), is)
-        (close_goes told parts.names.naming those.shares those.begun old has.shut (begun_named has (some those has)).1 result ok err);
-  };
-  caused = IfErr-weaker result _ _ (λ f why. (slot, why.0, can.0, rose why.1)) err;
-}) where
-  can : is_closable old slot
-  can = subst (λ current. IsReady current old) is ready
+-- More goes to the part that was begun.
 
-  some : (those : Draft) → Begun parts those → is_some those.begun ≡ true
-  some those has = sym has.given ∙ ap is_given is
+pub extended : {told : Bool} {state next : PartsState} {mid_writer : WriterState} (bytes : List ℕ) {old mid new : List Slot} {fault : Option Fault} → Goes told state.writer (with_bytes state.waiting) old mid mid_writer None → Goes told mid_writer (with_bytes bytes) mid new next.writer fault
+    → next.limit ≡ state.limit → numbers next ≡ (state.left, state.has_line, []) → Extends told state bytes old new next fault
+extended {state = state} bytes {fault = fault} first second limit same = record { limit = limit; same = in_any fault same; goes = goes_more state.waiting bytes first second }
 
-  rose : new ≡ with_broken slot (changed_at slot closes old) → Rose slot old new
-  rose broken = slot_steps.close_rose slot old new can.1 (slot_steps.writable_within slot old can.1) broken
+pub extended_not : {told : Bool} {state next : PartsState} (bytes : List ℕ) {old new : List Slot} {fault : Fault} → Goes told state.writer (with_bytes state.waiting) old new next.writer (Some fault) → next.limit ≡ state.limit → Extends told state bytes old new next (Some fault)
+extended_not {state = state} bytes stopped limit = record { limit = limit; same = tt; goes = stops_among state.waiting bytes stopped }
 
-  size : (result : Result (Unit {0}) Fault) → OnOk result (new ≡ changed_at slot closes old)
-      → IfErr result (λ f. (f ≡ fault.Write slot) × (new ≡ with_broken slot (changed_at slot closes old))) → length new ≡ length old
-  size (Ok done) ok err = ap length ok ∙ length-changed_at slot closes old
-  size (Err f) ok err = slot_steps.broken_size slot old new err.1
+-- It ends, and what waits and more begin the next.
 
--- the file of the part that was begun, once it is there
-
--- the file of the part that was begun is there, and the next has its name, if there was none
-pub record Found (told : Bool) (parts : PartsState) (old new : List Slot) (next : PartsState) (slot : ℕ) : Type 0 where
-  pub same : next ≡ record parts { names = next.names; current = Some slot }
-  pub keeps : Keeps parts old new next (Ok tt)
-  pub can : is_closable new slot
-  pub last : (those : Draft) → Begun parts those
-      → (next.names.drawn ≡ suc (length those.shares)) × (has_name parts.names.naming (length those.shares) ≡ true)
-  pub goes : (those : Draft) → Begun parts those
-      → run.Goes told parts.names.naming parts.current (written those) (those.shares ++ share file_state.Open those.begun ∷ []) old new (Ok tt)
-
--- where no file is open, nothing of the part is written
-begun_yet : {parts : PartsState} {those : Draft} → Begun parts those → parts.current ≡ None
-    → (those.begun ≡ []) × (parts.names.drawn ≡ length those.shares)
-begun_yet {those = those} has none =
-    let no_bytes = none_begun those.begun (sym has.given ∙ ap is_given none) in
-    (no_bytes, has.drawn ∙ ap (λ bytes. length (written (draft those.shares bytes))) no_bytes ∙ ap length (append-nil those.shares))
-
-pub found : (told : Bool) {parts : PartsState} {old new : List Slot} {next : PartsState} {slot : ℕ} → IsReady parts.current old
-    → HasFile parts old new next slot
-    → Found told parts old new next slot
-found told {parts} {old} {slot = slot} ready (there is same unchanged) = rw (same, unchanged) (record {
-  same = ap (λ current. record parts { current = current }) is;
-  keeps = keeps_still ready;
-  can = subst (λ current. IsReady current old) is ready;
-  last = λ those has. begun_named has (sym has.given ∙ ap is_given is);
-  goes = λ those has. goes_same (written_some those (sym has.given ∙ ap is_given is));
-})
-found told {parts} {old} {new} {slot = slot} ready (made none at has next_is made_it) = subst (λ those. Found told parts old new those slot) (sym next_is)
-    (record {
-      same = refl;
-      keeps = grind (arith, common_steps, none, at, made_it, can, owned_opened, slot_steps.keeps_open);
-      can = can;
-      last = λ those had. (ap (λ n. n + 1) (begun_yet had none).1 ∙ add-one (length those.shares), named those had);
-      goes = λ those had. rw ((begun_yet had none).0, append-nil those.shares)
-          (open_goes told parts.names.naming those.shares [] old had.shut (named those had) parts.current
-          (made_it ∙ ap (λ n. old ++ opened (name_at parts.names.naming n) Fresh ∷ []) (begun_yet had none).1));
-    }) where
-      named : (those : Draft) → Begun parts those → has_name parts.names.naming (length those.shares) ≡ true
-      named those had = ap (has_name parts.names.naming) (sym (begun_yet had none).1) ∙ has
-
-      can : is_closable new slot
-      can = let streams : 2 ≤ length old = subst (λ current. IsReady current old) none ready in
-          (omega (arith, at, streams), slot_steps.opened_writable old new slot (next_name parts.names) Fresh at made_it)
-
--- more went to the part that was begun, or a fault came meanwhile
-pub extended : {told : Bool} {parts : PartsState} (more held : List ℕ) {old mid new : List Slot} {fresh next : PartsState} {slot : ℕ}
-    (result : Result (Unit {0}) Fault) → ((those : Draft) → Begun parts those → is_some (those.begun ++ more) ≡ true) → Found told parts old mid fresh slot
-    → WritesTo told slot more mid new result → next ≡ record fresh { waiting = held } → OnOk result (held ≡ []) → Moves told parts (parts.left, parts.has_line, []) (gets more) old new next result
-extended {told} {parts} more held {old} {mid} {new} {fresh} {next} {slot} result some facts wrote is none =
-    subst (λ those. Moves told parts (parts.left, parts.has_line, []) (gets more) old new those result) (sym (is ∙ ap (λ (those : PartsState). record those { waiting = held }) facts.same))
-    (record {
-      same = on_ok_weaker result (ap (λ waits. (parts.left, parts.has_line, waits))) none;
-      keeps = keeps_then result (subst (λ those. Keeps parts old mid those (Ok tt)) facts.same facts.keeps)
-          (write_keeps told (record parts { names = fresh.names; current = Some slot }) held more result refl facts.can wrote);
-      begun = on_ok result (λ those has. let count = written_count (gets more those) (some those has) in
-          grind (arith, common_steps, has, some those has, count, facts.last those has, facts.keeps.names));
-      goes = λ those has. rw (written_some (gets more those) (some those has))
-          (goes_then result (subst (λ (those : PartsState). KeepsFile parts.current old those.current mid) facts.same facts.keeps.owned)
-          (facts.goes those has)
-          (write_goes told parts.names.naming those.shares those.begun mid has.shut (facts.last those has).1 more result wrote));
-    })
-
-pub some_bytes : (front bytes : List ℕ) → 0 < length bytes → is_some (front ++ bytes) ≡ true
-some_bytes front bytes some = is_some_of (front ++ bytes) (omega (arith, some, length-append front bytes))
-
--- no file could be opened
-pub no_file : (told : Bool) (parts : PartsState) (bytes : List ℕ) {old new : List Slot} {next : PartsState} (f : Fault) → 0 < length bytes
-    → HasNone parts old new next f → Extends told parts bytes old new next (Err f)
-no_file told parts bytes {old} {new} {next} f some none = record {
-  same = tt;
-  keeps = grind (arith, common_steps, none.none, none.opens, none.same, none.names_same, owned_unopened, open_breaks);
-  begun = tt;
-  goes = λ those has. rw (
-    (begun_yet has none.none).0,
-    append-nil those.shares,
-    some_share file_state.Open (parts.waiting ++ bytes) (some_bytes parts.waiting bytes some),
-  )
-      (open_stops told parts.current those.shares (share file_state.Open (parts.waiting ++ bytes)) has.shut (begun_yet has none.none).1 none.opens);
+pub turned : {told : Bool} {state mid next : PartsState} (bytes : List ℕ) {old wet new : List Slot} {fault : Option Fault} → Goes told state.writer (with_next Late) old wet mid.writer None
+    → mid.limit ≡ state.limit → mid.left ≡ most state.limit - length (state.waiting ++ bytes) → mid.has_line ≡ false → mid.waiting ≡ state.waiting → Extends told mid bytes wet new next fault → Turns told state bytes old new next fault
+turned {state = state} {mid} bytes {fault = fault} ended limit left has_line waits extends = record {
+  limit = extends.limit ∙ limit;
+  same = where_well fault extends.same (λ same. same ∙ cc (left, has_line));
+  goes = goes_again (turns (state.waiting ++ bytes)) (λ draft. ap (λ waits. turns (waits ++ bytes) draft) waits) (λ manner draft. next_begins manner Late draft) ended extends.goes;
 }
 
--- The end of a part, and the beginning of the next.
-
--- other numbers change nothing of the files
-pub moves_as : {told : Bool} {parts next : PartsState} {are : ℕ × Bool × List ℕ} {change : Draft → Draft} {old new : List Slot} (left : ℕ) (has_line : Bool)
-    → Moves told parts are change old new next (Ok tt) → Moves told parts (left, has_line, are.2) change old new (record next { left = left; has_line = has_line }) (Ok tt)
-moves_as left has_line moves = grind (arith, common_steps)
-
--- it could not be closed
-pub turns_not : {told : Bool} {parts next : PartsState} (bytes : List ℕ) {old new : List Slot} {f : Fault} → Shuts told parts old new next (Err f)
-    → Turns told parts bytes old new next (Err f)
-turns_not {parts = parts} bytes shuts = record {
+pub turned_not : {told : Bool} {state next : PartsState} (bytes : List ℕ) {old new : List Slot} {fault : Fault} → Goes told state.writer (with_next Late) old new next.writer (Some fault) → next.limit ≡ state.limit → Turns told state bytes old new next (Some fault)
+turned_not {state = state} bytes stopped limit = record {
+  limit = limit;
   same = tt;
-  keeps = shuts.moves.keeps;
-  begun = tt;
-  goes = λ those has. goes_wider (shuts.moves.goes those has) (shares_after (turns [] those).shares [] _ tt);
+  goes = goes_wider (turns (state.waiting ++ bytes)) (λ manner draft. bytes_begin manner (state.waiting ++ bytes) (with_next Late draft)) (inr (λ draft. (refl, still_made Late [] (state.waiting ++ bytes)))) stopped;
 }
-
--- it was closed, and nothing follows the part, or what waits and more begin the next
-module _ {told : Bool} {parts shut mid : PartsState} (bytes : List ℕ) {old wet : List Slot} (left : ℕ) (shuts : Shuts told parts old wet shut (Ok tt))
-    (is : mid ≡ record shut { left = left; has_line = false }) (left_is : left ≡ most parts.limit - length (parts.waiting ++ bytes)) where
-  closed : Moves told parts (left, false, parts.waiting) (turns []) old wet mid (Ok tt)
-  closed = subst (λ those. Moves told parts (left, false, parts.waiting) (turns []) old wet those (Ok tt)) (sym is) (moves_as left false shuts.moves)
-
-  pub turned : {next : PartsState} {new : List Slot} (result : Result (Unit {0}) Fault) → Extends told mid bytes wet new next result → Turns told parts bytes old new next result
-  turned {next} {new} result extends = rw (← left_is) (subst (λ waits. Moves told parts (left, false, []) (turns (waits ++ bytes)) old new next result) (ap (λ (those : ℕ × Bool × List ℕ). those.2) closed.same)
-      (subst (λ (n : ℕ). Moves told parts (n, false, []) (turns (mid.waiting ++ bytes)) old new next result) (ap (λ (those : ℕ × Bool × List ℕ). those.0) closed.same)
-      (subst (λ has. Moves told parts (mid.left, has, []) (turns (mid.waiting ++ bytes)) old new next result) (ap (λ (those : ℕ × Bool × List ℕ). those.1) closed.same)
-      (moves_then result closed extends))))
 
 -- the numbers of the next part
-
 pub left_next : {limit : Limit} (other : Limit) {waiting held : List ℕ} (bytes : List ℕ) {most_is size : ℕ} → most_is ≡ most other → other ≡ limit → size ≡ length held → held ≡ waiting → most_is - (size + length bytes) ≡ most limit - length (waiting ++ bytes)
 left_next {limit} other {waiting} bytes {most_is} {size} is same counted holds = grind (arith, common_steps)
 
-pub no_bytes : (bytes : List ℕ) → true ≡ eqb (length bytes) 0 → length bytes ≡ 0
-no_bytes bytes is = search rules
+-- Shares that begin others
+
+shares_trans : (low middle high : List Share) → SharesBegin low middle → SharesBegin middle high → SharesBegin low high
+shares_trans [] middle high first second = tt
+shares_trans (share ∷ low) [] high first second = absurd first
+shares_trans (share ∷ low) (mid ∷ middle) [] first second = absurd second
+shares_trans (share ∷ low) (mid ∷ middle) (whole ∷ high) first second = (kept_trans (λ (those : Share). those.state) share mid whole first.0 second.0, begins_trans _ _ _ first.1 second.1, shares_trans low middle high first.2 second.2)
+
+-- a part that ends begins itself, and may be closed by then
+turn_begins : (draft : Draft) (past : List ℕ) → SharesBegin (shares_of draft) (shares_of (turns past draft))
+turn_begins draft past = subst (SharesBegin (shares_of draft))
+    (sym (ap (λ front. front ++ map (share file_state.Open) (made_of Late past)) (map-append (share file_state.Closed) draft.ended (made_of draft.opening draft.bytes)) ∙ append_assoc (map (share file_state.Closed) draft.ended) _ _))
+    (shares_after (map (share file_state.Closed) draft.ended) _ _ (shares_wider _ (map (share file_state.Closed) (made_of draft.opening draft.bytes)) _ (made_begin draft.opening file_state.Closed draft.bytes draft.bytes (begins_itself draft.bytes))))
+
+-- where closed ones begin others, those begin with the same
+begins_closed : (ended : List (List ℕ)) (more high : List Share) → SharesBegin (map (share file_state.Closed) ended ++ more) high → (rest : List Share) × (high ≡ map (share file_state.Closed) ended ++ rest) × (length more ≤ length rest)
+begins_closed [] more high begins = (high, refl, shares_fewer more high begins)
+begins_closed (one ∷ ended) more [] begins = absurd begins
+begins_closed (one ∷ ended) more (whole ∷ high) begins = let on = begins_closed ended more high begins.2 in (on.0, cc (same begins.0, on.1), on.2) where
+  same : (file_state.Closed ≡ file_state.Open) ⊎ (share file_state.Closed one ≡ whole) → share file_state.Closed one ≡ whole
+  same (inl is) = absurd (cc)
+  same (inr is) = is
+
+-- names ran out for the file that is due: what comes after it makes none
+
+ended_nameless : (names : Naming) (ended : List (List ℕ)) → has_name names (length ended) ≡ false → has_name names (0 + length (map (share file_state.Closed) ended)) ≡ false
+ended_nameless names ended none = subst (λ n. has_name names n ≡ false) (sym (zero-add (length (map (share file_state.Closed) ended)) ∙ length-map ended (share file_state.Closed))) none
+
+module _ (names : Naming) (draft : Draft) (high : List Share) (none : has_name names (length draft.ended) ≡ false) (begins : SharesBegin (shares_of draft) high) where
+  closed_are : (rest : List Share) × (high ≡ map (share file_state.Closed) draft.ended ++ rest) × (length (map (share file_state.Open) (made_of draft.opening draft.bytes)) ≤ length rest)
+  closed_are = begins_closed draft.ended _ high begins
+
+  short_count : made_of draft.opening draft.bytes ≡ draft.bytes ∷ [] → are_named names (length high) ≡ false
+  short_count makes = are_named_more names (suc (length draft.ended)) (length high) none (omega (arith, ap length closed_are.1, length-append (map (share file_state.Closed) draft.ended) closed_are.0, length-map draft.ended (share file_state.Closed), closed_are.2, ap (λ made. length (map (share file_state.Open) made)) makes))
+
+  short_files : named names 0 (shares_of draft) ≡ named names 0 high
+  short_files = named_short names 0 (map (share file_state.Closed) draft.ended) _ (ended_nameless names draft.ended none) ∙ sym (ap (named names 0) closed_are.1 ∙ named_short names 0 (map (share file_state.Closed) draft.ended) closed_are.0 (ended_nameless names draft.ended none))
+
+-- What a step makes of what came in
 
 -- where the next bytes lead, whatever came in before
 abbrev pub LeadsOn : PartsState → List ℕ → Step → Type 0
-LeadsOn parts piece step = (rest : List ℕ) → Lacks parts.limit rest parts.left parts.has_line → Leads parts.limit rest parts.left parts.has_line piece step
+LeadsOn state piece step = (rest : List ℕ) → Lacks state.limit rest state.left state.has_line → Leads state.limit rest state.left state.has_line piece step
 
 abbrev pub rest_of : PartsState → List ℕ → List ℕ
-rest_of parts x = (cut_up parts.limit x).rest
+rest_of state x = (cut_up state.limit x).rest
 
-abbrev pub full_of : PartsState → List ℕ → List Share
-full_of parts x = map (share file_state.Closed) (cut_up parts.limit x).full
+abbrev pub full_of : PartsState → List ℕ → List (List ℕ)
+full_of state x = (cut_up state.limit x).full
 
 abbrev pub begun_of : PartsState → List ℕ → List ℕ
-begun_of parts x = settled_rest parts.limit (rest_of parts x)
+begun_of state x = settled_rest state.limit (rest_of state x)
 
--- the files once x came in
-abbrev pub draft_of : PartsState → List ℕ → Draft
-draft_of parts x = draft (full_of parts x) (begun_of parts x)
-
-begun_so : {parts : PartsState} {x : List ℕ} → Stands parts x → Begun parts (draft_of parts x)
-begun_so {parts} {x} stands = record { drawn = stands.drawn; enough = stands.enough; given = stands.opened; shut = shut_map (cut_up parts.limit x).full }
+abbrev late : List (List ℕ) → List ℕ → Draft
+late ended bytes = record { ended = ended; opening = Late; bytes = bytes }
 
 -- what is begun, what waits and more are together what is left and more
-all_of : {parts : PartsState} {x : List ℕ} (more : List ℕ) → Stands parts x → begun_of parts x ++ (parts.waiting ++ more) ≡ rest_of parts x ++ more
-all_of {parts} {x} more stands =
-    cc (stands.waits, append_assoc (begun_of parts x) (waiting_rest parts.limit (rest_of parts x)) more, settled_then_waiting parts.limit (rest_of parts x))
+all_of : {state : PartsState} {x : List ℕ} (more : List ℕ) → Stands state x → begun_of state x ++ (state.waiting ++ more) ≡ rest_of state x ++ more
+all_of {state} {x} more stands =
+    cc (stands.waits, append_assoc (begun_of state x) (waiting_rest state.limit (rest_of state x)) more, settled_then_waiting state.limit (rest_of state x))
 
--- with more of x these are the files, and then the numbers are right
-record Comes (parts : PartsState) (x taken : List ℕ) (after : Draft) (are : ℕ × Bool × List ℕ) : Type 0 where
+-- with more of x this is written, and then the numbers are right
+record Comes (state : PartsState) (x taken : List ℕ) (after : Draft) (are : ℕ × Bool × List ℕ) : Type 0 where
   full : List (List ℕ)
   rest : List ℕ
-  cut : cut_up parts.limit (rest_of parts x ++ taken) ≡ cut_so full rest
-  is : after ≡ draft (full_of parts x ++ map (share file_state.Closed) full) (settled_rest parts.limit rest)
-  lacks : Lacks parts.limit rest are.0 are.1
-  waits : are.2 ≡ waiting_rest parts.limit rest
+  cut : cut_up state.limit (rest_of state x ++ taken) ≡ cut_so full rest
+  is : after ≡ late (full_of state x ++ full) (settled_rest state.limit rest)
+  lacks : Lacks state.limit rest are.0 are.1
+  waits : are.2 ≡ waiting_rest state.limit rest
 
-module _ {parts : PartsState} {x taken : List ℕ} {after : Draft} {are : ℕ × Bool × List ℕ} (comes : Comes parts x taken after are) where
-  settled_so : settled_parts parts.limit (x ++ taken) ≡ written after
-  settled_so = grind (arith, common_steps, settled_on)
+module _ {state : PartsState} {x taken : List ℕ} {after : Draft} {are : ℕ × Bool × List ℕ} (comes : Comes state x taken after are) where
+  cut_is : cut_up state.limit (x ++ taken) ≡ cut_so (full_of state x ++ comes.full) comes.rest
+  cut_is = cut_on state.limit x taken ∙ ap (λ cut. cut_so (full_of state x ++ cut.full) cut.rest) comes.cut
+
+  draft_so : draft_of state.limit (x ++ taken) ≡ after
+  draft_so = ap (λ cut. late cut.full (settled_rest state.limit cut.rest)) cut_is ∙ sym comes.is
 
   -- it can be what came in
-  stands_so : (next : PartsState) → next.limit ≡ parts.limit → numbers next ≡ are → Begun next after → Stands next (x ++ taken)
-  stands_so next limit same has = search (rules, settled_so, cut_on)
+  stands_so : (next : PartsState) → next.limit ≡ state.limit → names_of next ≡ names_of state → numbers next ≡ are → Writes (manner_of (names_of state)) next.writer after → Stands next (x ++ taken)
+  stands_so next limit naming same writes = record {
+    lacks = rw (limit, cut_is, ap (λ (those : ℕ × Bool × List ℕ). those.0) same, ap (λ (those : ℕ × Bool × List ℕ). those.1) same) comes.lacks;
+    waits = rw (limit, cut_is) (ap (λ (those : ℕ × Bool × List ℕ). those.2) same ∙ comes.waits);
+    writes = subst (λ names. Writes (manner_of names) next.writer (draft_of next.limit (x ++ taken))) (sym naming) (subst (λ limit. Writes (manner_of (names_of state)) next.writer (draft_of limit (x ++ taken))) (sym limit) (subst (Writes (manner_of (names_of state)) next.writer) (sym draft_so) writes));
+  }
 
 -- so far that is a beginning of what the whole piece leads to
-below : {parts : PartsState} {x : List ℕ} (piece : List ℕ) (bytes : ℕ) {after : Draft} {are : ℕ × Bool × List ℕ} → Comes parts x (take bytes piece) after are
-    → SharesBegin (written after) (settled_parts parts.limit (x ++ piece))
-below {parts} {x} piece bytes comes = subst (λ low. SharesBegin low (settled_parts parts.limit (x ++ piece))) (settled_so comes)
-    (subst (λ all. SharesBegin (settled_parts parts.limit (x ++ take bytes piece)) (settled_parts parts.limit all))
+below : {state : PartsState} {x : List ℕ} (piece : List ℕ) (bytes : ℕ) {after : Draft} {are : ℕ × Bool × List ℕ} → Comes state x (take bytes piece) after are
+    → SharesBegin (shares_of after) (settled_parts state.limit (x ++ piece))
+below {state} {x} piece bytes comes = subst (λ low. SharesBegin (shares_of low) (settled_parts state.limit (x ++ piece))) (draft_so comes)
+    (subst (λ all. SharesBegin (settled_parts state.limit (x ++ take bytes piece)) (settled_parts state.limit all))
     (append_assoc x (take bytes piece) (drop bytes piece) ∙ ap (λ those. x ++ those) (take-append-drop bytes piece))
-    (settled_grow parts.limit (x ++ take bytes piece) (drop bytes piece)))
-
--- a part that ends begins itself, and may be closed by then
-turn_begins : (those : Draft) (past : List ℕ) → SharesBegin (written those) (written (turns past those))
-turn_begins those past = grind (arith, common_steps, append_assoc, shares_after)
+    (settled_grow state.limit (x ++ take bytes piece) (drop bytes piece)))
 
 -- what was taken in
-takes_so : {told : Bool} {parts next : PartsState} {taken : List ℕ} {change : Draft → Draft} {are : ℕ × Bool × List ℕ} {old new : List Slot}
-    → ((x : List ℕ) → Stands parts x → Comes parts x taken (change (draft_of parts x)) are) → Moves told parts are change old new next (Ok tt) → Takes told parts taken old new next (Ok tt)
-takes_so {told} {parts} {next} {old = old} {new} comes moves = search (rules, stands_so, begun_so, settled_so)
+takes_so : {told : Bool} {state next : PartsState} {taken : List ℕ} {change : Draft → Draft} {are : ℕ × Bool × List ℕ} {old new : List Slot}
+    → ((x : List ℕ) → Stands state x → Comes state x taken (change (draft_of state.limit x)) are) → Moves told state are change old new next None → Takes told state taken old new next None
+takes_so {state = state} {next} {taken} comes moves = record {
+  limit = moves.limit;
+  leaves = moves.goes.leaves;
+  stands = λ x stands. stands_so (comes x stands) next moves.limit moves.goes.leaves.naming moves.same (moves.goes.writes (manner_of (names_of state)) (draft_of state.limit x) stands.writes);
+  reaches = λ x stands. reaches_as refl (ap (draft_part (manner_of (names_of state))) (draft_so (comes x stands))) (moves.goes.reaches (manner_of (names_of state)) (draft_of state.limit x) stands.writes);
+  short = tt;
+}
 
 -- a fault came on the way
-takes_not : {told : Bool} {parts next : PartsState} {taken : List ℕ} {change : Draft → Draft} {are : ℕ × Bool × List ℕ} {old new : List Slot} {f : Fault}
-    → ((x : List ℕ) → Stands parts x → SharesBegin (written (change (draft_of parts x))) (settled_parts parts.limit (x ++ taken))) → Moves told parts are change old new next (Err f)
-    → Takes told parts taken old new next (Err f)
-takes_not {parts = parts} below moves = record {
-  keeps = moves.keeps;
+takes_not : {told : Bool} {state next : PartsState} {taken : List ℕ} {change : Draft → Draft} {are : ℕ × Bool × List ℕ} {old new : List Slot} {f : Fault}
+    → ((x : List ℕ) → Stands state x → SharesBegin (shares_of (change (draft_of state.limit x))) (settled_parts state.limit (x ++ taken))) → Moves told state are change old new next (Some f)
+    → Takes told state taken old new next (Some f)
+takes_not {told} {state} {taken = taken} {change} {new = new} begins moves = record {
+  limit = moves.limit;
+  leaves = moves.goes.leaves;
   stands = tt;
-  goes = λ x stands. goes_wider (moves.goes (draft_of parts x) (begun_so stands)) (below x stands);
+  reaches = λ x stands. stops_wider (moves.goes.reaches (manner_of (names_of state)) (draft_of state.limit x) stands.writes) (part_begins (names_of state) _ _ (begins x stands));
+  short = λ is x stands.
+      let ran = moves.goes.short is (manner_of (names_of state)) (draft_of state.limit x) stands.writes in record {
+        none = short_count (names_of state) (change (draft_of state.limit x)) (settled_parts state.limit (x ++ taken)) ran.none (begins x stands) ran.begun;
+        all = λ before at. subst (λ files. OutputsAt told before (only_files files) new) (short_files (names_of state) (change (draft_of state.limit x)) (settled_parts state.limit (x ++ taken)) ran.none (begins x stands)) (ran.all before at);
+      };
 }
+
+-- other numbers change nothing of the files
+pub moves_as : {told : Bool} {state next : PartsState} {are : ℕ × Bool × List ℕ} {change : Draft → Draft} {old new : List Slot} (left : ℕ) (has_line : Bool)
+    → Moves told state are change old new next None → Moves told state (left, has_line, are.2) change old new (record next { left = left; has_line = has_line }) None
+moves_as left has_line moves = record { limit = moves.limit; same = ap (λ (those : ℕ × Bool × List ℕ). (left, has_line, those.2)) moves.same; goes = moves.goes }
 
 -- all that is left goes to the part that was begun
 
-module _ {parts : PartsState} (piece : List ℕ) (bytes left : ℕ) (has_line : Bool) (leads : LeadsOn parts piece (Goes bytes left has_line)) where
-  goes_to : (x : List ℕ) → Stands parts x → Comes parts x (take bytes piece) (gets (parts.waiting ++ take bytes piece) (draft_of parts x)) (left, has_line, [])
-  goes_to x stands = let led = leads (rest_of parts x) stands.lacks in record {
+module _ {state : PartsState} (piece : List ℕ) (bytes left : ℕ) (has_line : Bool) (leads : LeadsOn state piece (GoesOn bytes left has_line)) where
+  goes_to : (x : List ℕ) → Stands state x → Comes state x (take bytes piece) (with_bytes (state.waiting ++ take bytes piece) (draft_of state.limit x)) (left, has_line, [])
+  goes_to x stands = let led = leads (rest_of state x) stands.lacks in record {
     full = [];
-    rest = rest_of parts x ++ take bytes piece;
-    cut = cut_none parts.limit _ led.short;
-    is = cc (append-nil (full_of parts x), led.settled, all_of (take bytes piece) stands);
+    rest = rest_of state x ++ take bytes piece;
+    cut = cut_none state.limit _ led.short;
+    is = cc (append-nil (full_of state x), led.settled, all_of (take bytes piece) stands);
     lacks = led.lacks;
     waits = sym led.waits;
   }
 
-  pub goes_on : {told : Bool} {fresh next : PartsState} {old new : List Slot} → Extends told parts (take bytes piece) old new fresh (Ok tt) → next ≡ record fresh { left = left; has_line = has_line } → Takes told parts (take bytes piece) old new next (Ok tt)
-  goes_on {told} {old = old} {new} extends is = subst (λ those. Takes told parts (take bytes piece) old new those (Ok tt)) (sym is) (takes_so goes_to (moves_as left has_line extends))
+  pub goes_on : {told : Bool} {fresh next : PartsState} {old new : List Slot} → Extends told state (take bytes piece) old new fresh None → next ≡ record fresh { left = left; has_line = has_line } → Takes told state (take bytes piece) old new next None
+  goes_on {told} {old = old} {new} extends is = subst (λ those. Takes told state (take bytes piece) old new those None) (sym is) (takes_so goes_to (moves_as left has_line extends))
 
-  pub goes_stopped : {told : Bool} {fresh : PartsState} {old new : List Slot} {f : Fault} → Extends told parts (take bytes piece) old new fresh (Err f) → Takes told parts piece old new fresh (Err f)
+  pub goes_stopped : {told : Bool} {fresh : PartsState} {old new : List Slot} {f : Fault} → Extends told state (take bytes piece) old new fresh (Some f) → Takes told state piece old new fresh (Some f)
   goes_stopped extends = takes_not (λ x stands. below piece bytes (goes_to x stands)) extends
 
 -- the part is full, and the next has begun
-turned_so : {parts : PartsState} {x taken first past : List ℕ} → IsTurned parts.limit (rest_of parts x ++ taken) first past
-    → Comes parts x taken (draft (full_of parts x ++ map (share file_state.Closed) (unless_empty first)) past) (most parts.limit - length past, false, [])
-turned_so {parts} {x} {taken} {first} {past} led = search (rules, cut_two, one_of, first_some)
+turned_so : {state : PartsState} {x taken first past : List ℕ} → IsTurned state.limit (rest_of state x ++ taken) first past
+    → Comes state x taken (late (full_of state x ++ unless_empty first) past) (most state.limit - length past, false, [])
+turned_so {state} {x} {taken} {first} {past} led = record {
+  full = first ∷ [];
+  rest = past;
+  cut = cut_two state.limit past led.full led.first_is led.both led.begun.short;
+  is = cc (one_of first (grind (arith, common_steps, first_some)), led.begun.settled);
+  lacks = led.begun.lacks;
+  waits = sym led.begun.waits;
+}
 
 -- what a step takes of a piece; where a fault comes, the piece is what was to be taken
-abbrev pub taken : ℕ → List ℕ → Result (Unit {0}) Fault → List ℕ
-taken bytes piece (Ok done) = take bytes piece
-taken bytes piece (Err f) = piece
+abbrev pub taken : ℕ → List ℕ → Option Fault → List ℕ
+taken bytes piece None = take bytes piece
+taken bytes piece (Some f) = piece
 
-turned_on : {told : Bool} {parts next : PartsState} (piece : List ℕ) (change : Draft → Draft) {are : ℕ × Bool × List ℕ} (bytes : ℕ) {old new : List Slot} (result : Result (Unit {0}) Fault)
-    → ((x : List ℕ) → Stands parts x → Comes parts x (take bytes piece) (change (draft_of parts x)) are) → Moves told parts are change old new next result
-    → Takes told parts (taken bytes piece result) old new next result
-turned_on piece change bytes (Ok done) comes moves = takes_so comes moves
-turned_on piece change bytes (Err f) comes moves = takes_not (λ x stands. below piece bytes (comes x stands)) moves
+turned_on : {told : Bool} {state next : PartsState} (piece : List ℕ) (change : Draft → Draft) {are : ℕ × Bool × List ℕ} (bytes : ℕ) {old new : List Slot} (fault : Option Fault)
+    → ((x : List ℕ) → Stands state x → Comes state x (take bytes piece) (change (draft_of state.limit x)) are) → Moves told state are change old new next fault
+    → Takes told state (taken bytes piece fault) old new next fault
+turned_on piece change bytes None comes moves = takes_so comes moves
+turned_on piece change bytes (Some f) comes moves = takes_not (λ x stands. below piece bytes (comes x stands)) moves
 
 -- what waits begins the next part
-pub begins_on : {told : Bool} {parts next : PartsState} (piece : List ℕ) (bytes : ℕ) {old new : List Slot} (result : Result (Unit {0}) Fault)
-    → LeadsOn parts piece (Begins bytes) → Turns told parts (take bytes piece) old new next result
-    → Takes told parts (taken bytes piece result) old new next result
-begins_on {parts = parts} piece bytes result leads turn = turned_on piece (turns (parts.waiting ++ take bytes piece)) bytes result (λ x stands.
-    rw stands.waits (turned_so (leads (rest_of parts x) stands.lacks))) turn
+pub begins_on : {told : Bool} {state next : PartsState} (piece : List ℕ) (bytes : ℕ) {old new : List Slot} (fault : Option Fault)
+    → LeadsOn state piece (Begins bytes) → Turns told state (take bytes piece) old new next fault
+    → Takes told state (taken bytes piece fault) old new next fault
+begins_on {state = state} piece bytes fault leads turn = turned_on piece (turns (state.waiting ++ take bytes piece)) bytes fault (λ x stands.
+    rw stands.waits (turned_so (leads (rest_of state x) stands.lacks))) turn
 
 -- these bytes are the last of the part
 
-module _ {parts : PartsState} (piece : List ℕ) (end bytes : ℕ) (leads : LeadsOn parts piece (Ends end bytes)) where
-  ends_to : (x : List ℕ) → Stands parts x → Comes parts x (take bytes piece)
-      (turns (drop end (take bytes piece)) (gets (parts.waiting ++ take end piece) (draft_of parts x))) (most parts.limit - length (drop end (take bytes piece)), false, [])
-  ends_to x stands = rw (all_of (take end piece) stands) (turned_so (leads (rest_of parts x) stands.lacks))
+module _ {state : PartsState} (piece : List ℕ) (end bytes : ℕ) (leads : LeadsOn state piece (Ends end bytes)) where
+  ends_to : (x : List ℕ) → Stands state x → Comes state x (take bytes piece)
+      (turns (drop end (take bytes piece)) (with_bytes (state.waiting ++ take end piece) (draft_of state.limit x))) (most state.limit - length (drop end (take bytes piece)), false, [])
+  ends_to x stands = rw (all_of (take end piece) stands) (turned_so (leads (rest_of state x) stands.lacks))
 
-  pub ends_stopped : {told : Bool} {mid : PartsState} {old wet : List Slot} {f : Fault} → Extends told parts (take end piece) old wet mid (Err f) → Takes told parts piece old wet mid (Err f)
-  ends_stopped extends = takes_not (λ x stands. shares_trans _ _ _ (turn_begins (gets (parts.waiting ++ take end piece) (draft_of parts x)) _) (below piece bytes (ends_to x stands))) extends
+  pub ends_stopped : {told : Bool} {mid : PartsState} {old wet : List Slot} {f : Fault} → Extends told state (take end piece) old wet mid (Some f) → Takes told state piece old wet mid (Some f)
+  ends_stopped extends = takes_not (λ x stands. shares_trans _ _ _ (turn_begins (with_bytes (state.waiting ++ take end piece) (draft_of state.limit x)) _) (below piece bytes (ends_to x stands))) extends
 
-  pub ends_on : {told : Bool} {mid next : PartsState} {past : List ℕ} {old wet new : List Slot} (result : Result (Unit {0}) Fault) → end ≤ bytes → past ≡ take (bytes - end) (drop end piece)
-      → Extends told parts (take end piece) old wet mid (Ok tt) → Turns told mid past wet new next result → Takes told parts (taken bytes piece result) old new next result
-  ends_on {told} {mid} {next} {past} {wet = wet} {new} result low past_is extends turn = turned_on piece (λ those. turns (drop end (take bytes piece)) (gets (parts.waiting ++ take end piece) those)) bytes result ends_to (rw (← between)
-      (moves_then result extends (subst (λ limit. Moves told mid (most limit - length past, false, []) (turns past) wet new next result) extends.keeps.limit
-      (subst (λ waits. Moves told mid (most mid.limit - length (waits ++ past), false, []) (turns (waits ++ past)) wet new next result) (ap (λ (those : ℕ × Bool × List ℕ). those.2) extends.same) turn)))) where
-        between : past ≡ drop end (take bytes piece)
-        between = let all : end + (bytes - end) ≡ bytes = omega arith in past_is ∙ sym (drop-take end (bytes - end) piece) ∙ ap (λ n. drop end (take n piece)) all
+  pub ends_on : {told : Bool} {mid next : PartsState} {past : List ℕ} {old wet new : List Slot} (fault : Option Fault) → end ≤ bytes → past ≡ take (bytes - end) (drop end piece)
+      → Extends told state (take end piece) old wet mid None → Turns told mid past wet new next fault → Takes told state (taken bytes piece fault) old new next fault
+  ends_on {mid = mid} {next} {past} {wet = wet} {new} fault low past_is extends turn = turned_on piece (λ draft. turns (drop end (take bytes piece)) (with_bytes (state.waiting ++ take end piece) draft)) bytes fault ends_to (record {
+    limit = turn.limit ∙ extends.limit;
+    same = where_well fault turn.same (λ same. same ∙ cc (waits, between, extends.limit));
+    goes = goes_again _ (λ draft. ap (λ bytes. turns bytes (with_bytes (state.waiting ++ take end piece) draft)) all) (λ manner draft. bytes_begin manner (state.waiting ++ take end piece) draft) extends.goes turn.goes;
+  }) where
+    between : past ≡ drop end (take bytes piece)
+    between = let all : end + (bytes - end) ≡ bytes = omega arith in past_is ∙ sym (drop-take end (bytes - end) piece) ∙ ap (λ n. drop end (take n piece)) all
+
+    waits : mid.waiting ≡ []
+    waits = ap (λ (those : ℕ × Bool × List ℕ). those.2) extends.same
+
+    all : mid.waiting ++ past ≡ drop end (take bytes piece)
+    all = ap (λ waits. waits ++ past) waits ∙ between
 
 -- all of the piece waits
 
-waits_on : (told : Bool) (parts : PartsState) (piece : List ℕ) {slots : List Slot} → LeadsOn parts piece Waits → IsReady parts.current slots
-    → Takes told parts piece slots slots (record parts { left = parts.left - length piece; waiting = parts.waiting ++ piece }) (Ok tt)
-waits_on told parts piece leads ready = takes_so {change = λ those. those} (λ x stands. let held = leads (rest_of parts x) stands.lacks in record {
+waits_on : (told : Bool) (state : PartsState) (piece : List ℕ) {slots : List Slot} → LeadsOn state piece Waits → IsReady state slots
+    → Takes told state piece slots slots (record state { left = state.left - length piece; waiting = state.waiting ++ piece }) None
+waits_on told state piece leads ready = takes_so {change = λ draft. draft} (λ x stands. let held = leads (rest_of state x) stands.lacks in record {
   full = [];
-  rest = rest_of parts x ++ piece;
-  cut = cut_none parts.limit _ held.short;
-  is = cc (append-nil (full_of parts x), held.settled);
+  rest = rest_of state x ++ piece;
+  cut = cut_none state.limit _ held.short;
+  is = cc (append-nil (full_of state x), held.settled);
   lacks = held.lacks;
   waits = ap (λ waits. waits ++ piece) stands.waits ∙ sym held.waits;
-}) (record {
-  same = refl;
-  keeps = record { limit = refl; names = refl; owned = λ first owns. owns; sound = keeps_same _ _ refl; ready = ready; breaks = tt };
-  begun = λ those has. record { drawn = has.drawn; enough = has.enough; given = has.given; shut = has.shut };
-  goes = λ those has. goes_same refl;
-})
-
--- the files of what came in are reached in turn
-turn_by : (names : Naming) (shares : List Share) (begun : List ℕ) → AllShut shares → are_named names (length (written (draft shares begun))) ≡ true
-    → (place : ℕ) × InTurn (named names 0 (written (draft shares begun))) place
-turn_by names shares [] shut enough =
-    (_, subst (λ those. InTurn (named names 0 those) (length (named names 0 shares))) (sym (append-nil shares)) (turn_next _ (shut_files names 0 shares shut)))
-turn_by names shares (byte ∷ begun) shut enough =
-    (_, last_turn names shares (share file_state.Open (byte ∷ begun)) (sym (ap (are_named names) (count_one shares (share file_state.Open (byte ∷ begun)))) ∙ enough) shut)
+}) (record { limit = refl; same = refl; goes = goes_still state.writer.current ready.writer ready.writer.current (λ first last. last) (λ draft now. (refl, now)) })
 
 -- there is no room for it
-no_room : (told : Bool) (parts : PartsState) (piece : List ℕ) {slots : List Slot} → Takes told parts piece slots slots parts (Err fault.Memory)
-no_room told parts piece {slots} = record {
-  keeps = record { limit = refl; names = refl; owned = λ first owns. owns; sound = tt; ready = tt; breaks = wants_memory };
-  stands = tt;
-  goes = λ x stands.
-      let names = parts.names.naming in
-      let turn = turn_by names (full_of parts x) (begun_of parts x) (shut_map (cut_up parts.limit x).full) stands.enough in record {
-        grows = settled_grow parts.limit x piece;
-        moves = λ last. halts_here (part_begins names _ _ (settled_grow parts.limit x piece)) turn.1 tt refl (λ before at. tt);
-        short = λ is. absurd (cc);
-      };
-}
+no_room : (told : Bool) (state : PartsState) (piece : List ℕ) {slots : List Slot} → IsReady state slots → Takes told state piece slots slots state (Some Memory)
+no_room told state piece {slots} ready =
+    let moves : Moves told state (numbers state) (with_bytes []) slots slots state (Some Memory) = record { limit = refl; same = tt; goes = goes_lacking ready.writer refl } in
+    takes_not (λ x stands. subst (λ bytes. SharesBegin (shares_of (late (full_of state x) bytes)) (settled_parts state.limit (x ++ piece))) (sym (append-nil (begun_of state x))) (settled_grow state.limit x piece)) moves
 
-pub waited : (told : Bool) (parts next : PartsState) (piece : List ℕ) (slots : List Slot) (result : Result ℕ Fault) → 0 < length piece → LeadsOn parts piece Waits
-    → IsReady parts.current slots → IfOk result (λ n. n ≡ length piece)
-    → OnOk result (next ≡ record parts { left = parts.left - length piece; waiting = parts.waiting ++ piece })
-    → IfErr result (λ f. (f ≡ fault.Memory) × (next ≡ parts)) → Steps told parts piece slots slots next result
-waited told parts next piece slots (Ok n) some leads ready count waits err = (
+pub waited : (told : Bool) (state next : PartsState) (piece : List ℕ) (slots : List Slot) (result : Result ℕ Fault) → 0 < length piece → LeadsOn state piece Waits
+    → IsReady state slots → IfOk result (λ n. n ≡ length piece)
+    → OnOk result (next ≡ record state { left = state.left - length piece; waiting = state.waiting ++ piece })
+    → IfErr result (λ f. (f ≡ Memory) × (next ≡ state)) → Steps told state piece slots slots next result
+waited told state next piece slots (Ok n) some leads ready count waits err = (
   omega (arith, some, count),
   omega (arith, count),
-  rw (count, take-length piece, waits) (waits_on told parts piece leads ready),
+  rw (count, take-length piece, waits) (waits_on told state piece leads ready),
 )
-waited told parts next piece slots (Err f) some leads ready count waits err = rw (err.0, err.1) (no_room told parts piece)
+waited told state next piece slots (Err f) some leads ready count waits err = rw (err.0, err.1) (no_room told state piece ready)
 
 -- A piece is taken in step by step.
 
-pub takes_none : (told : Bool) (parts : PartsState) {slots : List Slot} → IsReady parts.current slots → Takes told parts [] slots slots parts (Ok tt)
-takes_none told parts ready = search (rules, keeps_still, append-nil, goes_same)
+pub takes_none : (told : Bool) (state : PartsState) {slots : List Slot} → IsReady state slots → Takes told state [] slots slots state None
+takes_none told state ready = takes_so {change = λ draft. draft} {are = numbers state} (λ x stands. record {
+  full = [];
+  rest = rest_of state x;
+  cut = ap (cut_up state.limit) (append-nil (rest_of state x)) ∙ cut_none state.limit _ (rest_short state.limit x);
+  is = ap (λ full. late full (begun_of state x)) (sym (append-nil (full_of state x)));
+  lacks = stands.lacks;
+  waits = stands.waits;
+}) (record { limit = refl; same = refl; goes = goes_still state.writer.current ready.writer ready.writer.current (λ first last. last) (λ draft now. (refl, now)) })
 
-takes_again : {told : Bool} {state mid next : PartsState} (first more : List ℕ) {old wet new : List Slot} (result : Result (Unit {0}) Fault)
-    → Takes told state first old wet mid (Ok tt) → Takes told mid more wet new next result → Takes told state (first ++ more) old new next result
-takes_again {told} {state} {mid} {next} first more {wet} {new} result one other = record {
-  keeps = keeps_then result one.keeps other.keeps;
-  stands = on_ok_weaker result (λ stays x stands. subst (Stands next) (append_assoc x first more) (stays (x ++ first) (one.stands x stands))) other.stands;
-  goes = λ x stands. goes_then result one.keeps.owned (one.goes x stands)
-      (rw (← append_assoc x first more, ← one.keeps.limit, ← one.keeps.names) (other.goes (x ++ first) (one.stands x stands)));
+-- of one that is named and cut alike
+settled_as : (state mid : PartsState) → mid.limit ≡ state.limit → names_of mid ≡ names_of state → (x : List ℕ) → settled_part mid x ≡ settled_part state x
+settled_as state mid limit names x = ap (λ names. draft_part (manner_of names) (draft_of mid.limit x)) names ∙ ap (λ limit. draft_part (manner_of (names_of state)) (draft_of limit x)) limit
+
+module _ {told : Bool} {state mid : PartsState} {first : List ℕ} {old wet : List Slot} (one : Takes told state first old wet mid None) (x more : List ℕ) where
+  low_as : settled_part mid (x ++ first) ≡ settled_part state (x ++ first)
+  low_as = settled_as state mid one.limit one.leaves.naming (x ++ first)
+
+  high_as : settled_part mid ((x ++ first) ++ more) ≡ settled_part state (x ++ (first ++ more))
+  high_as = settled_as state mid one.limit one.leaves.naming ((x ++ first) ++ more) ∙ ap (settled_part state) (append_assoc x first more)
+
+  lacks_as : {new : List Slot} → Stands state x → LacksNames told mid (x ++ first) more wet new → LacksNames told state x (first ++ more) old new
+  lacks_as {new} stands ran = record {
+    none = rw (← append_assoc x first more, ← one.limit, ← one.leaves.naming) ran.none;
+    all = λ before at. subst (λ part. OutputsAt told before part new) high_as (ran.all before (subst (λ part. At told mid.writer before part wet) (sym low_as) ((one.reaches x stands).there before at)));
+  }
+
+takes_again : {told : Bool} {state mid next : PartsState} (first more : List ℕ) {old wet new : List Slot} (fault : Option Fault)
+    → Takes told state first old wet mid None → Takes told mid more wet new next fault → Takes told state (first ++ more) old new next fault
+takes_again {told} {state} {mid} {next} first more {wet = wet} {new} fault one other = record {
+  limit = other.limit ∙ one.limit;
+  leaves = leaves_again one.leaves other.leaves;
+  stands = where_well fault other.stands (λ stays x stands. subst (Stands next) (append_assoc x first more) (stays (x ++ first) (one.stands x stands)));
+  reaches = λ x stands. reaches_again (part_begins (names_of state) _ _ (settled_grow state.limit x first)) (one.reaches x stands)
+      (reaches_as (sym (low_as one x more)) (sym (high_as one x more)) (other.reaches (x ++ first) (one.stands x stands)));
+  short = where_short fault other.short (λ short x stands. lacks_as one x more stands (short (x ++ first) (one.stands x stands)));
 }
+
+still_ready : {told : Bool} {state next : PartsState} {bytes : List ℕ} {old new : List Slot} → IsReady state old → Takes told state bytes old new next None → IsReady next new
+still_ready ready takes = record { writer = takes.leaves.ready; tells = takes.leaves.tells ∙ ready.tells }
 
 -- the piece is what was taken of it and what is left
 
 abbrev pub Passed : Bool → PartsState → List ℕ → List ℕ → List Slot → List Slot → PartsState → Type 0
-Passed told state piece left old now next = (done : List ℕ) × (piece ≡ done ++ left) × Takes told state done old now next (Ok tt)
+Passed told state piece left old now next = (done : List ℕ) × (piece ≡ done ++ left) × Takes told state done old now next None × IsReady next now
 
 pub passed_more : {told : Bool} {state mid next : PartsState} {piece left rest : List ℕ} {n : ℕ} {old wet new : List Slot} → Passed told state piece left old wet mid
-    → (0 < n) × (n ≤ length left) × Takes told mid (take n left) wet new next (Ok tt) → rest ≡ drop n left → Passed told state piece rest old new next
-passed_more {left} {n} (done, split, took) (some, within, step) is = (
+    → (0 < n) × (n ≤ length left) × Takes told mid (take n left) wet new next None → rest ≡ drop n left → Passed told state piece rest old new next
+passed_more {left = left} {n = n} (done, split, took, ready) (some, within, step) is = (
   done ++ take n left,
   split ∙ ap (λ those. done ++ those) (sym (take-append-drop n left)) ∙ sym (append_assoc done (take n left) (drop n left)) ∙ ap (λ those. (done ++ take n left) ++ those) (sym is),
-  takes_again done (take n left) (Ok tt) took step,
+  takes_again done (take n left) None took step,
+  still_ready ready step,
 )
 
 pub passed_stopped : {told : Bool} {state mid next : PartsState} {piece left : List ℕ} {old wet new : List Slot} {f : Fault} → Passed told state piece left old wet mid
-    → Takes told mid left wet new next (Err f) → Takes told state piece old new next (Err f)
-passed_stopped {left} {f} (done, split, took) stop = rw split (takes_again done left (Err f) took stop)
+    → Takes told mid left wet new next (Some f) → Takes told state piece old new next (Some f)
+passed_stopped {left = left} {f = f} (done, split, took, ready) stop = rw split (takes_again done left (Some f) took stop)
 
--- the end of the input
+pub passed_all : {told : Bool} {state next : PartsState} {piece left : List ℕ} {old now : List Slot} → Passed told state piece left old now next → left ≡ [] → Takes told state piece old now next None
+passed_all {told} {state} {next} {old = old} {now} (done, split, took, ready) none = subst (λ those. Takes told state those old now next None) (sym (split ∙ ap (λ left. done ++ left) none ∙ append-nil done)) took
+
+-- The end of the input
 
 -- where no part was begun, nothing is left
-no_rest : {state : PartsState} {x : List ℕ} → Stands state x → begun_of state x ≡ [] → rest_of state x ≡ []
-no_rest {state} {x} stands none = by (rest_of state x) (settled_some state.limit (rest_of state x)) where
+no_rest : (state : PartsState) (x : List ℕ) → begun_of state x ≡ [] → rest_of state x ≡ []
+no_rest state x none = by (rest_of state x) (settled_some state.limit (rest_of state x)) where
   by : (rest : List ℕ) → (0 < length rest → 0 < length (begun_of state x)) → rest ≡ []
   by [] some = refl
   by (byte ∷ rest) some = absurd (omega (arith, ap length none, some (omega arith)))
 
-whole_is : (state : PartsState) (x : List ℕ) → whole_parts state.limit x ≡ full_of state x ++ map (share file_state.Closed) (unless_empty (rest_of state x))
-whole_is state x = grind (arith, common_steps)
+none_begun : (tells : Tells) (current : Current) {bytes : List ℕ} → false ≡ is_file current → IsCurrent tells Late bytes current → bytes ≡ []
+none_begun tells Skipped none now = absurd (cc)
+none_begun tells Due none now = now.1
+none_begun tells (File slot size) none now = absurd (false≢true none)
+none_begun tells Unopened none now = absurd now
 
-pub finishes_none : (told : Bool) (state : PartsState) {old : List Slot} → IsReady state.current old → state.current ≡ None → Finishes told state old old state (Ok tt)
+pub finishes_none : (told : Bool) (state : PartsState) {slots : List Slot} → IsReady state slots → false ≡ is_file state.writer.current → Finishes told state slots slots state None
 finishes_none told state ready none = record {
-  keeps = keeps_still ready;
-  caused = tt;
-  goes = λ x stands. let empty = none_begun (begun_of state x) (sym stands.opened ∙ ap is_given none) in
-      goes_same (cc (whole_is state x, empty, no_rest stands empty));
+  limit = refl;
+  leaves = leaves_still ready.writer;
+  broke = tt;
+  reaches = λ x stands.
+      let begun = none_begun state.writer.tells state.writer.current none stands.writes.current in
+      reaches_still keeps_files (ap (part_of (manner_of (names_of state))) (cc (begun, no_rest state x begun, map-append (share file_state.Closed) (full_of state x) (unless_empty (rest_of state x)), append-nil (map (share file_state.Closed) (full_of state x)))));
 }
 
 -- what waits is written, and then the part has all that is left
+abbrev closes : PartsState → Draft → Draft
+closes state draft = with_next Never (with_bytes state.waiting draft)
 
-whole_so : (state : PartsState) {x : List ℕ} → Stands state x → written (turns [] (gets state.waiting (draft_of state x))) ≡ whole_parts state.limit x
-whole_so state {x} stands = search (rules, append-nil, settled_then_waiting, whole_is)
+whole_so : (state : PartsState) {x : List ℕ} → Stands state x → draft_part (manner_of (names_of state)) (closes state (draft_of state.limit x)) ≡ whole_part state x
+whole_so state {x} stands = ap (part_of (manner_of (names_of state))) (append-nil (map (share file_state.Closed) (full_of state x ++ made_of Late (begun_of state x ++ state.waiting)))
+    ∙ ap (λ rest. map (share file_state.Closed) (full_of state x ++ made_of Late rest)) (ap (λ waits. begun_of state x ++ waits) stands.waits ∙ settled_then_waiting state.limit (rest_of state x)))
 
-module _ (told : Bool) (state : PartsState) {slot : ℕ} {old : List Slot} (held : List ℕ) (ready : IsReady state.current old) (is : state.current ≡ Some slot) where
-  pub held_moves : {wet : List Slot} {mid : PartsState} (result : Result (Unit {0}) Fault) → WritesTo told slot state.waiting old wet result → mid ≡ record state { waiting = held } → OnOk result (held ≡ [])
-      → Moves told state (state.left, state.has_line, []) (gets state.waiting) old wet mid result
-  held_moves result wrote mid_is none = extended state.waiting held result (λ those has. longer those.begun (sym has.given ∙ ap is_given is))
-      (found told ready (there is refl refl)) wrote mid_is none where
-        longer : (begun : List ℕ) → is_some begun ≡ true → is_some (begun ++ state.waiting) ≡ true
-        longer [] none = absurd (false≢true none)
-        longer (byte ∷ begun) is = refl
+pub held_stops : {told : Bool} {state next : PartsState} {old new : List Slot} {f : Fault} → next.limit ≡ state.limit → Goes told state.writer (with_bytes state.waiting) old new next.writer (Some f) → IsWrite f → Finishes told state old new next (Some f)
+held_stops {state = state} limit stopped broke = record {
+  limit = limit;
+  leaves = stopped.leaves;
+  broke = broke;
+  reaches = λ x stands. let manner = manner_of (names_of state) in stops_wider (stopped.reaches manner (draft_of state.limit x) stands.writes)
+      (subst (λ part. PartBegins (draft_part manner (with_bytes state.waiting (draft_of state.limit x))) part) (whole_so state stands) (next_begins manner Never (with_bytes state.waiting (draft_of state.limit x))));
+}
 
-  pub held_stops : {next : PartsState} {new : List Slot} {f : Fault} → WritesTo told slot state.waiting old new (Err f) → next ≡ record state { waiting = held } → Finishes told state old new next (Err f)
-  held_stops {next} {new} {f} short next_is = record {
-    keeps = moves.keeps;
-    caused = caused short;
-    goes = λ x stands. goes_wider (moves.goes (draft_of state x) (begun_so stands)) (subst (SharesBegin _) (whole_so state stands) (turn_begins (gets state.waiting (draft_of state x)) []));
-  } where
-    moves : Moves told state (state.left, state.has_line, []) (gets state.waiting) old new next (Err f)
-    moves = held_moves (Err f) short next_is tt
+pub some_broke : (result : Result (Unit {0}) Fault) → IfErr result IsWrite → IfSome (fault_in result) IsWrite
+some_broke result broke = grind (arith, common_steps)
 
-    can : is_closable old slot
-    can = subst (λ current. IsReady current old) is ready
+pub held_ends : {told : Bool} {state next : PartsState} {mid_writer : WriterState} {old mid new : List Slot} (fault : Option Fault) → next.limit ≡ state.limit → Goes told state.writer (with_bytes state.waiting) old mid mid_writer None
+    → Goes told mid_writer (with_next Never) mid new next.writer fault → IfSome fault IsWrite → Finishes told state old new next fault
+held_ends {state = state} fault limit first second broke =
+    let both = goes_again (closes state) (λ draft. refl) (λ manner draft. bytes_begin manner state.waiting draft) first second in record {
+      limit = limit;
+      leaves = both.leaves;
+      broke = broke;
+      reaches = λ x stands. reaches_as refl (sym (whole_so state stands)) (both.reaches (manner_of (names_of state)) (draft_of state.limit x) stands.writes);
+    }
 
-    caused : {f : Fault} → WritesTo told slot state.waiting old new (Err f) → CannotClose old new f
-    caused (broke n cut) = (slot, refl, can.0, write_rose told slot state.waiting n old new can.1 cut)
+-- What the stage owes
 
-  pub held_ends : {mid next : PartsState} {wet new : List Slot} (result : Result (Unit {0}) Fault) → WritesTo told slot state.waiting old wet (Ok tt) → mid ≡ record state { waiting = held } → held ≡ []
-      → Shuts told mid wet new next result → Finishes told state old new next result
-  held_ends {mid} {next} {wet} {new} result wrote mid_is none shuts = let first = held_moves (Ok tt) wrote mid_is none in let moves = moves_then result first shuts.moves in record {
-    keeps = moves.keeps;
-    caused = IfErr-weaker result _ _ (λ f why. (why.0, why.1, why.2, rose_later why.0 old wet new first.keeps.sound why.3)) shuts.caused;
-    goes = λ x stands. subst (λ high. run.Goes told state.names.naming state.current (settled_parts state.limit x) high old new result) (whole_so state stands) (moves.goes (draft_of state x) (begun_so stands));
-  }
-
-have_names : (state : PartsState) (x : List ℕ) {have : Bool} → are_named state.names.naming (length (settled_parts state.limit x)) ≡ have
-    → are_named state.names.naming (length (map (share Closed) (parts state.limit x))) ≡ have
+have_names : (state : PartsState) (x : List ℕ) {have : Bool} → are_named (names_of state) (length (settled_parts state.limit x)) ≡ have
+    → are_named (names_of state) (length (map (share file_state.Closed) (parts state.limit x))) ≡ have
 have_names state x is = grind (arith, common_steps, length-map, settled_count)
 
-pub all_have : {state : PartsState} {x : List ℕ} → Stands state x
-    → are_named state.names.naming (length (map (share Closed) (parts state.limit x))) ≡ true
-all_have {state} {x} stands = have_names state x stands.enough
+stands_named : {state : PartsState} {x : List ℕ} → Stands state x → are_named (names_of state) (length (settled_parts state.limit x)) ≡ true
+stands_named {state} {x} stands = by (length (settled_parts state.limit x)) stands.writes.named where
+  by : (count : ℕ) → ((place : ℕ) → place < count → has_name (names_of state) place ≡ true) → are_named (names_of state) count ≡ true
+  by zero each = refl
+  by (suc last) each = each last (omega arith)
+
+pub all_have_names : {state : PartsState} {x : List ℕ} → Stands state x → are_named (names_of state) (length (map (share file_state.Closed) (parts state.limit x))) ≡ true
+all_have_names {state} {x} stands = have_names state x (stands_named stands)
 
 -- as long as all parts have names, more can come
 pub never_done : {state : PartsState} {x : List ℕ} → Stands state x → false ≡ (work state).is_complete x
-never_done stands = sym (ap not (all_have stands))
+never_done stands = sym (ap not (all_have_names stands))
 
-work_by : (state next : PartsState) → next.limit ≡ state.limit → next.names.naming ≡ state.names.naming → work next ≡ work state
+work_by : (state next : PartsState) → next.limit ≡ state.limit → names_of next ≡ names_of state → work next ≡ work state
 work_by state next limit names = grind (arith, common_steps)
 
--- a piece
+at_writer : {told : Bool} {before : List Slot} {state : PartsState} {x : List ℕ} {now : List Slot} → StandsAt ways.Holds ways.Owns (way.Parts state) told before x ((work state).settled x) now → At told state.writer before (settled_part state x) now
+at_writer at = record { owns = at.owns; outputs = at.outputs }
 
 module _ (told : Bool) (state next : PartsState) (piece : List ℕ) (old new : List Slot) where
   -- names ran out: the files that have a name are written, and nothing can change that
-  settles : (f : Fault) → f ≡ Suffixes → Takes told state piece old new next (Err f) → EndsWith ways.Holds ways.work (way.Parts state) piece f
+  settles : (f : Fault) → f ≡ Suffixes → Takes told state piece old new next (Some f) → EndsWith ways.Holds ways.work (way.Parts state) piece f
   settles f is stop x stands =
-      let ran = (stop.goes x stands).short is in
-      let none = have_names state (x ++ piece) (are_named_more state.names.naming (suc (length ran.0)) _ ran.1.none ran.1.fewer) in
+      let none = have_names state (x ++ piece) (stop.short is x stands).none in
       (ap not none, ap (λ (have : Bool). cond (not have) (Some Suffixes) None) none ∙ ap Some (sym is))
 
-  cut_off : {f : Fault} → Breaks old new f → Takes told state piece old new next (Err f) → CutsOff ways.Holds ways.Owns ways.work (way.Parts state) piece told old new f
-  cut_off lacks_names stop before x at =
-      let ran = (stop.goes x at.holds).short refl in
-      engine.judged refl new (subst (λ files. OutputsAt told before (only_files files) new)
-      (sym (same_files state.names.naming 0 ran.0 _ ran.1.shut ran.1.begins (subst (λ n. has_name state.names.naming n ≡ false) (sym (zero-add _)) ran.1.none)))
-      ((ran.2 (owns_last state.current (length before) old at.owns)).gets before at.outputs)) refl
-  cut_off {f} breaks stop before x at = search (rules, stopped_in_turn, owns_last)
+  cut_by : {f : Fault} → is_verdict f ≡ false → Takes told state piece old new next (Some f) → CutsOff ways.Holds ways.Owns ways.work (way.Parts state) piece told old new f
+  cut_by {f} kind stop before x at = engine.cut kind (stopped_in_turn gets_none told before _ _ f new tt ((stop.reaches x at.holds).there before (at_writer at)))
 
-  pub passes_by : (result : Result (Unit {0}) Fault) → Takes told state piece old new next result → PassesBy told piece old new result (way.Parts state) (way.Parts next)
-  passes_by (Ok done) takes = search rules
-  passes_by (Err f) takes = search (rules, work_by, cut_off, met_files, settles)
+  cut_off : (f : Fault) → Takes told state piece old new next (Some f) → CutsOff ways.Holds ways.Owns ways.work (way.Parts state) piece told old new f
+  cut_off Suffixes stop = λ before x at. engine.judged refl new ((stop.short refl x at.holds).all before (at_writer at)) refl
+  cut_off Memory stop = cut_by refl stop
+  cut_off (Write slot) stop = cut_by refl stop
+  cut_off (Open slot) stop = cut_by refl stop
+  cut_off f stop = absurd stop.leaves.slots
+
+  pub passes_by : (result : Result (Unit {0}) Fault) → IsReady state old → Takes told state piece old new next (fault_in result) → PassesBy told piece old new result (way.Parts state) (way.Parts next)
+  passes_by (Ok done) ready takes = record {
+    same = work_by state next takes.limit takes.leaves.naming;
+    holds = takes.stands;
+    outputs = λ before x at. ((takes.reaches x at.holds).there before (at_writer at)).outputs;
+    ready = still_ready ready takes;
+    owns = takes.leaves.owns.owns;
+    cut = tt;
+    met = tt;
+  }
+  passes_by (Err f) ready takes = record {
+    same = work_by state next takes.limit takes.leaves.naming;
+    holds = tt;
+    outputs = tt;
+    ready = tt;
+    owns = takes.leaves.owns.owns;
+    cut = cut_off f takes;
+    met = met_files (EndsWith ways.Holds ways.work (way.Parts state) piece) (manner_in state.writer) old new f (ap output_of ready.tells) takes.leaves.slots (λ is. settles f is takes);
+  }
 
 -- the end
 
-pub finishes_by : (told : Bool) (state next : PartsState) (old new : List Slot) (result : Result (Unit {0}) Fault) → Finishes told state old new next result
+end_met : (state : PartsState) (old new : List Slot) (f : Fault) → IsWrite f → state.writer.tells ≡ Nothing → Breaks (manner_in state.writer) old new f → IsMet split_means split_means.closing (Unit {0}) (EndsThere ways.Holds ways.work (way.Parts state)) old new f
+end_met state old new f (slot, is) tells breaks = rw is (let broke = subst (Breaks (manner_in state.writer) old new) is breaks in (λ none. subst (λ output. writes output ≡ true) (ap output_of tells) (broke.0 none), λ none. absurd (false≢true (sym none)), broke.1))
+
+pub finishes_by : (told : Bool) (state next : PartsState) (old new : List Slot) (result : Result (Unit {0}) Fault) → IsReady state old → Finishes told state old new next (fault_in result)
     → FinishesBy told old new result (way.Parts state) (way.Parts next)
-finishes_by told state next old new (Ok done) ends = grind (arith, common_steps, work_by, all_have, owns_last)
-finishes_by told state next old new (Err f) ends = grind (arith, common_steps, work_by, stopped_in_turn, owns_last, met_closing)
+finishes_by told state next old new (Ok done) ready ends = record {
+  same = work_by state next ends.limit ends.leaves.naming;
+  outputs = λ before x at. (ap (λ (have : Bool). cond (not have) (Some Suffixes) None) (all_have_names at.holds), ((ends.reaches x at.holds).there before (at_writer at)).outputs);
+  owns = ends.leaves.owns.owns;
+  cut = tt;
+  met = tt;
+}
+finishes_by told state next old new (Err f) ready ends = record {
+  same = work_by state next ends.limit ends.leaves.naming;
+  outputs = tt;
+  owns = ends.leaves.owns.owns;
+  cut = λ before x at. engine.cut (ap is_verdict ends.broke.1) (stopped_in_turn gets_none told before _ _ f new tt ((ends.reaches x at.holds).there before (at_writer at)));
+  met = end_met state old new f ends.broke ready.tells ends.leaves.slots;
+}

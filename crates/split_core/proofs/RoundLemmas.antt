@@ -30,12 +30,12 @@ use Rattle.split_core.specs.Round.{round_plan, round_work, work, opened_by, Hold
 use Rattle.split_core.specs.Ways as ways
 use Rattle.split_core.specs.declared.splitter.Splitter.TheVariants as way
 use Rattle.split_core.specs.inner.Ways.{Deals, PassesBy, FinishesBy, held}
-use Rattle.split_core.specs.inner.Sharing.{part_by, all_open, closed_first, StandAt, Adds, Opens, Leaves, ClosesAll}
+use Rattle.split_core.specs.inner.Sharing.{always_named, part_by, all_open, closed_first, StandAt, Adds, Opens, Leaves, ClosesAll}
 use Rattle.split_core.specs.laws.DealLaws.{dealt_append, dealt_none, dealt_files_are, share_none}
 use Rattle.split_core.proofs.AgreedLemmas.{each_named, shared_bytes, waiting_is}
 use Rattle.split_core.proofs.CutLaws.{dealt_same, dealt_past}
 use Rattle.split_core.proofs.FilesLemmas.{same_by, stopped_as, stops_in_order, shut_now}
-use Rattle.split_core.proofs.MoveLemmas.{met_closing, met_files, named_before, unjudged}
+use Rattle.split_core.proofs.FilesLemmas.{named_before}
 use Rattle.split_core.proofs.SectionLemmas.{all_dealt}
 use Rattle.std.proofs.lemmas.Grind.{common_steps}
 use Rattle.split_core.specs.declared.splitter.Splitter.{Splitter}
@@ -146,9 +146,9 @@ passes_by told old new piece before after (Err why) deals = record {
   outputs = tt;
   ready = tt;
   owns = deals.adds.owned;
-  cut = λ start x at. cut (unjudged deals.adds.caused.0 deals.adds.caused.1)
+  cut = λ start x at. cut (part.unjudged always_named before after why deals.adds.caused (part.none_lacks before after deals.adds.caused))
       (stopped_as told (stands_is at.holds) (made_is told old piece at) (stops_in_order (left_by told old piece at (Err why) deals.adds)));
-  met = met_files (EndsWith ways.Holds ways.work (way.Round old) piece) deals.adds.caused.0 (λ is. absurd (deals.adds.caused.1 is));
+  met = part.met_files (EndsWith ways.Holds ways.work (way.Round old) piece) always_named before after why refl deals.adds.caused (λ is. absurd (part.none_lacks before after deals.adds.caused is));
 }
 
 -- The end
@@ -165,7 +165,7 @@ finishes_by told round old new (Err why) closes = record {
   outputs = tt;
   owns = closes.owned;
   cut = λ before x at. cut (ap is_verdict closes.caused.1) (stopped_as told (stands_is at.holds) (closed_part at.holds) (closes.cut before _ (stand_at told round at)));
-  met = met_closing (EndsThere ways.Holds ways.work (way.Round round)) old new closes.caused;
+  met = part.met_closing (EndsThere ways.Holds ways.work (way.Round round)) old new closes.caused;
 }
 
 -- The start
@@ -234,8 +234,8 @@ none_waits {round} {x} holds = search (rules, dealt_all, all_have, drop-length)
 
 -- what waits in a stage that cuts off parts
 pub parts_wait : {parts : PartsState} {x : List ℕ} → Stands parts x → length parts.waiting ≡ length ((parts_state.work parts).waiting x)
-parts_wait {parts} {x} stands = ap length (stands.waits ∙ sym (waiting_is parts.limit parts.names.naming x
-    (ap (are_named parts.names.naming) (sym (length-map (cut.parts parts.limit x) (share Closed))) ∙ part.all_have stands)))
+parts_wait {parts} {x} stands = ap length (stands.waits ∙ sym (waiting_is parts.limit (parts_state.names_of parts) x
+    (ap (are_named (parts_state.names_of parts)) (sym (length-map (cut.parts parts.limit x) (share Closed))) ∙ part.all_have_names stands)))
 
 -- as long as the engine goes on, all files have names
 pub all_named : (splitter : Splitter) (x : List ℕ) → ways.Holds splitter x → (ways.work splitter).is_complete x ≡ false

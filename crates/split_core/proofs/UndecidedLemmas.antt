@@ -11,7 +11,7 @@ use Rattle.ports_core.proofs.AgreedLemmas.{spot_in, spot_past, none_comes, begin
 use Rattle.seg_core.specs.declared.cut.Limit.{Limit}
 use Rattle.seg_core.specs.Cut.{most}
 use Rattle.split_core.specs.Parts.{parts, whole_lines, cut_up, unless_empty, settled_rest, waiting_rest, dealt}
-use Rattle.split_core.specs.laws.ShareLaws.{one_on}
+use Rattle.ports_core.proofs.ShareLemmas.{one_on}
 use Rattle.split_core.specs.Split.{share, are_named, named, settled_by, is_short, split_work, dealt_files, bytes_in, whole_by}
 use Rattle.split_core.specs.PartsState.{parts_work}
 use Rattle.split_core.proofs.SectionLemmas.{joined_parts, settled_list}
@@ -34,7 +34,7 @@ use Rattle.std.proofs.lemmas.Bool.Decides.{nat_tests}
 use Rattle.std.proofs.lemmas.List.FromFn.{get_or-map-range_with_len, length-map-range_with_len}
 use Rattle.split_core.specs.inner.Dealt.{share_of}
 use Rattle.split_core.specs.laws.DealLaws.{dealt_append, dealt_first, next_place, dealt_files_are}
-use Rattle.split_core.proofs.MoveLemmas.{named_before}
+use Rattle.split_core.proofs.FilesLemmas.{named_before}
 
 -- Outputs that are, one after another, a text
 

@@ -1,4 +1,4 @@
-pub mod Moves
+pub mod Takes
 pub mod Sharing
 pub mod Step
 pub mod Ways

@@ -1,25 +1,26 @@
 //! Parts of an input that follow one another, each in a file of its own (POSIX.1-2017, XCU split; `-C` is GNU's). They
 //! take memory for names, and for the bytes that wait: fewer than a part has, and only under a limit of bytes for whole
 //! lines.
-ghost use Rattle.std.specs.Prelude.{◌≡◌, ◌+◌, ◌-◌, ◌++◌, ◌<◌, ◌≤◌, List, ℕ, [], Some, None, false, length, IfOk, IfErr, OnOk};
-ghost use Rattle.split_core.specs.inner.Moves.{Extends, FindsFile, Finishes, Shuts, Steps, Takes, Turns};
-ghost use Rattle.split_core.specs.PartsState.{parts_work, work};
+ghost use Rattle.std.specs.Prelude.{◌≡◌, ◌+◌, ◌-◌, ◌++◌, ◌<◌, [], length, IfOk, IfErr, OnOk};
+ghost use Rattle.ports_core.specs.FileWriter.{new_writer};
+ghost use Rattle.ports_core.specs.Turn.{fault_in};
+ghost use Rattle.ports_core.specs.declared.file_writer.Keeps.TheVariants.{Open};
+ghost use Rattle.ports_core.specs.declared.file_writer.Tells.TheVariants.{Nothing};
 ghost use Rattle.seg_core.specs.Cut.{most};
-ghost use Rattle.split_core.specs.PartsState.{IsReady, Stands};
+ghost use Rattle.split_core.specs.PartsState.{IsReady, Stands, parts_work, work};
+ghost use Rattle.split_core.specs.inner.Takes.{Extends, Finishes, Steps, Takes, Turns};
 
 use crate::Limit;
-use crate::files::{open_next, write_after, write_held};
+use crate::files::put_held;
 use crate::step::{Step, next_step};
-use ports_core::{Fault, Names, Naming, Outs};
+use ports_core::{Fault, FileWriter, Keeps, Naming, Opening, Outs, Tells};
 use seg_core::byte_window::ByteWindow;
 use std::alloc::Global;
 use std::marker::Model;
 
-/// The part that was begun, and the names of the files to come. A file is opened with the first byte of its part, and
-/// closed before the next.
+/// The part that was begun, and who writes it: its file is opened with its first byte, and closed before the next.
 #[derive(Drop)]
 pub struct Parts {
-    names: Names,
     limit: Limit,
     /// How many lines or bytes the part still takes.
     left: u64,
@@ -27,17 +28,17 @@ pub struct Parts {
     has_line: bool,
     /// The bytes that wait: they go to this part or to the next.
     waiting: ByteWindow,
-    /// The output of its file, once that is opened.
-    current: Option<usize>,
+    writer: FileWriter,
 }
 
 impl Model for Parts {
+    ghost use Rattle.ports_core.specs.FileWriter.{seen_writer};
     ghost use Rattle.split_core.specs.PartsState.{PartsState};
     ghost use Rattle.split_core.specs.inner.Step.{Fits};
 
     ghost Value = { PartsState };
 
-    ghost view = { λ p. record { limit = p.limit; names = p.names; left = p.left; has_line = p.has_line; waiting = p.waiting.held; current = p.current } };
+    ghost view = { λ p. record { limit = p.limit; left = p.left; has_line = p.has_line; waiting = p.waiting.held; writer = seen_writer p.writer } };
 
     ghost invariant = { λ p. Fits p.limit p.left p.has_line p.waiting };
 }
@@ -52,19 +53,18 @@ impl Parts {
         requires some { 0 < most limit }
         ensures holds { IfOk result (λ parts. Stands parts []) }
         ensures does { IfOk result (λ parts. work parts ≡ parts_work limit naming) }
-        ensures current { IfOk result (λ parts. parts.current ≡ None) }
+        ensures writer { IfOk result (λ parts. parts.writer ≡ new_writer naming Nothing Open) }
         ensures err { IfErr result (λ fault. fault ≡ Fault.Memory) }
     {
         let Ok(waiting) = ByteWindow::new(alloc, limit.most() - 1) else {
             return Err(Fault::Memory);
         };
         Ok(Parts {
-            names: Names { naming, drawn: 0 },
             limit,
             left: limit.most(),
             has_line: false,
             waiting,
-            current: None,
+            writer: FileWriter::new(alloc, naming, Tells::Nothing, Keeps::Open),
         })
     }
 
@@ -75,56 +75,25 @@ impl Parts {
         self.waiting.len()
     }
 
-    /// The output of the part that was begun. Its file is opened if it has none.
-    fn find_file<O: Outs>(&mut self, outs: &mut O) -> Result<usize, Fault>
-        ensures { FindsFile self.old (O.slots outs.old) (O.slots outs.new) self.new result }
-    {
-        if let Some(slot) = self.current {
-            return Ok(slot);
-        }
-        let slot = open_next(&mut self.names, outs)?;
-        self.current = Some(slot);
-        Ok(slot)
-    }
-
-    /// Writes what waits, and then these bytes, of which there are some, to the part that was begun.
+    /// Writes what waits, and then these bytes, to the part that was begun.
     fn extend<O: Outs>(&mut self, bytes: &[u8], outs: &mut O) -> Result<(), Fault>
-        requires ready { IsReady self.old.current (O.slots outs.old) }
-        requires some { 0 < length bytes.now }
-        ensures { Extends O.told self.old bytes.now (O.slots outs.old) (O.slots outs.new) self.new result }
+        requires { IsReady self.old (O.slots outs.old) }
+        ensures { Extends O.told self.old bytes.now (O.slots outs.old) (O.slots outs.new) self.new (fault_in result) }
     {
-        let slot = self.find_file(outs)?;
-        write_after(&mut self.waiting, slot, bytes, outs)
-    }
-
-    /// Closes the file of the part that was begun, if it has one.
-    fn end_file<O: Outs>(&mut self, outs: &mut O) -> Result<(), Fault>
-        requires { IsReady self.old.current (O.slots outs.old) }
-        ensures { Shuts O.told self.old (O.slots outs.old) (O.slots outs.new) self.new result }
-    {
-        match self.current {
-            None => Ok(()),
-            Some(slot) => {
-                self.current = None;
-                outs.close(slot)
-            }
-        }
+        put_held(&mut self.waiting, &mut self.writer, outs)?;
+        self.writer.put(bytes, outs)
     }
 
     /// Ends the part that was begun. What waits and these bytes begin the next part, if there are any.
     fn turn<O: Outs>(&mut self, bytes: &[u8], outs: &mut O) -> Result<(), Fault>
-        requires ready { IsReady self.old.current (O.slots outs.old) }
+        requires ready { IsReady self.old (O.slots outs.old) }
         requires room { length self.old.waiting + length bytes.now < most self.old.limit }
-        requires all { length bytes.now ≡ 0 → self.old.waiting ≡ [] }
-        ensures { Turns O.told self.old bytes.now (O.slots outs.old) (O.slots outs.new) self.new result }
+        ensures { Turns O.told self.old bytes.now (O.slots outs.old) (O.slots outs.new) self.new (fault_in result) }
     {
         let size = self.waiting.len() + bytes.len() as u64;
-        self.end_file(outs)?;
+        self.writer.next(Opening::Late, outs)?;
         self.left = self.limit.most() - size;
         self.has_line = false;
-        if bytes.is_empty() {
-            return Ok(());
-        }
         self.extend(bytes, outs)
     }
 
@@ -146,7 +115,7 @@ impl Parts {
     /// Takes in a beginning of a piece that isn't empty, and returns how many bytes that is.
     fn step<O: Outs>(&mut self, piece: &[u8], outs: &mut O) -> Result<usize, Fault>
         requires some { 0 < length piece.now }
-        requires ready { IsReady self.old.current (O.slots outs.old) }
+        requires ready { IsReady self.old (O.slots outs.old) }
         ensures { Steps O.told self.old piece.now (O.slots outs.old) (O.slots outs.new) self.new result }
     {
         match next_step(self.limit, self.left, self.has_line, piece) {
@@ -180,8 +149,8 @@ impl Parts {
     /// `Write` where a file broke, `Open` where the next can't be opened, `Memory` where there is no room for what
     /// waits or for a name, `Suffixes` where no name is left for the next file.
     pub(crate) fn pass<O: Outs>(&mut self, piece: &[u8], outs: &mut O) -> Result<(), Fault>
-        requires { IsReady self.old.current (O.slots outs.old) }
-        ensures { Takes O.told self.old piece.now (O.slots outs.old) (O.slots outs.new) self.new result }
+        requires { IsReady self.old (O.slots outs.old) }
+        ensures { Takes O.told self.old piece.now (O.slots outs.old) (O.slots outs.new) self.new (fault_in result) }
     {
         let mut left = piece;
         'stretches: while !left.is_empty() {
@@ -197,13 +166,13 @@ impl Parts {
     ///
     /// `Write` where its file broke.
     pub(crate) fn finish<O: Outs>(&mut self, outs: &mut O) -> Result<(), Fault>
-        requires { IsReady self.old.current (O.slots outs.old) }
-        ensures { Finishes O.told self.old (O.slots outs.old) (O.slots outs.new) self.new result }
+        requires { IsReady self.old (O.slots outs.old) }
+        ensures { Finishes O.told self.old (O.slots outs.old) (O.slots outs.new) self.new (fault_in result) }
     {
-        let Some(slot) = self.current else {
+        if !self.writer.is_open() {
             return Ok(());
-        };
-        write_held(&mut self.waiting, slot, outs)?;
-        self.end_file(outs)
+        }
+        put_held(&mut self.waiting, &mut self.writer, outs)?;
+        self.writer.end(outs)
     }
 }

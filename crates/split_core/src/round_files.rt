@@ -4,7 +4,7 @@ ghost use Rattle.ports_core.specs.Name.{has_name};
 ghost use Rattle.split_core.specs.Split.{are_named};
 ghost use Rattle.split_core.specs.inner.Sharing.{Adds, ClosesAll, Opens, only_at};
 
-use crate::files::{open_next, write_bytes};
+use crate::files::write_bytes;
 use crate::gathered::Gathered;
 use ports_core::{Fault, Names, Naming, Outs};
 use std::alloc::Global;
@@ -112,7 +112,7 @@ impl RoundFiles {
             return Ok(());
         }
         self.outputs.reserve(1)?;
-        let slot = open_next(&mut self.names, outs)?;
+        let slot = self.names.open_next(outs)?;
         put(&mut self.outputs, slot);
         Ok(())
     }

@@ -1,9 +1,8 @@
 -- What private calls say: parts that follow one another, and what files get of them.
-use Rattle.std.specs.Prelude.{◌≡◌, ℕ, List, [], ◌∷◌, true, false, map, ◌⊎◌}
+use Rattle.std.specs.Prelude.{◌≡◌, ℕ, List, [], ◌∷◌, true, false, map}
 use Rattle.seg_core.specs.declared.cut.Limit.{Limit}
 use Rattle.split_core.specs.Parts.{is_full, first_part, after_first, CutUp, parts}
-use Rattle.ports_core.specs.Part.{IsBeginning}
-use Rattle.ports_core.specs.declared.slot.State.TheVariants.{Open, Closed}
+use Rattle.ports_core.specs.declared.slot.State.TheVariants.{Closed}
 use Rattle.split_core.specs.Split.{Share, share}
 
 -- the parts of a text, one after another
@@ -16,19 +15,6 @@ pub data Cuts (limit : Limit) : List ℕ → List (List ℕ) → List ℕ → Ty
 abbrev pub cut_so : List (List ℕ) → List ℕ → CutUp
 cut_so parts rest = record { full = parts; rest = rest }
 
--- each share begins the one at its place, and there may be more of these; one whose file is open may be closed by then
-abbrev pub SharesBegin : List Share → List Share → Type 0
-SharesBegin [] wholes = Unit {0}
-SharesBegin (share ∷ shares) [] = ⊥
-SharesBegin (share ∷ shares) (whole ∷ wholes) = ((share.state ≡ Open) ⊎ (share ≡ whole))
-    × IsBeginning share.bytes whole.bytes × SharesBegin shares wholes
-
 -- the shares in the end
 abbrev pub whole_parts : Limit → List ℕ → List Share
 whole_parts limit x = map (share Closed) (parts limit x)
-
--- closed shares
-
-abbrev pub AllShut : List Share → Type 0
-AllShut [] = Unit {0}
-AllShut (share ∷ shares) = (share.state ≡ Closed) × AllShut shares

@@ -1,16 +1,17 @@
 -- What private calls say: how files in order get more bytes, and how more of them are opened.
-use Rattle.std.specs.Prelude.{◌≡◌, ℕ, ◌+◌, ◌-◌, ◌<◌, ◌≤◌, max, Bool, List, [], ◌∷◌, ◌++◌, ◌⊎◌, length, map, Result, Ok, Err, OnOk, IfErr, nat_lt, ◌==◌, if◌then◌else◌}
+use Rattle.std.specs.Prelude.{◌≡◌, ℕ, ◌+◌, ◌-◌, ◌<◌, ◌≤◌, max, Bool, true, List, [], ◌∷◌, ◌++◌, ◌⊎◌, length, map, Result, Ok, Err, OnOk, IfErr, nat_lt, ◌==◌, if◌then◌else◌}
 use Rattle.std.specs.List.{range_with_len}
 use Rattle.ports_core.specs.Name.{Naming}
 use Rattle.ports_core.specs.Names.{with_one_drawn}
 use Rattle.ports_core.specs.Slot.{Slot}
 use Rattle.ports_core.specs.Part.{Part, OutputsAt, IsBeginning, StoppedBetween, gets_none}
 use Rattle.ports_core.specs.declared.fault.Fault.{Fault}
-use Rattle.ports_core.specs.declared.fault.Fault.TheVariants.{Suffixes, Write}
+use Rattle.ports_core.specs.declared.fault.Fault.TheVariants.{Write}
 use Rattle.ports_core.specs.declared.slot.State.TheVariants as state
 use Rattle.split_core.specs.Split.{Share, share, file_at, only_files}
-use Rattle.ports_core.specs.Slot.{KeepsBroken}
-use Rattle.split_core.specs.inner.Moves.{Breaks, CannotClose}
+use Rattle.ports_core.specs.Slot.{KeepsBroken, Rose}
+use Rattle.ports_core.specs.Draft.{Manner}
+use Rattle.ports_core.specs.FileWriter.{Breaks}
 use Rattle.split_core.specs.Sharing.{CannotOpen}
 use Rattle.split_core.specs.FilesState.{FilesState}
 use Rattle.split_core.specs.Round.{AreReady, OwnsFiles}
@@ -69,9 +70,16 @@ Leaves told before names low few high many from to new (Ok done) = OutputsAt tol
 Leaves told before names low few high many from to new (Err fault) =
     Halts told before names low few high many from to fault new
 
--- the faults of files that have names
+-- the faults of files that have names, of which standard output is told nothing
+abbrev pub always_named : Manner
+always_named = record { has_name = λ place. true; name = λ place. []; output = gets_none }
+
 abbrev pub IsOfFiles : List Slot → List Slot → Fault → Type 0
-IsOfFiles old new fault = Breaks old new fault × (fault ≡ Suffixes → ⊥)
+IsOfFiles old new fault = Breaks always_named old new fault
+
+-- a file could not be closed, or what waited for it could not be written
+abbrev pub CannotClose : List Slot → List Slot → Fault → Type 0
+CannotClose old new fault = (slot : ℕ) × (fault ≡ Write slot) × (2 ≤ slot) × Rose slot old new
 
 -- More was added to files from a place on and before another, and all before that are open then; or a fault stopped that.
 pub record Adds (told : Bool) (files : FilesState) (more : ℕ → List ℕ) (from to : ℕ) (old : List Slot)

@@ -6,22 +6,19 @@ use Rattle.seg_core.specs.Line.{joined, lines_of, delimiters, first_lines}
 use Rattle.seg_core.proofs.Delimiters.{delimiters-append}
 use Rattle.seg_core.proofs.FirstLines.{first_lines-append, first_lines-full, first_lines-short, first_lines_then_rest, lines_of-first_lines}
 use Rattle.ports_core.specs.Name.{Naming, has_name}
-use Rattle.ports_core.specs.Part.{File, IsBeginning, FilesBegin, Begins}
-use Rattle.ports_core.specs.declared.slot.State.{State}
+use Rattle.ports_core.specs.Part.{IsBeginning, Begins}
+use Rattle.ports_core.specs.inner.Shares.{SharesBegin}
+use Rattle.ports_core.proofs.ShareLemmas.{files_begin, files_stop, made_begin, shares_after}
+use Rattle.ports_core.specs.declared.file_writer.Opening.TheVariants.{Late}
 use Rattle.ports_core.specs.declared.slot.State.TheVariants.{Open, Closed}
 use Rattle.ports_core.proofs.PartLemmas.{begins_itself, begins_more}
 use Rattle.seg_core.specs.declared.cut.Limit.{Limit}
 use Rattle.seg_core.specs.declared.cut.Limit.TheVariants.{Lines, Bytes, LineBytes}
 use Rattle.seg_core.specs.Cut.{most}
 use Rattle.split_core.specs.Parts.{whole_lines, measure, is_full, first_part, after_first, cut_up, unless_empty, parts, settled_rest}
-use Rattle.split_core.specs.Split.{Share, share, file_at, named, are_named, only_files, settled_parts}
+use Rattle.split_core.specs.Split.{Share, share, file_at, manner_of, named, are_named, only_files, settled_parts}
 use Rattle.split_core.specs.laws.CutLaws.{short_some, full_some, whole_of_lines, whole_of_none, settled_then_waiting, settled_some, cut_on, cut_none, cut_once, cuts_up, rest_short}
-use Rattle.split_core.specs.inner.CutLaws.{goes, cut_so, SharesBegin, whole_parts}
-
--- shares that begin others still do after the same front
-pub shares_after : (front low high : List Share) → SharesBegin low high → SharesBegin (front ++ low) (front ++ high)
-shares_after [] low high begins = begins
-shares_after (share ∷ front) low high begins = (inr refl, begins_itself share.bytes, shares_after front low high begins)
+use Rattle.split_core.specs.inner.CutLaws.{goes, cut_so, whole_parts}
 
 -- the files of shares that begin others begin the files of those
 
@@ -30,36 +27,13 @@ pub kept_file : (names : Naming) (place : ℕ) (one other : Share) → (one.stat
 kept_file names place one other (inl is) = inl is
 kept_file names place one other (inr same) = search rules
 
-files_by : (names : Naming) (has : Bool) (place : ℕ) (one other : Share) (low high : List File) → (one.state ≡ Open)
-    ⊎ (one ≡ other) → IsBeginning one.bytes other.bytes → FilesBegin low high
-    → FilesBegin (cond has (file_at names place one ∷ low) []) (cond has (file_at names place other ∷ high) [])
-files_by names true place one other low high kept first rest = grind (arith, common_steps)
-files_by names false place one other low high kept first rest = tt
-
-pub files_begin : (names : Naming) (place : ℕ) (low high : List Share) → SharesBegin low high → FilesBegin (named names place low) (named names place high)
-files_begin names place [] high begins = tt
-files_begin names place (share ∷ low) [] begins = absurd begins
-files_begin names place (share ∷ low) (whole ∷ high) begins =
-    files_by names (has_name names place) place share whole (named names (place + 1) low) (named names (place + 1) high)
-    begins.0 begins.1 (files_begin names (place + 1) low high begins.2)
-
 pub part_begins : (names : Naming) (low high : List Share) → SharesBegin low high → Begins (only_files (named names 0 low)) (only_files (named names 0 high))
-part_begins names low high begins = record { out = begins_itself []; files = files_begin names 0 low high begins }
-
--- names that ran out
-
--- the place after the next ones is that after the first of them
-pub one_on : (n m : ℕ) → n + suc m ≡ n + 1 + m
-one_on n m = omega arith
+part_begins names low high begins = record { out = begins_itself []; files = files_begin (manner_of names) 0 low high begins }
 
 -- where a place has no name, what stands from there on makes no file
 pub named_short : (names : Naming) (place : ℕ) (front rest : List Share) → has_name names (place + length front) ≡ false
     → named names place (front ++ rest) ≡ named names place front
-named_short names place [] [] none = refl
-named_short names place [] (share ∷ rest) none = grind (arith, common_steps)
-named_short names place (share ∷ front) rest none =
-    ap (λ files. cond (has_name names place) (file_at names place share ∷ files) []) (named_short names (place + 1) front rest
-    (subst (λ n. has_name names n ≡ false) (one_on place (length front)) none))
+named_short names place front rest none = files_stop (manner_of names) place front rest none
 
 -- the parts of whole texts
 
@@ -129,13 +103,6 @@ pub cut_first : (limit : Limit) (x : List ℕ) → is_full limit x ≡ true → 
     (cut_up limit (after_first limit x)).rest
 cut_first limit x full = cut_once limit (goes x _ _ full (cuts_up))
 
--- an open share begins one of more bytes, whatever its state
-opens_more : (state : State) (low high : List ℕ) → IsBeginning low high
-    → SharesBegin (map (share Open) (unless_empty low)) (map (share state) (unless_empty high))
-opens_more state [] high begins = tt
-opens_more state (byte ∷ low) [] (rest, is) = absurd (cc)
-opens_more state (byte ∷ low) (first ∷ high) begins = (inl refl, begins, tt)
-
 rest_begins_by : (limit : Limit) (rest y : List ℕ) (full : Bool) → is_full limit (rest ++ y) ≡ full
     → is_full limit rest ≡ false → SharesBegin (map (share Open) (unless_empty (settled_rest limit rest))) (settled_parts limit (rest ++ y))
 rest_begins_by limit rest y true full short = subst (λ cut. SharesBegin (map (share Open) (unless_empty (settled_rest limit rest)))
@@ -145,7 +112,7 @@ rest_begins_by limit rest y true full short = subst (λ cut. SharesBegin (map (s
           → SharesBegin (map (share Open) (unless_empty low)) (share Closed (first_part limit (rest ++ y)) ∷ more)
       in_first [] more begins = tt
       in_first (byte ∷ low) more begins = (inl refl, begins, tt)
-rest_begins_by limit rest y false full short = search (rules, cut_none, opens_more, settled_in_rest)
+rest_begins_by limit rest y false full short = search (rules, cut_none, made_begin, settled_in_rest)
 
 pub rest_begins : (limit : Limit) (rest y : List ℕ) → is_full limit rest ≡ false
     → SharesBegin (map (share Open) (unless_empty (settled_rest limit rest))) (settled_parts limit (rest ++ y))
@@ -156,7 +123,8 @@ pub settled_grow : (limit : Limit) (x y : List ℕ) → SharesBegin (settled_par
 settled_grow limit x y = grind (arith, common_steps, settled_on, shares_after, rest_begins, rest_short)
 
 pub settled_end : (limit : Limit) (x : List ℕ) → SharesBegin (settled_parts limit x) (whole_parts limit x)
-settled_end limit x = grind (arith, common_steps, map-append, shares_after, opens_more, settled_in_whole)
+settled_end limit x = subst (SharesBegin (settled_parts limit x)) (sym (map-append (share Closed) (cut_up limit x).full (unless_empty (cut_up limit x).rest)))
+    (shares_after (map (share Closed) (cut_up limit x).full) _ _ (made_begin Late Closed (settled_rest limit (cut_up limit x).rest) (cut_up limit x).rest (settled_in_whole limit (cut_up limit x).rest)))
 
 -- there are as many shares as the text has parts
 

@@ -69,5 +69,5 @@ parts_lawful limit names = search (rules, part_begins, settled_grow, settled_end
 -- Both ways
 
 pub lawful : (way : Splitter) → IsLawful (work way)
-lawful (Parts state) = parts_lawful state.limit state.names.naming
+lawful (Parts state) = parts_lawful state.limit state.writer.names.naming
 lawful (Round state) = round_lawful state.delim state.count state.elide state.files.names.naming

@@ -4,7 +4,7 @@ use Rattle.ports_core.proofs.HandedOn.{result_is}
 use Rattle.split_core.specs.inner.Sharing.{Adds}
 use Rattle.split_core.specs.inner.Ways.{Deals}
 use Rattle.split_core.proofs.FilesLemmas.{no_room}
-use Rattle.split_core.proofs.MoveLemmas.{on_ok}
+use Rattle.split_core.proofs.PartsLemmas.{on_ok}
 use Rattle.split_core.proofs.RoundLemmas.{first_gathered}
 use Rattle.split_core.proofs.round_splitter.RoundSplitter.pass.Goals as goal
 

@@ -3,7 +3,7 @@ use Rattle.split_core.proofs.RoundLemmas as dealing
 use Rattle.split_core.proofs.splitter.SplitterStage.finish.Goals as goal
 
 pub returns-in-Parts : goal.returns-in-Parts
-returns-in-Parts g c = rw c.in-Parts.is (part.finishes_by _ _ _ _ _ _ c.finish.ensures)
+returns-in-Parts g c = rw c.in-Parts.is (part.finishes_by _ _ _ _ _ c.finish.result (rw c.in-Parts.is at c.requires) c.finish.ensures)
 
 pub returns-in-Round : goal.returns-in-Round
 returns-in-Round g c = rw c.in-Round.is (dealing.finishes_by _ _ _ _ _ c.finish-in-Round.ensures)

@@ -1,0 +1,87 @@
+-- What calls on parts that follow one another do.
+use Rattle.std.specs.Prelude.{◌≡◌, ℕ, ◌-◌, ◌≤◌, ◌<◌, Bool, true, false, List, [], ◌++◌, length, take, Option, Some, None, IfNone, IfSome, Result, Ok, Err}
+use Rattle.ports_core.specs.Draft.{Draft, draft_part, part_of, with_bytes, with_next}
+use Rattle.ports_core.specs.FileWriter.{WriterState, Goes, Leaves, Reaches, At, IsWrite, is_file}
+use Rattle.ports_core.specs.Part.{Part, OutputsAt, gets_none}
+use Rattle.ports_core.specs.Slot.{Slot}
+use Rattle.ports_core.specs.declared.fault.Fault.{Fault}
+use Rattle.ports_core.specs.declared.fault.Fault.TheVariants.{Suffixes}
+use Rattle.ports_core.specs.declared.file_writer.Opening.TheVariants.{Late}
+use Rattle.seg_core.specs.Cut.{most}
+use Rattle.split_core.specs.Split.{are_named, draft_of, manner_of, settled_parts}
+use Rattle.split_core.specs.inner.CutLaws.{whole_parts}
+use Rattle.split_core.specs.PartsState.{PartsState, Stands, names_of}
+
+-- what is written once x came in, and in the end
+abbrev pub settled_part : PartsState → List ℕ → Part
+settled_part parts x = draft_part (manner_of (names_of parts)) (draft_of parts.limit x)
+
+abbrev pub whole_part : PartsState → List ℕ → Part
+whole_part parts x = part_of (manner_of (names_of parts)) (whole_parts parts.limit x)
+
+-- what a part still takes, whether it has a complete line, and what waits
+abbrev pub numbers : PartsState → ℕ × Bool × List ℕ
+numbers parts = (parts.left, parts.has_line, parts.waiting)
+
+-- The files changed as this says, and then the numbers are these; or a fault came meanwhile.
+pub record Moves (told : Bool) (parts : PartsState) (are : ℕ × Bool × List ℕ) (change : Draft → Draft)
+    (old new : List Slot) (next : PartsState) (fault : Option Fault) : Type 0 where
+  pub limit : next.limit ≡ parts.limit
+  pub same : IfNone fault (numbers next ≡ are)
+  pub goes : Goes told parts.writer change old new next.writer fault
+
+-- what waits and these bytes went to the part that was begun, or a fault came meanwhile
+abbrev pub Extends : Bool → PartsState → List ℕ → List Slot → List Slot → PartsState → Option Fault → Type 0
+Extends told parts bytes old new next fault =
+    Moves told parts (parts.left, parts.has_line, []) (with_bytes (parts.waiting ++ bytes)) old new next fault
+
+-- what is begun ends, and these bytes begin the next
+abbrev pub turns : List ℕ → Draft → Draft
+turns past draft = with_bytes past (with_next Late draft)
+
+-- the part that was begun ended, and what waits and these bytes begin the next
+abbrev pub Turns : Bool → PartsState → List ℕ → List Slot → List Slot → PartsState → Option Fault → Type 0
+Turns told parts bytes old new next fault =
+    Moves told parts (most parts.limit - length (parts.waiting ++ bytes), false, []) (turns (parts.waiting ++ bytes))
+    old new next fault
+
+-- a beginning of what the window held went to what is begun, and the window holds the rest
+pub record Emptying (told : Bool) (writer now : WriterState) (held left : List ℕ) (most now_most : ℕ)
+    (old slots : List Slot) : Type 0 where
+  pub gone : List ℕ
+  pub both : held ≡ gone ++ left
+  pub goes : Goes told writer (with_bytes gone) old slots now None
+  pub stays : is_file writer.current ≡ true → is_file now.current ≡ true
+  pub same : now_most ≡ most
+
+-- names ran out before these bytes of the input were written: the outputs have all that has a name
+pub record LacksNames (told : Bool) (parts : PartsState) (x bytes : List ℕ) (old new : List Slot) : Type 0 where
+  pub none : are_named (names_of parts) (length (settled_parts parts.limit (x ++ bytes))) ≡ false
+  pub all : (before : List Slot) → At told parts.writer before (settled_part parts x) old
+      → OutputsAt told before (settled_part parts (x ++ bytes)) new
+
+-- These bytes were taken in, and what is settled with them is written; or a fault came among them.
+pub record Takes (told : Bool) (parts : PartsState) (bytes : List ℕ) (old new : List Slot) (next : PartsState)
+    (fault : Option Fault) : Type 0 where
+  pub limit : next.limit ≡ parts.limit
+  pub leaves : Leaves parts.writer next.writer old new fault
+  pub stands : IfNone fault ((x : List ℕ) → Stands parts x → Stands next (x ++ bytes))
+  pub reaches : (x : List ℕ) → Stands parts x → Reaches gets_none told parts.writer next.writer
+      (settled_part parts x) (settled_part parts (x ++ bytes)) old new fault
+  pub short : IfSome fault (λ why. why ≡ Suffixes → (x : List ℕ) → Stands parts x
+      → LacksNames told parts x bytes old new)
+
+-- a stretch of the piece was taken in, or a fault came
+abbrev pub Steps : Bool → PartsState → List ℕ → List Slot → List Slot → PartsState → Result ℕ Fault → Type 0
+Steps told parts piece old new next (Ok n) = (0 < n) × (n ≤ length piece)
+    × Takes told parts (take n piece) old new next None
+Steps told parts piece old new next (Err fault) = Takes told parts piece old new next (Some fault)
+
+-- the input ended, and all of it is written; or a file broke meanwhile
+pub record Finishes (told : Bool) (parts : PartsState) (old new : List Slot) (next : PartsState)
+    (fault : Option Fault) : Type 0 where
+  pub limit : next.limit ≡ parts.limit
+  pub leaves : Leaves parts.writer next.writer old new fault
+  pub broke : IfSome fault IsWrite
+  pub reaches : (x : List ℕ) → Stands parts x → Reaches gets_none told parts.writer next.writer
+      (settled_part parts x) (whole_part parts x) old new fault
