@@ -9,8 +9,9 @@ use std::alloc::AllocError;
 /// How a name writes the number of its place.
 #[derive(Clone, Copy)]
 pub enum Numbering {
-    /// With this many characters of the alphabet, as many places as these can number (POSIX.1-2017, XCU split, `-a`).
-    Fixed(Alphabet, u32),
+    /// With this many characters of the alphabet (POSIX.1-2017, XCU split, `-a`), from this number on, which place 0 has
+    /// (GNU coreutils manual, split, `--numeric-suffixes`). There are as many places as the characters can number.
+    Fixed(Alphabet, u32, u64),
     /// With this many characters of the alphabet, at least 1, and with more of them before the first character becomes
     /// the last of the alphabet: so there is always a next number, and they stay in order (GNU coreutils manual, split).
     Widening(Alphabet, u32),
@@ -25,7 +26,9 @@ impl Numbering {
         ensures { result ≡ has_suffix self place }
     {
         match self {
-            Numbering::Fixed(alphabet, width) => is_counted(alphabet, width, place),
+            Numbering::Fixed(alphabet, width, from) => {
+                is_counted(alphabet, width, number_at(from, place))
+            }
             Numbering::Widening(..) | Numbering::Decimal(_) => true,
         }
     }
@@ -37,8 +40,8 @@ impl Numbering {
         ensures { IfOk result (λ _. string_bytes name.new ≡ string_bytes name.old ++ suffix_at self place) }
     {
         match self {
-            Numbering::Fixed(alphabet, width) => {
-                push_number(name, alphabet, width as usize, place)
+            Numbering::Fixed(alphabet, width, from) => {
+                push_number(name, alphabet, width as usize, number_at(from, place))
             }
             Numbering::Widening(alphabet, width) => push_widened(name, alphabet, width, place),
             Numbering::Decimal(digits) => push_decimal(name, digits as usize, place),
@@ -46,11 +49,18 @@ impl Numbering {
     }
 }
 
+/// The number of a place, where place 0 has the number `from`.
+fn number_at(from: u64, place: u64) -> u128
+    ensures { result ≡ from + place }
+{
+    u128::from(from) + u128::from(place)
+}
+
 /// Whether a number can be written with this many digits.
-fn is_counted(alphabet: Alphabet, digits: u32, number: u64) -> bool
+fn is_counted(alphabet: Alphabet, digits: u32, number: u128) -> bool
     ensures { result ≡ nat_lt number (radix alphabet ^ digits) }
 {
-    match alphabet.radix().checked_pow(digits) {
+    match u128::from(alphabet.radix()).checked_pow(digits) {
         Some(count) => number < count,
         None => true,
     }
@@ -68,7 +78,7 @@ fn push_widened(
 {
     let (block, number) = block_at(alphabet, width, place);
     push_copies(name, alphabet.last(), block)?;
-    push_number(name, alphabet, width as usize + block, number)
+    push_number(name, alphabet, width as usize + block, u128::from(number))
 }
 
 /// How many times numbers have widened before the one at this place, and its number among those of its width.
@@ -104,7 +114,7 @@ fn push_number(
     name: &mut String,
     alphabet: Alphabet,
     digits: usize,
-    number: u64,
+    number: u128,
 ) -> Result<(), AllocError>
     requires { number < radix alphabet ^ digits }
     ensures { IfOk result (λ _. string_bytes name.new ≡ string_bytes name.old ++ written alphabet digits number) }
@@ -112,7 +122,7 @@ fn push_number(
     if digits == 0 {
         return Ok(());
     }
-    let radix = alphabet.radix();
+    let radix = u128::from(alphabet.radix());
     push_number(name, alphabet, digits - 1, number / radix)?;
     push_ascii(name, alphabet.character((number % radix) as u8))
 }

@@ -83,6 +83,11 @@ split-sets asked other SuffixLength (Width width) = search rules
 split-sets asked other AdditionalSuffix (Text text) = search rules
 split-sets asked other choice value = search rules
 
+pub from-sets : (asked other : SplitAsked) (choice : Choice) (value : Meant) → (split_by asked choice value).from ≡ (if spells choice then (split_by other choice value).from else asked.from)
+from-sets asked other SuffixLength (Width width) = refl
+from-sets asked other AdditionalSuffix (Text text) = refl
+from-sets asked other choice value = refl
+
 pub delim-sets : (asked other : ℕ) (choice : Choice) (value : Meant) → delim_by asked choice value ≡ (if separates choice value then delim_by other choice value else asked)
 delim-sets asked other Separator (Byte byte) = refl
 delim-sets asked other choice value = refl

@@ -6,4 +6,5 @@ pub mod LimitLemmas
 pub mod MeaningLemmas
 pub mod SpellingLemmas
 pub mod ValueLemmas
+mod WidthLemmas
 pub mod WordsLemmas

@@ -1,9 +1,13 @@
 -- Whatever words spell, sizes, counts of files and widths are within their limits, and files that lines are dealt to have names.
 use Rattle.std.proofs.lemmas.Grind.{common_steps}
-use Rattle.std.proofs.Common.{◌≡◌, ℕ, ◌+◌, ◌≤◌, arith, List, [], ◌∷◌, ◌++◌, Option, Some, None, Result, Ok, Err, IfOk, inl, inr, ◌⊎◌, rules}
-use Rattle.std.specs.Prelude.{⊤, filter}
+use Rattle.std.proofs.Common.{◌≡◌, ℕ, zero, suc, ◌+◌, ◌-◌, ◌^◌, ◌≤◌, false, refl, arith, List, [], ◌∷◌, ◌++◌, Option, Some, None, Result, Ok, Err, IfOk, inl, inr, ◌⊎◌, rules}
+use Rattle.std.proofs.lemmas.Bool.{cond_both}
+use Rattle.std.specs.Prelude.{⊤, filter, ◌==◌, if◌then◌else◌}
 use Rattle.ports_core.specs.declared.fault.Fault.{Fault}
 use Rattle.ports_core.specs.declared.alphabet.Alphabet.{Alphabet}
+use Rattle.ports_core.specs.declared.alphabet.Alphabet.TheVariants.{Letters, Digits, Hex}
+use Rattle.ports_core.specs.Name.{name_count}
+use Rattle.ports_core.proofs.CounterLemmas.{power_positive}
 use Rattle.ports_core.specs.declared.tool.Tool.{Tool}
 use Rattle.ports_core.specs.declared.tool.Tool.TheVariants as tool
 use Rattle.operand_core.specs.Style.{Style}
@@ -16,16 +20,18 @@ use Rattle.words_core.specs.declared.spelling.State.TheVariants.{Awaiting}
 use Rattle.words_core.specs.declared.settings.Settings.{Settings}
 use Rattle.words_core.specs.declared.settings.Topic.{Topic}
 use Rattle.words_core.specs.Table.{OptionRow, ToolRow}
-use Rattle.words_core.specs.Value.{Meant, Width, Text, then_check}
+use Rattle.words_core.specs.Value.{Meant, Width, Number, Text, then_check}
 use Rattle.words_core.specs.Given.{asked_by, Given, GivenOption, GivenOperand}
 use Rattle.words_core.specs.CsplitWords.{asked_of, csplit_by, csplit_asked, style_of, plain}
 use Rattle.words_core.specs.Spelling.{Meaning, meaning_of, given_before, onward, spelled, start_of, given_by}
 use Rattle.words_core.specs.SplitAsked.{SplitAsked}
-use Rattle.words_core.specs.SplitWords.{AreNamed, CanSplit, IsInLimits, IsWidth, is_way, only_way, way_of, split_by, no_options, suffix_for, files_in, split_asked, separator_in}
+use Rattle.words_core.specs.SplitWords.{AreNamed, CanSplit, IsInLimits, IsWidth, is_way, only_way, way_of, split_by, no_options, suffix_for, files_in, split_asked, separator_in, dealt, first_of, fixed, free, least_width, wide_enough}
+use Rattle.words_core.specs.declared.split_words.Suffix.{Suffix}
 use Rattle.words_core.specs.Laws.{AreAmong, none, passed, taken}
 use Rattle.words_core.specs.Words.{CanRun, about_or, settings_for, topic_in, work_for}
 use Rattle.words_core.proofs.MeaningLemmas.{AreSound, GivesItself, IsSound, anything, meaning-gives, sound-append}
 use Rattle.words_core.proofs.SpellingLemmas.{either}
+use Rattle.words_core.proofs.WidthLemmas.{least_within, least_writes}
 
 -- all words: their operands are some of them
 
@@ -67,8 +73,15 @@ asked-keeps by P keeps (option ∷ options) asked holds are =
 
 -- what the options of `split` ask for
 
-split_by-few : (asked : SplitAsked) (choice : Choice) (value : Meant) → asked.width ≤ 255 → IsSound value → (split_by asked choice value).width ≤ 255
-split_by-few asked choice.SuffixLength (Width width) few is = is
+abbrev AreFew : SplitAsked → Type 0
+AreFew asked = (asked.width ≤ 255) × (first_of asked.from ≤ 2 ^ 63 - 1)
+
+split_by-few : (asked : SplitAsked) (choice : Choice) (value : Meant) → AreFew asked → IsSound value → AreFew (split_by asked choice value)
+split_by-few asked choice.SuffixLength (Width width) few is = (is, few.1)
+split_by-few asked choice.NumericSuffixes (Number from) few is = (few.0, is)
+split_by-few asked choice.NumericSuffixes value few is = (few.0, omega arith)
+split_by-few asked choice.HexSuffixes (Number from) few is = (few.0, is)
+split_by-few asked choice.HexSuffixes value few is = (few.0, omega arith)
 split_by-few asked choice.AdditionalSuffix (Text text) few is = few
 split_by-few asked choice value few is = few
 
@@ -85,12 +98,74 @@ then_check-kept : {A B : Type 0} (P : A → Type 0) (Q : B → Type 0) (first : 
 then_check-kept P Q (Ok value) next is goes = goes value is
 then_check-kept P Q (Err fault) next is goes = tt
 
--- the files that lines are dealt to
+-- the names of files
 
-suffix-can : (cut : Cut) (alphabet : Alphabet) (width : ℕ) → IsInLimits cut → width ≤ 255
-    → IfOk (suffix_for cut alphabet width) (λ suffix. AreNamed cut alphabet suffix.width × IsWidth suffix.width)
-suffix-can (cut.Round files delim) alphabet width is_in most = grind (arith, common_steps)
-suffix-can (cut.Parts limit) alphabet width is most = search rules
+abbrev Serves : Cut → Alphabet → Option ℕ → Suffix → Type 0
+Serves cut alphabet from suffix = AreNamed cut alphabet from suffix.width × IsWidth suffix.width
+
+wide_enough-can : (alphabet : Alphabet) (count width : ℕ) → 1 ≤ width → width ≤ 255 → IfOk (wide_enough alphabet count width) (λ suffix. (count ≤ name_count alphabet suffix.width) × IsWidth suffix.width)
+wide_enough-can alphabet count width some most = grind (arith, common_steps)
+
+twenty : (alphabet : Alphabet) {count : ℕ} → count ≤ 10 ^ 20 → count ≤ name_count alphabet 20
+twenty Letters few = omega (arith, few)
+twenty Digits few = omega (arith, few)
+twenty Hex few = omega (arith, few)
+
+least-can : (alphabet : Alphabet) {count : ℕ} → count ≤ 10 ^ 20 → (count ≤ name_count alphabet (least_width alphabet count)) × IsWidth (least_width alphabet count)
+unfolding least_width
+least-can alphabet {count} few =
+    let within = least_within alphabet count 18 2 in
+    (least_writes alphabet count 18 2 (twenty alphabet few), (omega (arith, within.0), omega (arith, within.1)))
+
+some_if : (width : ℕ) → (width == 0) ≡ false → 1 ≤ width
+some_if zero given = absurd (cc)
+some_if (suc width) given = omega arith
+
+given_or : (width : ℕ) → width ≤ 255 → IsWidth (if width == 0 then 2 else width)
+given_or width most = grind (arith, common_steps)
+
+some_names : (alphabet : Alphabet) (width : ℕ) → 1 ≤ name_count alphabet width
+some_names alphabet width = power_positive alphabet width
+
+free-wide : (width : ℕ) → width ≤ 255 → IsWidth (free width).width
+free-wide width most = grind (arith, common_steps)
+
+suffix-can : (cut : Cut) (alphabet : Alphabet) (from : Option ℕ) (width : ℕ) → IsInLimits cut → width ≤ 255 → first_of from ≤ 2 ^ 63 - 1 → IfOk (suffix_for cut alphabet from width) (Serves cut alphabet from)
+suffix-can (cut.Round files delim) alphabet from width is_in most least =
+    cond_both (width == 0) (Ok (fixed (least_width alphabet (first_of from + files)))) (wide_enough alphabet (first_of from + files) width) (λ result. IfOk result (Serves (cut.Round files delim) alphabet from))
+    (λ _. least-can alphabet (omega (arith, is_in.1, least)))
+    (λ given. wide_enough-can alphabet (first_of from + files) width (some_if width given) most)
+suffix-can (cut.Parts limit) alphabet (Some from) width is most least =
+    let wide = given_or width most in wide_enough-can alphabet (from + 1) (if width == 0 then 2 else width) wide.0 wide.1
+suffix-can (cut.Parts limit) alphabet None width is most least = (some_names alphabet _, free-wide width most)
+
+-- names whose first number an option gives don't widen
+
+wide_enough-fixed : (alphabet : Alphabet) (count width : ℕ) → IfOk (wide_enough alphabet count width) (λ suffix. suffix.auto ≡ false)
+wide_enough-fixed alphabet count width = grind (arith, common_steps)
+
+dealt-fixed : (alphabet : Alphabet) (count width : ℕ) → IfOk (dealt alphabet count width) (λ suffix. suffix.auto ≡ false)
+dealt-fixed alphabet count width = cond_both (width == 0) (Ok (fixed (least_width alphabet count))) (wide_enough alphabet count width) (λ result. IfOk result (λ suffix. suffix.auto ≡ false))
+    (λ _. refl) (λ _. wide_enough-fixed alphabet count width)
+
+whatever_first : (from : Option ℕ) (first : ℕ) (result : Result Suffix Fault) → IfOk result (λ suffix. suffix.auto ≡ false) → IfOk result (λ suffix. from ≡ Some first → suffix.auto ≡ false)
+whatever_first from first (Ok suffix) is = λ _. is
+whatever_first from first (Err fault) is = tt
+
+suffix-fixed : (cut : Cut) (alphabet : Alphabet) (from : Option ℕ) (width first : ℕ) → IfOk (suffix_for cut alphabet from width) (λ suffix. from ≡ Some first → suffix.auto ≡ false)
+suffix-fixed (cut.Round files delim) alphabet from width first = whatever_first from first _ (dealt-fixed alphabet (first_of from + files) width)
+suffix-fixed (cut.Parts limit) alphabet (Some from) width first = whatever_first (Some from) first _ (wide_enough-fixed alphabet (from + 1) (if width == 0 then 2 else width))
+suffix-fixed (cut.Parts limit) alphabet None width first = λ is. absurd (cc)
+
+asked-fixed : (given : Given) (first : ℕ) → IfOk (split_asked given) (λ asked. asked.from ≡ Some first → asked.auto ≡ false)
+asked-fixed given first =
+    let asked = asked_by split_by no_options given.options in
+    then_check-kept (λ _. ⊤) _ (way_of given.options) _ (anything (way_of given.options)) (λ cut _.
+    then_check-kept (λ suffix. asked.from ≡ Some first → suffix.auto ≡ false) _ (suffix_for cut asked.alphabet asked.from asked.width) _ (suffix-fixed cut asked.alphabet asked.from asked.width first) (λ suffix fixed.
+    then_check-kept (λ _. ⊤) _ (files_in given.operands) _ (anything (files_in given.operands)) (λ files _. fixed)))
+
+pub never_widen : (given : Given) (asked : SplitAsked) (from : ℕ) → split_asked given ≡ Ok asked → asked.from ≡ Some from → asked.auto ≡ false
+never_widen given asked from is first = (rw is at (asked-fixed given from)) first
 
 -- the line as a whole
 
@@ -98,9 +173,9 @@ asked-can : (given : Given) → AreSound given.options → IfOk (split_asked giv
 asked-can given sound =
     let asked = asked_by split_by no_options given.options in
     then_check-kept IsInLimits CanSplit (way_of given.options) _ (only_way-limits (separator_in given.options) (filter is_way given.options) (ways-sound given.options sound)) (λ cut is.
-    then_check-kept (λ suffix. AreNamed cut asked.alphabet suffix.width × IsWidth suffix.width) CanSplit (suffix_for cut asked.alphabet asked.width) _
-    (suffix-can cut asked.alphabet asked.width is
-    (asked-keeps split_by (λ asked. asked.width ≤ 255) split_by-few given.options no_options (omega arith) sound)) (λ suffix those.
+    let few : AreFew asked = asked-keeps split_by AreFew split_by-few given.options no_options (omega arith, omega arith) sound in
+    then_check-kept (Serves cut asked.alphabet asked.from) CanSplit (suffix_for cut asked.alphabet asked.from asked.width) _
+    (suffix-can cut asked.alphabet asked.from asked.width is few.0 few.1) (λ suffix those.
     then_check-kept (λ _. ⊤) CanSplit (files_in given.operands) _ (anything (files_in given.operands)) (λ files _.
     record { cut = is; width = those.1; named = those.0 })))
 

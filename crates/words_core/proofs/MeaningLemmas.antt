@@ -1,6 +1,6 @@
 -- What a word means: options whose values are within their limits, and no operand but the word itself; its fault stands at it.
 use Rattle.std.proofs.lemmas.Grind.{common_steps}
-use Rattle.std.proofs.Common.{◌≡◌, refl, ℕ, ◌==◌, ◌&&◌, ◌≤◌, arith, List, [], ◌∷◌, ◌++◌, Option, Some, None, Result, Ok, Err, IfOk, inl, inr, ◌⊎◌}
+use Rattle.std.proofs.Common.{◌≡◌, refl, ℕ, ◌-◌, ◌^◌, ◌==◌, ◌&&◌, ◌≤◌, arith, List, [], ◌∷◌, ◌++◌, Option, Some, None, Result, Ok, Err, IfOk, inl, inr, ◌⊎◌}
 use Rattle.std.specs.Prelude.{⊤}
 use Rattle.seg_core.specs.Count.{after_digits, is_number, leading_digits}
 use Rattle.seg_core.specs.declared.count.Count.{Count}
@@ -13,7 +13,7 @@ use Rattle.words_core.specs.declared.table.Takes.TheVariants as takes
 use Rattle.words_core.specs.declared.spelling.State.{State}
 use Rattle.words_core.specs.declared.spelling.State.TheVariants.{First, Reading, Awaiting, OnlyOperands, Ended}
 use Rattle.words_core.specs.Table.{OptionRow}
-use Rattle.words_core.specs.Value.{Meant, Size, Files, Width}
+use Rattle.words_core.specs.Value.{Meant, Size, Files, Width, Number}
 use Rattle.words_core.specs.Given.{Given, GivenOption, GivenOperand, bare, joined}
 use Rattle.words_core.specs.Lettered.{counted_with, is_lettered, is_unit, letter_named, switched, switches, times, unit_in, with_letters}
 use Rattle.words_core.specs.Spelling.{Meaning, before, valued, lettered, option_lettered, cluster, after_equals, named, dashed, foremost, given_at, mixed, meaning_of}
@@ -26,6 +26,7 @@ abbrev pub IsSound : Meant → Type 0
 IsSound (Size size) = 1 ≤ size
 IsSound (Files files) = (1 ≤ files) × (files ≤ 65535)
 IsSound (Width width) = width ≤ 255
+IsSound (Number number) = number ≤ 2 ^ 63 - 1
 IsSound value = ⊤
 
 abbrev pub AreSound : List GivenOption → Type 0

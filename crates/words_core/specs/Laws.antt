@@ -111,7 +111,7 @@ retries FollowNames = true
 retries Retry = true
 retries choice = false
 
--- whether it says which characters suffixes have
+-- whether it says which characters suffixes have, and with that from which number on they count
 abbrev pub spells : Choice → Bool
 spells NumericSuffixes = true
 spells HexSuffixes = true
@@ -295,6 +295,7 @@ split_as cut alphabet width auto elide = record {
   alphabet = alphabet;
   width = width;
   auto = auto;
+  from = None;
   elide = elide;
   input = codes "-";
   prefix = codes "x";

@@ -1,5 +1,5 @@
 -- What words ask of `split`.
-use Rattle.std.specs.Prelude.{ℕ, Bool, List}
+use Rattle.std.specs.Prelude.{ℕ, Bool, List, Option}
 use Rattle.seg_core.specs.declared.cut.Cut.{Cut}
 use Rattle.ports_core.specs.declared.alphabet.Alphabet.{Alphabet}
 
@@ -9,6 +9,8 @@ pub record SplitAsked : Type 0 where
   -- how many characters a suffix has; with `auto` suffixes widen, and this is the first width
   pub width : ℕ
   pub auto : Bool
+  -- the number of the first file, where an option says so; suffixes don't widen then
+  pub from : Option ℕ
   pub elide : Bool
   -- the name of the input, and what the names of the files begin with
   pub input : List ℕ

@@ -1,5 +1,6 @@
 -- What options and operands ask of `split`, or what is wrong with them.
-use Rattle.std.specs.Prelude.{ℕ, ◌==◌, ◌≤◌, nat_le, Bool, true, false, List, [], ◌∷◌, filter, codes, Result, Ok, Err, if◌then◌else◌, ⊤}
+use Rattle.std.specs.Prelude.{ℕ, zero, suc, ◌+◌, ◌==◌, ◌≤◌, nat_le, Bool, true, false, List, [], ◌∷◌, filter, codes, Option, Some, None, Result, Ok, Err, if◌then◌else◌}
+use Rattle.std.specs.Option.{unwrap_or}
 use Rattle.ports_core.specs.Name.{name_count}
 use Rattle.ports_core.specs.declared.alphabet.Alphabet.{Alphabet}
 use Rattle.ports_core.specs.declared.alphabet.Alphabet.TheVariants.{Letters, Digits as Decimal, Hex as Hexadecimal}
@@ -13,7 +14,7 @@ use Rattle.seg_core.specs.declared.cut.Limit.TheVariants.{Lines, Bytes, LineByte
 use Rattle.words_core.specs.declared.table.Choice.{Choice}
 use Rattle.words_core.specs.declared.table.Choice.TheVariants as choice
 use Rattle.words_core.specs.declared.split_words.Suffix.{Suffix}
-use Rattle.words_core.specs.Value.{Meant, Size, Files, Width, Text, Byte, then_check}
+use Rattle.words_core.specs.Value.{Meant, Size, Files, Width, Number, Text, Byte, then_check}
 use Rattle.words_core.specs.Given.{asked_by, Given, GivenOption, GivenOperand}
 use Rattle.words_core.specs.SplitAsked.{SplitAsked}
 
@@ -28,17 +29,24 @@ no_options = record {
   alphabet = Letters;
   width = 0;
   auto = false;
+  from = None;
   elide = false;
   input = codes "-";
   prefix = codes "x";
   ending = [];
 }
 
--- with one more option: the last for the alphabet decides, and so do the last width and the last ending of names
+-- the number from which an option for the alphabet has files numbered
+abbrev pub from_in : Meant → Option ℕ
+from_in (Number from) = Some from
+from_in value = None
+
+-- with one more option: the last for the alphabet decides, with the number that it has or has not, and so do the last
+-- width and the last ending of names
 abbrev pub split_by : SplitAsked → Choice → Meant → SplitAsked
 split_by asked choice.SuffixLength (Width width) = record asked { width = width }
-split_by asked choice.NumericSuffixes value = record asked { alphabet = Decimal }
-split_by asked choice.HexSuffixes value = record asked { alphabet = Hexadecimal }
+split_by asked choice.NumericSuffixes value = record asked { alphabet = Decimal; from = from_in value }
+split_by asked choice.HexSuffixes value = record asked { alphabet = Hexadecimal; from = from_in value }
 split_by asked choice.ElideEmptyFiles value = record asked { elide = true }
 split_by asked choice.AdditionalSuffix (Text text) = record asked { ending = text }
 split_by asked choice value = asked
@@ -81,9 +89,10 @@ only_way delim (way ∷ second ∷ more) = Err (Usage TwoWays second.word)
 abbrev pub way_of : List GivenOption → Result Cut Fault
 way_of options = only_way (separator_in options) (filter is_way options)
 
--- The suffixes. A width of 0 stands for none. With a width all suffixes have it; without one they widen from 2
--- characters on. Where lines are dealt to files they never widen: the width must name all files, and without one it is
--- the least from 2 on that does.
+-- The suffixes. A width of 0 stands for none. With a width all suffixes have it. Without one they widen from 2 characters
+-- on, unless lines are dealt to files, or an option says which number the first file has: then they never widen. Where
+-- lines are dealt, the width must write the numbers of all files, and without one it is the least from 2 on that does.
+-- Where files come one after another, it must write the first one's number, and without one it is 2.
 
 abbrev pub fixed : ℕ → Suffix
 fixed width = record { width = width; auto = false }
@@ -91,24 +100,40 @@ fixed width = record { width = width; auto = false }
 abbrev pub free : ℕ → Suffix
 free width = if width == 0 then (record { width = 2; auto = true }) else fixed width
 
-abbrev pub names_all : Alphabet → ℕ → ℕ → Bool
-names_all alphabet files width = nat_le files (name_count alphabet width)
+-- the number of the first file
+abbrev pub first_of : Option ℕ → ℕ
+first_of from = unwrap_or from 0
 
--- files are 65,535 at the most, and 5 characters of any alphabet name those
-abbrev pub least_width : Alphabet → ℕ → ℕ
-least_width alphabet files =
-    if names_all alphabet files 2 then 2
-    else (if names_all alphabet files 3 then 3
-    else (if names_all alphabet files 4 then 4 else 5))
+-- whether a width writes as many numbers, from 0 on
+abbrev pub names_all : Alphabet → ℕ → ℕ → Bool
+names_all alphabet count width = nat_le count (name_count alphabet width)
+
+-- the least width that does, from this one on, of so many and the next
+abbrev pub least_from : Alphabet → ℕ → ℕ → ℕ → ℕ
+least_from alphabet count zero width = width
+least_from alphabet count (suc more) width =
+    if names_all alphabet count width then width else least_from alphabet count more (width + 1)
+
+-- numbers are 2^63 + 65,535 at the most, and 20 characters of any alphabet write those
+unfoldable pub least_width : Alphabet → ℕ → ℕ
+least_width alphabet count = least_from alphabet count 18 2
+
+-- this width, if it writes as many numbers
+abbrev pub wide_enough : Alphabet → ℕ → ℕ → Result Suffix Fault
+wide_enough alphabet count width =
+    if names_all alphabet count width then Ok (fixed width) else Err (Usage SuffixTooShort 0)
 
 abbrev pub dealt : Alphabet → ℕ → ℕ → Result Suffix Fault
-dealt alphabet files width =
-    if width == 0 then Ok (fixed (least_width alphabet files))
-    else (if names_all alphabet files width then Ok (fixed width) else Err (Usage SuffixTooShort 0))
+dealt alphabet count width =
+    if width == 0 then Ok (fixed (least_width alphabet count)) else wide_enough alphabet count width
 
-abbrev pub suffix_for : Cut → Alphabet → ℕ → Result Suffix Fault
-suffix_for (Round files delim) alphabet width = dealt alphabet files width
-suffix_for (Parts limit) alphabet width = Ok (free width)
+abbrev pub numbered : Alphabet → ℕ → ℕ → Result Suffix Fault
+numbered alphabet from width = wide_enough alphabet (from + 1) (if width == 0 then 2 else width)
+
+abbrev pub suffix_for : Cut → Alphabet → Option ℕ → ℕ → Result Suffix Fault
+suffix_for (Round files delim) alphabet from width = dealt alphabet (first_of from + files) width
+suffix_for (Parts limit) alphabet (Some from) width = numbered alphabet from width
+suffix_for (Parts limit) alphabet None width = Ok (free width)
 
 -- the operands: the name of the input, and what the names of files begin with
 abbrev pub files_in : List GivenOperand → Result (List ℕ × List ℕ) Fault
@@ -122,7 +147,7 @@ abbrev pub split_asked : Given → Result SplitAsked Fault
 split_asked given =
     let asked = asked_by split_by no_options given.options in
     then_check (way_of given.options) (λ cut.
-    then_check (suffix_for cut asked.alphabet asked.width) (λ suffix.
+    then_check (suffix_for cut asked.alphabet asked.from asked.width) (λ suffix.
     then_check (files_in given.operands) (λ files.
     Ok (record asked { cut = cut; width = suffix.width; auto = suffix.auto; input = files.0; prefix = files.1 }))))
 
@@ -135,13 +160,17 @@ IsInLimits (Round files delim) = (1 ≤ files) × (files ≤ 65535)
 abbrev pub IsWidth : ℕ → Type 0
 IsWidth width = (1 ≤ width) × (width ≤ 255)
 
--- files that lines are dealt to all have names
-abbrev pub AreNamed : Cut → Alphabet → ℕ → Type 0
-AreNamed (Round files delim) alphabet width = files ≤ name_count alphabet width
-AreNamed (Parts limit) alphabet width = ⊤
+-- files that lines are dealt to all have names, and so has the first of those that come one after another
+
+abbrev pub least_files : Cut → ℕ
+least_files (Round files delim) = files
+least_files (Parts limit) = 1
+
+abbrev pub AreNamed : Cut → Alphabet → Option ℕ → ℕ → Type 0
+AreNamed cut alphabet from width = first_of from + least_files cut ≤ name_count alphabet width
 
 -- what can be asked of `split`: words that ask for anything else are refused
 pub record CanSplit (asked : SplitAsked) : Type 0 where
   pub cut : IsInLimits asked.cut
   pub width : IsWidth asked.width
-  pub named : AreNamed asked.cut asked.alphabet asked.width
+  pub named : AreNamed asked.cut asked.alphabet asked.from asked.width

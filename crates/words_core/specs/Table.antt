@@ -12,7 +12,7 @@ use Rattle.ports_core.specs.declared.tool.Tool.TheVariants.{Head, Tail, Split, C
 use Rattle.words_core.specs.declared.table.Choice.{Choice}
 use Rattle.words_core.specs.declared.table.Choice.TheVariants.{Lines, Bytes, LineBytes, Files, Quiet, Verbose, SuffixLength, NumericSuffixes, HexSuffixes, ElideEmptyFiles, ZeroTerminated, Separator, AdditionalSuffix, Prefix, Digits, KeepFiles, SuppressMatched, Append, Follow, FollowNames, Retry, Looks, Help, Version, Pause, OutputError, NoEffect, Process as WaitsFor}
 use Rattle.words_core.specs.declared.table.Kind.{Kind}
-use Rattle.words_core.specs.declared.table.Kind.TheVariants.{Count, Size, Round, Width, Text, Byte, Ending, Following, Number, OnBroken, Seconds, Looks as number_of_looks, Process as process_number}
+use Rattle.words_core.specs.declared.table.Kind.TheVariants.{Count, Size, Round, Width, Text, Byte, Ending, Following, Number, HexNumber, OnBroken, Seconds, Looks as number_of_looks, Process as process_number}
 use Rattle.words_core.specs.declared.table.Letters.{Letters}
 use Rattle.words_core.specs.declared.table.Letters.TheVariants.{Never, OfHead, OfTail}
 use Rattle.words_core.specs.declared.table.OptionRow.{OptionRow as WrittenOption}
@@ -127,10 +127,10 @@ split_table =
     (codes "deal lines to this many files in turn")
     ∷ option (codes "-a" ∷ codes "--suffix-length" ∷ []) SuffixLength (Value Width) (codes "WIDTH")
     (codes "names have WIDTH characters after the prefix")
-    ∷ option (codes "-d" ∷ codes "--numeric-suffixes" ∷ []) NumericSuffixes Nothing []
-    (codes "digits in names, not letters")
-    ∷ option (codes "-x" ∷ codes "--hex-suffixes" ∷ []) HexSuffixes Nothing []
-    (codes "hexadecimal digits in names, not letters")
+    ∷ option (codes "-d" ∷ codes "--numeric-suffixes" ∷ []) NumericSuffixes (Optional Number) (codes "FROM")
+    (codes "digits in names, not letters, from FROM on")
+    ∷ option (codes "-x" ∷ codes "--hex-suffixes" ∷ []) HexSuffixes (Optional HexNumber) (codes "FROM")
+    (codes "hexadecimal digits in names, from FROM on")
     ∷ option (codes "-e" ∷ codes "--elide-empty-files" ∷ []) ElideEmptyFiles Nothing []
     (codes "with -n, make no empty files")
     ∷ option (codes "-t" ∷ codes "--separator" ∷ []) Separator (Value Byte) (codes "BYTE")

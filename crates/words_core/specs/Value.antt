@@ -1,8 +1,9 @@
 -- What the value of an option says, or what is wrong with it, by its kind. A value that isn't of its form is told
 -- before one that is too large, and that before 0.
-use Rattle.std.specs.Prelude.{ℕ, ◌+◌, ◌-◌, ◌*◌, ◌/◌, ◌^◌, ◌==◌, ◌&&◌, ◌||◌, Bool, nat_le, min, codes, length, List, [], ◌∷◌, Option, Some, None, Result, Ok, Err, if◌then◌else◌, bytes_eq}
-use Rattle.std.specs.Char.{is_ascii_digit}
+use Rattle.std.specs.Prelude.{ℕ, ◌+◌, ◌-◌, ◌*◌, ◌/◌, ◌^◌, ◌==◌, ◌&&◌, ◌||◌, Bool, nat_lt, nat_le, min, codes, length, List, [], ◌∷◌, Option, Some, None, Result, Ok, Err, if◌then◌else◌, bytes_eq}
+use Rattle.std.specs.Char.{is_ascii_digit, is_digit}
 use Rattle.std.specs.List.{list_all, list_any}
+use Rattle.std.specs.Str.Parse.{digits_value}
 use Rattle.seg_core.specs.Count.{after_digits, count_of, digits_of, leading_digits, value_of}
 use Rattle.seg_core.specs.declared.count.Count.{Count}
 use Rattle.seg_core.specs.declared.count.CountFault.{CountFault}
@@ -66,6 +67,17 @@ counted (Err fault) = Err (number_fault fault)
 -- a number that has a limit
 abbrev pub up_to : ℕ → Result ℕ CountFault → Result ℕ UsageKind
 up_to limit number = then_check (counted number) (λ those. if nat_le those limit then Ok those else Err NumberTooLarge)
+
+-- a number in hexadecimal: one or more digits, `A` to `F` as `a` to `f`, and nothing else; 2^63-1 at most
+
+abbrev pub is_hex : ℕ → Bool
+is_hex byte = is_digit byte 16
+
+abbrev pub hex_in : List ℕ → Result ℕ UsageKind
+hex_in text =
+    if nat_lt 0 (length text) && list_all is_hex text
+    then (if nat_le (digits_value 16 text) (2 ^ 63 - 1) then Ok (digits_value 16 text) else Err NumberTooLarge)
+    else Err BadNumber
 
 -- a number that is at least 1
 abbrev pub not_zero : ℕ → Result ℕ UsageKind
@@ -157,6 +169,7 @@ value_in kind.Following text = as_value (λ followed. Following followed) (follo
 value_in kind.Looks text =
     as_value (λ looks. Looks looks) (then_check (up_to (2 ^ 63 - 1) (digits_of text)) not_zero)
 value_in kind.Number text = as_value (λ number. Number number) (up_to (2 ^ 63 - 1) (digits_of text))
+value_in kind.HexNumber text = as_value (λ number. Number number) (hex_in text)
 value_in kind.Process text = as_value (λ process. Process process) (process_in text)
 value_in kind.Seconds text = as_value (λ pause. Pause pause) (pause_in text)
 value_in kind.OnBroken text = as_value (λ on_broken. Breaking on_broken) (on_broken_in text)

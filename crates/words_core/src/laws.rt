@@ -2,7 +2,7 @@
 ghost use Rattle.std.specs.Prelude.{◌≡◌, ◌≢◌, ◌↔◌, ◌+◌, ◌-◌, ◌*◌, ◌^◌, ◌≤◌, ◌<◌, ◌++◌, ℕ, List, [], ◌∷◌, All, Option, Some, None, Result, Ok, Err, IsOk, true, false, length, filter, codes, if◌then◌else◌};
 ghost use Rattle.std.specs.List.{list_any};
 ghost use Rattle.ports_core.specs.declared.fault.UsageKind.{UsageKind};
-ghost use Rattle.ports_core.specs.declared.fault.UsageKind.TheVariants.{AmbiguousOption, MissingValue, TwoWays, UnknownOption};
+ghost use Rattle.ports_core.specs.declared.fault.UsageKind.TheVariants.{AmbiguousOption, MissingValue, SuffixTooShort, TwoWays, UnknownOption};
 ghost use Rattle.words_core.specs.declared.spelling.State.TheVariants.{Reading};
 ghost use Rattle.seg_core.specs.Count.{count_of, digits_of, is_number, sized, value_of};
 ghost use Rattle.std.specs.Char.{is_ascii_digit};
@@ -10,13 +10,14 @@ ghost use Rattle.words_core.specs.Given.{Given, GivenOperand, GivenOption, bare,
 ghost use Rattle.words_core.specs.CsplitWords.{style_of};
 ghost use Rattle.words_core.specs.Laws.{AreAmong, Gives, IsLast, IsLetter, IsName, IsSwitch, LeaveTheRest, amount_of, appends, as_operands, csplit_as, drops_sizes, elides_files, ends_as, ends_of, ends_with_zero, has, is_alphabet, is_count, is_digits, is_ending, is_headers, is_plain, is_prefix, is_separator, is_width, follow_of, following_as, is_following, is_looks, keeps_files, leaves_lines_out, retries, split_as, split_of, tail_as, plain_style, is_on_broken, is_pause, is_process, on_broken_of};
 ghost use Rattle.words_core.specs.Lettered.{is_lettered, letter_named, unit_of, with_letters};
+ghost use Rattle.words_core.specs.SplitAsked.{SplitAsked};
 ghost use Rattle.words_core.specs.Spelling.{given_before, mixed, spelled};
 ghost use Rattle.words_core.specs.EndsWords.{ten_lines};
-ghost use Rattle.words_core.specs.SplitWords.{is_way, least_width, way_in, way_of, separator_in, thousand_lines};
+ghost use Rattle.words_core.specs.SplitWords.{is_way, least_width, split_asked, way_in, way_of, separator_in, thousand_lines};
 ghost use Rattle.words_core.specs.Table.{OptionRow, beginning, head_table, option_called, option_named, tail_table};
 ghost use Rattle.words_core.specs.declared.table.Letters.TheVariants.{OfHead, OfTail};
 ghost use Rattle.words_core.specs.TeeWords.{tee_asked};
-ghost use Rattle.words_core.specs.Value.{Counted, Meant, counted, round_in, size_in, up_to, value_in};
+ghost use Rattle.words_core.specs.Value.{Counted, Meant, counted, hex_in, round_in, size_in, up_to, value_in};
 ghost use Rattle.words_core.specs.Words.{settings_for, settings_of};
 
 use crate::settings::{Headers, Settings, Topic};
@@ -58,12 +59,15 @@ pub fn last_of_tail_decides()
     ensures retry { (options : List GivenOption) → (follow_of options).retry ≡ has retries options }
 {}
 
-/// Of several options for the characters of suffixes the last decides, as if it stood alone, whatever options stand before it;
-/// and so do the last width, the last byte that lines end with, and the last ending of names. Other options change none.
+/// Of several options for the characters of suffixes the last decides, as if it stood alone, whatever options stand before it,
+/// also which number the first file has, if it says so; and so do the last width, the last byte that lines end with, and the last ending of names. Other options change none.
 pub fn last_of_split_decides()
     ensures alphabet { (before after : List GivenOption) (option : GivenOption) → is_alphabet option ≡ true → list_any is_alphabet after ≡ false
         → (split_of (before ++ option ∷ after)).alphabet ≡ (split_of (option ∷ [])).alphabet }
     ensures no_alphabet { (options : List GivenOption) → list_any is_alphabet options ≡ false → (split_of options).alphabet ≡ (split_of []).alphabet }
+    ensures from { (before after : List GivenOption) (option : GivenOption) → is_alphabet option ≡ true → list_any is_alphabet after ≡ false
+        → (split_of (before ++ option ∷ after)).from ≡ (split_of (option ∷ [])).from }
+    ensures no_from { (options : List GivenOption) → list_any is_alphabet options ≡ false → (split_of options).from ≡ None }
     ensures width { (before after : List GivenOption) (option : GivenOption) → is_width option ≡ true → list_any is_width after ≡ false
         → (split_of (before ++ option ∷ after)).width ≡ (split_of (option ∷ [])).width }
     ensures no_width { (options : List GivenOption) → list_any is_width options ≡ false → (split_of options).width ≡ (split_of []).width }
@@ -122,6 +126,11 @@ pub fn one_way_at_most()
         → way_of (before ++ option ∷ after) ≡ Ok cut → cut ≡ way_in (separator_in (before ++ option ∷ after)) option.value option.choice }
     ensures second { (before after : List GivenOption) (option : GivenOption) → length (filter is_way before) ≡ 1 → is_way option ≡ true
         → way_of (before ++ option ∷ after) ≡ Err (Fault.Usage TwoWays option.word) }
+{}
+
+/// Suffixes never widen where an option says which number the first file has.
+pub fn numbers_keep_their_width()
+    ensures { (given : Given) (asked : SplitAsked) (from : ℕ) → split_asked given ≡ Ok asked → asked.from ≡ Some from → asked.auto ≡ false }
 {}
 
 /// Where options may stand, all words after `--` are operands, whatever they begin with (POSIX.1-2017, XBD 12.2,
@@ -284,6 +293,12 @@ pub fn split_options_ask()
         → settings_of (codes "split" ∷ codes "-n" ∷ value ∷ []) ≡ Ok (Settings.Split (split_as (Cut.Round files 10) Alphabet.Letters (least_width Alphabet.Letters files) false false)) }
     ensures digits { settings_of (codes "split" ∷ codes "-d" ∷ []) ≡ Ok (Settings.Split (split_as (thousand_lines 10) Alphabet.Digits 2 true false)) }
     ensures hexadecimal { settings_of (codes "split" ∷ codes "-x" ∷ []) ≡ Ok (Settings.Split (split_as (thousand_lines 10) Alphabet.Hex 2 true false)) }
+    ensures digits_from { (value : List ℕ) (from : ℕ) → up_to (2 ^ 63 - 1) (digits_of value) ≡ Ok from → from < 100
+        → settings_of (codes "split" ∷ (codes "--numeric-suffixes=" ++ value) ∷ []) ≡ Ok (Settings.Split (record (split_as (thousand_lines 10) Alphabet.Digits 2 false false) { from = Some from })) }
+    ensures hexadecimal_from { (value : List ℕ) (from : ℕ) → hex_in value ≡ Ok from → from < 256
+        → settings_of (codes "split" ∷ (codes "--hex-suffixes=" ++ value) ∷ []) ≡ Ok (Settings.Split (record (split_as (thousand_lines 10) Alphabet.Hex 2 false false) { from = Some from })) }
+    ensures too_short { (value : List ℕ) (from : ℕ) → up_to (2 ^ 63 - 1) (digits_of value) ≡ Ok from → 100 ≤ from
+        → settings_of (codes "split" ∷ (codes "--numeric-suffixes=" ++ value) ∷ []) ≡ Err (Fault.Usage SuffixTooShort 0) }
     ensures elide { settings_of (codes "split" ∷ codes "-e" ∷ []) ≡ Ok (Settings.Split (split_as (thousand_lines 10) Alphabet.Letters 2 true true)) }
     ensures width { settings_of (codes "split" ∷ codes "-a3" ∷ []) ≡ Ok (Settings.Split (split_as (thousand_lines 10) Alphabet.Letters 3 false false)) }
 {}

@@ -97,6 +97,8 @@ pub struct SplitSettings<'a> {
     pub width: u32,
     /// Whether suffixes widen.
     pub auto: bool,
+    /// The number of the first file, at most 2^63-1, where an option says so. Suffixes don't widen then. Else it is 0.
+    pub from: Option<u64>,
     /// Whether files that stay empty are left out.
     pub elide: bool,
     /// The input's name; `-` is standard input.
@@ -110,7 +112,7 @@ pub struct SplitSettings<'a> {
 impl<'a> Model for SplitSettings<'a> {
     ghost Value = { SplitAsked };
 
-    ghost view = { λ s. record { cut = s.cut; alphabet = s.alphabet; width = s.width; auto = s.auto; elide = s.elide; input = s.input.now; prefix = s.prefix.now; ending = s.ending.now } };
+    ghost view = { λ s. record { cut = s.cut; alphabet = s.alphabet; width = s.width; auto = s.auto; from = s.from; elide = s.elide; input = s.input.now; prefix = s.prefix.now; ending = s.ending.now } };
 }
 
 /// What `tee` is to write its input to, besides standard output.

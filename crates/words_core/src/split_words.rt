@@ -1,9 +1,9 @@
 //! What `split` is asked for: POSIX.1-2017, XCU split; `-C`, `-n`, `-d`, `-x`, `-e`, `-t` and
 //! `--additional-suffix` are GNU's.
-ghost use Rattle.std.specs.Prelude.{◌≡◌, ℕ, ◌^◌, ◌<◌, ◌≤◌, filter, map, IfOk, IfErr};
+ghost use Rattle.std.specs.Prelude.{◌≡◌, ℕ, ◌+◌, ◌^◌, ◌<◌, ◌≤◌, filter, map, IfOk, IfErr};
 ghost use Rattle.ports_core.specs.Name.{name_count};
 ghost use Rattle.words_core.specs.Given.{asked_by, operand_seen, option_seen};
-ghost use Rattle.words_core.specs.SplitWords.{dealt, files_in, fixed, free, least_width, names_all, no_options, separator_in, split_by, split_asked, suffix_for, thousand_lines, way_in, is_way, only_way};
+ghost use Rattle.words_core.specs.SplitWords.{dealt, files_in, first_of, fixed, free, from_in, least_width, names_all, no_options, numbered, separator_in, split_by, split_asked, suffix_for, thousand_lines, way_in, is_way, only_way, wide_enough};
 ghost use Rattle.words_core.specs.inner.SplitWords.{with_way};
 ghost use Rattle.words_core.specs.Value.{seen};
 
@@ -34,6 +34,7 @@ fn no_options<'a>() -> SplitSettings<'a>
         alphabet: Alphabet::Letters,
         width: 0,
         auto: false,
+        from: None,
         elide: false,
         input: STANDARD_INPUT,
         prefix: PREFIX,
@@ -56,10 +57,12 @@ impl<'a> SplitSettings<'a> {
             },
             Choice::NumericSuffixes => SplitSettings {
                 alphabet: Alphabet::Digits,
+                from: from_in(option.value),
                 ..self
             },
             Choice::HexSuffixes => SplitSettings {
                 alphabet: Alphabet::Hex,
+                from: from_in(option.value),
                 ..self
             },
             Choice::ElideEmptyFiles => SplitSettings {
@@ -72,6 +75,16 @@ impl<'a> SplitSettings<'a> {
             },
             _ => self,
         }
+    }
+}
+
+/// The number from which an option for the characters of suffixes has files numbered. None where it has no value.
+fn from_in(value: Value<'_>) -> Option<u64>
+    ensures { result ≡ from_in (seen value.entry) }
+{
+    match value {
+        Value::Number(from) => Some(from),
+        _ => None,
     }
 }
 
@@ -94,7 +107,7 @@ pub fn settle_split<'a>(spelled: &Spelled<'a>) -> Result<SplitSettings<'a>, Faul
 {
     let options = choose_split(&spelled.options);
     let cut = choose_way(separator_in(&spelled.options), &spelled.options)?;
-    let suffix = choose_suffix(cut, options.alphabet, options.width)?;
+    let suffix = choose_suffix(cut, options.alphabet, options.from, options.width)?;
     let (input, prefix) = take_files(&spelled.operands)?;
     Ok(SplitSettings {
         cut,
@@ -175,15 +188,31 @@ fn way_in(delim: u8, value: Value<'_>, choice: Choice) -> Cut
     }
 }
 
-/// The suffixes of files that are cut in this way, if this width is given; a width of 0 stands for
-/// none.
-fn choose_suffix(cut: Cut, alphabet: Alphabet, width: u32) -> Result<Suffix, Fault>
-    ensures { result ≡ suffix_for cut alphabet width }
+/// The suffixes of files that are cut in this way, if this is the number of the first one and this width is given; a width
+/// of 0 stands for none.
+fn choose_suffix(
+    cut: Cut,
+    alphabet: Alphabet,
+    from: Option<u64>,
+    width: u32,
+) -> Result<Suffix, Fault>
+    ensures { result ≡ suffix_for cut alphabet from width }
 {
-    match cut {
-        Cut::Round(files, _) => suffix_of_dealt(alphabet, files, width),
-        Cut::Parts(_) => Ok(free(width)),
+    match (cut, from) {
+        (Cut::Round(files, _), _) => {
+            let count = u128::from(first_of(from)) + u128::from(files);
+            suffix_of_dealt(alphabet, count, width)
+        }
+        (Cut::Parts(_), Some(from)) => suffix_from(alphabet, from, width),
+        (Cut::Parts(_), None) => Ok(free(width)),
     }
+}
+
+/// The number of the first file.
+fn first_of(from: Option<u64>) -> u64
+    ensures { result ≡ first_of from }
+{
+    from.unwrap_or(0)
 }
 
 /// Suffixes of this width, or ones that widen where it is 0.
@@ -199,15 +228,30 @@ fn free(width: u32) -> Suffix
     fixed(width)
 }
 
-/// The suffixes of files that lines are dealt to, of this width, or of the least that names them
-/// all where it is 0.
-fn suffix_of_dealt(alphabet: Alphabet, files: u64, width: u32) -> Result<Suffix, Fault>
-    ensures { result ≡ dealt alphabet files width }
+/// The suffixes of files that lines are dealt to, of this width, or of the least that writes all of their numbers where it
+/// is 0; these are as many as `count`, from 0 on.
+fn suffix_of_dealt(alphabet: Alphabet, count: u128, width: u32) -> Result<Suffix, Fault>
+    ensures { result ≡ dealt alphabet count width }
 {
     if width == 0 {
-        return Ok(fixed(least_width(alphabet, files)));
+        return Ok(fixed(least_width(alphabet, count)));
     }
-    if !names_all(alphabet, files, width) {
+    wide_enough(alphabet, count, width)
+}
+
+/// The suffixes of files that come one after another from this number on, of this width, or of 2 characters where it is 0.
+fn suffix_from(alphabet: Alphabet, from: u64, width: u32) -> Result<Suffix, Fault>
+    ensures { result ≡ numbered alphabet from width }
+{
+    let width = if width == 0 { 2 } else { width };
+    wide_enough(alphabet, u128::from(from) + 1, width)
+}
+
+/// Suffixes of this width, which must write as many numbers, from 0 on.
+fn wide_enough(alphabet: Alphabet, count: u128, width: u32) -> Result<Suffix, Fault>
+    ensures { result ≡ wide_enough alphabet count width }
+{
+    if !names_all(alphabet, count, width) {
         return Err(Fault::Usage(UsageKind::SuffixTooShort, 0));
     }
     Ok(fixed(width))
@@ -219,30 +263,30 @@ fn fixed(width: u32) -> Suffix
     Suffix { width, auto: false }
 }
 
-/// The least width, from 2 on, that names this many files.
-fn least_width(alphabet: Alphabet, files: u64) -> u32
-    ensures value { result ≡ least_width alphabet files }
+/// The width that writes all numbers that files can have.
+const ENOUGH: u32 = 20;
+
+/// The least width, from 2 on, that writes as many numbers, from 0 on.
+fn least_width(alphabet: Alphabet, count: u128) -> u32
+    ensures value { result ≡ least_width alphabet count }
     ensures some { 2 ≤ result }
-    ensures few { result ≤ 5 }
-    ensures enough { files ≤ 10 ^ 5 → files ≤ name_count alphabet result }
-    ensures least { (width : ℕ) → 2 ≤ width → width < result → name_count alphabet width < files }
+    ensures few { result ≤ 20 }
+    ensures enough { count ≤ 10 ^ 20 → count ≤ name_count alphabet result }
+    ensures least { (width : ℕ) → 2 ≤ width → width < result → name_count alphabet width < count }
 {
-    if names_all(alphabet, files, 2) {
-        2
-    } else if names_all(alphabet, files, 3) {
-        3
-    } else if names_all(alphabet, files, 4) {
-        4
-    } else {
-        5
+    for width in 2..ENOUGH {
+        if names_all(alphabet, count, width) {
+            return width;
+        }
     }
+    ENOUGH
 }
 
-/// Whether this width names this many files.
-fn names_all(alphabet: Alphabet, files: u64, width: u32) -> bool
-    ensures { result ≡ names_all alphabet files width }
+/// Whether this width writes as many numbers, from 0 on.
+fn names_all(alphabet: Alphabet, count: u128, width: u32) -> bool
+    ensures { result ≡ names_all alphabet count width }
 {
-    files <= alphabet.radix().saturating_pow(width)
+    count <= u128::from(alphabet.radix()).saturating_pow(width)
 }
 
 /// The operands: the name of the input, and what the names of files begin with.

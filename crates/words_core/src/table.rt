@@ -91,6 +91,8 @@ pub enum Kind {
     Looks,
     /// A number: digits, 0 to 2^63-1.
     Number,
+    /// A number in hexadecimal: digits and `a` to `f`, also as capitals, 0 to 2^63-1.
+    HexNumber,
     /// The number of a process: digits, 1 to 2^31-1.
     Process,
     /// Seconds: digits, which may have a `.` before, among or after them.
@@ -338,16 +340,16 @@ const SPLIT: &[OptionRow] = &[
     OptionRow {
         names: &["-d", "--numeric-suffixes"],
         choice: Choice::NumericSuffixes,
-        takes: Takes::Nothing,
-        value: "",
-        does: "digits in names, not letters",
+        takes: Takes::Optional(Kind::Number),
+        value: "FROM",
+        does: "digits in names, not letters, from FROM on",
     },
     OptionRow {
         names: &["-x", "--hex-suffixes"],
         choice: Choice::HexSuffixes,
-        takes: Takes::Nothing,
-        value: "",
-        does: "hexadecimal digits in names, not letters",
+        takes: Takes::Optional(Kind::HexNumber),
+        value: "FROM",
+        does: "hexadecimal digits in names, from FROM on",
     },
     OptionRow {
         names: &["-e", "--elide-empty-files"],

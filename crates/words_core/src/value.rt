@@ -4,7 +4,7 @@ ghost use Rattle.std.specs.Prelude.{◌≡◌, ◌≤◌, ◌+◌, ◌-◌, ◌*
 ghost use Rattle.std.specs.Char.{is_ascii_digit};
 ghost use Rattle.std.specs.List.{list_all};
 ghost use Rattle.seg_core.specs.Count.{count_of, digits_of};
-ghost use Rattle.words_core.specs.Value.{byte_in, counted, ending_in, followed_in, fraction_in, fraction_of, is_zero, milliseconds, not_zero, number_fault, on_broken_in, process_in, pause_in, round_in, size_in, up_to, value_in};
+ghost use Rattle.words_core.specs.Value.{byte_in, counted, ending_in, followed_in, fraction_in, fraction_of, hex_in, is_zero, milliseconds, not_zero, number_fault, on_broken_in, process_in, pause_in, round_in, size_in, up_to, value_in};
 ghost use Rattle.words_core.specs.inner.Value.{seen_in};
 
 use crate::table::Kind;
@@ -85,6 +85,7 @@ pub fn read_value(kind: Kind, text: &str) -> Result<Value<'_>, UsageKind>
         Kind::Following => Ok(Value::Following(read_followed(text)?)),
         Kind::Looks => Ok(Value::Looks(not_zero(read_number(bytes, MOST_LOOKS)?)?)),
         Kind::Number => Ok(Value::Number(read_number(bytes, GREATEST)?)),
+        Kind::HexNumber => Ok(Value::Number(read_hex(bytes)?)),
         Kind::Process => Ok(Value::Process(read_process(bytes)?)),
         Kind::Seconds => Ok(Value::Pause(read_pause(bytes)?)),
         Kind::OnBroken => Ok(Value::OnBroken(read_on_broken(text)?)),
@@ -131,6 +132,26 @@ fn read_number(text: &[u8], limit: u64) -> Result<u64, UsageKind>
         Ok(_) => Err(UsageKind::NumberTooLarge),
         Err(fault) => Err(number_fault(fault)),
     }
+}
+
+/// Reads digits in hexadecimal alone, a number up to 2^63-1.
+fn read_hex(text: &[u8]) -> Result<u64, UsageKind>
+    ensures { result ≡ hex_in text.now }
+{
+    let mut number: u64 = 0;
+    for byte in text {
+        let Some(digit) = char::from(*byte).to_digit(16) else {
+            return Err(UsageKind::BadNumber);
+        };
+        number = number.saturating_mul(16).saturating_add(u64::from(digit));
+    }
+    if text.is_empty() {
+        return Err(UsageKind::BadNumber);
+    }
+    if number > GREATEST {
+        return Err(UsageKind::NumberTooLarge);
+    }
+    Ok(number)
 }
 
 /// Reads the number of a process.

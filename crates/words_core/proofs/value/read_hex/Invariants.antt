@@ -1,0 +1,11 @@
+use Rattle.std.proofs.Common.{◌≡◌, ◌-◌, ◌^◌, true, min, take, drop}
+use Rattle.std.specs.List.{list_all}
+use Rattle.std.specs.Str.Parse.{digits_value}
+use Rattle.words_core.specs.Value.{is_hex}
+use Rattle.words_core.proofs.value.read_hex.Given as goal
+
+abbrev pub invariant-loop-byte : goal.invariant-loop-byte
+invariant-loop-byte l = record {
+  held : l.number ≡ min (digits_value 16 (take l.byte-index l.text)) (2 ^ 64 - 1);
+  digits : list_all is_hex (drop l.byte-index l.text) ≡ list_all is_hex l.text;
+}
