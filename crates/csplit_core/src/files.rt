@@ -8,7 +8,7 @@ use crate::Style;
 use ports_core::{Fault, FileWriter, Keeps, Naming, Numbering, Opening, Tells};
 use std::alloc::Global;
 
-/// A writer of files that has begun no section.
+/// A writer of files that has made none.
 ///
 /// # Errors
 ///

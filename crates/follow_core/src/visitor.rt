@@ -16,13 +16,10 @@ use crate::name::Standing;
 use crate::notice::{Notice, notice_line};
 use crate::printer::Printer;
 use crate::start::Start;
-use ports_core::{Fault, Outs, Tool, print, say};
+use ports_core::{Fault, Outs, PIECE, Tool, print, say};
 use std::alloc::Global;
 use std::marker::Model;
 use watch_core::{Seen, Watch};
-
-/// How many bytes are read at once, at the most.
-const PIECE: usize = 65_536;
 
 /// What stops a name, or all of them.
 pub(crate) enum Stop {

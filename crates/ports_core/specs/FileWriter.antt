@@ -12,7 +12,7 @@ use Rattle.ports_core.specs.declared.file_writer.Current.{Current}
 use Rattle.ports_core.specs.declared.file_writer.Current.TheVariants.{Skipped, Due, File, Unopened}
 use Rattle.ports_core.specs.declared.file_writer.FileWriter.{FileWriter}
 use Rattle.ports_core.specs.declared.file_writer.Keeps.{Keeps}
-use Rattle.ports_core.specs.declared.file_writer.Keeps.TheVariants.{All}
+use Rattle.ports_core.specs.declared.file_writer.Keeps.TheVariants.{All, Open as OpenOne}
 use Rattle.ports_core.specs.declared.file_writer.Opening.{Opening}
 use Rattle.ports_core.specs.declared.file_writer.Opening.TheVariants.{Never, Late}
 use Rattle.ports_core.specs.declared.file_writer.Tells.{Tells}
@@ -24,7 +24,7 @@ pub record WriterState : Type 0 where
   pub names : Names
   pub tells : Tells
   pub keeps : Keeps
-  -- where all are kept, the outputs of the files that it made and didn't remove, in order
+  -- where all are kept, the outputs of the files that it made and didn't remove, in order; else none
   pub files : List ℕ
   -- what bytes go to
   pub current : Current
@@ -84,6 +84,7 @@ pub record IsManner (manner own : Manner) : Type 0 where
 pub record Writes (manner : Manner) (writer : WriterState) (draft : Draft) : Type 0 where
   pub same : IsManner manner (manner_in writer)
   pub made : writer.names.drawn ≡ length (shares_of draft)
+  pub kept : writer.keeps ≡ All → length writer.files ≡ length (shares_of draft)
   pub named : AreNamed manner (length (shares_of draft))
   pub current : IsCurrent writer.tells draft.opening draft.bytes writer.current
 
@@ -94,8 +95,8 @@ IsLast Due first slots = Unit {0}
 IsLast (File slot size) first slots = (first ≤ slot) × (suc slot ≡ length slots)
 IsLast Unopened first slots = Unit {0}
 
--- from this place on those are its files, and the open one is the last; where all are kept, they are just the outputs that
--- have a file
+-- The open file is the last output, and stands from this place on. Where the outputs of all files are kept, they are just
+-- those from there on that have a file.
 pub record OwnsFiles (writer : WriterState) (first : ℕ) (slots : List Slot) : Type 0 where
   pub streams : 2 ≤ first
   pub within : first ≤ length slots
@@ -170,6 +171,7 @@ pub record Leaves (writer next : WriterState) (old new : List Slot) (fault : Opt
   pub naming : next.names.naming ≡ writer.names.naming
   pub tells : next.tells ≡ writer.tells
   pub keeps : next.keeps ≡ writer.keeps
+  pub open_alone : writer.keeps ≡ OpenOne → next.files ≡ writer.files
   pub owns : KeepsFiles writer next old new
   pub slots : KeepsOrBreaks (manner_in writer) old new fault
   pub output : IfNone fault (IsTrue (is_writable old 0) → IsTrue (is_writable new 0))

@@ -57,7 +57,7 @@ pub enum Current {
         /// How many bytes it has, where sizes are told.
         size: u64,
     },
-    /// A file that could not be opened. Nothing follows but `clear`.
+    /// A file that could not be made. Nothing follows but `clear`.
     Unopened,
 }
 
@@ -73,7 +73,8 @@ pub struct FileWriter {
 }
 
 impl FileWriter {
-    /// A writer that has made no file, and makes the first with its first byte, unless something else is begun.
+    /// A writer that has made no file, names its files so, by their places from 0 on, and makes the first with its first
+    /// byte, unless something else is begun.
     pub fn new(alloc: Global, naming: Naming, tells: Tells, keeps: Keeps) -> FileWriter
         ensures { seen_writer result ≡ new_writer naming tells keeps }
     {
@@ -88,7 +89,7 @@ impl FileWriter {
 
     /// Whether a file is open.
     pub fn is_open(&self) -> bool
-        ensures { result ≡ is_file self.now.current }
+        ensures { result ≡ is_file (seen_writer self.now).current }
     {
         matches!(self.current, Current::File { .. })
     }
@@ -98,14 +99,14 @@ impl FileWriter {
     /// # Errors
     ///
     /// `Write` where the file broke; `Memory`, `Open` and `Suffixes` where it is opened now, and there is no room for its
-    /// name, it can't be opened, or no name is left.
+    /// name or its output's number, it can't be opened, or no name is left.
     pub fn put<O: Outs>(&mut self, bytes: &[u8], outs: &mut O) -> Result<(), Fault>
         requires ready { IsReady (seen_writer self.old) (O.slots outs.old) }
-        requires fits { CanCount self.old.tells (size_of self.old.current) bytes.now }
+        requires fits { CanCount (seen_writer self.old).tells (size_of (seen_writer self.old).current) bytes.now }
         ensures goes { Goes O.told (seen_writer self.old) (with_bytes bytes.now) (O.slots outs.old) (O.slots outs.new) (seen_writer self.new) (fault_in result) }
-        ensures size { OnOk result (size_of self.new.current ≤ size_of self.old.current + length bytes.now) }
-        ensures stays { OnOk result (is_file self.old.current ≡ true → is_file self.new.current ≡ true) }
-        ensures broke { IfErr result (λ fault. is_file self.old.current ≡ true → IsWrite fault) }
+        ensures size { OnOk result (size_of (seen_writer self.new).current ≤ size_of (seen_writer self.old).current + length bytes.now) }
+        ensures stays { OnOk result (is_file (seen_writer self.old).current ≡ true → is_file (seen_writer self.new).current ≡ true) }
+        ensures broke { IfErr result (λ fault. is_file (seen_writer self.old).current ≡ true → IsWrite fault) }
     {
         match self.current {
             Current::Skipped => Ok(()),
@@ -125,11 +126,12 @@ impl FileWriter {
     ///
     /// # Errors
     ///
-    /// `Memory` where there is no room for a name, `Open` where the file can't be opened, `Suffixes` where no name is left.
+    /// `Memory` where there is no room for a name or for an output's number, `Open` where the file can't be opened,
+    /// `Suffixes` where no name is left.
     pub fn begin<O: Outs>(&mut self, opening: Opening, outs: &mut O) -> Result<(), Fault>
         requires { IsReady (seen_writer self.old) (O.slots outs.old) }
         ensures goes { Goes O.told (paused (seen_writer self.old)) (with_next opening) (O.slots outs.old) (O.slots outs.new) (seen_writer self.new) (fault_in result) }
-        ensures size { OnOk result (size_of self.new.current ≡ 0) }
+        ensures size { OnOk result (size_of (seen_writer self.new).current ≡ 0) }
         ensures made { IfErr result (λ fault. (seen_writer self.new).files ≡ (seen_writer self.old).files) }
     {
         match opening {
@@ -150,7 +152,7 @@ impl FileWriter {
     pub fn next<O: Outs>(&mut self, opening: Opening, outs: &mut O) -> Result<(), Fault>
         requires { IsReady (seen_writer self.old) (O.slots outs.old) }
         ensures goes { Goes O.told (seen_writer self.old) (with_next opening) (O.slots outs.old) (O.slots outs.new) (seen_writer self.new) (fault_in result) }
-        ensures size { OnOk result (size_of self.new.current ≡ 0) }
+        ensures size { OnOk result (size_of (seen_writer self.new).current ≡ 0) }
     {
         self.end(outs)?;
         self.begin(opening, outs)
@@ -164,7 +166,7 @@ impl FileWriter {
     pub fn end<O: Outs>(&mut self, outs: &mut O) -> Result<(), Fault>
         requires { IsReady (seen_writer self.old) (O.slots outs.old) }
         ensures goes { Goes O.told (seen_writer self.old) (with_next Never) (O.slots outs.old) (O.slots outs.new) (seen_writer self.new) (fault_in result) }
-        ensures none { OnOk result (self.new.current ≡ Skipped) }
+        ensures none { OnOk result ((seen_writer self.new).current ≡ Skipped) }
         ensures broke { IfErr result IsWrite }
     {
         match self.current {
@@ -182,8 +184,8 @@ impl FileWriter {
         }
     }
 
-    /// Removes all files that are still there, in order. One that can't be removed is broken and closed, and the next
-    /// is tried.
+    /// Removes all files whose outputs are kept and that are still there, in order. One that can't be removed is broken and
+    /// closed, and the next is tried.
     pub fn clear<O: Outs>(&mut self, outs: &mut O)
         requires { AreThere (seen_writer self.old).files (O.slots outs.old) }
         ensures same { seen_writer self.new ≡ record (seen_writer self.old) { files = (seen_writer self.new).files } }

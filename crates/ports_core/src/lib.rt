@@ -37,7 +37,7 @@ pub use guarded::Guarded;
 pub use input_files::{InputFiles, id_of};
 pub use inputs::{Inputs, STANDARD_INPUT};
 pub use laws::{names_are_in_order, no_name_is_given_twice, one_is_agreed};
-pub use length::{MOST_BYTES, fed_with};
+pub use length::{MOST_BYTES, PIECE, fed_with};
 pub use messages::{print, say, tell};
 pub use names::{Names, numbered};
 pub use naming::Naming;

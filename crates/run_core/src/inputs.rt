@@ -17,11 +17,8 @@ ghost use Rattle.run_core.specs.Task.{Task, header_text, of_content, of_input};
 
 use crate::adapter::Adapter;
 use crate::feeding::{Fed, feed_input, feed_nothing, is_verdict};
-use ports_core::{Fault, Inputs, Outs, STANDARD_INPUT, header, say, tell, write_whole};
+use ports_core::{Fault, Inputs, Outs, PIECE, STANDARD_INPUT, header, say, tell, write_whole};
 use std::alloc::Global;
-
-/// How many bytes are read at once, at the most.
-const PIECE: usize = 65_536;
 
 /// What all inputs of a run have in common.
 #[derive(Clone, Copy)]

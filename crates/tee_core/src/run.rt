@@ -13,11 +13,8 @@ ghost use Rattle.tee_core.specs.Run.{EndsAs, all_copied, all_of, any_of, is_done
 ghost use Rattle.tee_core.specs.inner.Steps.{HasCopied, Copies, CopiesRead, HasStreams, IsTeeOf, SaysTo, broken_of, output_slot, said_since};
 
 use crate::tee::Tee;
-use ports_core::{Fault, Inputs, Mode, OnBroken, Outs, Tool, fed_with, say, tell};
+use ports_core::{Fault, Inputs, Mode, OnBroken, Outs, PIECE, Tool, fed_with, say, tell};
 use std::alloc::Global;
-
-/// How many bytes are read at once, at the most.
-const PIECE: usize = 65_536;
 
 /// A whole run of `tee`: copies standard input to standard output and to the files of these names, which begin empty or are
 /// appended to (POSIX.1-2017, XCU tee). A file named `-` is a file. Its status is 1 where a fault was met, and else 0.

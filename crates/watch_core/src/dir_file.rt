@@ -1,14 +1,11 @@
 ghost use Rattle.std.specs.Prelude.{◌≡◌, ◌≤◌, ◌<◌, ◌+◌, ◌^◌, false, length, IfSome, IsTrue};
 
-use ports_core::MOST_BYTES;
+use ports_core::{MOST_BYTES, PIECE};
 use std::alloc::Global;
 use std::fs::{File, Metadata};
 use std::io;
 use std::io::{ErrorKind, Read};
 use std::os::unix::fs::FileExt;
-
-/// How many bytes of a stream are read at once, at the most.
-const PIECE: usize = 65_536;
 
 /// How many bytes are read at once, at the most, to count those of a file that doesn't tell its length.
 const COUNTED: usize = 4_096;

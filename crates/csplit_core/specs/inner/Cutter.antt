@@ -367,7 +367,7 @@ whole_part cutter x = whole_of cutter.style cutter.operands (all_lines x)
 abbrev pub tells_by : Style → Tells
 tells_by style = if style.quiet then Nothing else Sizes
 
--- a writer that has begun no section
+-- a writer that has made no file
 abbrev pub new_for : Style → WriterState
 new_for style = new_writer (naming_of style) (tells_by style) All
 
