@@ -28,7 +28,7 @@ use Rattle.ports_core.specs.declared.file_writer.Current.TheVariants.{File, Unop
 use Rattle.ports_core.specs.declared.file_writer.Keeps.{Keeps}
 use Rattle.ports_core.specs.declared.file_writer.Keeps.TheVariants.{Open as OpenOne, All}
 use Rattle.ports_core.specs.declared.file_writer.Opening.{Opening}
-use Rattle.ports_core.specs.declared.file_writer.Opening.TheVariants.{Never, Late, AtOnce}
+use Rattle.ports_core.specs.declared.file_writer.Opening.TheVariants.{Never, AtOnce}
 use Rattle.ports_core.specs.declared.file_writer.Tells.{Tells}
 use Rattle.ports_core.specs.declared.file_writer.Tells.TheVariants.{Nothing, Sizes}
 use Rattle.ports_core.specs.declared.names.Names.{Names}
@@ -38,7 +38,7 @@ use Rattle.ports_core.proofs.HandedOn.{handed_on}
 use Rattle.ports_core.proofs.PartLemmas.{begins_itself, begins_more, take_begins_after, files_begin_themselves, part_begins_itself, out_more, turn_between, turn_next, turn_last, lines_before}
 use Rattle.ports_core.proofs.PartSteps.{Becomes, becomes_again, with_last, halts_here, there_from, file_of, writes_to, opens, falls_wider, close_begins, closes_last, closes_not, lines_of_front}
 use Rattle.ports_core.proofs.OpenLemmas.{opens_marks, opens_at}
-use Rattle.ports_core.proofs.ShareLemmas.{stopped_part, part_grows, has_told, closed_files, ended_files, ended_out, name_after, open_part, closed_part, none_part, still_made, late_made, made_or}
+use Rattle.ports_core.proofs.ShareLemmas.{stopped_part, part_grows, has_told, closed_files, ended_files, ended_out, name_after, open_part, closed_part, none_part, still_made, made_or}
 use Rattle.ports_core.proofs.SlotLemmas.{length-changed_at}
 use Rattle.ports_core.proofs.SlotSteps.{KeepsMade, none_past, file_before, at_end, opened_last, writable_within, write_rose, close_rose, keeps_write, made_write, written_writable, made_short, keeps_open, writable_before, made_again, open_rose, opened_writable, made_close, made_break, keeps_close, writable_elsewhere, keeps_again}
 use Rattle.ports_core.proofs.WriteLemmas.{none_written}
@@ -435,15 +435,13 @@ put_file {told} {writer} {next} {slot} {size} bytes {old} {new} {fault} is ready
 -- What makes no file
 
 pub never_made : (draft : Draft) → draft.opening ≡ Never → made_of draft.opening draft.bytes ≡ []
-never_made draft is = ap (λ opening. made_of opening draft.bytes) is
+never_made draft is = search rules
 
 pub skipped_made : (tells : Tells) {current : Current} → current ≡ Skipped → (draft : Draft) → IsCurrent tells draft.opening draft.bytes current → made_of draft.opening draft.bytes ≡ []
-skipped_made tells is draft now = never_made draft (subst (IsCurrent tells draft.opening draft.bytes) is now)
+skipped_made tells is draft now = search rules
 
 pub due_made : (tells : Tells) {current : Current} → current ≡ Due → (draft : Draft) → IsCurrent tells draft.opening draft.bytes current → made_of draft.opening draft.bytes ≡ []
-due_made tells is draft now =
-    let (late, none) : IsCurrent tells draft.opening draft.bytes Due = subst (IsCurrent tells draft.opening draft.bytes) is now in
-    ap (λ opening. made_of opening draft.bytes) late ∙ ap (made_of Late) none
+due_made tells is draft now = search rules
 
 -- A file is made for what is begun.
 
@@ -582,16 +580,7 @@ goes_made {told} {writer} {made} {next} {change} {slot} bytes {old} {mid} {new} 
 
 -- The first bytes of what gets its file with them
 pub first_bytes : (tells : Tells) {current : Current} (bytes : List ℕ) → current ≡ Due → false ≡ eqb (length bytes) 0 → (draft : Draft) → IsCurrent tells draft.opening draft.bytes current → Unwritten draft (with_bytes bytes draft) × (draft.bytes ++ bytes ≡ bytes)
-first_bytes tells bytes is some draft now =
-    let (late, none) : IsCurrent tells draft.opening draft.bytes Due = subst (IsCurrent tells draft.opening draft.bytes) is now in
-    let all : draft.bytes ++ bytes ≡ bytes = ap (λ those. those ++ bytes) none in (
-      record {
-        same = refl;
-        none = due_made tells is draft now;
-        makes = ap (λ opening. made_of opening (draft.bytes ++ bytes)) late ∙ ap (made_of Late) all ∙ late_made bytes (grind (arith, common_steps)) ∙ ap (λ those. those ∷ []) (sym all);
-      },
-      all,
-    )
+first_bytes tells bytes is some draft now = search rules
 
 -- What is begun where nothing is
 
@@ -600,7 +589,7 @@ paused_ready ready = record { streams = ready.streams; output = ready.output; fi
 
 -- what was begun had no file
 ended_none : (draft : Draft) → made_of draft.opening draft.bytes ≡ [] → draft.ended ++ made_of draft.opening draft.bytes ≡ draft.ended
-ended_none draft none = ap (λ made. draft.ended ++ made) none ∙ append-nil draft.ended
+ended_none draft none = search rules
 
 -- what has no file is begun, after what has none
 pub begins_none : {told : Bool} {writer : WriterState} {opening : Opening} (current : Current) {slots : List Slot} → ((draft : Draft) → IsCurrent writer.tells draft.opening draft.bytes writer.current → made_of draft.opening draft.bytes ≡ [])

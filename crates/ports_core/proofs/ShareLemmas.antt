@@ -1,8 +1,8 @@
 -- The files of shares, and what standard output is told of them: what begins what, and the last file.
 use Rattle.std.proofs.lemmas.Grind.{common_steps}
-use Rattle.std.proofs.Common.{◌≡◌, ℕ, ◌+◌, ◌<◌, suc, Bool, true, false, cond, List, [], ◌∷◌, ◌++◌, ◌⊎◌, length, map, inl, inr, refl, sym, ◌∙◌, ap, subst, arith, append_assoc, append-nil, zero-add}
+use Rattle.std.proofs.Common.{◌≡◌, ℕ, ◌+◌, ◌<◌, suc, Bool, true, false, cond, List, [], ◌∷◌, ◌++◌, ◌⊎◌, length, map, inl, inr, refl, sym, ◌∙◌, ap, subst, arith, append_assoc, append-nil, zero-add, rules}
 use Rattle.std.proofs.lemmas.Bool.{cond_both}
-use Rattle.std.proofs.lemmas.List.{map-append, length-map}
+use Rattle.std.proofs.lemmas.List.{length-map}
 use Rattle.ports_core.specs.Draft.{Manner, AreNamed, Share, share, file_at, files_from, told_of_files, part_with, part_of, made_of, Draft, shares_of, draft_part, with_bytes, with_next}
 use Rattle.ports_core.specs.Part.{File, nothing, Begins, FilesBegin, IsBeginning, Output, gets_none, gets_bytes, gets_lines, lines_for}
 use Rattle.ports_core.specs.Slot.{is_open}
@@ -39,7 +39,7 @@ made_begin AtOnce state low high begins = (inl refl, begins, tt)
 
 files_by : (manner : Manner) (has : Bool) (place : ℕ) (one other : Share) (low high : List File) → (one.state ≡ Open) ⊎ (one ≡ other) → IsBeginning one.bytes other.bytes → FilesBegin low high
     → FilesBegin (cond has (file_at manner place one ∷ low) []) (cond has (file_at manner place other ∷ high) [])
-files_by manner true place one other low high kept first rest = grind (arith, common_steps)
+files_by manner true place one other low high kept first rest = search rules
 files_by manner false place one other low high kept first rest = tt
 
 pub files_begin : (manner : Manner) (place : ℕ) (low high : List Share) → SharesBegin low high → FilesBegin (files_from manner place low) (files_from manner place high)
@@ -80,11 +80,8 @@ open_untold gets_bytes manner place bytes = refl
 open_untold (gets_lines line) manner place [] = refl
 open_untold (gets_lines line) manner place (one ∷ bytes) = cond_both (manner.has_name place) _ _ (λ files. lines_for line files ≡ []) (λ is. open_untold (gets_lines line) manner (place + 1) bytes) (λ is. refl)
 
-began : (a b c : List ℕ) → IsBeginning b c → IsBeginning (a ++ b) (a ++ c)
-began a b c (rest, is) = (rest, ap (λ those. a ++ those) is ∙ sym (append_assoc a b rest))
-
 told_by : (line : File → List ℕ) (has : Bool) (file : File) (low high : List File) → IsBeginning (lines_for line low) (lines_for line high) → IsBeginning (lines_for line (cond has (file ∷ low) [])) (lines_for line (cond has (file ∷ high) []))
-told_by line true file low high begins = began (cond (is_open file.state) [] (line file)) _ _ begins
+told_by line true file low high begins = grind (arith, common_steps)
 told_by line false file low high begins = begins_itself []
 
 -- nor does it lose what it was told, as the last shares grow
@@ -109,9 +106,7 @@ pub bytes_begin : (manner : Manner) (bytes : List ℕ) (draft : Draft) → Begin
 bytes_begin manner bytes draft = part_grows manner (map (share Closed) draft.ended) (made_of draft.opening draft.bytes) _ (made_begin draft.opening Open draft.bytes (draft.bytes ++ bytes) (begins_more draft.bytes bytes))
 
 pub next_shares : (opening : Opening) (draft : Draft) → shares_of (with_next opening draft) ≡ map (share Closed) draft.ended ++ (map (share Closed) (made_of draft.opening draft.bytes) ++ map (share Open) (made_of opening []))
-next_shares opening draft =
-    ap (λ front. front ++ map (share Open) (made_of opening [])) (map-append (share Closed) draft.ended (made_of draft.opening draft.bytes))
-    ∙ append_assoc (map (share Closed) draft.ended) (map (share Closed) (made_of draft.opening draft.bytes)) (map (share Open) (made_of opening []))
+next_shares opening draft = grind (arith, common_steps)
 
 pub next_begins : (manner : Manner) (opening : Opening) (draft : Draft) → Begins (draft_part manner draft) (draft_part manner (with_next opening draft))
 next_begins manner opening draft = rw (next_shares opening draft)
@@ -129,7 +124,7 @@ one_on n m = omega arith
 
 -- the files of shares, and then of those after them
 files_on : (manner : Manner) (place : ℕ) (front rest : List Share) → AreNamed manner (place + length front) → files_from manner place (front ++ rest) ≡ files_from manner place front ++ files_from manner (place + length front) rest
-files_on manner place [] rest named = ap (λ n. files_from manner n rest) (let e : place ≡ place + 0 = omega arith in e)
+files_on manner place [] rest named = grind (arith, common_steps)
 files_on manner place (one ∷ front) rest named = cc (
   named place (omega arith),
   one_on place (length front),
@@ -139,7 +134,7 @@ files_on manner place (one ∷ front) rest named = cc (
 -- where the place after these has no name, more of them make no file
 pub files_stop : (manner : Manner) (place : ℕ) (front rest : List Share) → manner.has_name (place + length front) ≡ false → files_from manner place (front ++ rest) ≡ files_from manner place front
 files_stop manner place [] [] none = refl
-files_stop manner place [] (one ∷ rest) none = grind (arith, common_steps)
+files_stop manner place [] (one ∷ rest) none = search rules
 files_stop manner place (one ∷ front) rest none = cc (files_stop manner (place + 1) front rest (subst (λ n. manner.has_name n ≡ false) (one_on place (length front)) none))
 
 pub stopped_part : (manner : Manner) (draft : Draft) → manner.has_name (length draft.ended) ≡ false → draft_part manner draft ≡ part_of manner (map (share Closed) draft.ended)
@@ -196,8 +191,7 @@ closed_part manner draft named makes =
 
 -- there is none
 pub none_part : (manner : Manner) (draft : Draft) → made_of draft.opening draft.bytes ≡ [] → draft_part manner draft ≡ part_with manner.output (ended_files manner draft)
-none_part manner draft none =
-    ap (λ made. part_of manner (map (share Closed) draft.ended ++ map (share Open) made)) none ∙ ap (part_of manner) (append-nil (map (share Closed) draft.ended))
+none_part manner draft none = grind (arith, common_steps)
 
 -- there is one, or none
 pub made_or : (opening : Opening) (bytes : List ℕ) → (made_of opening bytes ≡ []) ⊎ (made_of opening bytes ≡ bytes ∷ [])
@@ -212,7 +206,3 @@ still_made Never bytes more is = absurd (cc)
 still_made Late [] more is = absurd (cc)
 still_made Late (byte ∷ bytes) more is = refl
 still_made AtOnce bytes more is = refl
-
-pub late_made : (bytes : List ℕ) → 0 < length bytes → made_of Late bytes ≡ bytes ∷ []
-late_made [] some = absurd (omega (arith, some))
-late_made (byte ∷ bytes) some = refl

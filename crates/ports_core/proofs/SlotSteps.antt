@@ -24,9 +24,6 @@ flag_stays change same zero zero (slot ∷ slots) = same slot
 flag_stays change same (suc place) (suc other) (slot ∷ slots) = flag_stays change same place other slots
 flag_stays change same place other slots = refl
 
-pub keeps_same : (old new : List Slot) → new ≡ old → KeepsBroken old new
-keeps_same old new is place sound = grind (arith, common_steps)
-
 pub keeps_again : (old mid new : List Slot) → KeepsBroken old mid → KeepsBroken mid new → KeepsBroken old new
 keeps_again old mid new first second place sound = search rules
 

@@ -1,6 +1,6 @@
 -- What the writer of files does, one change after another, and where one is stopped.
 use Rattle.std.proofs.lemmas.Grind.{common_steps}
-use Rattle.std.proofs.Common.{◌≡◌, ℕ, Bool, false, List, [], ◌∷◌, ◌++◌, ◌⊎◌, length, map, Option, Some, None, Result, Ok, Err, IfErr, inl, inr, refl, sym, ◌∙◌, ap, subst, arith, rules, append-nil, append_assoc}
+use Rattle.std.proofs.Common.{◌≡◌, ℕ, Bool, false, List, [], ◌∷◌, ◌++◌, ◌⊎◌, length, map, Option, Some, None, Result, Ok, Err, IfErr, inl, inr, refl, sym, ◌∙◌, ap, subst, arith, rules, append_assoc}
 use Rattle.std.proofs.lemmas.Bool.{false≢true}
 use Rattle.ports_core.specs.Draft.{Manner, Draft, share, part_of, made_of, draft_part, with_bytes, with_next}
 use Rattle.ports_core.specs.FileWriter.{WriterState, Writes, IsReady, IsWrite, RunsShort}
@@ -63,7 +63,7 @@ next_not_ended opening broke ended = goes_wider (with_next opening) (λ manner d
 
 -- what is next begins where what was begun has ended
 next_after : (opening : Opening) (draft : Draft) → with_next opening (with_next Never draft) ≡ with_next opening draft
-next_after opening draft = ap (λ ended. record { ended = ended; opening = opening; bytes = [] }) (append-nil (draft.ended ++ made_of draft.opening draft.bytes))
+next_after opening draft = grind (arith, common_steps)
 
 pub next_begun : {told : Bool} {writer mid next : WriterState} {opening : Opening} {old between new : List Slot} {fault : Option Fault} → Goes told writer (with_next Never) old between mid None → mid.current ≡ Skipped
     → Goes told (paused mid) (with_next opening) between new next fault → Goes told writer (with_next opening) old new next fault
@@ -83,7 +83,7 @@ pub stops_among : {told : Bool} {writer next : WriterState} (a b : List ℕ) {ol
 stops_among a b stopped = goes_wider (with_bytes (a ++ b)) (λ manner draft. subst (λ those. Begins (draft_part manner (with_bytes a draft)) (draft_part manner those)) (again draft a b) (bytes_begin manner b (with_bytes a draft))) (inr (λ draft. (refl, λ makes. subst (λ bytes. made_of draft.opening bytes ≡ bytes ∷ []) (append_assoc draft.bytes a b) (still_made draft.opening (draft.bytes ++ a) b makes)))) stopped
 
 pub goes_as : {told : Bool} {writer next : WriterState} {a b : List ℕ} {old new : List Slot} {fault : Option Fault} → a ≡ b → Goes told writer (with_bytes a) old new next fault → Goes told writer (with_bytes b) old new next fault
-goes_as {told} {writer} {next} {old = old} {new} {fault} is goes = subst (λ bytes. Goes told writer (with_bytes bytes) old new next fault) is goes
+goes_as {told} {writer} {next} {old = old} {new} {fault} is goes = grind (arith, common_steps)
 
 -- the last call only wants memory
 pub goes_or_lacks : {told : Bool} {writer next : WriterState} {bytes : List ℕ} {old new : List Slot} (result : Result (Unit {0}) Fault) → Goes told writer (with_bytes bytes) old new next None → IfErr result (λ fault. fault ≡ Memory)
