@@ -13,7 +13,7 @@ use Rattle.csplit_core.specs.Csplit.{settled_of, whole_of, verdict_of, waiting, 
 use Rattle.ports_core.specs.Draft.{Draft, draft_part, with_bytes, with_next}
 use Rattle.ports_core.specs.declared.file_writer.Opening.{Opening}
 use Rattle.ports_core.specs.declared.file_writer.Opening.TheVariants.{Never}
-use Rattle.ports_core.specs.FileWriter.{new_writer, paused, Goes, Leaves, Reaches, At, KeepsFiles}
+use Rattle.ports_core.specs.FileWriter.{paused, Goes, Leaves, Reaches, At, KeepsFiles}
 use Rattle.ports_core.proofs.ShareLemmas.{bytes_begin, next_begins, has_told, nothing_part, nothing_told}
 use Rattle.csplit_core.specs.Input.{newline, all_lines, open_line}
 use Rattle.csplit_core.specs.Operand.{Operand, Line}
@@ -30,7 +30,6 @@ use Rattle.csplit_core.specs.declared.progress.Turn.TheVariants.{Below, Missed, 
 use Rattle.ports_core.specs.FileWriter.{WriterState, Writes, size_of, IsReady as CanWrite, IsManner, Breaks, OwnsFiles, CanTell, manner_in}
 use Rattle.ports_core.specs.declared.file_writer.Keeps.TheVariants.{All}
 use Rattle.ports_core.specs.Draft.{Manner, size_of_file, output_of}
-use Rattle.ports_core.specs.Name.{name_at}
 use Rattle.ports_core.specs.declared.file_writer.Tells.TheVariants.{Nothing, Sizes}
 use Rattle.csplit_core.specs.Cutter.{CutterState, most_next, pattern_next, kept_next, next_of, most_by, pattern_by, kept_by, settled_draft, IsFit, Stands, suppress_in, state_in, text_from, draft_by, IsLive, IsPast, IsSound, load}
 use Rattle.csplit_core.proofs.TryLemmas.{turn_ends, left_is}
@@ -50,7 +49,7 @@ use Rattle.std.proofs.lemmas.Grind.{common_steps}
 use Rattle.std.proofs.Math.Nat.{min-eq_left}
 use Rattle.csplit_core.specs.CsplitState.{CsplitState, Holds, whole_lines, IsReady, Owns, files, work}
 use Rattle.csplit_core.proofs.TakeLemmas.{past_plan, past_part, is_past, still_past, more_settled, takes_again, takes_none, takes_wider, took_past, none_there}
-use Rattle.ports_core.specs.Part.{Begins, OutputsAt, StoppedBetween, nothing, writes, Output, gets_none, gets_lines}
+use Rattle.ports_core.specs.Part.{Begins, OutputsAt, StoppedBetween, nothing, writes, gets_none, gets_lines}
 use Rattle.ports_core.specs.Turn.{fault_in}
 use Rattle.ports_core.specs.Engine.{is_verdict, TakesIn, PutsOut, CutsOff, EndsShort, EndsWith, EndsThere, Finishes, StandsAt, IsMet, KeepsOwn}
 use Rattle.ports_core.specs.Swept.{AreThere, Swept, is_among}
@@ -91,7 +90,7 @@ first_owns style two = let owns = new_owns (naming_of style) (tells_by style) Al
 
 -- the first writer has been given nothing
 first_writes : (style : Style) → Writes (manner_of style) (writer_for style) nothing_yet
-first_writes style = record { same = first_manner style; made = refl; named = λ place less. refl; current = refl }
+first_writes style = record { same = first_manner style; made = refl; kept = λ all. refl; named = λ place less. refl; current = refl }
 
 pub first_ready : (style : Style) {writer : WriterState} {slots : List Slot} → writer ≡ new_for style → 2 ≤ length slots → IsTrue (is_writable slots 0) → CanWrite writer slots
 first_ready style {slots = slots} is two can = rw is (record { streams = two; output = can_tell style.quiet; files = tt; current = tt }) where

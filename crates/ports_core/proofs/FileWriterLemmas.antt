@@ -183,6 +183,7 @@ leaves_again {old = old} {mid} {new} {fault} first second = record {
   naming = second.naming ∙ first.naming;
   tells = second.tells ∙ first.tells;
   keeps = second.keeps ∙ first.keeps;
+  open_alone = λ alone. second.open_alone (first.keeps ∙ alone) ∙ first.open_alone alone;
   owns = owns_again first.owns second.owns;
   slots = slots_again old mid new fault (same_manner first) first.slots second.slots;
   output = where_well fault second.output (λ later can. later (first.output can));
@@ -193,11 +194,11 @@ pub keeps_files : {writer : WriterState} {slots : List Slot} → KeepsFiles writ
 keeps_files = record { owns = λ first owns. owns; there = λ are. are }
 
 pub leaves_still : {writer : WriterState} {slots : List Slot} → IsReady writer slots → Leaves writer writer slots slots None
-leaves_still ready = record { naming = refl; tells = refl; keeps = refl; owns = keeps_files; slots = λ place sound. sound; output = λ can. can; ready = ready }
+leaves_still ready = record { naming = refl; tells = refl; keeps = refl; open_alone = λ alone. refl; owns = keeps_files; slots = λ place sound. sound; output = λ can. can; ready = ready }
 
 -- want of memory leaves them as they are
 pub leaves_lacking : {writer : WriterState} {slots : List Slot} → Leaves writer writer slots slots (Some Memory)
-leaves_lacking = record { naming = refl; tells = refl; keeps = refl; owns = keeps_files; slots = tt; output = tt; ready = tt }
+leaves_lacking = record { naming = refl; tells = refl; keeps = refl; open_alone = λ alone. refl; owns = keeps_files; slots = tt; output = tt; ready = tt }
 
 -- the open file can be written
 pub at_file : {writer : WriterState} {slot size : ℕ} {slots : List Slot} → writer.current ≡ File slot size → IsReady writer slots → (2 ≤ slot) × IsTrue (is_writable slots slot)
@@ -319,10 +320,10 @@ pub goes_still : {told : Bool} {writer : WriterState} {change : Draft → Draft}
     → ((draft : Draft) → IsCurrent writer.tells draft.opening draft.bytes writer.current → (shares_of draft ≡ shares_of (change draft)) × IsCurrent writer.tells (change draft).opening (change draft).bytes current)
     → Goes told writer change slots slots (record writer { current = current }) None
 goes_still {writer = writer} {change} current {slots} ready at last stays = record {
-  leaves = record { naming = refl; tells = refl; keeps = refl; owns = keeps; slots = λ place sound. sound; output = λ can. can; ready = record { streams = ready.streams; output = ready.output; files = ready.files; current = at } };
+  leaves = record { naming = refl; tells = refl; keeps = refl; open_alone = λ alone. refl; owns = keeps; slots = λ place sound. sound; output = λ can. can; ready = record { streams = ready.streams; output = ready.output; files = ready.files; current = at } };
   reaches = λ manner draft writes. reaches_still keeps (ap (part_of manner) (stays draft writes.current).0);
   short = tt;
-  writes = λ manner draft writes. let so = stays draft writes.current in record { same = writes.same; made = writes.made ∙ ap length so.0; named = subst (λ shares. AreNamed manner (length shares)) so.0 writes.named; current = so.1 };
+  writes = λ manner draft writes. let so = stays draft writes.current in record { same = writes.same; made = writes.made ∙ ap length so.0; kept = λ all. writes.kept all ∙ ap length so.0; named = subst (λ shares. AreNamed manner (length shares)) so.0 writes.named; current = so.1 };
 } where
   keeps : KeepsFiles writer (record writer { current = current }) slots slots
   keeps = record { owns = λ first owns. record { streams = owns.streams; within = owns.within; from = owns.from; own = owns.own; there = owns.there; last = last first owns.last }; there = λ are. are }
@@ -373,6 +374,7 @@ wrote_leaves told {writer} {next} slot bytes {old} {new} fault same last slots s
   naming = ap (λ (w : WriterState). w.names.naming) same;
   tells = ap (λ (w : WriterState). w.tells) same;
   keeps = ap (λ (w : WriterState). w.keeps) same;
+  open_alone = λ alone. ap (λ (w : WriterState). w.files) same;
   owns = owns;
   slots = slots;
   output = wrote_can told slot bytes 0 old new fault wrote;
@@ -427,6 +429,7 @@ put_file {told} {writer} {next} {slot} {size} bytes {old} {new} {fault} is ready
       let count : length (shares_of draft) ≡ length (shares_of (with_bytes bytes draft)) = made_count draft now.0 ∙ sym (made_count (with_bytes bytes draft) grown) in record {
         same = subst (IsManner manner) (sym (ap manner_in appends.same)) writes.same;
         made = ap (λ (w : WriterState). w.names.drawn) appends.same ∙ writes.made ∙ count;
+        kept = λ all. ap (λ (w : WriterState). length w.files) appends.same ∙ writes.kept (sym (ap (λ (w : WriterState). w.keeps) appends.same) ∙ all) ∙ count;
         named = subst (AreNamed manner) count writes.named;
         current = rw current.1 (grown, subst (λ tells. IsCounted tells (draft.bytes ++ bytes) current.0) (sym (ap (λ (w : WriterState). w.tells) appends.same)) (counted_on writer.tells draft.bytes bytes size current.0 now.1 current.2));
       });
@@ -484,10 +487,11 @@ made_ready {writer} {next} {slot} {old} {new} ready made = record {
 }
 
 made_leaves : {writer next : WriterState} {slot : ℕ} {old new : List Slot} → IsReady writer old → Made writer old new next slot → Leaves writer next old new None
-made_leaves {writer} {next} {old = old} {new} ready made = record {
+made_leaves {writer} {next} {slot} {old} {new} ready made = record {
   naming = ap (λ (w : WriterState). w.names.naming) made.same;
   tells = ap (λ (w : WriterState). w.tells) made.same;
   keeps = ap (λ (w : WriterState). w.keeps) made.same;
+  open_alone = λ alone. ap (λ (w : WriterState). w.files) made.same ∙ ap (λ keeps. files_with keeps writer.files slot) alone;
   owns = owned_opened ready.streams made;
   slots = keeps_open _ old new made.added;
   output = writable_before old new 0 (opened (next_name writer.names) Fresh) (let two = ready.streams in omega (arith, two)) made.added;
@@ -499,6 +503,7 @@ unmade_leaves {writer} {next} {old} {new} {f} makes = rw makes.same (record {
   naming = makes.naming;
   tells = refl;
   keeps = refl;
+  open_alone = λ alone. refl;
   owns = owned_unopened makes.none;
   slots = make_breaks (output_of writer.tells) makes.none;
   output = tt;
@@ -568,6 +573,10 @@ goes_made {told} {writer} {made} {next} {change} {slot} bytes {old} {mid} {new} 
       let count : length (shares_of (change draft)) ≡ length draft.ended + 1 = made_count (change draft) so.makes ∙ ap (λ ended. length ended + 1) so.same in record {
         same = subst (IsManner manner) (sym (ap manner_in appends.same ∙ ap manner_in makes.same)) writes.same;
         made = ap (λ (w : WriterState). w.names.drawn) appends.same ∙ ap (λ (w : WriterState). w.names.drawn) makes.same ∙ ap (λ n. n + 1) (unmade_count so.none writes) ∙ sym count;
+        kept = λ all.
+            let was : writer.keeps ≡ All = sym (ap (λ (w : WriterState). w.keeps) appends.same ∙ ap (λ (w : WriterState). w.keeps) makes.same) ∙ all in
+            ap (λ (w : WriterState). length w.files) appends.same ∙ ap (λ (w : WriterState). length w.files) makes.same ∙ ap (λ keeps. length (files_with keeps writer.files slot)) was
+            ∙ length-append writer.files (slot ∷ []) ∙ ap (λ n. n + 1) (writes.kept was ∙ unmade_shares draft so.none) ∙ sym count;
         named = λ place less. due_named (change draft) makes.few so writes makes.named place (omega (arith, less, made_count (change draft) so.makes));
         current = rw current.1 (so.makes, subst (λ tells. IsCounted tells (change draft).bytes current.0) (sym (ap (λ (w : WriterState). w.tells) appends.same)) (rw are (counted_on made.tells [] bytes 0 current.0 (none_counted made.tells) current.2)));
       });
@@ -645,6 +654,7 @@ file_ends {manner} {writer} {draft} slot size is writes =
     ∙ sym (length-append (map (share state.Closed) (draft.ended ++ made_of draft.opening draft.bytes)) [] ∙ (grind (arith, common_steps, length-map, length-append, makes))) in record {
       same = writes.same;
       made = writes.made ∙ count;
+      kept = λ all. writes.kept all ∙ count;
       named = subst (AreNamed manner) count writes.named;
       current = refl;
     }
@@ -662,6 +672,7 @@ closed_leaves {writer} slot size {old} {new} is ready closed =
       naming = refl;
       tells = refl;
       keeps = refl;
+      open_alone = λ alone. refl;
       owns = file_closed made;
       slots = keeps_close slot old new closed;
       output = closed_can slot old new at.0 closed;
@@ -677,7 +688,7 @@ closed_leaves {writer} slot size {old} {new} is ready closed =
 pub close_not : {told : Bool} {writer : WriterState} (slot size : ℕ) {old new : List Slot} {f : Fault} → writer.current ≡ File slot size → IsReady writer old → f ≡ fault.Write slot → new ≡ with_broken slot (changed_at slot closes old)
     → Goes told writer (with_next Never) old new (paused writer) (Some f)
 close_not {told} {writer} slot size {old} {new} is ready which broken = subst (λ f. Goes told writer (with_next Never) old new (paused writer) (Some f)) (sym which) (record {
-  leaves = record { naming = refl; tells = refl; keeps = refl; owns = owns; slots = (let at = at_file is ready in (λ none. absurd (omega (arith, at.0, none)), close_rose slot old new at.1 (writable_within slot old at.1) broken)); output = tt; ready = tt };
+  leaves = record { naming = refl; tells = refl; keeps = refl; open_alone = λ alone. refl; owns = owns; slots = (let at = at_file is ready in (λ none. absurd (omega (arith, at.0, none)), close_rose slot old new at.1 (writable_within slot old at.1) broken)); output = tt; ready = tt };
   reaches = λ manner draft writes. let now = now_is is writes in let named = file_named now.0 writes in
       reaches_as (open_part manner draft named now.0) (closed_part manner draft named now.0)
       (reaches_by owns (λ first last. falls_wider (closes_not manner.output told (ended_out manner draft) (ended_files manner draft) (name_after manner draft) draft.bytes old

@@ -32,7 +32,6 @@ use Rattle.ports_core.proofs.WriteLemmas.{writable-written}
 use Rattle.ports_core.proofs.FileLemmas.{Makes, file_more, file_changes, write_makes, close_makes, gets, ended}
 use Rattle.ports_core.specs.Turn.{fault_in}
 use Rattle.ports_core.specs.inner.Write.{Wrote}
-use Rattle.ports_core.specs.Engine.{is_verdict}
 use Rattle.ports_core.specs.Slot.{KeepsBroken}
 use Rattle.split_core.specs.Sharing.{CannotOpen}
 

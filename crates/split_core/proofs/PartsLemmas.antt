@@ -1,15 +1,15 @@
 -- What each call on parts leaves: a step of a piece, a piece that is taken in step by step, the end of the input, and what the stage owes.
 use Rattle.std.proofs.lemmas.Grind.{common_steps}
-use Rattle.std.proofs.Common.{◌≡◌, ℕ, ◌+◌, ◌-◌, ◌<◌, ◌≤◌, zero, suc, List, [], ◌∷◌, ◌++◌, ◌⊎◌, length, map, Bool, true, false, Option, Some, None, IfNone, IfSome, Result, Ok, Err, OnOk, IfErr, IfOk, inl, inr, refl, sym, ◌∙◌, ap, subst, arith, length-append, rules, take, drop, append_assoc, not, cond, zero-add}
+use Rattle.std.proofs.Common.{◌≡◌, ℕ, ◌+◌, ◌-◌, ◌<◌, ◌≤◌, zero, suc, List, [], ◌∷◌, ◌++◌, ◌⊎◌, length, map, Bool, true, false, Option, Some, None, IfSome, Result, Ok, Err, OnOk, IfErr, IfOk, inl, inr, refl, sym, ◌∙◌, ap, subst, arith, length-append, take, drop, append_assoc, not, cond, zero-add}
 use Rattle.std.proofs.lemmas.List.{append-nil, drop-take, take-append-drop, length-map, map-append}
 use Rattle.std.proofs.Math.Seq.{take-length, drop-append_seam}
 use Rattle.std.proofs.lemmas.Bool.{false≢true}
 use Rattle.ports_core.specs.Draft.{Manner, Draft, share, Share, made_of, shares_of, draft_part, output_of, part_of, with_bytes, with_next}
 use Rattle.ports_core.specs.Engine.{CutsOff, EndsWith, EndsThere, IsMet, StandsAt, is_verdict}
 use Rattle.ports_core.specs.Engine as engine
-use Rattle.ports_core.specs.FileWriter.{WriterState, Writes, At, Breaks, Goes, IsCurrent, IsReady as CanWrite, IsWrite, Leaves, RunsShort, is_file, manner_in}
+use Rattle.ports_core.specs.FileWriter.{WriterState, Writes, At, Breaks, Goes, IsCurrent, IsReady as CanWrite, IsWrite, is_file, manner_in}
 use Rattle.ports_core.specs.Name.{Naming, has_name}
-use Rattle.ports_core.specs.Part.{Begins as PartBegins, Output, OutputsAt, gets_none, writes}
+use Rattle.ports_core.specs.Part.{Begins as PartBegins, OutputsAt, gets_none, writes}
 use Rattle.ports_core.specs.Slot.{Slot}
 use Rattle.ports_core.specs.Turn.{fault_in}
 use Rattle.ports_core.specs.inner.Shares.{SharesBegin}
@@ -22,7 +22,7 @@ use Rattle.ports_core.specs.declared.file_writer.Tells.{Tells}
 use Rattle.ports_core.specs.declared.file_writer.Tells.TheVariants.{Nothing}
 use Rattle.ports_core.specs.declared.slot.State.TheVariants as file_state
 use Rattle.ports_core.proofs.FileWriterLemmas.{goes_still, in_any, keeps_files, leaves_again, leaves_still, put_nothing, reaches_again, reaches_as, reaches_still, stops_wider, where_short, where_well}
-use Rattle.ports_core.proofs.WriterSteps.{GrowsOn, goes_again, goes_as, goes_lacking, goes_more, goes_wider, stops_among}
+use Rattle.ports_core.proofs.WriterSteps.{goes_again, goes_as, goes_lacking, goes_more, goes_wider, stops_among}
 use Rattle.ports_core.proofs.PartLemmas.{begins_itself, begins_trans, kept_trans, stopped_in_turn}
 use Rattle.ports_core.proofs.ShareLemmas.{bytes_begin, made_begin, next_begins, shares_after, shares_wider, still_made}
 use Rattle.seg_core.specs.Cut.{most}
@@ -34,13 +34,13 @@ use Rattle.split_core.specs.Ways as ways
 use Rattle.split_core.specs.declared.splitter.Splitter.TheVariants as way
 use Rattle.split_core.specs.declared.step.Step.{Step}
 use Rattle.split_core.specs.declared.step.Step.TheVariants.{Goes as GoesOn, Ends, Begins, Waits}
-use Rattle.split_core.specs.inner.CutLaws.{cut_so, whole_parts}
+use Rattle.split_core.specs.inner.CutLaws.{cut_so}
 use Rattle.split_core.specs.inner.Sharing.{CannotClose, always_named}
 use Rattle.split_core.specs.inner.Step.{IsTurned, Leads}
 use Rattle.split_core.specs.inner.Takes.{Emptying, Extends, Finishes, LacksNames, Moves, Steps, Takes, Turns, numbers, settled_part, turns, whole_part}
 use Rattle.split_core.specs.inner.Ways.{FinishesBy, PassesBy}
 use Rattle.split_core.specs.laws.CutLaws.{cut_none, cut_on, first_some, rest_short, settled_some, settled_then_waiting}
-use Rattle.split_core.specs.laws.ShareLaws.{are_named_more, named_short, part_begins, settled_count, settled_end, settled_grow, shares_fewer}
+use Rattle.split_core.specs.laws.ShareLaws.{are_named_more, named_short, part_begins, settled_count, settled_grow, shares_fewer}
 use Rattle.split_core.proofs.AgreedLemmas.{one_of}
 use Rattle.split_core.proofs.CutLaws.{cut_two}
 
