@@ -455,7 +455,7 @@ pub record Unwritten (draft next : Draft) : Type 0 where
   makes : made_of next.opening next.bytes ≡ next.bytes ∷ []
 
 unmade_shares : (draft : Draft) → made_of draft.opening draft.bytes ≡ [] → length (shares_of draft) ≡ length draft.ended
-unmade_shares draft none = ap (λ made. length (map (share state.Closed) draft.ended ++ map (share state.Open) made)) none ∙ ap length (append-nil (map (share state.Closed) draft.ended)) ∙ length-map draft.ended (share state.Closed)
+unmade_shares draft none = search (rules, length-map)
 
 unmade_count : {manner : Manner} {writer : WriterState} {draft : Draft} → made_of draft.opening draft.bytes ≡ [] → Writes manner writer draft → writer.names.drawn ≡ length draft.ended
 unmade_count {draft = draft} none writes = writes.made ∙ unmade_shares draft none

@@ -95,26 +95,22 @@ told_grows (gets_lines line) manner place (one ∷ front) low high =
 
 -- what is written of shares whose last ones are open, and go on
 pub part_grows : (manner : Manner) (front : List Share) (low : List (List ℕ)) (high : List Share) → SharesBegin (map (share Open) low) high → Begins (part_of manner (front ++ map (share Open) low)) (part_of manner (front ++ high))
-part_grows manner front low high begins = record {
-  out = told_grows manner.output manner 0 front low high;
-  files = files_begin manner 0 _ _ (shares_after front _ high begins);
-}
+part_grows manner front low high begins = grind (arith, common_steps, told_grows, files_begin, shares_after)
 
 -- What is written of a draft only grows.
 
 pub bytes_begin : (manner : Manner) (bytes : List ℕ) (draft : Draft) → Begins (draft_part manner draft) (draft_part manner (with_bytes bytes draft))
-bytes_begin manner bytes draft = part_grows manner (map (share Closed) draft.ended) (made_of draft.opening draft.bytes) _ (made_begin draft.opening Open draft.bytes (draft.bytes ++ bytes) (begins_more draft.bytes bytes))
+bytes_begin manner bytes draft = search (rules, part_grows, made_begin, begins_more)
 
 pub next_shares : (opening : Opening) (draft : Draft) → shares_of (with_next opening draft) ≡ map (share Closed) draft.ended ++ (map (share Closed) (made_of draft.opening draft.bytes) ++ map (share Open) (made_of opening []))
 next_shares opening draft = grind (arith, common_steps)
 
 pub next_begins : (manner : Manner) (opening : Opening) (draft : Draft) → Begins (draft_part manner draft) (draft_part manner (with_next opening draft))
-next_begins manner opening draft = rw (next_shares opening draft)
-    (part_grows manner (map (share Closed) draft.ended) (made_of draft.opening draft.bytes) _ (shares_wider _ (map (share Closed) (made_of draft.opening draft.bytes)) _ (made_begin draft.opening Closed draft.bytes draft.bytes (begins_itself draft.bytes))))
+next_begins manner opening draft = search (rules, next_shares, part_grows, shares_wider, made_begin, begins_itself)
 
 -- and what is begun after it comes after what is written
 pub begun_begins : (manner : Manner) (opening : Opening) (draft : Draft) → Begins (draft_part manner (with_next Never draft)) (draft_part manner (with_next opening draft))
-begun_begins manner opening draft = part_grows manner (map (share Closed) (draft.ended ++ made_of draft.opening draft.bytes)) [] (map (share Open) (made_of opening [])) tt
+begun_begins manner opening draft = search (rules, part_grows)
 
 -- Files that all have names
 
@@ -124,7 +120,7 @@ one_on n m = omega arith
 
 -- the files of shares, and then of those after them
 files_on : (manner : Manner) (place : ℕ) (front rest : List Share) → AreNamed manner (place + length front) → files_from manner place (front ++ rest) ≡ files_from manner place front ++ files_from manner (place + length front) rest
-files_on manner place [] rest named = grind (arith, common_steps)
+files_on manner place [] rest named = search rules
 files_on manner place (one ∷ front) rest named = cc (
   named place (omega arith),
   one_on place (length front),
@@ -138,7 +134,7 @@ files_stop manner place [] (one ∷ rest) none = search rules
 files_stop manner place (one ∷ front) rest none = cc (files_stop manner (place + 1) front rest (subst (λ n. manner.has_name n ≡ false) (one_on place (length front)) none))
 
 pub stopped_part : (manner : Manner) (draft : Draft) → manner.has_name (length draft.ended) ≡ false → draft_part manner draft ≡ part_of manner (map (share Closed) draft.ended)
-stopped_part manner draft none = ap (part_with manner.output) (files_stop manner 0 (map (share Closed) draft.ended) _ (subst (λ n. manner.has_name n ≡ false) (sym (zero-add (length (map (share Closed) draft.ended)) ∙ length-map draft.ended (share Closed))) none))
+stopped_part manner draft none = grind (arith, common_steps, files_stop, length-map)
 
 pub closed_files : (manner : Manner) (place : ℕ) (ended : List (List ℕ)) → AllClosed (files_from manner place (map (share Closed) ended))
 closed_files manner place [] = tt
@@ -156,17 +152,11 @@ abbrev pub name_after : Manner → Draft → List ℕ
 name_after manner draft = manner.name (length draft.ended)
 
 files_with : (manner : Manner) (draft : Draft) (state : State) (bytes : List ℕ) → AreNamed manner (suc (length draft.ended)) → files_from manner 0 (map (share Closed) draft.ended ++ share state bytes ∷ []) ≡ ended_files manner draft ++ file_of (name_after manner draft) bytes state ∷ []
-files_with manner draft state bytes named =
-    let count : length (map (share Closed) draft.ended) ≡ length draft.ended = length-map draft.ended (share Closed) in
-    files_on manner 0 (map (share Closed) draft.ended) (share state bytes ∷ []) (λ place less. named place (omega (arith, less, count)))
-    ∙ ap (λ rest. ended_files manner draft ++ rest) (ap (λ n. files_from manner n (share state bytes ∷ [])) (let e : 0 + length (map (share Closed) draft.ended) ≡ length draft.ended = omega (arith, count) in e)
-    ∙ ap (λ has. cond has (file_at manner (length draft.ended) (share state bytes) ∷ []) []) (named (length draft.ended) (omega arith)))
+files_with manner draft state bytes named = grind (arith, common_steps, length-map, files_on)
 
 part_last : (manner : Manner) (draft : Draft) (state : State) (bytes : List ℕ) → AreNamed manner (suc (length draft.ended))
     → part_of manner (map (share Closed) draft.ended ++ share state bytes ∷ []) ≡ with_last (ended_out manner draft ++ told_of_files manner.output (file_of (name_after manner draft) bytes state ∷ [])) (ended_files manner draft) (file_of (name_after manner draft) bytes state)
-part_last manner draft state bytes named =
-    ap (part_with manner.output) (files_with manner draft state bytes named)
-    ∙ ap (λ out. with_last out (ended_files manner draft) (file_of (name_after manner draft) bytes state)) (told-append manner.output (ended_files manner draft) (file_of (name_after manner draft) bytes state ∷ []))
+part_last manner draft state bytes named = grind (arith, common_steps, files_with, with_last, file_of, told-append)
 
 last_untold : (output : Output) (name bytes : List ℕ) → told_of_files output (file_of name bytes Open ∷ []) ≡ []
 last_untold gets_none name bytes = refl
@@ -176,22 +166,17 @@ last_untold (gets_lines line) name bytes = refl
 -- the last one is open
 pub open_part : (manner : Manner) (draft : Draft) → AreNamed manner (suc (length draft.ended)) → made_of draft.opening draft.bytes ≡ draft.bytes ∷ []
     → draft_part manner draft ≡ with_last (ended_out manner draft) (ended_files manner draft) (file_of (name_after manner draft) draft.bytes Open)
-open_part manner draft named makes =
-    ap (λ made. part_of manner (map (share Closed) draft.ended ++ map (share Open) made)) makes
-    ∙ part_last manner draft Open draft.bytes named
-    ∙ ap (λ line. with_last (ended_out manner draft ++ line) (ended_files manner draft) (file_of (name_after manner draft) draft.bytes Open)) (last_untold manner.output (name_after manner draft) draft.bytes)
-    ∙ ap (λ out. with_last out (ended_files manner draft) (file_of (name_after manner draft) draft.bytes Open)) (append-nil (ended_out manner draft))
+open_part manner draft named makes = grind (arith, common_steps, part_last, with_last, file_of, last_untold)
 
 -- it is closed, and nothing is begun
 pub closed_part : (manner : Manner) (draft : Draft) → AreNamed manner (suc (length draft.ended)) → made_of draft.opening draft.bytes ≡ draft.bytes ∷ []
     → draft_part manner (with_next Never draft)
     ≡ with_last (ended_out manner draft ++ told_of_files manner.output (file_of (name_after manner draft) draft.bytes Closed ∷ [])) (ended_files manner draft) (file_of (name_after manner draft) draft.bytes Closed)
-closed_part manner draft named makes =
-    ap (part_of manner) (next_shares Never draft ∙ ap (λ made. map (share Closed) draft.ended ++ (map (share Closed) made ++ [])) makes) ∙ part_last manner draft Closed draft.bytes named
+closed_part manner draft named makes = grind (arith, common_steps, next_shares, part_last)
 
 -- there is none
 pub none_part : (manner : Manner) (draft : Draft) → made_of draft.opening draft.bytes ≡ [] → draft_part manner draft ≡ part_with manner.output (ended_files manner draft)
-none_part manner draft none = grind (arith, common_steps)
+none_part manner draft none = search rules
 
 -- there is one, or none
 pub made_or : (opening : Opening) (bytes : List ℕ) → (made_of opening bytes ≡ []) ⊎ (made_of opening bytes ≡ bytes ∷ [])

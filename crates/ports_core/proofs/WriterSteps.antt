@@ -63,7 +63,7 @@ next_not_ended opening broke ended = goes_wider (with_next opening) (λ manner d
 
 -- what is next begins where what was begun has ended
 next_after : (opening : Opening) (draft : Draft) → with_next opening (with_next Never draft) ≡ with_next opening draft
-next_after opening draft = grind (arith, common_steps)
+next_after opening draft = search rules
 
 pub next_begun : {told : Bool} {writer mid next : WriterState} {opening : Opening} {old between new : List Slot} {fault : Option Fault} → Goes told writer (with_next Never) old between mid None → mid.current ≡ Skipped
     → Goes told (paused mid) (with_next opening) between new next fault → Goes told writer (with_next opening) old new next fault
@@ -76,14 +76,14 @@ again : (draft : Draft) (a b : List ℕ) → with_bytes b (with_bytes a draft) �
 again draft a b = grind (arith, common_steps)
 
 pub goes_more : {told : Bool} {one two three : WriterState} (a b : List ℕ) {old mid new : List Slot} {fault : Option Fault} → Goes told one (with_bytes a) old mid two None → Goes told two (with_bytes b) mid new three fault → Goes told one (with_bytes (a ++ b)) old new three fault
-goes_more a b first second = goes_again (with_bytes (a ++ b)) (λ draft. again draft a b) (λ manner draft. bytes_begin manner a draft) first second
+goes_more a b first second = search (rules, goes_again, again, bytes_begin)
 
 -- it was stopped among them
 pub stops_among : {told : Bool} {writer next : WriterState} (a b : List ℕ) {old new : List Slot} {fault : Fault} → Goes told writer (with_bytes a) old new next (Some fault) → Goes told writer (with_bytes (a ++ b)) old new next (Some fault)
 stops_among a b stopped = goes_wider (with_bytes (a ++ b)) (λ manner draft. subst (λ those. Begins (draft_part manner (with_bytes a draft)) (draft_part manner those)) (again draft a b) (bytes_begin manner b (with_bytes a draft))) (inr (λ draft. (refl, λ makes. subst (λ bytes. made_of draft.opening bytes ≡ bytes ∷ []) (append_assoc draft.bytes a b) (still_made draft.opening (draft.bytes ++ a) b makes)))) stopped
 
 pub goes_as : {told : Bool} {writer next : WriterState} {a b : List ℕ} {old new : List Slot} {fault : Option Fault} → a ≡ b → Goes told writer (with_bytes a) old new next fault → Goes told writer (with_bytes b) old new next fault
-goes_as {told} {writer} {next} {old = old} {new} {fault} is goes = grind (arith, common_steps)
+goes_as {told} {writer} {next} {old = old} {new} {fault} is goes = search rules
 
 -- the last call only wants memory
 pub goes_or_lacks : {told : Bool} {writer next : WriterState} {bytes : List ℕ} {old new : List Slot} (result : Result (Unit {0}) Fault) → Goes told writer (with_bytes bytes) old new next None → IfErr result (λ fault. fault ≡ Memory)
