@@ -22,7 +22,7 @@ _cutters_options() {
         ;;
     split)
         valued='-l --lines -b --bytes -C --line-bytes -n --number -a --suffix-length -t --separator --additional-suffix'
-        plain='-d --numeric-suffixes -x --hex-suffixes -e --elide-empty-files -u --unbuffered --help --version'
+        plain='-d --numeric-suffixes --numeric-suffixes= -x --hex-suffixes --hex-suffixes= -e --elide-empty-files -u --unbuffered --help --version'
         ;;
     csplit)
         valued='-f --prefix -n --digits'
@@ -79,6 +79,7 @@ _cutters() {
         _cutters_offer warn warn-nopipe exit exit-nopipe
         return
         ;;
+    --numeric-suffixes= | --hex-suffixes=) return ;;
     esac
     case " $valued " in
     *" ${before%=} "*)

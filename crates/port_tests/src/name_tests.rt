@@ -1,6 +1,6 @@
 //! Names at the places where they widen or end, numbers in names, and headers.
 use crate::compare::same_bytes;
-use ports_core::{Alphabet, Fault, Names, header, numbered};
+use ports_core::{Alphabet, Fault, Names, Naming, Numbering, header, numbered};
 use std::test::Fail;
 
 /// Draws names up to a place, and returns the one there.
@@ -59,6 +59,51 @@ fn a_fixed_width_ends(rt: HostRuntime) -> Result<(), Fail> {
     }
     for _ in 0..2 {
         assert!(rt; is_name(names.next()?, None));
+    }
+    Ok(())
+}
+
+/// The alphabet, how many characters a name has, the number of the first, a place, and the name there, if there is one.
+type Numbered<'a> = (Alphabet, u32, u64, u64, Option<&'a str>);
+
+const FROM_A_NUMBER: &[Numbered<'static>] = &[
+    (Alphabet::Digits, 1, 9, 0, Some("x9")),
+    (Alphabet::Digits, 1, 9, 1, None),
+    (Alphabet::Digits, 2, 89, 0, Some("x89")),
+    (Alphabet::Digits, 2, 89, 10, Some("x99")),
+    (Alphabet::Digits, 2, 89, 11, None),
+    (Alphabet::Digits, 3, 1, 99, Some("x100")),
+    (Alphabet::Hex, 2, 0xfe, 1, Some("xff")),
+    (Alphabet::Hex, 2, 0xfe, 2, None),
+    (Alphabet::Letters, 2, 27, 1, Some("xbc")),
+    // Numbers above those of 64 bits are written too.
+    (
+        Alphabet::Digits,
+        20,
+        1,
+        18_446_744_073_709_551_615,
+        Some("x18446744073709551616"),
+    ),
+    (
+        Alphabet::Hex,
+        17,
+        0x7fff_ffff_ffff_ffff,
+        18_446_744_073_709_551_615,
+        Some("x17ffffffffffffffe"),
+    ),
+    (Alphabet::Hex, 16, 1, 18_446_744_073_709_551_615, None),
+];
+
+#[test]
+fn names_begin_at_a_number(rt: HostRuntime) -> Result<(), Fail> {
+    for (alphabet, width, from, place, wanted) in FROM_A_NUMBER {
+        let numbering = Numbering::Fixed(*alphabet, *width, *from);
+        let naming = Naming::new(rt.alloc(), "x", numbering, "")?;
+        let wanted = wanted.map(|name| name.as_bytes());
+        assert!(rt;
+            is_name(naming.name_at(*place)?, wanted),
+            "at {from} and {place}"
+        );
     }
     Ok(())
 }

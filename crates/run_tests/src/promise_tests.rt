@@ -221,6 +221,8 @@ const SPLIT: &[&[&str]] = &[
     &["split", "-b", "3", "-d", "-a", "1"],
     &["split", "-C", "4", "-", "part."],
     &["split", "-l", "1", "-t", "c", "--additional-suffix=.txt"],
+    &["split", "-b", "3", "--numeric-suffixes=94"],
+    &["split", "-b", "1", "--hex-suffixes=9f", "-a", "3"],
 ];
 
 #[test]

@@ -1,7 +1,7 @@
 -- What a run leaves that a fault stopped is a beginning of what one leaves that none stopped; and what a run of `tee` tells of its
 -- outputs, and what these have.
 use Rattle.std.proofs.lemmas.Grind.{common_steps}
-use Rattle.std.proofs.Common.{◌≡◌, ℕ, ◌≤◌, ◌<◌, zero, suc, Bool, true, false, List, [], ◌∷◌, ◌++◌, length, map, Option, Some, inl, inr, ◌⊎◌, refl, sym, ◌∙◌, ap, arith, append-nil, rules, cond, take, None, subst, append_assoc, codes, All, not, ◌&&◌}
+use Rattle.std.proofs.Common.{◌≡◌, ℕ, ◌+◌, ◌≤◌, ◌<◌, zero, suc, Bool, true, false, List, [], ◌∷◌, ◌++◌, length, map, Option, Some, inl, inr, ◌⊎◌, refl, sym, ◌∙◌, ap, arith, append-nil, rules, cond, take, None, subst, append_assoc, codes, All, not, ◌&&◌}
 use Rattle.std.proofs.lemmas.Bool.{cases_eq, false≢true, cases_lt, cond_both, eq-eqb, eqb-true, lt-ltb}
 use Rattle.std.proofs.Math.Bool.{and_assoc, or-true}
 use Rattle.ports_core.specs.Slot.{Slot, breaks, changed_at, slot_at, unopened, adds}
@@ -23,7 +23,7 @@ use Rattle.split_core.specs.Round.{round_plan}
 use Rattle.split_core.specs.Split.{HasNames}
 use Rattle.split_core.proofs.RoundLemmas.{not_short}
 use Rattle.words_core.specs.SplitAsked.{SplitAsked}
-use Rattle.words_core.specs.SplitWords.{AreNamed}
+use Rattle.words_core.specs.SplitWords.{AreNamed, first_number}
 use Rattle.tools_core.specs.Tasks.{naming_of}
 use Rattle.split_core.specs.laws.WorkLaws.{parts_lawful, round_lawful}
 use Rattle.split_core.proofs.AgreedLemmas.{plan_by}
@@ -214,13 +214,13 @@ lawful_grows {work} law content = record { settled = settled_made work content l
 
 -- where lines are dealt, and all files have names
 
-named_up_to : (asked : SplitAsked) (count : ℕ) → count ≤ name_count asked.alphabet asked.width → are_named (naming_of asked) count ≡ true
+named_up_to : (asked : SplitAsked) (count : ℕ) → first_number asked.from + count ≤ name_count asked.alphabet asked.width → are_named (naming_of asked) count ≡ true
 named_up_to asked zero all = refl
-named_up_to asked (suc last) all = cond_both asked.auto _ _ (λ numbering. has_suffix numbering last ≡ true) (λ is. refl) (λ is. lt-ltb _ _ all)
+named_up_to asked (suc last) all = cond_both asked.auto _ _ (λ numbering. has_suffix numbering last ≡ true) (λ is. refl) (λ is. lt-ltb _ _ (omega (arith, all)))
 
-pub all_have_names : (asked : SplitAsked) → AreNamed asked.cut asked.alphabet asked.width → HasNames asked.cut (naming_of asked)
+pub all_have_names : (asked : SplitAsked) → AreNamed asked.cut asked.alphabet asked.from asked.width → HasNames asked.cut (naming_of asked)
 all_have_names asked named = by asked.cut named where
-  by : (cut : Cut) → AreNamed cut asked.alphabet asked.width → HasNames cut (naming_of asked)
+  by : (cut : Cut) → AreNamed cut asked.alphabet asked.from asked.width → HasNames cut (naming_of asked)
   by (Parts limit) all = tt
   by (Round n delim) all = named_up_to asked n all
 

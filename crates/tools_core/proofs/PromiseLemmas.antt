@@ -28,7 +28,10 @@ use Rattle.tools_core.specs.Outcome.{DoesAsked, names_at}
 use Rattle.tools_core.proofs.RunLemmas.{can_run}
 
 completes : {run : Run} {asked : Settings} → Does run asked → Completes run asked
-completes {run} {asked} does = grind (arith, common_steps, completes_or)
+completes {run} {asked} does = elim (completes_or run asked does.ran) [
+  | inl whole ↦ whole
+  | inr stopped ↦ absurd (omega (arith, does.well, stopped.failed))
+]
 
 pub leave_same : (one other : Run) (asked : Settings) → Does one asked → Does other asked → FindAlike one other → one.outputs ≡ other.outputs
 leave_same one other asked does does_too same =

@@ -22,6 +22,7 @@ use Rattle.words_core.specs.declared.settings.Settings.TheVariants.{Head, Tail, 
 use Rattle.words_core.specs.CsplitAsked.{CsplitAsked}
 use Rattle.words_core.specs.EndsAsked.{EndsAsked}
 use Rattle.words_core.specs.SplitAsked.{SplitAsked}
+use Rattle.words_core.specs.SplitWords.{first_number}
 
 abbrev pub is_minus : Sign → Bool
 is_minus Plain = false
@@ -67,7 +68,7 @@ tail_task asked = record {
 abbrev pub naming_of : SplitAsked → Naming
 naming_of asked = record {
   prefix = asked.prefix;
-  numbering = numbering_of asked.alphabet asked.width asked.auto;
+  numbering = numbering_of asked.alphabet asked.width asked.auto (first_number asked.from);
   ending = asked.ending;
 }
 

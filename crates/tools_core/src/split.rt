@@ -1,9 +1,10 @@
 //! `split`: an input cut into files (POSIX.1-2017, XCU split).
+ghost use Rattle.std.specs.Prelude.{◌≡◌, IfErr, IfOk};
 ghost use Rattle.tools_core.specs.laws.Props.{CanSplit-prop};
-ghost use Rattle.tools_core.specs.Tasks.{split_task};
-ghost use Rattle.words_core.specs.SplitWords.{CanSplit};
+ghost use Rattle.tools_core.specs.Tasks.{naming_of, split_task};
+ghost use Rattle.words_core.specs.SplitWords.{CanSplit, IsWidth};
 
-use ports_core::{Fault, Guarded, Names, Outs, Tool};
+use ports_core::{Fault, Guarded, Names, Naming, Numbering, Outs, Tool};
 use run_core::Adapter;
 use split_core::Splitter;
 use std::alloc::Global;
@@ -43,14 +44,25 @@ impl<'a, 'b> Adapter for SplitAdapter<'a, 'b> {
     ) -> Result<Guarded<Splitter>, Fault> {
         let _ = coming;
         let settings = self.settings;
-        let names = Names::new(
-            alloc,
-            settings.prefix,
-            settings.alphabet,
-            settings.width,
-            settings.auto,
-            settings.ending,
-        )?;
+        let names = names_for(alloc, settings)?;
         Splitter::open(alloc, settings.cut, names, settings.elide, outs)
     }
+}
+
+/// The names of its files, of which none was drawn.
+fn names_for(alloc: Global, settings: &SplitSettings<'_>) -> Result<Names, Fault>
+    requires { IsWidth settings.now.width }
+    ensures ok { IfOk result (λ names. names ≡ record { naming = naming_of settings.now; drawn = 0 }) }
+    ensures err { IfErr result (λ fault. fault ≡ Fault.Memory) }
+{
+    let numbering = if settings.auto {
+        Numbering::Widening(settings.alphabet, settings.width)
+    } else {
+        let from = settings.from.unwrap_or(0);
+        Numbering::Fixed(settings.alphabet, settings.width, from)
+    };
+    Ok(Names {
+        naming: Naming::new(alloc, settings.prefix, numbering, settings.ending)?,
+        drawn: 0,
+    })
 }

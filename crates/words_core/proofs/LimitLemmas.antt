@@ -25,7 +25,7 @@ use Rattle.words_core.specs.Given.{asked_by, Given, GivenOption, GivenOperand}
 use Rattle.words_core.specs.CsplitWords.{asked_of, csplit_by, csplit_asked, style_of, plain}
 use Rattle.words_core.specs.Spelling.{Meaning, meaning_of, given_before, onward, spelled, start_of, given_by}
 use Rattle.words_core.specs.SplitAsked.{SplitAsked}
-use Rattle.words_core.specs.SplitWords.{AreNamed, CanSplit, IsInLimits, IsWidth, is_way, only_way, way_of, split_by, no_options, suffix_for, files_in, split_asked, separator_in, dealt, first_of, fixed, free, least_width, wide_enough}
+use Rattle.words_core.specs.SplitWords.{AreNamed, CanSplit, IsInLimits, IsWidth, is_way, only_way, way_of, split_by, no_options, suffix_for, files_in, split_asked, separator_in, dealt, first_number, fixed, free, least_width, wide_enough}
 use Rattle.words_core.specs.declared.split_words.Suffix.{Suffix}
 use Rattle.words_core.specs.Laws.{AreAmong, none, passed, taken}
 use Rattle.words_core.specs.Words.{CanRun, about_or, settings_for, topic_in, work_for}
@@ -74,7 +74,7 @@ asked-keeps by P keeps (option ∷ options) asked holds are =
 -- what the options of `split` ask for
 
 abbrev AreFew : SplitAsked → Type 0
-AreFew asked = (asked.width ≤ 255) × (first_of asked.from ≤ 2 ^ 63 - 1)
+AreFew asked = (asked.width ≤ 255) × (first_number asked.from ≤ 2 ^ 63 - 1)
 
 split_by-few : (asked : SplitAsked) (choice : Choice) (value : Meant) → AreFew asked → IsSound value → AreFew (split_by asked choice value)
 split_by-few asked choice.SuffixLength (Width width) few is = (is, few.1)
@@ -130,11 +130,11 @@ some_names alphabet width = power_positive alphabet width
 free-wide : (width : ℕ) → width ≤ 255 → IsWidth (free width).width
 free-wide width most = grind (arith, common_steps)
 
-suffix-can : (cut : Cut) (alphabet : Alphabet) (from : Option ℕ) (width : ℕ) → IsInLimits cut → width ≤ 255 → first_of from ≤ 2 ^ 63 - 1 → IfOk (suffix_for cut alphabet from width) (Serves cut alphabet from)
+suffix-can : (cut : Cut) (alphabet : Alphabet) (from : Option ℕ) (width : ℕ) → IsInLimits cut → width ≤ 255 → first_number from ≤ 2 ^ 63 - 1 → IfOk (suffix_for cut alphabet from width) (Serves cut alphabet from)
 suffix-can (cut.Round files delim) alphabet from width is_in most least =
-    cond_both (width == 0) (Ok (fixed (least_width alphabet (first_of from + files)))) (wide_enough alphabet (first_of from + files) width) (λ result. IfOk result (Serves (cut.Round files delim) alphabet from))
+    cond_both (width == 0) (Ok (fixed (least_width alphabet (first_number from + files)))) (wide_enough alphabet (first_number from + files) width) (λ result. IfOk result (Serves (cut.Round files delim) alphabet from))
     (λ _. least-can alphabet (omega (arith, is_in.1, least)))
-    (λ given. wide_enough-can alphabet (first_of from + files) width (some_if width given) most)
+    (λ given. wide_enough-can alphabet (first_number from + files) width (some_if width given) most)
 suffix-can (cut.Parts limit) alphabet (Some from) width is most least =
     let wide = given_or width most in wide_enough-can alphabet (from + 1) (if width == 0 then 2 else width) wide.0 wide.1
 suffix-can (cut.Parts limit) alphabet None width is most least = (some_names alphabet _, free-wide width most)
@@ -153,7 +153,7 @@ whatever_first from first (Ok suffix) is = λ _. is
 whatever_first from first (Err fault) is = tt
 
 suffix-fixed : (cut : Cut) (alphabet : Alphabet) (from : Option ℕ) (width first : ℕ) → IfOk (suffix_for cut alphabet from width) (λ suffix. from ≡ Some first → suffix.auto ≡ false)
-suffix-fixed (cut.Round files delim) alphabet from width first = whatever_first from first _ (dealt-fixed alphabet (first_of from + files) width)
+suffix-fixed (cut.Round files delim) alphabet from width first = whatever_first from first _ (dealt-fixed alphabet (first_number from + files) width)
 suffix-fixed (cut.Parts limit) alphabet (Some from) width first = whatever_first (Some from) first _ (wide_enough-fixed alphabet (from + 1) (if width == 0 then 2 else width))
 suffix-fixed (cut.Parts limit) alphabet None width first = λ is. absurd (cc)
 

@@ -101,8 +101,8 @@ abbrev pub free : ℕ → Suffix
 free width = if width == 0 then (record { width = 2; auto = true }) else fixed width
 
 -- the number of the first file
-abbrev pub first_of : Option ℕ → ℕ
-first_of from = unwrap_or from 0
+abbrev pub first_number : Option ℕ → ℕ
+first_number from = unwrap_or from 0
 
 -- whether a width writes as many numbers, from 0 on
 abbrev pub names_all : Alphabet → ℕ → ℕ → Bool
@@ -131,7 +131,7 @@ abbrev pub numbered : Alphabet → ℕ → ℕ → Result Suffix Fault
 numbered alphabet from width = wide_enough alphabet (from + 1) (if width == 0 then 2 else width)
 
 abbrev pub suffix_for : Cut → Alphabet → Option ℕ → ℕ → Result Suffix Fault
-suffix_for (Round files delim) alphabet from width = dealt alphabet (first_of from + files) width
+suffix_for (Round files delim) alphabet from width = dealt alphabet (first_number from + files) width
 suffix_for (Parts limit) alphabet (Some from) width = numbered alphabet from width
 suffix_for (Parts limit) alphabet None width = Ok (free width)
 
@@ -167,7 +167,7 @@ least_files (Round files delim) = files
 least_files (Parts limit) = 1
 
 abbrev pub AreNamed : Cut → Alphabet → Option ℕ → ℕ → Type 0
-AreNamed cut alphabet from width = first_of from + least_files cut ≤ name_count alphabet width
+AreNamed cut alphabet from width = first_number from + least_files cut ≤ name_count alphabet width
 
 -- what can be asked of `split`: words that ask for anything else are refused
 pub record CanSplit (asked : SplitAsked) : Type 0 where

@@ -3,7 +3,7 @@
 ghost use Rattle.std.specs.Prelude.{◌≡◌, ℕ, ◌+◌, ◌^◌, ◌<◌, ◌≤◌, filter, map, IfOk, IfErr};
 ghost use Rattle.ports_core.specs.Name.{name_count};
 ghost use Rattle.words_core.specs.Given.{asked_by, operand_seen, option_seen};
-ghost use Rattle.words_core.specs.SplitWords.{dealt, files_in, first_of, fixed, free, from_in, least_width, names_all, no_options, numbered, separator_in, split_by, split_asked, suffix_for, thousand_lines, way_in, is_way, only_way, wide_enough};
+ghost use Rattle.words_core.specs.SplitWords.{dealt, files_in, first_number, fixed, free, from_in, least_width, names_all, no_options, numbered, separator_in, split_by, split_asked, suffix_for, thousand_lines, way_in, is_way, only_way, wide_enough};
 ghost use Rattle.words_core.specs.inner.SplitWords.{with_way};
 ghost use Rattle.words_core.specs.Value.{seen};
 
@@ -200,7 +200,7 @@ fn choose_suffix(
 {
     match (cut, from) {
         (Cut::Round(files, _), _) => {
-            let count = u128::from(first_of(from)) + u128::from(files);
+            let count = u128::from(first_number(from)) + u128::from(files);
             suffix_of_dealt(alphabet, count, width)
         }
         (Cut::Parts(_), Some(from)) => suffix_from(alphabet, from, width),
@@ -209,8 +209,8 @@ fn choose_suffix(
 }
 
 /// The number of the first file.
-fn first_of(from: Option<u64>) -> u64
-    ensures { result ≡ first_of from }
+fn first_number(from: Option<u64>) -> u64
+    ensures { result ≡ first_number from }
 {
     from.unwrap_or(0)
 }

@@ -14,6 +14,8 @@ enum Wanted<'a> {
     Cut(Cut),
     /// The characters of names, how many there are, and whether names widen.
     Names(Alphabet, u32, bool),
+    /// The characters of names, how many there are, and the number of the first; names don't widen where there is one.
+    Numbers(Alphabet, u32, Option<u64>),
     /// Whether empty files are left out, the input and what names begin with.
     Operands(bool, &'a str, &'a str),
     /// The byte that lines end with, and what names end with.
@@ -25,6 +27,12 @@ fn has(found: &SplitSettings<'_>, wanted: Wanted<'_>) -> bool {
         Wanted::Cut(cut) => found.cut == cut,
         Wanted::Names(alphabet, width, auto) => {
             found.alphabet == alphabet && found.width == width && found.auto == auto
+        }
+        Wanted::Numbers(alphabet, width, from) => {
+            found.alphabet == alphabet
+                && found.width == width
+                && found.from == from
+                && found.auto == from.is_none()
         }
         Wanted::Operands(elide, input, prefix) => {
             found.elide == elide && found.input == input && found.prefix == prefix
@@ -249,6 +257,169 @@ const NAMES: &[NameRow<'static>] = &[
     ),
 ];
 
+type NumberRow<'a> = (&'a [&'a str], Alphabet, u32, Option<u64>);
+
+#[test]
+fn reads_the_number_of_the_first_file(rt: HostRuntime) {
+    for row in NUMBERS {
+        check(
+            &rt,
+            rt.alloc(),
+            row.0,
+            Wanted::Numbers(row.1, row.2, row.3),
+        );
+    }
+}
+
+const NUMBERS: &[NumberRow<'static>] = &[
+    (&["split", "-d"], Alphabet::Digits, 2, None),
+    (
+        &["split", "--numeric-suffixes=5"],
+        Alphabet::Digits,
+        2,
+        Some(5),
+    ),
+    (
+        &["split", "--numeric-suffixes=0"],
+        Alphabet::Digits,
+        2,
+        Some(0),
+    ),
+    (
+        &["split", "--numeric=0099"],
+        Alphabet::Digits,
+        2,
+        Some(99),
+    ),
+    // The next word is never its value.
+    (
+        &["split", "--numeric-suffixes", "5", "f"],
+        Alphabet::Digits,
+        2,
+        None,
+    ),
+    (
+        &["split", "--numeric-suffixes=9", "-a", "1"],
+        Alphabet::Digits,
+        1,
+        Some(9),
+    ),
+    (
+        &["split", "--numeric-suffixes=9", "-a", "0"],
+        Alphabet::Digits,
+        2,
+        Some(9),
+    ),
+    (
+        &["split", "--numeric-suffixes=89", "-b", "1"],
+        Alphabet::Digits,
+        2,
+        Some(89),
+    ),
+    (
+        &[
+            "split",
+            "--numeric-suffixes=9223372036854775807",
+            "-a",
+            "19",
+        ],
+        Alphabet::Digits,
+        19,
+        Some(9_223_372_036_854_775_807),
+    ),
+    // The last option for the alphabet decides, with its number or without one.
+    (
+        &["split", "-d", "--hex-suffixes=3", "-d"],
+        Alphabet::Digits,
+        2,
+        None,
+    ),
+    (
+        &["split", "--numeric-suffixes=3", "-x"],
+        Alphabet::Hex,
+        2,
+        None,
+    ),
+    (
+        &["split", "-x", "--numeric-suffixes=7"],
+        Alphabet::Digits,
+        2,
+        Some(7),
+    ),
+    (
+        &["split", "--numeric-suffixes=3", "--hex-suffixes=4"],
+        Alphabet::Hex,
+        2,
+        Some(4),
+    ),
+    (
+        &["split", "--hex-suffixes=fE"],
+        Alphabet::Hex,
+        2,
+        Some(254),
+    ),
+    (
+        &["split", "--hex-suffixes=0A9f", "-a4"],
+        Alphabet::Hex,
+        4,
+        Some(0xa9f),
+    ),
+    (
+        &["split", "--hex-suffixes=7fffffffffffffff", "-a", "16"],
+        Alphabet::Hex,
+        16,
+        Some(0x7fff_ffff_ffff_ffff),
+    ),
+    // Where lines are dealt, the width is the least that writes all numbers.
+    (
+        &["split", "--numeric-suffixes=1", "-n", "r/99"],
+        Alphabet::Digits,
+        2,
+        Some(1),
+    ),
+    (
+        &["split", "--numeric-suffixes=1", "-n", "r/100"],
+        Alphabet::Digits,
+        3,
+        Some(1),
+    ),
+    (
+        &["split", "--numeric-suffixes=1000", "-n", "r/3"],
+        Alphabet::Digits,
+        4,
+        Some(1000),
+    ),
+    (
+        &["split", "--hex-suffixes=f", "-n", "r/241"],
+        Alphabet::Hex,
+        2,
+        Some(15),
+    ),
+    (
+        &["split", "--hex-suffixes=f", "-n", "r/242"],
+        Alphabet::Hex,
+        3,
+        Some(15),
+    ),
+    (
+        &[
+            "split",
+            "--numeric-suffixes=9223372036854775807",
+            "-n",
+            "r/65535",
+        ],
+        Alphabet::Digits,
+        19,
+        Some(9_223_372_036_854_775_807),
+    ),
+    (
+        &["split", "--hex-suffixes=7FFFFFFFFFFFFFFF", "-nr/65535"],
+        Alphabet::Hex,
+        16,
+        Some(0x7fff_ffff_ffff_ffff),
+    ),
+];
+
 type OperandRow<'a> = (&'a [&'a str], bool, &'a str, &'a str);
 
 #[test]
@@ -380,11 +551,34 @@ const BAD_VALUES: &[Refused<'static>] = &[
     (&["split", "-a", "1k"], UsageKind::BadNumber, 2),
     (&["split", "-da"], UsageKind::MissingValue, 1),
     (&["split", "f", "--number"], UsageKind::MissingValue, 2),
+    (&["split", "--numeric-suffixes="], UsageKind::BadNumber, 1),
+    (&["split", "--numeric-suffixes=1k"], UsageKind::BadNumber, 1),
+    (&["split", "--numeric-suffixes=+1"], UsageKind::BadNumber, 1),
+    (&["split", "--numeric-suffixes=a"], UsageKind::BadNumber, 1),
     (
-        &["split", "--numeric-suffixes=1"],
-        UsageKind::UnexpectedValue,
+        &["split", "--numeric-suffixes=9223372036854775808"],
+        UsageKind::NumberTooLarge,
         1,
     ),
+    (
+        &["split", "-d", "--numeric-suffixes=99999999999999999999"],
+        UsageKind::NumberTooLarge,
+        2,
+    ),
+    (&["split", "--hex-suffixes="], UsageKind::BadNumber, 1),
+    (&["split", "--hex-suffixes=0x1"], UsageKind::BadNumber, 1),
+    (&["split", "--hex-suffixes=g"], UsageKind::BadNumber, 1),
+    (
+        &["split", "--hex-suffixes=ffffffffffffffffffffg"],
+        UsageKind::BadNumber,
+        1,
+    ),
+    (
+        &["split", "--hex-suffixes=8000000000000000"],
+        UsageKind::NumberTooLarge,
+        1,
+    ),
+    (&["split", "-d5"], UsageKind::UnknownOption, 1),
     (&["split", "-l", "1", "-3"], UsageKind::UnknownOption, 3),
     (&["split", "-3x"], UsageKind::UnknownOption, 1),
     (&["split", "-q"], UsageKind::UnknownOption, 1),
@@ -424,6 +618,26 @@ const BAD_LINES: &[Refused<'static>] = &[
     ),
     (
         &["split", "-a2", "-n", "r/257", "-a", "2", "-x"],
+        UsageKind::SuffixTooShort,
+        0,
+    ),
+    (
+        &["split", "--numeric-suffixes=10", "-a", "1"],
+        UsageKind::SuffixTooShort,
+        0,
+    ),
+    (
+        &["split", "--numeric-suffixes=100"],
+        UsageKind::SuffixTooShort,
+        0,
+    ),
+    (
+        &["split", "-a1", "--hex-suffixes=10"],
+        UsageKind::SuffixTooShort,
+        0,
+    ),
+    (
+        &["split", "--numeric-suffixes=90", "-nr/11", "-a2"],
         UsageKind::SuffixTooShort,
         0,
     ),

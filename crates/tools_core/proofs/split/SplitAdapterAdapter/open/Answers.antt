@@ -10,4 +10,4 @@ pub returns-in_err-names-clause-err : goal.returns-in_err-names-clause-err
 returns-in_err-names-clause-err g c = fault_is _ _ _ c.from_residual.ensures.1 (no_memory refl c.requires.streams c.in_err-names.ensures.err)
 
 pub returns-clause-err : goal.returns-clause-err
-returns-clause-err g c = let named = ap (λ (names : Names). names.naming) c.in_ok-names.ensures.ok in rw (← c.settings.view_is, ← named) (search (rules, nothing_out, some_there, swept_none))
+returns-clause-err g c = let named = ap (λ (names : Names). names.naming) c.in_ok-names.ensures.ok in rw (← named, ← c.settings.view_is) (search (rules, nothing_out, some_there, swept_none))
