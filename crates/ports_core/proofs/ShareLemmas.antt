@@ -1,6 +1,6 @@
 -- The files of shares, and what standard output is told of them: what begins what, and the last file.
 use Rattle.std.proofs.lemmas.Grind.{common_steps}
-use Rattle.std.proofs.Common.{◌≡◌, ℕ, ◌+◌, suc, Bool, true, false, cond, List, [], ◌∷◌, ◌++◌, ◌⊎◌, length, map, inl, inr, refl, sym, ◌∙◌, ap, subst, arith, append_assoc, append-nil, zero-add, rules}
+use Rattle.std.proofs.Common.{◌≡◌, ℕ, ◌+◌, suc, Bool, true, false, cond, List, [], ◌∷◌, ◌++◌, ◌⊎◌, length, map, inl, inr, refl, sym, ◌∙◌, ap, subst, arith, append_assoc, rules}
 use Rattle.std.proofs.lemmas.Bool.{cond_both}
 use Rattle.std.proofs.lemmas.List.{length-map}
 use Rattle.ports_core.specs.Draft.{Manner, AreNamed, Share, share, file_at, files_from, told_of_files, part_with, part_of, made_of, Draft, shares_of, draft_part, with_bytes, with_next}
