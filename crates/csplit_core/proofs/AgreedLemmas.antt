@@ -1,6 +1,8 @@
 -- What is settled is what all continuations agree on, and where lines go.
 use Rattle.std.proofs.Common.{◌≡◌, inl, inr, ℕ, suc, ◌+◌, ◌-◌, ◌<◌, ◌≤◌, ◌&&◌, Bool, true, false, cond, List, [], ◌∷◌, ◌++◌, length, get_or, refl, sym, ◌∙◌, ap, subst, arith, length-append, zero, map, take, drop, append_assoc, nat_lt, nat_le, min, length-take, ◌⊎◌, ne_eqb, eq-eqb, length-drop, length-take-le, rules, ◌≢◌}
-use Rattle.csplit_core.specs.Agreed.{CanCome, kept_lines, whole_outputs, settled_outputs, IsFront, AreFronts, output_at, IsAgreed}
+use Rattle.csplit_core.specs.Agreed.{CanCome, kept_lines, whole_outputs, settled_outputs, AreFronts, IsAgreed}
+use Rattle.ports_core.specs.Part.{IsBeginning}
+use Rattle.ports_core.proofs.AgreedLemmas.{agreed_as, nothing_waits}
 use Rattle.std.proofs.lemmas.Bool.{cases_lt, false≢true}
 use Rattle.bre_core.specs.Pattern.{Pattern}
 use Rattle.csplit_core.specs.Operand.{Minus, Target, Number, Search, Operand, Line, Plus, most_held, is_kept}
@@ -86,7 +88,7 @@ end_waits suppress operands x =
 kept_by : (has : Bool) (lines : List Line) (low high : List (List Line)) → AreFronts low high → AreFronts (cond has (lines ∷ low) low) (cond has (lines ∷ high) high)
 kept_by has lines low high fronts = grind (arith, common_steps)
 
-kept_grow : (front : List Section) (begun other : Section) (more : List Section) → begun.is_kept ≡ other.is_kept → IsFront begun.lines other.lines → AreFronts (kept_lines (front ++ begun ∷ [])) (kept_lines (front ++ other ∷ more))
+kept_grow : (front : List Section) (begun other : Section) (more : List Section) → begun.is_kept ≡ other.is_kept → IsBeginning begun.lines other.lines → AreFronts (kept_lines (front ++ begun ∷ [])) (kept_lines (front ++ other ∷ more))
 kept_grow [] begun other more same begins = grind (arith, common_steps)
 kept_grow (one ∷ front) begun other more same begins = kept_by one.is_kept one.lines _ _ (kept_grow front begun other more same begins)
 
@@ -113,27 +115,12 @@ pub record Decides (suppress : Bool) (operands : List Operand) (x : List Line) :
   pub short : length next.lines ≤ length (lines_between (plan suppress operands x).last.current (settled_end (length x) (plan suppress operands x).ending) x)
 
 short_by : (has : Bool) (front : List (List Line)) (one other : List Line) (more : List (List Line)) (place : ℕ) → length other ≤ length one → place < length (front ++ cond has (one ∷ []) [])
-    → length (output_at (front ++ cond has (other ∷ more) more) place) ≤ length (output_at (front ++ cond has (one ∷ []) []) place)
+    → length (get_or (front ++ cond has (other ∷ more) more) place []) ≤ length (get_or (front ++ cond has (one ∷ []) []) place [])
 short_by has front one other more place short less = grind (arith, common_steps)
 
-longest : (suppress : Bool) (operands : List Operand) (x : List Line) → Decides suppress operands x → (place : ℕ) → place < length (settled_outputs suppress operands x) → (y : List Line) × (z : List Line) × CanCome y × CanCome z
-    × ((front : List Line) → IsFront front (output_at (whole_outputs suppress operands (x ++ y)) place) → IsFront front (output_at (whole_outputs suppress operands (x ++ z)) place) → length front ≤ length (output_at (settled_outputs suppress operands x) place))
-longest suppress operands x decides place less = (
-  decides.y,
-  decides.y,
-  decides.comes,
-  decides.comes,
-  λ front is are.
-      let low_is = kept-append (map (section_of x) (plan suppress operands x).steps) (section (is_last_kept (plan suppress operands x).ending) false (lines_between (plan suppress operands x).last.current (settled_end (length x) (plan suppress operands x).ending) x) ∷ []) in
-      let high_is = ap kept_lines decides.are ∙ kept-append (map (section_of x) (plan suppress operands x).steps) (decides.next ∷ decides.more) in
-      let short = short_by decides.next.is_kept (kept_lines (map (section_of x) (plan suppress operands x).steps)) (lines_between (plan suppress operands x).last.current (settled_end (length x) (plan suppress operands x).ending) x) decides.next.lines (kept_lines decides.more) place decides.short
-      (subst (λ n. place < n) (ap length (low_is ∙ ap (λ has. kept_lines (map (section_of x) (plan suppress operands x).steps) ++ cond has (lines_between (plan suppress operands x).last.current (settled_end (length x) (plan suppress operands x).ending) x ∷ []) []) decides.kept)) less) in
-      let l : length (output_at (whole_outputs suppress operands (x ++ decides.y)) place) ≡ length (output_at (kept_lines (map (section_of x) (plan suppress operands x).steps) ++ cond decides.next.is_kept (decides.next.lines ∷ kept_lines decides.more) (kept_lines decides.more)) place)
-      = ap (λ those. length (output_at those place)) high_is in
-      let r : length (output_at (settled_outputs suppress operands x) place) ≡ length (output_at (kept_lines (map (section_of x) (plan suppress operands x).steps) ++ cond decides.next.is_kept (lines_between (plan suppress operands x).last.current (settled_end (length x) (plan suppress operands x).ending) x ∷ []) []) place)
-      = ap (λ those. length (output_at those place)) (low_is ∙ ap (λ has. kept_lines (map (section_of x) (plan suppress operands x).steps) ++ cond has (lines_between (plan suppress operands x).last.current (settled_end (length x) (plan suppress operands x).ending) x ∷ []) []) decides.kept) in
-      let few : length front ≤ length (output_at (whole_outputs suppress operands (x ++ decides.y)) place) = (grind (arith, common_steps)) in omega (arith, few, l, r, short),
-)
+no_longer : (front : List Section) (one other : Section) (more : List Section) (place : ℕ) → one.is_kept ≡ other.is_kept → length other.lines ≤ length one.lines → place < length (kept_lines (front ++ one ∷ []))
+    → length (get_or (kept_lines (front ++ other ∷ more)) place []) ≤ length (get_or (kept_lines (front ++ one ∷ [])) place [])
+no_longer front one other more place same short less = grind (arith, common_steps, kept-append, short_by)
 
 -- Such a continuation is there: none at all, or under an offset back one line that the operand finds
 
@@ -183,11 +170,13 @@ decides {suppress} {operands} {x} (some_wait k kept past turned) = decides_back 
 
 -- What is settled is what all continuations agree on
 pub settled_is_agreed : (suppress : Bool) (operands : List Operand) (x : List Line) → IsAgreed (whole_outputs suppress operands) x (settled_outputs suppress operands x)
-settled_is_agreed suppress operands x = record {
-  common = λ y comes. (grind (arith, common_steps, kept_grow, (plan_grows suppress true whole_end whole_covers operands x y)));
-  fewest = ([], none_comes, fewest suppress operands x);
-  longest = longest suppress operands x (decides (end_waits suppress operands x));
-}
+settled_is_agreed suppress operands x =
+    let made = plan suppress operands x in
+    let open_section = section (is_last_kept made.ending) false (lines_between made.last.current (settled_end (length x) made.ending) x) in
+    let decides = decides (end_waits suppress operands x) in
+    agreed_as [] decides.y (λ y comes. (grind (arith, common_steps, kept_grow, (plan_grows suppress true whole_end whole_covers operands x y))))
+    none_comes decides.comes (fewest suppress operands x)
+    (λ place less. rw decides.are (no_longer (map (section_of x) made.steps) open_section decides.next decides.more place decides.kept decides.short less))
 
 -- The lines that wait are those that two continuations put into different places.
 
@@ -322,19 +311,14 @@ gone total plan = plan.last.current - 1 + (settled_end total plan.ending - plan.
 
 undecided_by : (suppress : Bool) (operands : List Operand) {x : List Line} → 1 ≤ (plan suppress operands x).last.current → (final : Bool) → is_final (plan suppress operands x).ending ≡ final
     → IsUndecided (place_of suppress operands) x (cond final [] (drop (settled_end (length x) (plan suppress operands x).ending - (plan suppress operands x).last.current) (drop ((plan suppress operands x).last.current - 1) x)))
-undecided_by suppress operands {x} some true final = record {
-  before = x;
-  are_last = sym (append-nil x);
-  differ = λ line past within. absurd (omega (arith, past, within));
-  decided = λ line one within y z y_comes z_comes. same_line suppress operands x y z line one within (λ waits. false≢true (sym waits.0 ∙ final));
-}
+undecided_by suppress operands {x} some true final = nothing_waits (λ i within y z. same_line suppress operands x y z (i + 1) (omega arith) (omega (arith, within)) (λ waits. false≢true (sym waits.0 ∙ final)))
 undecided_by suppress operands {x} some false live =
     let n = gone (length x) (plan suppress operands x) in
     let count : length (take n x) ≡ min n (length x) = length-take n x in record {
       before = take n x;
       are_last = sym (take-append-drop n x) ∙ ap (λ rest. take n x ++ rest) (sym (drop-drop (settled_end (length x) (plan suppress operands x).ending - (plan suppress operands x).last.current) ((plan suppress operands x).last.current - 1) x));
-      differ = λ line past within. differ_line suppress operands x line (live, omega (arith, past, within, count, some), omega (arith, past, within, count, some), within) (end_waits suppress operands x);
-      decided = λ line one within y z y_comes z_comes. same_line suppress operands x y z line one (omega (arith, within, count)) (λ waits. let current = waits.1 in let end = waits.2 in omega (arith, within, count, current, end, some, one));
+      differ = λ i past within. differ_line suppress operands x (i + 1) (live, omega (arith, past, within, count, some), omega (arith, past, within, count, some), omega (arith, within)) (end_waits suppress operands x);
+      decided = λ i within y z y_comes z_comes. same_line suppress operands x y z (i + 1) (omega arith) (omega (arith, within, count)) (λ waits. let current = waits.1 in let end = waits.2 in omega (arith, within, count, current, end, some));
     }
 
 pub waiting_is_undecided : (suppress : Bool) (operands : List Operand) (x : List Line) → IsUndecided (place_of suppress operands) x (waiting_lines x (plan suppress operands x))

@@ -1,7 +1,9 @@
 -- What all continuations agree on. A continuation is what may still come: complete lines, perhaps none. Lines bear
 -- marks, one for each operand: those of the lines that came in are given, and the lines that follow may have any.
-use Rattle.std.specs.Prelude.{◌≡◌, ◌<◌, ◌≤◌, ℕ, Bool, List, [], ◌∷◌, ◌++◌, All, length, get_or, if◌then◌else◌}
+use Rattle.std.specs.Prelude.{◌<◌, Bool, List, [], ◌∷◌, All, if◌then◌else◌}
 use Rattle.seg_core.specs.Line.{IsComplete}
+use Rattle.ports_core.specs.Agreed.{AgreeOn}
+use Rattle.ports_core.specs.Part.{IsBeginning}
 use Rattle.csplit_core.specs.Input.{newline}
 use Rattle.csplit_core.specs.Operand.{Operand, Line}
 use Rattle.csplit_core.specs.Planned.{plan}
@@ -23,26 +25,12 @@ whole_outputs suppress operands lines = kept_lines (whole_sections lines (plan s
 abbrev pub settled_outputs : Bool → List Operand → List Line → List (List Line)
 settled_outputs suppress operands lines = kept_lines (settled_sections lines (plan suppress operands lines))
 
--- the first lines of the whole, perhaps none, perhaps all
-abbrev pub IsFront : List Line → List Line → Type 0
-IsFront front whole = (rest : List Line) × (whole ≡ front ++ rest)
-
 -- each output begins with the lines at its place, and there may be more outputs
 abbrev pub AreFronts : List (List Line) → List (List Line) → Type 0
 AreFronts [] wholes = Unit {0}
 AreFronts (front ∷ fronts) [] = ⊥
-AreFronts (front ∷ fronts) (whole ∷ wholes) = IsFront front whole × AreFronts fronts wholes
-
-abbrev pub output_at : List (List Line) → ℕ → List Line
-output_at outputs place = get_or outputs place []
+AreFronts (front ∷ fronts) (whole ∷ wholes) = IsBeginning front whole × AreFronts fronts wholes
 
 -- the most that the outputs of all continuations of x have in common
-pub record IsAgreed (outputs : List Line → List (List Line)) (x : List Line) (agreed : List (List Line)) : Type 0 where
-  -- every continuation has it
-  pub common : (y : List Line) → CanCome y → AreFronts agreed (outputs (x ++ y))
-  -- some continuation has no further output
-  pub fewest : (y : List Line) × CanCome y × (length (outputs (x ++ y)) ≡ length agreed)
-  -- at each place two continuations have no more in common
-  pub longest : (place : ℕ) → place < length agreed → (y : List Line) × (z : List Line) × CanCome y × CanCome z
-      × ((front : List Line) → IsFront front (output_at (outputs (x ++ y)) place)
-      → IsFront front (output_at (outputs (x ++ z)) place) → length front ≤ length (output_at agreed place))
+abbrev pub IsAgreed : (List Line → List (List Line)) → List Line → List (List Line) → Type 0
+IsAgreed = AgreeOn CanCome AreFronts (λ outputs. outputs)

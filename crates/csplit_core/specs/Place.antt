@@ -1,5 +1,6 @@
 -- Where a line goes, and which lines continuations put into different places.
-use Rattle.std.specs.Prelude.{◌≡◌, ◌≢◌, eqb, ℕ, ◌+◌, ◌<◌, ◌≤◌, nat_lt, nat_le, ◌&&◌, Bool, true, false, List, [], ◌∷◌, ◌++◌, get_or, length, map, if◌then◌else◌}
+use Rattle.std.specs.Prelude.{◌≡◌, eqb, ℕ, ◌+◌, ◌≤◌, nat_lt, nat_le, ◌&&◌, Bool, true, false, List, [], ◌∷◌, get_or, length, map, if◌then◌else◌}
+use Rattle.ports_core.specs.Agreed.{DifferOn}
 use Rattle.csplit_core.specs.Agreed.{CanCome}
 use Rattle.csplit_core.specs.Operand.{Operand, Line}
 use Rattle.csplit_core.specs.Plan.{Step, Ending}
@@ -29,15 +30,8 @@ place_of suppress operands lines line =
 
 -- The lines that wait are the last of x, and exactly those on which continuations differ. `places x line` says where
 -- the line of a number goes where the input is x.
-pub record IsUndecided (places : List Line → ℕ → Place) (x waiting : List Line) : Type 0 where
-  pub before : List Line
-  pub are_last : x ≡ before ++ waiting
-  -- two continuations put a line that waits into different places, or one of them puts it nowhere
-  pub differ : (line : ℕ) → length before < line → line ≤ length x → (y : List Line) × (z : List Line)
-      × CanCome y × CanCome z × (places (x ++ y) line ≢ places (x ++ z) line)
-  -- any other line goes to the same place, or nowhere, in all of them
-  pub decided : (line : ℕ) → 1 ≤ line → line ≤ length before → (y z : List Line) → CanCome y → CanCome z
-      → places (x ++ y) line ≡ places (x ++ z) line
+abbrev pub IsUndecided : (List Line → ℕ → Place) → List Line → List Line → Type 0
+IsUndecided places = DifferOn CanCome (λ x i. places x (i + 1))
 
 abbrev pub is_in : ℕ → Place → Bool
 is_in section (in_section other) = eqb section other

@@ -1,6 +1,6 @@
 -- What all continuations agree on, of heads and tails, and where the bytes of an input go.
 use Rattle.std.proofs.lemmas.Grind.{common_steps}
-use Rattle.std.proofs.Common.{◌≡◌, ◌≢◌, ℕ, ◌+◌, ◌-◌, ◌<◌, ◌≤◌, zero, suc, List, [], ◌∷◌, ◌++◌, length, drop, replicate, get_or, Bool, true, false, cond, inl, inr, refl, sym, ◌∙◌, ap, subst, arith, append_assoc, length-append, rules}
+use Rattle.std.proofs.Common.{◌≡◌, ◌≢◌, ℕ, ◌+◌, ◌-◌, ◌<◌, ◌≤◌, zero, suc, List, [], ◌∷◌, ◌++◌, length, drop, replicate, Bool, true, false, cond, inl, inr, refl, sym, ◌∙◌, ap, subst, arith, append_assoc, length-append, rules}
 use Rattle.std.proofs.lemmas.Bool.{cases_lt, lt-ltb, le-ltb, eq-eqb, ne_eqb}
 use Rattle.std.proofs.lemmas.List.{append-nil, drop-append-le, length-replicate}
 use Rattle.std.proofs.Math.Seq.{drop-append_seam}
@@ -8,8 +8,8 @@ use Rattle.seg_core.specs.Line.{delimiters, ends_with}
 use Rattle.seg_core.proofs.LinesOf.{lines_of-append, joined-lines_of}
 use Rattle.seg_core.proofs.LineCounts.{line_count-closed, ends_with-append}
 use Rattle.ports_core.specs.Part.{IsBeginning, nothing, only_out}
-use Rattle.ports_core.specs.Agreed.{CanCome, IsAgreed, IsUndecided, Spot, spot, spots_from, output_at, GoesTo, ArePlaced}
-use Rattle.ports_core.proofs.AgreedLemmas.{none_comes, one_comes, copies_come, other, other_differs, other_comes, agreed_now, beginning_short, common, spot_in, spot_past, some_spot}
+use Rattle.ports_core.specs.Agreed.{CanCome, IsAgreed, IsUndecided, Spot, spot, spots_from, output_at, ArePlaced}
+use Rattle.ports_core.proofs.AgreedLemmas.{none_comes, one_comes, copies_come, other, other_differs, other_comes, agreed_now, beginning_short, common, spot_in, spot_past, some_spot, nothing_waits, IsStretch, stretch_placed}
 use Rattle.seg_core.specs.declared.unit.Unit.{Unit as Counted}
 use Rattle.seg_core.specs.declared.unit.Unit.TheVariants.{Lines, Bytes}
 use Rattle.ends_core.specs.Ends.{size, measure, first_of, last_of, but_last_of, head_of, tail_of, after_of}
@@ -19,7 +19,6 @@ use Rattle.ends_core.specs.Head.{head_work, head_waiting}
 use Rattle.ends_core.specs.Tail.{tail_work, tail_waiting}
 use Rattle.ends_core.specs.Place.{head_spots, tail_spots}
 use Rattle.ends_core.specs.laws.WorkLaws as law
-use Rattle.ports_core.specs.Work.{Work}
 
 -- Some continuations
 
@@ -63,12 +62,7 @@ module _ {spots_of : List ℕ → ℕ → List Spot} (delim : ℕ) (unit : Count
   first_decided cuts x i less y z = search (rules, cases_lt, first_long, first_of-full, length-append)
 
   first_undecided : Cuts spots_of (first_of delim unit n) → {x : List ℕ} → IsUndecided spots_of x []
-  first_undecided cuts {x} = record {
-    before = x;
-    are_last = sym (append-nil x);
-    differ = λ i past within. absurd (omega (arith, past, within));
-    decided = λ i less y z can also. first_decided cuts x i less y z;
-  }
+  first_undecided cuts {x} = nothing_waits (first_decided cuts x)
 
   last_decided : Cuts spots_of (but_last_of delim unit n) → (x : List ℕ) (i : ℕ) → i < length (but_last_of delim unit n x) → (y : List ℕ)
       → spots_of (x ++ y) i ≡ spots_of x i
@@ -221,82 +215,34 @@ tail_agreed delim byte unit false n {x} = record {
 
 -- Spots are right: each of them writes one stretch of its input, and nothing else.
 
-one_spot : (bytes : List ℕ) (i : ℕ) {at : Spot} → GoesTo at (spots_from 0 (bytes ∷ []) i) → (i < length bytes) × (at ≡ spot 0 i)
-one_spot bytes i {at} goes = grind (arith, common_steps, cases_lt i (length bytes), spot_in, spot_past)
-
--- the byte at a spot
-abbrev StandsThere : List ℕ → Spot → ℕ → Type 0
-StandsThere bytes at byte = (at.offset < length (output_at (only_out bytes) at.place)) × (get_or (output_at (only_out bytes) at.place) at.offset 0 ≡ byte)
-
--- what is written stands in the input between what comes before it and what is left
-record IsStretch (spots_of : List ℕ → ℕ → List Spot) (out_of : List ℕ → List ℕ) : Type 0 where
-  before : List ℕ → List ℕ
-  rest : List ℕ → List ℕ
-  whole : (x : List ℕ) → x ≡ before x ++ (out_of x ++ rest x)
-  nowhere : (x : List ℕ) (i : ℕ) → i < length (before x) → spots_of x i ≡ []
-  there : (x : List ℕ) (i : ℕ) → length (before x) ≤ i → spots_of x i ≡ spots_from 0 (out_of x ∷ []) (i - length (before x))
-
-abbrev writes : (List ℕ → List ℕ) → Work
-writes out_of = record (head_work 0 Bytes false 0) { whole = λ x. only_out (out_of x) }
-
-module _ {spots_of : List ℕ → ℕ → List Spot} {out_of : List ℕ → List ℕ} (stretch : IsStretch spots_of out_of) where
-  goes : (x : List ℕ) (i : ℕ) {at : Spot} → GoesTo at (spots_of x i)
-      → (length (stretch.before x) ≤ i) × (i - length (stretch.before x) < length (out_of x)) × (at ≡ spot 0 (i - length (stretch.before x)))
-  goes x i {at} is = grind (arith, common_steps, cases_lt i (length (stretch.before x)), stretch.nowhere, stretch.there, one_spot)
-
-  byte_at : (x : List ℕ) (i : ℕ) → length (stretch.before x) ≤ i → i - length (stretch.before x) < length (out_of x)
-      → get_or (out_of x) (i - length (stretch.before x)) 0 ≡ get_or x i 0
-  byte_at x i past less = grind (arith, common_steps)
-
-  filled : (x : List ℕ) (place offset : ℕ) → offset < length (output_at (only_out (out_of x)) place)
-      → (i : ℕ) × (i < length x) × GoesTo (spot place offset) (spots_of x i)
-  filled x zero offset less =
-      let here : length (stretch.before x) + offset - length (stretch.before x) ≡ offset = omega arith in
-      let long = ap length (stretch.whole x) ∙ length-append (stretch.before x) (out_of x ++ stretch.rest x) in (
-        length (stretch.before x) + offset,
-        omega (arith, less, long, length-append (out_of x) (stretch.rest x)),
-        subst (GoesTo (spot 0 offset)) (sym (stretch.there x (length (stretch.before x) + offset) (omega arith)
-            ∙ ap (spots_from 0 (out_of x ∷ [])) here ∙ spot_in 0 offset (out_of x) [] less)) (inl refl),
-      )
-  filled x (suc place) offset less = absurd (omega (arith, less))
-
-  placed : ArePlaced (writes out_of) spots_of
-  placed = record {
-    stands = λ x i at less is. (let one = goes x i is in
-        subst (λ there. StandsThere (out_of x) there (get_or x i 0)) (sym one.2) (one.1, byte_at x i one.0 one.1));
-    filled = λ x at less. filled x at.place at.offset less;
-    apart = λ x i j at is also. (let one = goes x i is in let two = goes x j also in
-        let same : i - length (stretch.before x) ≡ j - length (stretch.before x) = ap (λ there. there.offset) (sym one.2 ∙ two.2) in
-        omega (arith, one.0, two.0, same));
-  }
-
 head_together : (delim : ℕ) (unit : Counted) (but_last : Bool) (n : ℕ) (x : List ℕ) → (rest : List ℕ) × (x ≡ head_of delim unit but_last n x ++ rest)
 head_together delim unit false n x = (after_of delim unit n x, sym (first_then_after delim unit n x))
 head_together delim unit true n x = (last_of delim unit n x, sym (ends_together delim unit n x))
 
-head_stretch : (delim : ℕ) (unit : Counted) (but_last : Bool) (n : ℕ) → IsStretch (head_spots delim unit but_last n) (head_of delim unit but_last n)
+head_stretch : (delim : ℕ) (unit : Counted) (but_last : Bool) (n : ℕ) → IsStretch (λ x. only_out (head_of delim unit but_last n x)) (head_spots delim unit but_last n) 0 (λ x. head_of delim unit but_last n x ∷ [])
 head_stretch delim unit but_last n = record {
   before = λ x. [];
-  rest = λ x. (head_together delim unit but_last n x).0;
-  whole = λ x. (head_together delim unit but_last n x).1;
+  rest = λ x. x;
+  parts = λ x. refl;
+  front = λ x. (let all = head_together delim unit but_last n x in (all.0, all.1, tt));
+  are = λ x. refl;
   nowhere = λ x i less. absurd (omega (arith, less));
   there = λ x i past. ap (spots_from 0 (head_of delim unit but_last n x ∷ [])) (omega arith);
 }
 
 pub head_placed : (delim : ℕ) (unit : Counted) (but_last : Bool) (n : ℕ) → ArePlaced (head_work delim unit but_last n) (head_spots delim unit but_last n)
-head_placed delim unit but_last n =
-    let all = placed (head_stretch delim unit but_last n) in record { stands = all.stands; filled = all.filled; apart = all.apart }
+head_placed delim unit but_last n = stretch_placed (head_work delim unit but_last n) 0 (head_stretch delim unit but_last n)
 
-tail_stretch : (delim : ℕ) (unit : Counted) (from_nth : Bool) (n : ℕ) → IsStretch (tail_spots delim unit from_nth n) (tail_of delim unit from_nth n)
+tail_stretch : (delim : ℕ) (unit : Counted) (from_nth : Bool) (n : ℕ) → IsStretch (λ x. only_out (tail_of delim unit from_nth n x)) (tail_spots delim unit from_nth n) 0 (λ x. tail_of delim unit from_nth n x ∷ [])
 tail_stretch delim unit from_nth n = record {
   before = tail_first delim unit from_nth n;
-  rest = λ x. [];
-  whole = λ x. sym (ap (λ those. tail_first delim unit from_nth n x ++ those) (append-nil (tail_of delim unit from_nth n x))
-      ∙ tail_together delim unit from_nth n);
+  rest = tail_of delim unit from_nth n;
+  parts = λ x. sym (tail_together delim unit from_nth n);
+  front = λ x. ([], sym (append-nil (tail_of delim unit from_nth n x)), tt);
+  are = λ x. refl;
   nowhere = tail_nowhere delim unit from_nth n;
   there = tail_there delim unit from_nth n;
 }
 
 pub tail_placed : (delim : ℕ) (unit : Counted) (from_nth : Bool) (n : ℕ) → ArePlaced (tail_work delim unit from_nth n) (tail_spots delim unit from_nth n)
-tail_placed delim unit from_nth n =
-    let all = placed (tail_stretch delim unit from_nth n) in record { stands = all.stands; filled = all.filled; apart = all.apart }
+tail_placed delim unit from_nth n = stretch_placed (tail_work delim unit from_nth n) 0 (tail_stretch delim unit from_nth n)

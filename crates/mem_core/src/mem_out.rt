@@ -1,8 +1,8 @@
 ghost use Rattle.std.specs.Prelude.{◌≡◌, ◌++◌, ◌∷◌, [], ℕ, ◌+◌, ◌≤◌, ◌<◌, List, length, take, replicate, string_bytes, true, false, IsTrue, IfOk, IfErr, IfSome, OnOk, OnErr, OnSome, IfNone};
-ghost use Rattle.ports_core.specs.Slot.{Slot, adds, breaks, closes, removes, opened, unopened, streams, slot_at, is_removed};
+ghost use Rattle.ports_core.specs.Slot.{Slot, adds, breaks, closes, removes, opened, unopened, with_lost, streams, slot_at, is_removed};
 
 use crate::failing::fails;
-use ports_core::{Fault, Mode, Outs, State};
+use ports_core::{Fault, Mode, Outs, Slots, State, Unopened};
 use std::alloc::{AllocError, Global};
 use std::marker::Model;
 
@@ -22,28 +22,30 @@ impl Model for MemSlot {
     ghost view = { λ s. record { name = string_bytes s.name; mode = s.mode; written = s.bytes.items; state = s.state; is_broken = s.is_broken } };
 }
 
-impl MemSlot {
-    fn opened(alloc: Global, name: &str, mode: Mode) -> Result<Self, AllocError>
-        ensures { IfOk result (λ slot. slot ≡ opened name.now mode) }
-    {
-        Ok(MemSlot {
-            name: String::from_str(alloc, name)?,
-            mode,
-            bytes: Vec::new(alloc),
-            state: State::Open,
-            is_broken: false,
-        })
-    }
+impl Unopened for MemSlot {
+    ghost unopened = { unopened };
 
-    fn unopened(alloc: Global, name: String) -> Self
-        ensures { result ≡ unopened (string_bytes name) }
-    {
+    fn unopened(alloc: Global, name: String) -> Self {
         MemSlot {
             name,
             mode: Mode::Fresh,
             bytes: Vec::new(alloc),
             state: State::Unopened,
             is_broken: true,
+        }
+    }
+}
+
+impl MemSlot {
+    fn opened(alloc: Global, name: String, mode: Mode) -> Self
+        ensures { result ≡ opened (string_bytes name) mode }
+    {
+        MemSlot {
+            name,
+            mode,
+            bytes: Vec::new(alloc),
+            state: State::Open,
+            is_broken: false,
         }
     }
 
@@ -103,9 +105,7 @@ struct Limit {
 #[derive(Drop)]
 pub struct MemOut {
     alloc: Global,
-    slots: Vec<MemSlot>,
-    /// How many outputs after `slots` couldn't be opened, and found no memory to be kept.
-    lost: usize,
+    slots: Slots<MemSlot>,
     limits: Vec<Limit>,
     /// The most bytes that a write takes.
     most: usize,
@@ -116,7 +116,7 @@ pub struct MemOut {
 impl Model for MemOut {
     ghost Value = { List Slot };
 
-    ghost view = { λ m. m.slots.items ++ replicate m.lost (unopened []) };
+    ghost view = { λ m. with_lost (unopened []) m.slots.kept.items m.slots.lost };
 }
 
 impl MemOut {
@@ -131,8 +131,10 @@ impl MemOut {
     {
         Ok(MemOut {
             alloc,
-            slots: standard_streams(alloc)?,
-            lost: 0,
+            slots: Slots {
+                kept: standard_streams(alloc)?,
+                lost: 0,
+            },
             limits: Vec::new(alloc),
             most: usize::MAX,
             failing_in: None,
@@ -172,7 +174,7 @@ impl MemOut {
     pub fn removed(&self, slot: usize) -> bool
         ensures { result ≡ is_removed (slot_at self.now slot).state }
     {
-        match slot_in(&self.slots, slot) {
+        match self.slots.kept.get(slot) {
             Some(out) => match out.state {
                 State::Removed => true,
                 State::Open | State::Closed | State::Unopened => false,
@@ -185,27 +187,21 @@ impl MemOut {
     pub fn bytes(&self, slot: usize) -> &[u8]
         ensures { result.now ≡ (slot_at self.now slot).written }
     {
-        match slot_in(&self.slots, slot) {
+        match self.slots.kept.get(slot) {
             Some(out) => out.bytes.as_slice(),
             None => &[],
         }
     }
 }
 
-/// The output with this number. None where it wasn't kept.
-fn slot_in(slots: &[MemSlot], place: usize) -> Option<&MemSlot>
-    ensures found { IfSome result (λ slot. (place < length slots.now) × (slot.now ≡ slot_at slots.now place)) }
-    ensures none { IfNone result (length slots.now ≤ place) }
-{
-    slots.get(place)
-}
-
 fn standard_streams(alloc: Global) -> Result<Vec<MemSlot>, AllocError>
     ensures { IfOk result (λ slots. slots.items ≡ streams) }
 {
     let mut slots = Vec::new(alloc);
-    slots.push(MemSlot::opened(alloc, "standard output", Mode::Append)?)?;
-    slots.push(MemSlot::opened(alloc, "standard error", Mode::Append)?)?;
+    let output = String::from_str(alloc, "standard output")?;
+    let error = String::from_str(alloc, "standard error")?;
+    slots.push(MemSlot::opened(alloc, output, Mode::Append))?;
+    slots.push(MemSlot::opened(alloc, error, Mode::Append))?;
     Ok(slots)
 }
 
@@ -219,78 +215,30 @@ fn room(limits: &[Limit], slot: usize, held: usize) -> usize {
     usize::MAX
 }
 
-/// Gives outputs that couldn't be opened their own places in the list, as far as there is memory.
-fn restore(alloc: Global, slots: &mut Vec<MemSlot>, lost: &mut usize)
-    ensures same { slots.new.items ++ replicate lost.new (unopened []) ≡ slots.old.items ++ replicate lost.old (unopened []) }
-    ensures fewer { lost.new ≤ lost.old }
-{
-    while *lost > 0 {
-        if slots
-            .push(MemSlot::unopened(alloc, String::new(alloc)))
-            .is_err()
-        {
-            return;
-        }
-        *lost -= 1;
-    }
-}
-
-/// Adds an opened output after the others, and returns whether there was memory for it.
-fn place(alloc: Global, slots: &mut Vec<MemSlot>, name: &str, mode: Mode) -> bool
-    ensures placed { IsTrue result → slots.new.items ≡ slots.old.items ++ opened name.now mode ∷ [] }
-    ensures unplaced { result ≡ false → slots.new.items ≡ slots.old.items }
-{
-    match MemSlot::opened(alloc, name, mode) {
-        Ok(slot) => slots.push(slot).is_ok(),
-        Err(AllocError) => false,
-    }
-}
-
-/// Adds an output that couldn't be opened after the others, and returns whether there was memory for it.
-fn place_unopened(alloc: Global, slots: &mut Vec<MemSlot>, name: &str) -> bool
-    ensures placed { IsTrue result → slots.new.items ≡ slots.old.items ++ unopened name.now ∷ [] }
-    ensures unplaced { result ≡ false → slots.new.items ≡ slots.old.items }
-{
-    match String::from_str(alloc, name) {
-        Ok(name) => slots.push(MemSlot::unopened(alloc, name)).is_ok(),
-        Err(AllocError) => false,
-    }
-}
-
 impl Outs for MemOut {
     ghost slots = { λ outs. outs };
 
     ghost told = { true };
 
     fn open(&mut self, name: &str, mode: Mode) -> Result<usize, Fault> {
-        let slot = match self.slots.len().checked_add(self.lost) {
-            Some(slot) => slot,
-            None => return Err(Fault::Memory),
-        };
-        if slot == usize::MAX {
+        let Some(slot) = self.slots.next(0) else {
             return Err(Fault::Memory);
-        }
-        restore(self.alloc, &mut self.slots, &mut self.lost);
-        if self.lost > 0 {
-            self.lost += 1;
+        };
+        let Some(copy) = self.slots.room_for(self.alloc, name) else {
             return Err(Fault::Open(slot));
-        }
+        };
         if fails(&mut self.failing_in) {
-            if place_unopened(self.alloc, &mut self.slots, name) {
-                return Err(Fault::Open(slot));
-            }
-            self.lost += 1;
+            self.slots.keep(MemSlot::unopened(self.alloc, copy));
             return Err(Fault::Open(slot));
         }
-        if place(self.alloc, &mut self.slots, name, mode) {
+        if self.slots.keep(MemSlot::opened(self.alloc, copy, mode)) {
             return Ok(slot);
         }
-        self.lost += 1;
         Err(Fault::Open(slot))
     }
 
     fn write(&mut self, slot: usize, piece: &[u8]) -> Result<usize, Fault> {
-        let out = &mut self.slots[slot];
+        let out = &mut self.slots.kept[slot];
         if fails(&mut self.failing_in) {
             out.break_off();
             return Err(Fault::Write(slot));
@@ -303,7 +251,7 @@ impl Outs for MemOut {
     }
 
     fn close(&mut self, slot: usize) -> Result<(), Fault> {
-        let out = &mut self.slots[slot];
+        let out = &mut self.slots.kept[slot];
         if fails(&mut self.failing_in) {
             out.close_broken();
             return Err(Fault::Write(slot));
@@ -313,7 +261,7 @@ impl Outs for MemOut {
     }
 
     fn remove(&mut self, slot: usize) -> Result<(), Fault> {
-        let out = &mut self.slots[slot];
+        let out = &mut self.slots.kept[slot];
         if fails(&mut self.failing_in) {
             out.close_broken();
             return Err(Fault::Write(slot));
@@ -323,14 +271,14 @@ impl Outs for MemOut {
     }
 
     fn broken(&self, slot: usize) -> bool {
-        match slot_in(&self.slots, slot) {
+        match self.slots.kept.get(slot) {
             Some(out) => out.is_broken,
-            None => slot - self.slots.len() < self.lost,
+            None => slot - self.slots.kept.len() < self.slots.lost,
         }
     }
 
     fn name(&self, slot: usize) -> &str {
-        match slot_in(&self.slots, slot) {
+        match self.slots.kept.get(slot) {
             Some(out) => out.name.as_str(),
             None => "",
         }

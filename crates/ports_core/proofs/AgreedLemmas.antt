@@ -1,13 +1,13 @@
 -- Lemmas on what all continuations agree on.
 use Rattle.std.proofs.lemmas.Grind.{common_steps}
-use Rattle.std.proofs.Common.{◌≡◌, ◌≢◌, ℕ, ◌+◌, ◌-◌, ◌<◌, ◌≤◌, zero, suc, List, [], ◌∷◌, ◌++◌, length, get_or, replicate, inl, inr, sym, ◌∙◌, ap, arith, length-append, lit<, map, take, drop, refl, rules}
-use Rattle.std.proofs.lemmas.List.{append-nil, get_or_append_left, length-map}
+use Rattle.std.proofs.Common.{◌≡◌, ◌≢◌, ℕ, ◌+◌, ◌-◌, ◌<◌, ◌≤◌, zero, suc, List, [], ◌∷◌, ◌++◌, length, get_or, replicate, inl, inr, sym, ◌∙◌, ap, arith, length-append, lit<, map, take, drop, refl, rules, subst}
+use Rattle.std.proofs.lemmas.List.{append-nil, get_or_append_left, get_or-replicate, length-map, length-replicate}
 use Rattle.std.proofs.lemmas.Bool.{cases_lt}
 use Rattle.ports_core.specs.Part.{IsBeginning, Begins, File, Part, FilesBegin}
 use Rattle.ports_core.specs.Work.{Work, IsLawful}
-use Rattle.ports_core.specs.Agreed.{CanCome, outputs_of, output_at, IsAgreed, Spot, spot, spots_from, IsUndecided}
+use Rattle.ports_core.specs.Agreed.{AgreeOn, CanCome, DifferOn, outputs_of, output_at, IsAgreed, Spot, spot, spots_from, GoesTo, ArePlaced}
 use Rattle.ports_core.proofs.PartLemmas.{part_trans, no_fewer}
-use Rattle.std.proofs.Math.Seq.{drop-append_seam, take-append_seam}
+use Rattle.std.proofs.Math.Seq.{drop-append_seam, get_or-append_right, take-append_seam}
 
 -- Some continuations
 
@@ -36,8 +36,34 @@ other_comes (suc delim) = lit< tt
 -- What shows that a part is agreed
 
 -- no beginning is longer than the whole
-pub beginning_short : (bytes whole : List ℕ) → IsBeginning bytes whole → length bytes ≤ length whole
-beginning_short bytes whole (rest, is) = grind (arith, common_steps)
+pub beginning_short : {A : Type 0} (front whole : List A) → IsBeginning front whole → length front ≤ length whole
+beginning_short front whole (rest, is) = grind (arith, common_steps)
+
+-- Two continuations show it: one has no further output, and one has in each output no more.
+pub agreed_as : {A W : Type 0} {comes : List A → Type 0} {begins : W → W → Type 0} {outputs : W → List (List A)} {whole : List A → W} {x : List A} {agreed : W} (few y : List A)
+    → ((z : List A) → comes z → begins agreed (whole (x ++ z))) → comes few → comes y → length (outputs (whole (x ++ few))) ≡ length (outputs agreed)
+    → ((place : ℕ) → place < length (outputs agreed) → length (get_or (outputs (whole (x ++ y))) place []) ≤ length (get_or (outputs agreed) place []))
+    → AgreeOn comes begins outputs whole x agreed
+agreed_as {outputs = outputs} {whole} {x} few y begin few_come come no_more short = record {
+  common = begin;
+  fewest = (few, few_come, no_more);
+  longest = λ place less. (
+    y,
+    y,
+    come,
+    come,
+    λ front is also. (let few = beginning_short front (get_or (outputs (whole (x ++ y))) place []) is in let most = short place less in omega (arith, few, most)),
+  );
+}
+
+-- Nothing waits, where what follows decides nothing of what came in.
+pub nothing_waits : {A G : Type 0} {comes : List A → Type 0} {goes : List A → ℕ → G} {x : List A} → ((i : ℕ) → i < length x → (y z : List A) → goes (x ++ y) i ≡ goes (x ++ z) i) → DifferOn comes goes x []
+nothing_waits {x = x} same = record {
+  before = x;
+  are_last = sym (append-nil x);
+  differ = λ i past within. absurd (omega (arith, past, within));
+  decided = λ i less y z can also. same i less y z;
+}
 
 -- what is settled begins the whole of every continuation
 pub common : (work : Work) → IsLawful work → (x y : List ℕ) → Begins (work.settled x) (work.whole (x ++ y))
@@ -46,20 +72,9 @@ common work lawful x y = part_trans _ _ _ (lawful.grows x y) (lawful.ends (x ++ 
 -- One continuation shows it, if its outputs are what is settled and perhaps further ones, and another has no further ones.
 pub agreed_by : (work : Work) (x few y : List ℕ) (more : List (List ℕ)) → ((z : List ℕ) → Begins (work.settled x) (work.whole (x ++ z))) → CanCome few → CanCome y → length (outputs_of (work.whole (x ++ few))) ≡ length (outputs_of (work.settled x))
     → outputs_of (work.whole (x ++ y)) ≡ outputs_of (work.settled x) ++ more → IsAgreed work x (work.settled x)
-agreed_by work x few y more begin few_bytes bytes no_more same = record {
-  common = λ z can. begin z;
-  fewest = (few, few_bytes, no_more);
-  longest = λ place less. (
-    y,
-    y,
-    bytes,
-    bytes,
-    λ these begins also.
-        let here : output_at (work.whole (x ++ y)) place ≡ output_at (work.settled x) place = ap (λ outputs. get_or outputs place []) same ∙ get_or_append_left (outputs_of (work.settled x)) more [] place less in
-        let short = beginning_short these (output_at (work.whole (x ++ y)) place) begins in
-        omega (arith, short, ap length here),
-  );
-}
+agreed_by work x few y more begin few_bytes bytes no_more same = agreed_as few y (λ z can. begin z) few_bytes bytes no_more
+    (λ place less. (let here : output_at (work.whole (x ++ y)) place ≡ output_at (work.settled x) place = ap (λ outputs. get_or outputs place []) same ∙ get_or_append_left (outputs_of (work.settled x)) more [] place less in
+    omega (arith, ap length here)))
 
 -- the end shows it, where all that came in is settled
 pub agreed_now : (work : Work) (x : List ℕ) → ((z : List ℕ) → Begins (work.settled x) (work.whole (x ++ z))) → outputs_of (work.whole x) ≡ outputs_of (work.settled x) → IsAgreed work x (work.settled x)
@@ -75,6 +90,10 @@ spot_in place i bytes outputs less = grind (arith, common_steps)
 pub spot_past : (place i : ℕ) (bytes : List ℕ) (outputs : List (List ℕ)) → length bytes ≤ i → spots_from place (bytes ∷ outputs) i ≡ spots_from (place + 1) outputs (i - length bytes)
 spot_past place i bytes outputs past = grind (arith, common_steps)
 
+pub only_spot : {at one : Spot} → GoesTo at (one ∷ []) → at ≡ one
+only_spot (inl is) = is
+only_spot (inr none) = absurd none
+
 pub some_spot : (one : Spot) (spots : List Spot) → one ∷ spots ≡ [] → ⊥
 some_spot one spots is = cc
 
@@ -86,13 +105,120 @@ none_before from i place offset (bytes ∷ outputs) before is = elim (cases_lt i
   | inr past ↦ none_before (from + 1) (i - length bytes) place offset outputs (omega (arith, before)) (sym (spot_past from i bytes outputs past) ∙ is)
 ]
 
+-- Outputs that are, one after another, a stretch of their input: their spots are right.
+
+-- they are, one after another, the beginning of a text
+abbrev pub AreFront : List (List ℕ) → List ℕ → Type 0
+AreFront [] text = Unit {0}
+AreFront (bytes ∷ outputs) text = (rest : List ℕ) × (text ≡ bytes ++ rest) × AreFront outputs rest
+
+-- how many bytes the first ones have
+abbrev bytes_of : ℕ → List (List ℕ) → ℕ
+bytes_of zero outputs = 0
+bytes_of (suc k) [] = 0
+bytes_of (suc k) (bytes ∷ outputs) = length bytes + bytes_of k outputs
+
+-- a byte of an output stands in the text
+in_text : (outputs : List (List ℕ)) (text : List ℕ) (k offset : ℕ) → AreFront outputs text → offset < length (get_or outputs k []) → bytes_of k outputs + offset < length text
+in_text [] text k offset are less = search rules
+in_text (bytes ∷ outputs) text zero offset (rest, is, are) less = grind (arith, common_steps)
+in_text (bytes ∷ outputs) text (suc k) offset (rest, is, are) less =
+    omega (arith, in_text outputs rest k offset are less, ap length is ∙ length-append bytes rest)
+
+byte_at : (outputs : List (List ℕ)) (text : List ℕ) (k offset : ℕ) → AreFront outputs text → offset < length (get_or outputs k []) → get_or (get_or outputs k []) offset 0 ≡ get_or text (bytes_of k outputs + offset) 0
+byte_at [] text k offset are less = search rules
+byte_at (bytes ∷ outputs) text zero offset (rest, is, are) less = grind (arith, common_steps)
+byte_at (bytes ∷ outputs) text (suc k) offset (rest, is, are) less =
+    let after : length bytes + bytes_of k outputs + offset - length bytes ≡ bytes_of k outputs + offset = omega arith in
+    cc (is, after, byte_at outputs rest k offset are less, get_or-append_right bytes rest (length bytes + bytes_of k outputs + offset) 0 (omega arith))
+
+-- where it stands, there its spot is that
+spot_at : (place : ℕ) (outputs : List (List ℕ)) (k offset : ℕ) → offset < length (get_or outputs k []) → spots_from place outputs (bytes_of k outputs + offset) ≡ spot (place + k) offset ∷ []
+spot_at place [] k offset less = search rules
+spot_at place (bytes ∷ outputs) zero offset less = grind (arith, common_steps)
+spot_at place (bytes ∷ outputs) (suc k) offset less =
+    let after : length bytes + bytes_of k outputs + offset - length bytes ≡ bytes_of k outputs + offset = omega arith in
+    let next : place + 1 + k ≡ place + suc k = omega arith in
+    spot_past place (length bytes + bytes_of k outputs + offset) bytes outputs (omega arith) ∙ cc (after, next, spot_at (place + 1) outputs k offset less)
+
+-- a byte that goes to a spot is one of an output
+record IsIn (place : ℕ) (outputs : List (List ℕ)) (i : ℕ) (at : Spot) : Type 0 where
+  k : ℕ
+  there : at.place ≡ place + k
+  within : at.offset < length (get_or outputs k [])
+  is : i ≡ bytes_of k outputs + at.offset
+
+goes_in : (place : ℕ) (outputs : List (List ℕ)) (i : ℕ) {at : Spot} → GoesTo at (spots_from place outputs i) → IsIn place outputs i at
+goes_in place [] i goes = absurd goes
+goes_in place (bytes ∷ outputs) i {at} goes = elim (cases_lt i (length bytes)) [
+  | inl less ↦ (let is = only_spot (subst (GoesTo at) (spot_in place i bytes outputs less) goes) in
+      rw is (record { k = 0; there = omega arith; within = less; is = omega arith }))
+  | inr past ↦ (let rest = goes_in (place + 1) outputs (i - length bytes) (subst (GoesTo at) (spot_past place i bytes outputs past) goes) in
+      record { k = suc rest.k; there = omega (arith, rest.there); within = rest.within; is = omega (arith, rest.is, past) })
+]
+
+-- the outputs from a place on are a stretch of the input, and those before it are empty
+pub record IsStretch (whole : List ℕ → Part) (spots_of : List ℕ → ℕ → List Spot) (place : ℕ) (outputs : List ℕ → List (List ℕ)) : Type 0 where
+  pub before : List ℕ → List ℕ
+  pub rest : List ℕ → List ℕ
+  pub parts : (x : List ℕ) → x ≡ before x ++ rest x
+  pub front : (x : List ℕ) → AreFront (outputs x) (rest x)
+  pub are : (x : List ℕ) → outputs_of (whole x) ≡ replicate place [] ++ outputs x
+  pub nowhere : (x : List ℕ) (i : ℕ) → i < length (before x) → spots_of x i ≡ []
+  pub there : (x : List ℕ) (i : ℕ) → length (before x) ≤ i → spots_of x i ≡ spots_from place (outputs x) (i - length (before x))
+
+-- the outputs that aren't empty
+past_empty : (place k : ℕ) (outputs : List (List ℕ)) → get_or (replicate place [] ++ outputs) (place + k) [] ≡ get_or outputs k []
+past_empty place k outputs = grind (arith, common_steps, get_or-append_right, length-replicate)
+
+empty_before : (place n : ℕ) (outputs : List (List ℕ)) → n < place → get_or (replicate place [] ++ outputs) n [] ≡ []
+empty_before place n outputs less = grind (arith, common_steps, get_or_append_left, length-replicate, get_or-replicate)
+
+module _ (work : Work) {spots_of : List ℕ → ℕ → List Spot} (place : ℕ) {outputs : List ℕ → List (List ℕ)} (stretch : IsStretch work.whole spots_of place outputs) where
+  stretched : (x : List ℕ) (i : ℕ) {at : Spot} → GoesTo at (spots_of x i) → (length (stretch.before x) ≤ i) × IsIn place (outputs x) (i - length (stretch.before x)) at
+  stretched x i {at} goes = elim (cases_lt i (length (stretch.before x))) [
+    | inl less ↦ absurd (subst (GoesTo at) (stretch.nowhere x i less) goes)
+    | inr past ↦ (past, goes_in place (outputs x) (i - length (stretch.before x)) (subst (GoesTo at) (stretch.there x i past) goes))
+  ]
+
+  output_is : (x : List ℕ) {n : ℕ} (k : ℕ) → n ≡ place + k → output_at (work.whole x) n ≡ get_or (outputs x) k []
+  output_is x {n} k there = ap (λ those. get_or those n []) (stretch.are x) ∙ ap (λ n. get_or (replicate place [] ++ outputs x) n []) there ∙ past_empty place k (outputs x)
+
+  filled : (x : List ℕ) (at : Spot) → at.offset < length (output_at (work.whole x) at.place) → (i : ℕ) × (i < length x) × GoesTo at (spots_of x i)
+  filled x at less = elim (cases_lt at.place place) [
+    | inl before ↦ absurd (omega (arith, less, ap length (ap (λ those. get_or those at.place []) (stretch.are x) ∙ empty_before place at.place (outputs x) before)))
+    | inr past ↦ (
+        let k = at.place - place in
+        let there : at.place ≡ place + k = omega (arith, past) in
+        let within : at.offset < length (get_or (outputs x) k []) = omega (arith, less, ap length (output_is x k there)) in
+        let i = length (stretch.before x) + (bytes_of k (outputs x) + at.offset) in
+        let after : i - length (stretch.before x) ≡ bytes_of k (outputs x) + at.offset = omega arith in (
+          i,
+          omega (arith, in_text (outputs x) (stretch.rest x) k at.offset (stretch.front x) within, ap length (stretch.parts x) ∙ length-append (stretch.before x) (stretch.rest x)),
+          subst (GoesTo at) (sym (stretch.there x i (omega arith) ∙ ap (spots_from place (outputs x)) after ∙ spot_at place (outputs x) k at.offset within)) (inl (ap (λ n. spot n at.offset) there)),
+        ))
+  ]
+
+  pub stretch_placed : ArePlaced work spots_of
+  stretch_placed = record {
+    stands = λ x i at less goes. (let one = stretched x i goes in let has = output_is x one.1.k one.1.there in (
+      omega (arith, one.1.within, ap length has),
+      ap (λ those. get_or those at.offset 0) has ∙ byte_at (outputs x) (stretch.rest x) one.1.k at.offset (stretch.front x) one.1.within
+          ∙ sym (ap (λ those. get_or those i 0) (stretch.parts x) ∙ get_or-append_right (stretch.before x) (stretch.rest x) i 0 one.0 ∙ ap (λ n. get_or (stretch.rest x) n 0) one.1.is),
+    ));
+    filled = filled;
+    apart = λ x i j at goes also. (let one = stretched x i goes in let two = stretched x j also in
+        let same : one.1.k ≡ two.1.k = omega (arith, one.1.there, two.1.there) in
+        omega (arith, one.0, two.0, one.1.is, two.1.is, ap (λ k. bytes_of k (outputs x)) same));
+  }
+
 -- There is one list of outputs that all continuations agree on, and one stretch of bytes that is undecided.
 -- beginnings of one text that are as long as each other are the same
-beginnings_same : (one other whole : List ℕ) → IsBeginning one whole → IsBeginning other whole → length one ≡ length other → one ≡ other
+beginnings_same : {A : Type 0} (one other whole : List A) → IsBeginning one whole → IsBeginning other whole → length one ≡ length other → one ≡ other
 beginnings_same one other whole (rest, is) (more, are) same =
     sym (ap (take (length one)) is ∙ take-append_seam one rest) ∙ ap (λ n. take n whole) same ∙ ap (take (length other)) are ∙ take-append_seam other more
 
-lists_same : (one other : List (List ℕ)) → length one ≡ length other → ((place : ℕ) → place < length one → get_or one place [] ≡ get_or other place []) → one ≡ other
+lists_same : {A : Type 0} (one other : List (List A)) → length one ≡ length other → ((place : ℕ) → place < length one → get_or one place [] ≡ get_or other place []) → one ≡ other
 lists_same [] [] count same = refl
 lists_same (bytes ∷ one) (those ∷ other) count same =
     ap (λ first. first ∷ one) (same zero (omega arith)) ∙ ap (λ rest. those ∷ rest) (lists_same one other (omega (arith, count)) (λ place less. same (suc place) (omega (arith, less))))
@@ -113,26 +239,26 @@ begins_at zero begins less = begins.out
 begins_at {low} {high} (suc place) begins less = files_at low.files high.files place begins.files (omega (arith, less))
 
 -- as many outputs
-no_more : {work : Work} {x : List ℕ} (one other : Part) → IsAgreed work x one → IsAgreed work x other → length (outputs_of one) ≤ length (outputs_of other)
-no_more one other agreed also = grind (arith, common_steps, outputs_fewer, common)
+no_more : (work : Work) {x : List ℕ} (one other : Part) → IsAgreed work x one → IsAgreed work x other → length (outputs_of one) ≤ length (outputs_of other)
+no_more work one other agreed also = grind (arith, common_steps, outputs_fewer, common)
 
 -- and in each as many bytes
-no_longer : {work : Work} {x : List ℕ} (one other : Part) (place : ℕ) → IsAgreed work x one → IsAgreed work x other → place < length (outputs_of one) → place < length (outputs_of other) → length (output_at one place) ≤ length (output_at other place)
-no_longer one other place agreed also less within =
+no_longer : (work : Work) {x : List ℕ} (one other : Part) (place : ℕ) → IsAgreed work x one → IsAgreed work x other → place < length (outputs_of one) → place < length (outputs_of other) → length (output_at one place) ≤ length (output_at other place)
+no_longer work one other place agreed also less within =
     let two = also.longest place within in
     two.4 (output_at one place) (begins_at place (agreed.common two.0 two.2) less) (begins_at place (agreed.common two.1 two.3) less)
 
 pub one_is_agreed : (work : Work) (x : List ℕ) (one other : Part) → IsAgreed work x one → IsAgreed work x other → outputs_of one ≡ outputs_of other
 one_is_agreed work x one other agreed also =
-    let count : length (outputs_of one) ≡ length (outputs_of other) = (let few = no_more one other agreed also in omega (arith, few, no_more other one also agreed)) in
+    let count : length (outputs_of one) ≡ length (outputs_of other) = (let few = no_more work one other agreed also in omega (arith, few, no_more work other one also agreed)) in
     lists_same (outputs_of one) (outputs_of other) count (λ place less.
     let within : place < length (outputs_of other) = rw count at less in
     beginnings_same (output_at one place) (output_at other place) (output_at (work.whole (x ++ [])) place)
     (begins_at place (agreed.common [] none_comes) less) (begins_at place (also.common [] none_comes) within)
-    (let short = no_longer one other place agreed also less within in omega (arith, short, no_longer other one place also agreed within less)))
+    (let short = no_longer work one other place agreed also less within in omega (arith, short, no_longer work other one place also agreed within less)))
 
-module _ (spots_of : List ℕ → ℕ → List Spot) (x : List ℕ) where
-  begins_no_later : (one other : List ℕ) (here : IsUndecided spots_of x one) (there : IsUndecided spots_of x other) → length here.before ≤ length there.before
+module _ {A G : Type 0} {comes : List A → Type 0} (goes : List A → ℕ → G) (x : List A) where
+  begins_no_later : (one other : List A) (here : DifferOn comes goes x one) (there : DifferOn comes goes x other) → length here.before ≤ length there.before
   begins_no_later one other here there = elim (cases_lt (length there.before) (length here.before)) [
     | inl less ↦ (let long : length x ≡ length here.before + length one = ap length here.are_last ∙ length-append here.before one in
         let two = there.differ (length there.before) (omega arith) (omega (arith, less, long)) in
@@ -140,7 +266,7 @@ module _ (spots_of : List ℕ → ℕ → List Spot) (x : List ℕ) where
     | inr within ↦ within
   ]
 
-  pub one_is_undecided : (one other : List ℕ) → IsUndecided spots_of x one → IsUndecided spots_of x other → one ≡ other
+  pub one_is_undecided : (one other : List A) → DifferOn comes goes x one → DifferOn comes goes x other → one ≡ other
   one_is_undecided one other here there =
       let low = begins_no_later one other here there in let high = begins_no_later other one there here in
       sym (ap (drop (length here.before)) here.are_last ∙ drop-append_seam here.before one)

@@ -13,7 +13,6 @@ pub mod WriteLemmas
 pub mod CounterLemmas
 pub mod OrderLemmas
 pub mod DirInLemmas
-pub mod DirOutLemmas
 pub mod MessageLemmas
 pub mod SlotSteps
 pub mod AgreedLemmas

@@ -1,8 +1,35 @@
--- What all continuations of an input agree on, and on which of its bytes they don't. A continuation is what may still
--- come: any bytes, perhaps none.
+-- What all continuations of an input agree on, and on which parts of it they don't. An input is bytes, or lines, and a
+-- continuation is what may still come, perhaps nothing.
 use Rattle.std.specs.Prelude.{◌≡◌, ◌≢◌, ◌⊎◌, ℕ, ◌+◌, ◌-◌, ◌<◌, ◌≤◌, nat_lt, List, [], ◌∷◌, ◌++◌, All, get_or, length, map, if◌then◌else◌}
 use Rattle.ports_core.specs.Part.{File, Part, IsBeginning, Begins}
 use Rattle.ports_core.specs.Work.{Work}
+
+-- The most that the outputs of all continuations of x have in common. `whole` is what is made of an input in the end,
+-- `begins` says that one such thing begins another, and `outputs` are its outputs, by their place.
+pub record AgreeOn {A W : Type 0} (comes : List A → Type 0) (begins : W → W → Type 0) (outputs : W → List (List A))
+    (whole : List A → W) (x : List A) (agreed : W) : Type 0 where
+  -- in the end every continuation has these outputs, each beginning so
+  pub common : (y : List A) → comes y → begins agreed (whole (x ++ y))
+  -- some continuation has no further output
+  pub fewest : (y : List A) × comes y × (length (outputs (whole (x ++ y))) ≡ length (outputs agreed))
+  -- at each place two continuations have no more in common
+  pub longest : (place : ℕ) → place < length (outputs agreed) → (y : List A) × (z : List A) × comes y × comes z
+      × ((front : List A) → IsBeginning front (get_or (outputs (whole (x ++ y))) place [])
+      → IsBeginning front (get_or (outputs (whole (x ++ z))) place [])
+      → length front ≤ length (get_or (outputs agreed) place []))
+
+-- What waits are the last of x, and exactly those on which continuations differ. `goes x i` says where number i of the
+-- input x goes, counted from 0.
+pub record DifferOn {A G : Type 0} (comes : List A → Type 0) (goes : List A → ℕ → G) (x waiting : List A) : Type 0 where
+  pub before : List A
+  pub are_last : x ≡ before ++ waiting
+  -- two continuations put one that waits into different places, or one of them puts it nowhere
+  pub differ : (i : ℕ) → length before ≤ i → i < length x → (y : List A) × (z : List A) × comes y × comes z
+      × (goes (x ++ y) i ≢ goes (x ++ z) i)
+  -- any other goes to the same place, or nowhere, in all of them
+  pub decided : (i : ℕ) → i < length before → (y z : List A) → comes y → comes z → goes (x ++ y) i ≡ goes (x ++ z) i
+
+-- Of bytes
 
 -- bytes that may still come
 abbrev pub CanCome : List ℕ → Type 0
@@ -20,15 +47,8 @@ abbrev pub output_at : Part → ℕ → List ℕ
 output_at part place = get_or (outputs_of part) place []
 
 -- the most that the outputs of all continuations of x have in common
-pub record IsAgreed (work : Work) (x : List ℕ) (agreed : Part) : Type 0 where
-  -- in the end every continuation has these outputs, each beginning so
-  pub common : (y : List ℕ) → CanCome y → Begins agreed (work.whole (x ++ y))
-  -- some continuation has no further output
-  pub fewest : (y : List ℕ) × CanCome y × (length (outputs_of (work.whole (x ++ y))) ≡ length (outputs_of agreed))
-  -- at each place two continuations have no more in common
-  pub longest : (place : ℕ) → place < length (outputs_of agreed) → (y : List ℕ) × (z : List ℕ) × CanCome y × CanCome z
-      × ((bytes : List ℕ) → IsBeginning bytes (output_at (work.whole (x ++ y)) place)
-      → IsBeginning bytes (output_at (work.whole (x ++ z)) place) → length bytes ≤ length (output_at agreed place))
+abbrev pub IsAgreed : Work → List ℕ → Part → Type 0
+IsAgreed work = AgreeOn CanCome Begins outputs_of work.whole
 
 -- where a byte goes: to the output at this place, after this many bytes of it
 pub record Spot : Type 0 where
@@ -47,15 +67,8 @@ spots_from place (bytes ∷ outputs) i = if nat_lt i (length bytes) then spot pl
 
 -- The waiting bytes are the last of x, and exactly those on which continuations differ. `spots_of x i` says where byte
 -- i goes where the input is x: to a spot, to several, or nowhere.
-pub record IsUndecided (spots_of : List ℕ → ℕ → List Spot) (x waiting : List ℕ) : Type 0 where
-  pub before : List ℕ
-  pub are_last : x ≡ before ++ waiting
-  -- two continuations put a byte that waits to different spots, or one of them puts it nowhere
-  pub differ : (i : ℕ) → length before ≤ i → i < length x → (y : List ℕ) × (z : List ℕ) × CanCome y × CanCome z
-      × (spots_of (x ++ y) i ≢ spots_of (x ++ z) i)
-  -- any other byte goes to the same spots, or nowhere, in all of them
-  pub decided : (i : ℕ) → i < length before → (y z : List ℕ) → CanCome y → CanCome z
-      → spots_of (x ++ y) i ≡ spots_of (x ++ z) i
+abbrev pub IsUndecided : (List ℕ → ℕ → List Spot) → List ℕ → List ℕ → Type 0
+IsUndecided = DifferOn CanCome
 
 -- the byte that goes to these spots goes to this one
 abbrev pub GoesTo : Spot → List Spot → Type 0

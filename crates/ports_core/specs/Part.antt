@@ -46,8 +46,8 @@ pub record OutputsAt (told : Bool) (before : List Slot) (part : Part) (now : Lis
   pub files : map file_of since ≡ map (told_file told) part.files
 
 -- the bytes are a beginning of the whole, perhaps empty, perhaps all
-abbrev pub IsBeginning : List ℕ → List ℕ → Type 0
-IsBeginning bytes whole = (rest : List ℕ) × (whole ≡ bytes ++ rest)
+abbrev pub IsBeginning : {A : Type 0} → List A → List A → Type 0
+IsBeginning {A} front whole = (rest : List A) × (whole ≡ front ++ rest)
 
 -- Each file begins the one at its place, and there may be more of these. One that is open may be closed by then, and
 -- any other is as it was; it is broken just where that one is.

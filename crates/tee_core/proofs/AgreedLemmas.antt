@@ -1,6 +1,6 @@
 -- What all continuations agree on, of a copied input.
 use Rattle.std.proofs.lemmas.Grind.{common_steps}
-use Rattle.std.proofs.Common.{◌≡◌, ℕ, ◌+◌, ◌<◌, ◌≤◌, nat_lt, zero, suc, List, [], ◌∷◌, ◌++◌, length, map, get_or, Bool, inl, inr, refl, sym, ◌∙◌, ap, arith, append-nil}
+use Rattle.std.proofs.Common.{◌≡◌, ℕ, ◌+◌, ◌<◌, ◌≤◌, nat_lt, zero, suc, List, [], ◌∷◌, ◌++◌, length, map, get_or, Bool, inl, inr, refl, sym, ◌∙◌, ap, arith}
 use Rattle.std.proofs.lemmas.Bool.{cond_both, lt-ltb}
 use Rattle.ports_core.specs.Agreed.{IsAgreed, IsUndecided, Spot, spot, output_at, GoesTo, ArePlaced}
 use Rattle.ports_core.specs.Part.{File, FilesBegin, OutputsAt, file_of, told_file}
@@ -8,7 +8,7 @@ use Rattle.ports_core.specs.Slot.{streams, opened, adds, closes, told_of}
 use Rattle.ports_core.specs.declared.slot.Mode.{Mode}
 use Rattle.ports_core.specs.declared.slot.State.{State}
 use Rattle.ports_core.specs.declared.slot.State.TheVariants.{Open, Closed}
-use Rattle.ports_core.proofs.AgreedLemmas.{agreed_now}
+use Rattle.ports_core.proofs.AgreedLemmas.{agreed_now, nothing_waits}
 use Rattle.tee_core.specs.Copy.{copy_in, tee_work, spots_each, tee_spots}
 use Rattle.tee_core.specs.Run.{all_copied}
 
@@ -28,12 +28,7 @@ goes_there : (names : List (List ℕ)) (x y : List ℕ) (i : ℕ) → i < length
 goes_there names x y i less = grind (arith, common_steps)
 
 pub tee_undecided : (names : List (List ℕ)) (x : List ℕ) → IsUndecided (tee_spots names) x []
-tee_undecided names x = record {
-  before = x;
-  are_last = sym (append-nil x);
-  differ = λ i past within. absurd (omega (arith, past, within));
-  decided = λ i less y z can also. goes_there names x y i less ∙ sym (goes_there names x z i less);
-}
+tee_undecided names x = nothing_waits (λ i less y z. goes_there names x y i less ∙ sym (goes_there names x z i less))
 
 -- spots are right
 

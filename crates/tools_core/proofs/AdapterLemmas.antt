@@ -2,7 +2,7 @@
 use Rattle.std.proofs.lemmas.Grind.{common_steps}
 use Rattle.std.proofs.Common.{◌≡◌, ℕ, ◌-◌, ◌<◌, ◌≤◌, ◌^◌, zero, Bool, true, false, not, if◌then◌else◌, List, [], length, Result, Ok, Err, IfOk, IfErr, OnOk, refl, sym, ◌∙◌, ap, arith}
 use Rattle.ports_core.specs.Slot.{Slot}
-use Rattle.ports_core.specs.Part.{OutputsAt, StoppedBetween, nothing, only_out, writes}
+use Rattle.ports_core.specs.Part.{OutputsAt, StoppedBetween, nothing, only_out}
 use Rattle.csplit_core.specs.Output.{manner_of}
 use Rattle.ports_core.specs.Work.{Work, Needs}
 use Rattle.ports_core.specs.Guard.{GuardState, HoldsIn}

@@ -1,6 +1,6 @@
 -- What `csplit` leaves of its input.
 use Rattle.std.proofs.lemmas.Grind.{common_steps}
-use Rattle.std.proofs.Common.{◌≡◌, ℕ, ◌+◌, suc, drop, Bool, true, false, eqb, List, [], ◌∷◌, Option, Some, None, refl, ◌∙◌, ◌-◌, ◌<◌, ◌≤◌, not, ◌&&◌, ◌++◌, length, map, sym, ap, subst, arith, cond}
+use Rattle.std.proofs.Common.{◌≡◌, ℕ, ◌+◌, suc, drop, Bool, true, false, eqb, List, [], ◌∷◌, Option, Some, None, refl, ◌∙◌, ◌-◌, ◌<◌, ◌≤◌, ◌++◌, length, map, sym, ap, subst, arith, cond}
 use Rattle.operand_core.specs.declared.operand.Operand.{Operand}
 use Rattle.operand_core.specs.declared.operand.Target.{Target}
 use Rattle.operand_core.specs.declared.operand.Target.TheVariants.{Number, Search}

@@ -34,6 +34,7 @@ use Rattle.split_core.specs.laws.CutLaws.{whole_of_lines, whole_of_none}
 use Rattle.split_core.specs.laws.DealLaws.{share_none}
 use Rattle.split_core.proofs.CutLaws.{first_then_after, bytes_of_shares}
 use Rattle.split_core.proofs.AgreedLemmas.{bytes_named, each_named}
+use Rattle.split_core.proofs.RoundLemmas.{joined_files}
 use Rattle.split_core.proofs.SectionLemmas.{line_at, all_dealt, first_files, joined_parts, part_lines, part_bytes, lines_count, bytes_count, line_bytes_are_parts, line_bytes_once, line_bytes_within}
 use Rattle.words_core.specs.declared.settings.Settings.TheVariants.{Split}
 use Rattle.words_core.specs.SplitAsked.{SplitAsked}
@@ -357,15 +358,6 @@ dealt_at : (delim : ℕ) {n : ℕ} (elide : Bool) (x : List ℕ) {file : ℕ} �
 dealt_at delim false x within = refl
 dealt_at delim {n} true x {file} within = grind (arith, common_steps, first_files, cases_lt, get_or-take, length-take, get_or_past, get_or-map-range_with_len, share_none)
 
-joined_some : (files : List (List ℕ)) → joined (filter is_some files) ≡ joined files
-joined_some [] = refl
-joined_some ([] ∷ files) = joined_some files
-joined_some ((byte ∷ bytes) ∷ files) = ap (λ rest. (byte ∷ bytes) ++ rest) (joined_some files)
-
-joined_dealt : (delim n : ℕ) (elide : Bool) (x : List ℕ) → joined (dealt_files delim elide n x) ≡ joined (round_robin delim n x)
-joined_dealt delim n true x = joined_some (round_robin delim n x)
-joined_dealt delim n false x = refl
-
 all_some : (files : List (List ℕ)) → All (λ bytes. 0 < length bytes) (filter is_some files)
 all_some [] = search rules
 all_some ([] ∷ files) = all_some files
@@ -377,7 +369,7 @@ dealt_lines {delim} {n} {elide} {x} some = record {
       ap (λ text. get_or (lines_of delim text) (i / n) []) (dealt_at delim elide x (mod_below i n some))
       ∙ line_at delim n (i % n) (i / n) x (mod_below i n some)
       ∙ ap (λ place. get_or (lines_of delim x) place []) (let sum = div-add-mod' i n in omega (arith, sum)));
-  all = ap length (joined_dealt delim n elide x) ∙ all_dealt delim n x some;
+  all = ap length (joined_files delim elide n x) ∙ all_dealt delim n x some;
   count = λ is. ap (λ those. length (dealt_files delim those n x)) is ∙ length-map-range_with_len (share_of delim n x) 0 n;
   left_out = λ is. rw is (all_some (round_robin delim n x));
 }

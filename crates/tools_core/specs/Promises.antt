@@ -9,7 +9,7 @@ use Rattle.seg_core.specs.Line.{delimiters, ends_with, first_lines, joined, line
 use Rattle.ports_core.specs.Inputs.{largest_piece}
 use Rattle.ports_core.specs.Message.{SaysAll}
 use Rattle.ports_core.specs.Name.{name_at, numbered_name}
-use Rattle.ports_core.specs.Part.{File, IsBeginning}
+use Rattle.ports_core.specs.Part.{IsBeginning}
 use Rattle.ports_core.specs.Slot.{Slot, has_file, slot_at}
 use Rattle.ports_core.specs.Source.{Content, Source, source_at, source_of}
 use Rattle.ports_core.specs.Streams.{standard_error}

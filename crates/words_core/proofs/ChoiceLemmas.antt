@@ -28,7 +28,7 @@ use Rattle.words_core.specs.SplitWords.{delim_by, is_way, no_options, only_way, 
 use Rattle.words_core.specs.TailWords.{follow_by, no_following}
 use Rattle.words_core.specs.TeeWords.{mode_by, on_broken_by}
 use Rattle.words_core.specs.Words.{about_or, or_later, settings_for, topic_in, topic_of, work_for}
-use Rattle.words_core.specs.Laws.{amount_of, appends, counts, counts_digits, counts_looks, counts_pause, names_process, drops_sizes, elides_files, ends_with_zero, gives_ending, has, heads, keeps_files, leaves_lines_out, names_prefix, retries, says_followed, says_on_broken, separates, spells, widens}
+use Rattle.words_core.specs.Laws.{LastDecides, says, amount_of, appends, counts, counts_digits, counts_looks, counts_pause, names_process, drops_sizes, elides_files, ends_with_zero, gives_ending, has, heads, keeps_files, leaves_lines_out, names_prefix, retries, says_followed, says_on_broken, separates, spells, widens}
 
 -- a part of what is asked for that some options set, whatever was asked before them, and that the others leave
 
@@ -36,34 +36,34 @@ abbrev pub Sets : {A C : Type 0} → (A → Choice → Meant → A) → (A → C
 Sets {A} by part test = (asked other : A) (choice : Choice) (value : Meant)
     → part (by asked choice value) ≡ (if test choice value then part (by other choice value) else part asked)
 
-abbrev pub passes : (Choice → Meant → Bool) → GivenOption → Bool
-passes test option = test option.choice option.value
-
 module _ {A C : Type 0} (by : A → Choice → Meant → A) (part : A → C) (test : Choice → Meant → Bool) (sets : Sets by part test) where
-  pub kept : (asked : A) (options : List GivenOption) → list_any (passes test) options ≡ false → part (asked_by by asked options) ≡ part asked
+  pub kept : (asked : A) (options : List GivenOption) → list_any (says test) options ≡ false → part (asked_by by asked options) ≡ part asked
   kept asked [] none = refl
   kept asked (option ∷ options) none =
-      let both = or_parts (passes test option) (list_any (passes test) options) none in
+      let both = or_parts (says test option) (list_any (says test) options) none in
       let next : A = by asked option.choice option.value in
       kept next options both.1 ∙ sets asked asked option.choice option.value ∙ ap (λ test. if test then part next else part asked) both.0
 
-  pub decided : (asked other : A) (before after : List GivenOption) (option : GivenOption) → passes test option ≡ true → list_any (passes test) after ≡ false
+  pub decided : (asked other : A) (before after : List GivenOption) (option : GivenOption) → says test option ≡ true → list_any (says test) after ≡ false
       → part (asked_by by asked (before ++ option ∷ after)) ≡ part (by other option.choice option.value)
   decided asked other [] after option is none = rw (kept (by asked option.choice option.value) after none, sets asked other option.choice option.value, is)
   decided asked other (first ∷ before) after option is none = decided (by asked first.choice first.value) other before after option is none
+
+pub last_decides : {A C : Type 0} (by : A → Choice → Meant → A) (part : A → C) (test : Choice → Meant → Bool) → Sets by part test → (asked : A) → LastDecides test (λ options. part (asked_by by asked options)) (part asked)
+last_decides by part test sets asked = record { last = decided by part test sets asked asked; none = kept by part test sets asked }
 
 -- What the options of each tool set. One without a value sets the same wherever it stands.
 
 pub ends-sets : (asked other : EndsAsked) (choice : Choice) (value : Meant)
     → (amount_of (ends_by asked choice value) ≡ (if counts choice value then amount_of (ends_by other choice value) else amount_of asked))
-    × ((ends_by asked choice value).headers ≡ (if heads choice then (ends_by other choice value).headers else asked.headers))
+    × ((ends_by asked choice value).headers ≡ (if heads choice value then (ends_by other choice value).headers else asked.headers))
     × ((ends_by asked choice value).delim ≡ (if ends_with_zero choice then 0 else asked.delim))
 ends-sets asked other Lines (Counted count) = (refl, refl, refl)
 ends-sets asked other Bytes (Counted count) = (refl, refl, refl)
 ends-sets asked other choice value = (refl, refl, refl)
 
 pub follow-sets : (asked other : FollowOptions) (choice : Choice) (value : Meant)
-    → ((follow_by asked choice value).followed ≡ (if says_followed choice then (follow_by other choice value).followed else asked.followed))
+    → ((follow_by asked choice value).followed ≡ (if says_followed choice value then (follow_by other choice value).followed else asked.followed))
     × ((follow_by asked choice value).looks ≡ (if counts_looks choice value then (follow_by other choice value).looks else asked.looks))
     × ((follow_by asked choice value).retry ≡ (if retries choice then true else asked.retry))
     × ((follow_by asked choice value).pause ≡ (if counts_pause choice value then (follow_by other choice value).pause else asked.pause))
@@ -107,7 +107,7 @@ pub append-sets : (old : Mode) (choice : Choice) (value : Meant) → mode_by old
 append-sets old Append value = refl
 append-sets old choice value = refl
 
-pub on_broken-sets : (asked other : OnBroken) (choice : Choice) (value : Meant) → on_broken_by asked choice value ≡ (if says_on_broken choice then on_broken_by other choice value else asked)
+pub on_broken-sets : (asked other : OnBroken) (choice : Choice) (value : Meant) → on_broken_by asked choice value ≡ (if says_on_broken choice value then on_broken_by other choice value else asked)
 on_broken-sets asked other OutputError (Breaking on_broken) = refl
 on_broken-sets asked other choice value = refl
 

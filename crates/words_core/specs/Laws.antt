@@ -58,53 +58,35 @@ counts Lines (Counted count) = true
 counts Bytes (Counted count) = true
 counts choice value = false
 
-abbrev pub is_count : GivenOption → Bool
-is_count option = counts option.choice option.value
-
 -- whether it ends lines with byte 0
 abbrev pub ends_with_zero : Choice → Bool
 ends_with_zero ZeroTerminated = true
 ends_with_zero choice = false
 
 -- whether it says when headers come
-abbrev pub heads : Choice → Bool
-heads Quiet = true
-heads Verbose = true
-heads choice = false
-
-abbrev pub is_headers : GivenOption → Bool
-is_headers option = heads option.choice
+abbrev pub heads : Choice → Meant → Bool
+heads Quiet value = true
+heads Verbose value = true
+heads choice value = false
 
 -- whether it says what `tail` follows, how often it looks, and how long it waits
 
-abbrev pub says_followed : Choice → Bool
-says_followed Follow = true
-says_followed FollowNames = true
-says_followed choice = false
-
-abbrev pub is_following : GivenOption → Bool
-is_following option = says_followed option.choice
+abbrev pub says_followed : Choice → Meant → Bool
+says_followed Follow value = true
+says_followed FollowNames value = true
+says_followed choice value = false
 
 abbrev pub counts_looks : Choice → Meant → Bool
 counts_looks HowOften (Looks looks) = true
 counts_looks choice value = false
 
-abbrev pub is_looks : GivenOption → Bool
-is_looks option = counts_looks option.choice option.value
-
 abbrev pub counts_pause : Choice → Meant → Bool
 counts_pause HowLong (Pause pause) = true
 counts_pause choice value = false
 
-abbrev pub is_pause : GivenOption → Bool
-is_pause option = counts_pause option.choice option.value
-
 abbrev pub names_process : Choice → Meant → Bool
 names_process WaitsFor (Process process) = true
 names_process choice value = false
-
-abbrev pub is_process : GivenOption → Bool
-is_process option = names_process option.choice option.value
 
 abbrev pub retries : Choice → Bool
 retries FollowNames = true
@@ -151,15 +133,9 @@ abbrev pub names_prefix : Choice → Meant → Bool
 names_prefix Prefix (Text text) = true
 names_prefix choice value = false
 
-abbrev pub is_prefix : GivenOption → Bool
-is_prefix option = names_prefix option.choice option.value
-
 abbrev pub counts_digits : Choice → Meant → Bool
 counts_digits Digits (Width digits) = true
 counts_digits choice value = false
-
-abbrev pub is_digits : GivenOption → Bool
-is_digits option = counts_digits option.choice option.value
 
 abbrev pub keeps_files : Choice → Bool
 keeps_files KeepFiles = true
@@ -181,12 +157,21 @@ abbrev pub appends : Choice → Bool
 appends Append = true
 appends choice = false
 
-abbrev pub says_on_broken : Choice → Bool
-says_on_broken OutputError = true
-says_on_broken choice = false
+abbrev pub says_on_broken : Choice → Meant → Bool
+says_on_broken OutputError value = true
+says_on_broken choice value = false
 
-abbrev pub is_on_broken : GivenOption → Bool
-is_on_broken option = says_on_broken option.choice
+-- whether an option says this, by its choice and its value
+abbrev pub says : (Choice → Meant → Bool) → GivenOption → Bool
+says test option = test option.choice option.value
+
+-- Of several options that say this the last decides this part of what is asked, as if it stood alone, whatever options
+-- stand before it; without one that part is as it is by default.
+pub record LastDecides {A : Type 0} (test : Choice → Meant → Bool) (part_of : List GivenOption → A) (default : A)
+    : Type 0 where
+  pub last : (before after : List GivenOption) (option : GivenOption) → says test option ≡ true
+      → list_any (says test) after ≡ false → part_of (before ++ option ∷ after) ≡ part_of (option ∷ [])
+  pub none : (options : List GivenOption) → list_any (says test) options ≡ false → part_of options ≡ default
 
 -- some option is of this kind
 abbrev pub has : (Choice → Bool) → List GivenOption → Bool

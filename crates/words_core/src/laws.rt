@@ -8,7 +8,7 @@ ghost use Rattle.seg_core.specs.Count.{count_of, digits_of, is_number, sized, va
 ghost use Rattle.std.specs.Char.{is_ascii_digit};
 ghost use Rattle.words_core.specs.Given.{Given, GivenOperand, GivenOption, bare, joined, one_operand, one_option};
 ghost use Rattle.words_core.specs.CsplitWords.{style_of};
-ghost use Rattle.words_core.specs.Laws.{AreAmong, Gives, IsLast, IsLetter, IsName, IsSwitch, LeaveTheRest, amount_of, appends, as_operands, csplit_as, drops_sizes, elides_files, ends_as, ends_of, ends_with_zero, has, is_alphabet, is_count, is_digits, is_ending, is_headers, is_plain, is_prefix, is_separator, is_width, follow_of, following_as, is_following, is_looks, keeps_files, leaves_lines_out, retries, split_as, split_of, tail_as, plain_style, is_on_broken, is_pause, is_process, on_broken_of};
+ghost use Rattle.words_core.specs.Laws.{AreAmong, Gives, IsLast, IsLetter, IsName, IsSwitch, LastDecides, LeaveTheRest, amount_of, appends, as_operands, counts, counts_digits, counts_looks, counts_pause, csplit_as, drops_sizes, elides_files, ends_as, ends_of, ends_with_zero, follow_of, following_as, has, heads, is_alphabet, is_ending, is_plain, is_separator, is_width, keeps_files, leaves_lines_out, names_prefix, names_process, on_broken_of, plain_style, retries, says_followed, says_on_broken, split_as, split_of, tail_as};
 ghost use Rattle.words_core.specs.Lettered.{is_lettered, letter_named, unit_of, with_letters};
 ghost use Rattle.words_core.specs.SplitAsked.{SplitAsked};
 ghost use Rattle.words_core.specs.Spelling.{given_before, mixed, spelled};
@@ -33,29 +33,17 @@ use seg_core::unit::Unit;
 /// and so does the last option for headers. Other options change neither (POSIX.1-2017, XBD 12.2, guideline 11,
 /// leaves this to the tool).
 pub fn last_of_ends_decides()
-    ensures counts { (before after : List GivenOption) (option : GivenOption) → is_count option ≡ true → list_any is_count after ≡ false
-        → amount_of (ends_of (before ++ option ∷ after)) ≡ amount_of (ends_of (option ∷ [])) }
-    ensures no_count { (options : List GivenOption) → list_any is_count options ≡ false → amount_of (ends_of options) ≡ amount_of (ends_of []) }
-    ensures headers { (before after : List GivenOption) (option : GivenOption) → is_headers option ≡ true → list_any is_headers after ≡ false
-        → (ends_of (before ++ option ∷ after)).headers ≡ (ends_of (option ∷ [])).headers }
-    ensures no_headers { (options : List GivenOption) → list_any is_headers options ≡ false → (ends_of options).headers ≡ (ends_of []).headers }
+    ensures counts { LastDecides counts (λ options. amount_of (ends_of options)) (amount_of (ends_of [])) }
+    ensures headers { LastDecides heads (λ options. (ends_of options).headers) (ends_of []).headers }
 {}
 
 /// Of several options that say what `tail` follows the last decides, as if it stood alone, whatever options stand before it,
 /// and so do the last number of looks, the last pause and the last process. A name that leads nowhere is looked for again where any option says so.
 pub fn last_of_tail_decides()
-    ensures followed { (before after : List GivenOption) (option : GivenOption) → is_following option ≡ true → list_any is_following after ≡ false
-        → (follow_of (before ++ option ∷ after)).followed ≡ (follow_of (option ∷ [])).followed }
-    ensures not_followed { (options : List GivenOption) → list_any is_following options ≡ false → (follow_of options).followed ≡ None }
-    ensures looks { (before after : List GivenOption) (option : GivenOption) → is_looks option ≡ true → list_any is_looks after ≡ false
-        → (follow_of (before ++ option ∷ after)).looks ≡ (follow_of (option ∷ [])).looks }
-    ensures no_looks { (options : List GivenOption) → list_any is_looks options ≡ false → (follow_of options).looks ≡ 2 ^ 63 - 1 }
-    ensures pause { (before after : List GivenOption) (option : GivenOption) → is_pause option ≡ true → list_any is_pause after ≡ false
-        → (follow_of (before ++ option ∷ after)).pause ≡ (follow_of (option ∷ [])).pause }
-    ensures no_pause { (options : List GivenOption) → list_any is_pause options ≡ false → (follow_of options).pause ≡ 1000 }
-    ensures process { (before after : List GivenOption) (option : GivenOption) → is_process option ≡ true → list_any is_process after ≡ false
-        → (follow_of (before ++ option ∷ after)).process ≡ (follow_of (option ∷ [])).process }
-    ensures no_process { (options : List GivenOption) → list_any is_process options ≡ false → (follow_of options).process ≡ None }
+    ensures followed { LastDecides says_followed (λ options. (follow_of options).followed) None }
+    ensures looks { LastDecides counts_looks (λ options. (follow_of options).looks) (2 ^ 63 - 1) }
+    ensures pause { LastDecides counts_pause (λ options. (follow_of options).pause) 1000 }
+    ensures process { LastDecides names_process (λ options. (follow_of options).process) None }
     ensures retry { (options : List GivenOption) → (follow_of options).retry ≡ has retries options }
 {}
 
@@ -82,20 +70,14 @@ pub fn last_of_split_decides()
 /// Of several prefixes for `csplit` the last decides, as if it stood alone, whatever options stand before it; and so does
 /// the last number of digits. Without one the prefix is `xx`, and there are two digits.
 pub fn last_of_csplit_decides()
-    ensures prefix { (before after : List GivenOption) (option : GivenOption) → is_prefix option ≡ true → list_any is_prefix after ≡ false
-        → (style_of (before ++ option ∷ after)).prefix ≡ (style_of (option ∷ [])).prefix }
-    ensures no_prefix { (options : List GivenOption) → list_any is_prefix options ≡ false → (style_of options).prefix ≡ codes "xx" }
-    ensures digits { (before after : List GivenOption) (option : GivenOption) → is_digits option ≡ true → list_any is_digits after ≡ false
-        → (style_of (before ++ option ∷ after)).digits ≡ (style_of (option ∷ [])).digits }
-    ensures no_digits { (options : List GivenOption) → list_any is_digits options ≡ false → (style_of options).digits ≡ 2 }
+    ensures prefix { LastDecides names_prefix (λ options. (style_of options).prefix) (codes "xx") }
+    ensures digits { LastDecides counts_digits (λ options. (style_of options).digits) 2 }
 {}
 
 /// Of several options of `tee` that say what is done once an output is broken the last decides, as if it stood alone, whatever
 /// options stand before it. Without one it goes on with those that are left.
 pub fn last_of_tee_decides()
-    ensures on_broken { (before after : List GivenOption) (option : GivenOption) → is_on_broken option ≡ true → list_any is_on_broken after ≡ false
-        → on_broken_of (before ++ option ∷ after) ≡ on_broken_of (option ∷ []) }
-    ensures no_on_broken { (options : List GivenOption) → list_any is_on_broken options ≡ false → on_broken_of options ≡ OnBroken.GoOn }
+    ensures on_broken { LastDecides says_on_broken on_broken_of OnBroken.GoOn }
 {}
 
 /// An option that is taken without effect changes nothing, whatever its value: the others ask for what they ask for without

@@ -1,12 +1,10 @@
 use Rattle.words_core.specs.CsplitWords.{csplit_by, plain}
 use Rattle.words_core.specs.Laws.{counts_digits, names_prefix}
-use Rattle.words_core.proofs.ChoiceLemmas.{csplit-sets, decided, kept}
+use Rattle.words_core.proofs.ChoiceLemmas.{csplit-sets, last_decides}
 use Rattle.words_core.proofs.laws.last_of_csplit_decides.Goals as goal
 
 pub returns : goal.returns
 returns c = record {
-  prefix = decided csplit_by (λ asked. asked.prefix) names_prefix (λ a o c v. (csplit-sets a o c v).0) plain plain;
-  no_prefix = kept csplit_by (λ asked. asked.prefix) names_prefix (λ a o c v. (csplit-sets a o c v).0) plain;
-  digits = decided csplit_by (λ asked. asked.digits) counts_digits (λ a o c v. (csplit-sets a o c v).1) plain plain;
-  no_digits = kept csplit_by (λ asked. asked.digits) counts_digits (λ a o c v. (csplit-sets a o c v).1) plain;
+  prefix = last_decides csplit_by (λ asked. asked.prefix) names_prefix (λ a o c v. (csplit-sets a o c v).0) plain;
+  digits = last_decides csplit_by (λ asked. asked.digits) counts_digits (λ a o c v. (csplit-sets a o c v).1) plain;
 }

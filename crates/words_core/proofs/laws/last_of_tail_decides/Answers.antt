@@ -1,18 +1,14 @@
 use Rattle.std.proofs.Common.{refl}
 use Rattle.words_core.specs.TailWords.{follow_by, no_following}
 use Rattle.words_core.specs.Laws.{counts_looks, counts_pause, names_process, retries, says_followed}
-use Rattle.words_core.proofs.ChoiceLemmas.{decided, follow-sets, kept, so_where_given}
+use Rattle.words_core.proofs.ChoiceLemmas.{follow-sets, last_decides, so_where_given}
 use Rattle.words_core.proofs.laws.last_of_tail_decides.Goals as goal
 
 pub returns : goal.returns
 returns c = record {
-  followed = decided follow_by (λ asked. asked.followed) (λ choice value. says_followed choice) (λ a o c v. (follow-sets a o c v).0) no_following no_following;
-  not_followed = kept follow_by (λ asked. asked.followed) (λ choice value. says_followed choice) (λ a o c v. (follow-sets a o c v).0) no_following;
-  looks = decided follow_by (λ asked. asked.looks) counts_looks (λ a o c v. (follow-sets a o c v).1) no_following no_following;
-  no_looks = kept follow_by (λ asked. asked.looks) counts_looks (λ a o c v. (follow-sets a o c v).1) no_following;
-  pause = decided follow_by (λ asked. asked.pause) counts_pause (λ a o c v. (follow-sets a o c v).3) no_following no_following;
-  no_pause = kept follow_by (λ asked. asked.pause) counts_pause (λ a o c v. (follow-sets a o c v).3) no_following;
-  process = decided follow_by (λ asked. asked.process) names_process (λ a o c v. (follow-sets a o c v).4) no_following no_following;
-  no_process = kept follow_by (λ asked. asked.process) names_process (λ a o c v. (follow-sets a o c v).4) no_following;
+  followed = last_decides follow_by (λ asked. asked.followed) says_followed (λ a o c v. (follow-sets a o c v).0) no_following;
+  looks = last_decides follow_by (λ asked. asked.looks) counts_looks (λ a o c v. (follow-sets a o c v).1) no_following;
+  pause = last_decides follow_by (λ asked. asked.pause) counts_pause (λ a o c v. (follow-sets a o c v).3) no_following;
+  process = last_decides follow_by (λ asked. asked.process) names_process (λ a o c v. (follow-sets a o c v).4) no_following;
   retry = so_where_given follow_by (λ asked. asked.retry) retries (λ a c v. (follow-sets a a c v).2) no_following refl;
 }

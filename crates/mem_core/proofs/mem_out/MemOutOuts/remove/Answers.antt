@@ -1,4 +1,4 @@
-use Rattle.std.proofs.Common.{refl, ◌∙◌, sym}
+use Rattle.std.proofs.Common.{[], arith, refl, ◌∙◌, sym}
 use Rattle.ports_core.specs.Slot.{Slot, closes, removes, breaks}
 use Rattle.ports_core.proofs.SlotLemmas.{kept_changes, changed_at-again, file_kept}
 use Rattle.mem_core.proofs.mem_out.MemOutOuts.remove.Goals as goal
@@ -6,9 +6,9 @@ use Rattle.mem_core.proofs.mem_out.MemOutOuts.remove.Goals as goal
 pub returns-then-fails-clause-err : goal.returns-then-fails-clause-err
 returns-then-fails-clause-err c = (
   refl,
-  kept_changes _ _ _ _ (λ (slot : Slot). breaks (closes slot)) _ _ c.self.view_is (file_kept _ _ _ _ c.self.view_is c.requires.1) c.index_mut-out.ensures.value c.close_broken.ensures
+  kept_changes [] _ _ c.self.view_is (omega arith) (λ (slot : Slot). breaks (closes slot)) (file_kept [] _ _ c.self.view_is (omega arith) c.requires.1) c.index_mut-out.ensures.value c.close_broken.ensures
       ∙ sym (changed_at-again c.args.slot closes breaks c.args.self.now),
 )
 
 pub returns-clause-ok : goal.returns-clause-ok
-returns-clause-ok c = kept_changes _ _ _ _ removes _ _ c.self.view_is (file_kept _ _ _ _ c.self.view_is c.requires.1) c.index_mut-out.ensures.value c.remove.ensures
+returns-clause-ok c = kept_changes [] _ _ c.self.view_is (omega arith) removes (file_kept [] _ _ c.self.view_is (omega arith) c.requires.1) c.index_mut-out.ensures.value c.remove.ensures
