@@ -89,10 +89,10 @@ only_way delim (way ∷ second ∷ more) = Err (Usage TwoWays second.word)
 abbrev pub way_of : List GivenOption → Result Cut Fault
 way_of options = only_way (separator_in options) (filter is_way options)
 
--- The suffixes. A width of 0 stands for none. With a width all suffixes have it. Without one they widen from 2 characters
--- on, unless lines are dealt to files, or an option says which number the first file has: then they never widen. Where
--- lines are dealt, the width must write the numbers of all files, and without one it is the least from 2 on that does.
--- Where files come one after another, it must write the first one's number, and without one it is 2.
+-- The suffixes. A width of 0 stands for none. With a width all suffixes have it. Without one they widen from 2
+-- characters on, unless lines are dealt to files, or an option says which number the first file has: then they never
+-- widen. Where lines are dealt, the width must write the numbers of all files, and without one it is the least from 2
+-- on that does. Where files come one after another, it must write the first one's number, and without one it is 2.
 
 abbrev pub fixed : ℕ → Suffix
 fixed width = record { width = width; auto = false }

@@ -262,12 +262,7 @@ type NumberRow<'a> = (&'a [&'a str], Alphabet, u32, Option<u64>);
 #[test]
 fn reads_the_number_of_the_first_file(rt: HostRuntime) {
     for row in NUMBERS {
-        check(
-            &rt,
-            rt.alloc(),
-            row.0,
-            Wanted::Numbers(row.1, row.2, row.3),
-        );
+        check(&rt, rt.alloc(), row.0, Wanted::Numbers(row.1, row.2, row.3));
     }
 }
 
@@ -285,12 +280,7 @@ const NUMBERS: &[NumberRow<'static>] = &[
         2,
         Some(0),
     ),
-    (
-        &["split", "--numeric=0099"],
-        Alphabet::Digits,
-        2,
-        Some(99),
-    ),
+    (&["split", "--numeric=0099"], Alphabet::Digits, 2, Some(99)),
     // The next word is never its value.
     (
         &["split", "--numeric-suffixes", "5", "f"],
@@ -352,12 +342,7 @@ const NUMBERS: &[NumberRow<'static>] = &[
         2,
         Some(4),
     ),
-    (
-        &["split", "--hex-suffixes=fE"],
-        Alphabet::Hex,
-        2,
-        Some(254),
-    ),
+    (&["split", "--hex-suffixes=fE"], Alphabet::Hex, 2, Some(254)),
     (
         &["split", "--hex-suffixes=0A9f", "-a4"],
         Alphabet::Hex,
