@@ -75,7 +75,7 @@ follow-sets asked other WaitsFor (Process process) = (refl, refl, refl, refl, re
 follow-sets asked other choice value = (refl, refl, refl, refl, refl)
 
 pub split-sets : (asked other : SplitAsked) (choice : Choice) (value : Meant)
-    → ((split_by asked choice value).alphabet ≡ (if spells choice then (split_by other choice value).alphabet else asked.alphabet))
+    → ((split_by asked choice value).alphabet ≡ (if spells choice value then (split_by other choice value).alphabet else asked.alphabet))
     × ((split_by asked choice value).width ≡ (if widens choice value then (split_by other choice value).width else asked.width))
     × ((split_by asked choice value).ending ≡ (if gives_ending choice value then (split_by other choice value).ending else asked.ending))
     × ((split_by asked choice value).elide ≡ (if elides_files choice then true else asked.elide))
@@ -83,7 +83,7 @@ split-sets asked other SuffixLength (Width width) = search rules
 split-sets asked other AdditionalSuffix (Text text) = search rules
 split-sets asked other choice value = search rules
 
-pub from-sets : (asked other : SplitAsked) (choice : Choice) (value : Meant) → (split_by asked choice value).from ≡ (if spells choice then (split_by other choice value).from else asked.from)
+pub from-sets : (asked other : SplitAsked) (choice : Choice) (value : Meant) → (split_by asked choice value).from ≡ (if spells choice value then (split_by other choice value).from else asked.from)
 from-sets asked other SuffixLength (Width width) = refl
 from-sets asked other AdditionalSuffix (Text text) = refl
 from-sets asked other choice value = refl

@@ -94,21 +94,15 @@ retries Retry = true
 retries choice = false
 
 -- whether it says which characters suffixes have, and with that from which number on they count
-abbrev pub spells : Choice → Bool
-spells NumericSuffixes = true
-spells HexSuffixes = true
-spells choice = false
-
-abbrev pub is_alphabet : GivenOption → Bool
-is_alphabet option = spells option.choice
+abbrev pub spells : Choice → Meant → Bool
+spells NumericSuffixes value = true
+spells HexSuffixes value = true
+spells choice value = false
 
 -- whether it says how wide suffixes are
 abbrev pub widens : Choice → Meant → Bool
 widens SuffixLength (Width width) = true
 widens choice value = false
-
-abbrev pub is_width : GivenOption → Bool
-is_width option = widens option.choice option.value
 
 -- whether it gives the byte that lines end with, and the ending of names
 
@@ -116,15 +110,9 @@ abbrev pub separates : Choice → Meant → Bool
 separates Separator (Byte byte) = true
 separates choice value = false
 
-abbrev pub is_separator : GivenOption → Bool
-is_separator option = separates option.choice option.value
-
 abbrev pub gives_ending : Choice → Meant → Bool
 gives_ending AdditionalSuffix (Text text) = true
 gives_ending choice value = false
-
-abbrev pub is_ending : GivenOption → Bool
-is_ending option = gives_ending option.choice option.value
 
 -- which option of `csplit` it is: one for the prefix, one for the digits, or one without a value; and of `tee`, whether
 -- it lets it append, and whether it says what is done once an output is broken

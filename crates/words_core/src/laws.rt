@@ -8,7 +8,7 @@ ghost use Rattle.seg_core.specs.Count.{count_of, digits_of, is_number, sized, va
 ghost use Rattle.std.specs.Char.{is_ascii_digit};
 ghost use Rattle.words_core.specs.Given.{Given, GivenOperand, GivenOption, bare, joined, one_operand, one_option};
 ghost use Rattle.words_core.specs.CsplitWords.{style_of};
-ghost use Rattle.words_core.specs.Laws.{AreAmong, Gives, IsLast, IsLetter, IsName, IsSwitch, LastDecides, LeaveTheRest, amount_of, appends, as_operands, counts, counts_digits, counts_looks, counts_pause, csplit_as, drops_sizes, elides_files, ends_as, ends_of, ends_with_zero, follow_of, following_as, has, heads, is_alphabet, is_ending, is_plain, is_separator, is_width, keeps_files, leaves_lines_out, names_prefix, names_process, on_broken_of, plain_style, retries, says_followed, says_on_broken, split_as, split_of, tail_as};
+ghost use Rattle.words_core.specs.Laws.{AreAmong, Gives, IsLast, IsLetter, IsName, IsSwitch, LastDecides, LeaveTheRest, amount_of, appends, as_operands, counts, counts_digits, counts_looks, counts_pause, csplit_as, drops_sizes, elides_files, ends_as, ends_of, ends_with_zero, follow_of, following_as, gives_ending, has, heads, is_plain, keeps_files, leaves_lines_out, names_prefix, names_process, on_broken_of, plain_style, retries, says_followed, says_on_broken, separates, spells, split_as, split_of, tail_as, widens};
 ghost use Rattle.words_core.specs.Lettered.{is_lettered, letter_named, unit_of, with_letters};
 ghost use Rattle.words_core.specs.SplitAsked.{SplitAsked};
 ghost use Rattle.words_core.specs.Spelling.{given_before, mixed, spelled};
@@ -50,21 +50,11 @@ pub fn last_of_tail_decides()
 /// Of several options for the characters of suffixes the last decides, as if it stood alone, whatever options stand before it,
 /// also which number the first file has, if it says so; and so do the last width, the last byte that lines end with, and the last ending of names. Other options change none.
 pub fn last_of_split_decides()
-    ensures alphabet { (before after : List GivenOption) (option : GivenOption) → is_alphabet option ≡ true → list_any is_alphabet after ≡ false
-        → (split_of (before ++ option ∷ after)).alphabet ≡ (split_of (option ∷ [])).alphabet }
-    ensures no_alphabet { (options : List GivenOption) → list_any is_alphabet options ≡ false → (split_of options).alphabet ≡ (split_of []).alphabet }
-    ensures from { (before after : List GivenOption) (option : GivenOption) → is_alphabet option ≡ true → list_any is_alphabet after ≡ false
-        → (split_of (before ++ option ∷ after)).from ≡ (split_of (option ∷ [])).from }
-    ensures no_from { (options : List GivenOption) → list_any is_alphabet options ≡ false → (split_of options).from ≡ None }
-    ensures width { (before after : List GivenOption) (option : GivenOption) → is_width option ≡ true → list_any is_width after ≡ false
-        → (split_of (before ++ option ∷ after)).width ≡ (split_of (option ∷ [])).width }
-    ensures no_width { (options : List GivenOption) → list_any is_width options ≡ false → (split_of options).width ≡ (split_of []).width }
-    ensures separator { (before after : List GivenOption) (option : GivenOption) → is_separator option ≡ true → list_any is_separator after ≡ false
-        → separator_in (before ++ option ∷ after) ≡ separator_in (option ∷ []) }
-    ensures no_separator { (options : List GivenOption) → list_any is_separator options ≡ false → separator_in options ≡ 10 }
-    ensures ending { (before after : List GivenOption) (option : GivenOption) → is_ending option ≡ true → list_any is_ending after ≡ false
-        → (split_of (before ++ option ∷ after)).ending ≡ (split_of (option ∷ [])).ending }
-    ensures no_ending { (options : List GivenOption) → list_any is_ending options ≡ false → (split_of options).ending ≡ [] }
+    ensures alphabet { LastDecides spells (λ options. (split_of options).alphabet) (split_of []).alphabet }
+    ensures from { LastDecides spells (λ options. (split_of options).from) None }
+    ensures width { LastDecides widens (λ options. (split_of options).width) (split_of []).width }
+    ensures separator { LastDecides separates separator_in 10 }
+    ensures ending { LastDecides gives_ending (λ options. (split_of options).ending) [] }
 {}
 
 /// Of several prefixes for `csplit` the last decides, as if it stood alone, whatever options stand before it; and so does
