@@ -1,7 +1,7 @@
 -- Laws of parts that follow one another, of what files get of them, and of lines that are dealt; and what the next bytes of a piece do
 -- to the part that was begun.
 use Rattle.std.proofs.lemmas.Grind.{common_steps}
-use Rattle.std.proofs.Common.{◌≡◌, ℕ, ◌<◌, ◌≤◌, List, [], ◌∷◌, ◌++◌, length, take, drop, true, false, cond, refl, sym, ◌∙◌, ap, subst, arith, append_assoc, map, ◌⊎◌, inr, ◌+◌, ◌%◌, Bool, eqb, rules, take_all, take-append-drop, ne_eqb, ◌-◌, nat_lt, length-append, length-drop}
+use Rattle.std.proofs.Common.{◌≡◌, ℕ, ◌<◌, ◌≤◌, List, [], ◌∷◌, ◌++◌, length, take, drop, true, false, cond, refl, sym, ◌∙◌, ap, subst, arith, append_assoc, map, ◌+◌, ◌%◌, Bool, eqb, rules, take_all, take-append-drop, ne_eqb, ◌-◌, nat_lt, length-append, length-drop}
 use Rattle.std.proofs.lemmas.Bool.Decides.{nat_tests}
 use Rattle.std.proofs.Math.Seq.{drop-append_seam}
 use Rattle.seg_core.specs.Line.{joined, delimiters, after_lines, first_lines, EndsAt, FallsShort, LastEndsAt}
@@ -12,10 +12,7 @@ use Rattle.seg_core.specs.Cut.{most}
 use Rattle.split_core.specs.Parts.{whole_lines, open_line, measure, is_full, first_part, after_first, cut_up, dealt}
 use Rattle.split_core.specs.laws.CutLaws.{whole_within, cuts_up, cut_once, full_from, whole_of_lines, whole_of_none, whole_then_open, whole_some, has_lines}
 use Rattle.split_core.specs.inner.CutLaws.{Cuts, stops, goes, cut_so}
-use Rattle.ports_core.specs.Part.{IsBeginning}
 use Rattle.ports_core.specs.declared.slot.State.{State}
-use Rattle.ports_core.specs.declared.slot.State.TheVariants.{Open, Closed}
-use Rattle.ports_core.proofs.PartLemmas.{begins_itself, begins_trans, kept_trans}
 use Rattle.split_core.specs.Split.{Share, share}
 use Rattle.std.proofs.Math.Nat.{mod-add-mod, mod-lt}
 use Rattle.split_core.specs.Round.{opened_by}

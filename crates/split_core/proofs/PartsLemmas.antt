@@ -1,15 +1,14 @@
 -- What each call on parts leaves: a step of a piece, a piece that is taken in step by step, the end of the input, and what the stage owes.
 use Rattle.std.proofs.lemmas.Grind.{common_steps}
-use Rattle.std.proofs.Common.{◌≡◌, ℕ, ◌+◌, ◌-◌, ◌<◌, ◌≤◌, zero, suc, List, [], ◌∷◌, ◌++◌, ◌⊎◌, length, map, Bool, true, false, Option, Some, None, IfNone, IfSome, Result, Ok, Err, OnOk, IfErr, IfOk, inl, inr, refl, sym, ◌∙◌, ap, subst, arith, length-append, rules, take, drop, append_assoc, not, cond, zero-add}
+use Rattle.std.proofs.Common.{◌≡◌, ℕ, ◌+◌, ◌-◌, ◌<◌, ◌≤◌, suc, List, [], ◌∷◌, ◌++◌, ◌⊎◌, length, map, Bool, true, false, Option, Some, None, IfSome, Result, Ok, Err, OnOk, IfErr, IfOk, inl, inr, refl, sym, ◌∙◌, ap, subst, arith, length-append, rules, take, drop, append_assoc, not, cond}
 use Rattle.std.proofs.lemmas.List.{append-nil, drop-take, take-append-drop, length-map, map-append}
 use Rattle.std.proofs.Math.Seq.{take-length, drop-append_seam}
-use Rattle.std.proofs.lemmas.Bool.{false≢true}
 use Rattle.ports_core.specs.Draft.{Manner, Draft, share, Share, made_of, shares_of, draft_part, output_of, part_of, with_bytes, with_next}
 use Rattle.ports_core.specs.Engine.{CutsOff, EndsWith, EndsThere, IsMet, StandsAt, is_verdict}
 use Rattle.ports_core.specs.Engine as engine
-use Rattle.ports_core.specs.FileWriter.{WriterState, Writes, At, Breaks, Goes, IsCurrent, IsReady as CanWrite, IsWrite, Leaves, RunsShort, is_file, manner_in}
+use Rattle.ports_core.specs.FileWriter.{WriterState, Writes, At, Breaks, Goes, IsCurrent, IsReady as CanWrite, IsWrite, is_file, manner_in}
 use Rattle.ports_core.specs.Name.{Naming, has_name}
-use Rattle.ports_core.specs.Part.{Begins as PartBegins, Output, OutputsAt, gets_none, writes}
+use Rattle.ports_core.specs.Part.{Begins as PartBegins, OutputsAt, gets_none, writes}
 use Rattle.ports_core.specs.Slot.{Slot}
 use Rattle.ports_core.specs.Turn.{fault_in}
 use Rattle.ports_core.specs.inner.Shares.{SharesBegin}
@@ -21,8 +20,8 @@ use Rattle.ports_core.specs.declared.file_writer.Opening.TheVariants.{Never, Lat
 use Rattle.ports_core.specs.declared.file_writer.Tells.{Tells}
 use Rattle.ports_core.specs.declared.file_writer.Tells.TheVariants.{Nothing}
 use Rattle.ports_core.specs.declared.slot.State.TheVariants as file_state
-use Rattle.ports_core.proofs.FileWriterLemmas.{goes_still, in_any, keeps_files, leaves_again, leaves_still, put_nothing, reaches_again, reaches_as, reaches_still, stops_wider, where_short, where_well}
-use Rattle.ports_core.proofs.WriterSteps.{GrowsOn, goes_again, goes_as, goes_lacking, goes_more, goes_wider, stops_among}
+use Rattle.ports_core.proofs.FileWriterLemmas.{goes_still, in_any, keeps_files, leaves_again, leaves_still, reaches_again, reaches_as, reaches_still, stops_wider, where_short, where_well}
+use Rattle.ports_core.proofs.WriterSteps.{goes_again, goes_as, goes_lacking, goes_more, goes_wider, stops_among}
 use Rattle.ports_core.proofs.PartLemmas.{begins_itself, begins_trans, kept_trans, stopped_in_turn}
 use Rattle.ports_core.proofs.ShareLemmas.{bytes_begin, made_begin, next_begins, shares_after, shares_wider, still_made}
 use Rattle.seg_core.specs.Cut.{most}
@@ -34,13 +33,13 @@ use Rattle.split_core.specs.Ways as ways
 use Rattle.split_core.specs.declared.splitter.Splitter.TheVariants as way
 use Rattle.split_core.specs.declared.step.Step.{Step}
 use Rattle.split_core.specs.declared.step.Step.TheVariants.{Goes as GoesOn, Ends, Begins, Waits}
-use Rattle.split_core.specs.inner.CutLaws.{cut_so, whole_parts}
+use Rattle.split_core.specs.inner.CutLaws.{cut_so}
 use Rattle.split_core.specs.inner.Sharing.{CannotClose, always_named}
 use Rattle.split_core.specs.inner.Step.{IsTurned, Leads}
 use Rattle.split_core.specs.inner.Takes.{Emptying, Extends, Finishes, LacksNames, Moves, Steps, Takes, Turns, numbers, settled_part, turns, whole_part}
 use Rattle.split_core.specs.inner.Ways.{FinishesBy, PassesBy}
-use Rattle.split_core.specs.laws.CutLaws.{cut_none, cut_on, first_some, rest_short, settled_some, settled_then_waiting}
-use Rattle.split_core.specs.laws.ShareLaws.{are_named_more, named_short, part_begins, settled_count, settled_end, settled_grow, shares_fewer}
+use Rattle.split_core.specs.laws.CutLaws.{cut_none, cut_on, first_some, settled_some, settled_then_waiting}
+use Rattle.split_core.specs.laws.ShareLaws.{are_named_more, named_short, part_begins, settled_count, settled_grow, shares_fewer}
 use Rattle.split_core.proofs.AgreedLemmas.{one_of}
 use Rattle.split_core.proofs.CutLaws.{cut_two}
 
@@ -59,22 +58,22 @@ unjudged manner old new fault breaks named = absurd breaks
 
 -- where all places have names, they don't run out
 pub none_lacks : (old new : List Slot) {fault : Fault} → Breaks always_named old new fault → fault ≡ Suffixes → ⊥
-none_lacks old new breaks is = false≢true (sym (subst (Breaks always_named old new) is breaks).2)
+none_lacks old new breaks is = grind (arith, common_steps)
 
 pub met_files : (Why : Fault → Type 0) (manner : Manner) (old new : List Slot) (fault : Fault) → manner.output ≡ gets_none → Breaks manner old new fault → (fault ≡ Suffixes → Why fault) → IsMet split_means split_means.feeding (true ≡ true) Why old new fault
 met_files Why manner old new Memory same breaks ends = (refl, refl)
-met_files Why manner old new (Write slot) same breaks ends = (λ none. subst (λ output. writes output ≡ true) same (breaks.0 none), λ none. absurd (false≢true (sym none)), breaks.1)
+met_files Why manner old new (Write slot) same breaks ends = grind (arith, common_steps)
 met_files Why manner old new (Open slot) same breaks ends = (refl, refl, breaks)
 met_files Why manner old new Suffixes same breaks ends = ends refl
 met_files Why manner old new fault same breaks ends = absurd breaks
 
 pub met_closing : (Why : Fault → Type 0) (old new : List Slot) {fault : Fault} → CannotClose old new fault → IsMet split_means split_means.closing (Unit {0}) Why old new fault
-met_closing Why old new why = grind (arith, common_steps)
+met_closing Why old new why = search rules
 
 -- What waits goes to what is begun.
 
 pub all_held : {told : Bool} {writer : WriterState} {held : List ℕ} {most : ℕ} {slots : List Slot} → CanWrite writer slots → Emptying told writer writer held held most most slots slots
-all_held ready = record { gone = []; both = refl; goes = put_nothing refl ready; stays = λ is. is; same = refl }
+all_held ready = search rules
 
 module _ {told : Bool} {writer now : WriterState} {held left : List ℕ} {most now_most : ℕ} {old slots : List Slot} (so_far : Emptying told writer now held left most now_most old slots) (front rest : List ℕ) (is : left ≡ front ++ rest) where
   gone_on : held ≡ (so_far.gone ++ front) ++ rest
@@ -152,7 +151,7 @@ begins_closed (one ∷ ended) more (whole ∷ high) begins = let on = begins_clo
 -- names ran out for the file that is due: what comes after it makes none
 
 ended_nameless : (names : Naming) (ended : List (List ℕ)) → has_name names (length ended) ≡ false → has_name names (0 + length (map (share file_state.Closed) ended)) ≡ false
-ended_nameless names ended none = subst (λ n. has_name names n ≡ false) (sym (zero-add (length (map (share file_state.Closed) ended)) ∙ length-map ended (share file_state.Closed))) none
+ended_nameless names ended none = grind (arith, common_steps)
 
 module _ (names : Naming) (draft : Draft) (high : List Share) (none : has_name names (length draft.ended) ≡ false) (begins : SharesBegin (shares_of draft) high) where
   closed_are : (rest : List Share) × (high ≡ map (share file_state.Closed) draft.ended ++ rest) × (length (map (share file_state.Open) (made_of draft.opening draft.bytes)) ≤ length rest)
@@ -249,7 +248,7 @@ takes_not {told} {state} {taken = taken} {change} {new = new} begins moves = rec
 -- other numbers change nothing of the files
 pub moves_as : {told : Bool} {state next : PartsState} {are : ℕ × Bool × List ℕ} {change : Draft → Draft} {old new : List Slot} (left : ℕ) (has_line : Bool)
     → Moves told state are change old new next None → Moves told state (left, has_line, are.2) change old new (record next { left = left; has_line = has_line }) None
-moves_as left has_line moves = record { limit = moves.limit; same = ap (λ (those : ℕ × Bool × List ℕ). (left, has_line, those.2)) moves.same; goes = moves.goes }
+moves_as left has_line moves = grind (arith, common_steps)
 
 -- all that is left goes to the part that was begun
 
@@ -359,18 +358,11 @@ waited told state next piece slots (Err f) some leads ready count waits err = rw
 -- A piece is taken in step by step.
 
 pub takes_none : (told : Bool) (state : PartsState) {slots : List Slot} → IsReady state slots → Takes told state [] slots slots state None
-takes_none told state ready = takes_so {change = λ draft. draft} {are = numbers state} (λ x stands. record {
-  full = [];
-  rest = rest_of state x;
-  cut = ap (cut_up state.limit) (append-nil (rest_of state x)) ∙ cut_none state.limit _ (rest_short state.limit x);
-  is = ap (λ full. late full (begun_of state x)) (sym (append-nil (full_of state x)));
-  lacks = stands.lacks;
-  waits = stands.waits;
-}) (record { limit = refl; same = refl; goes = goes_still state.writer.current ready.writer ready.writer.current (λ first last. last) (λ draft now. (refl, now)) })
+takes_none told state ready = grind (arith, common_steps)
 
 -- of one that is named and cut alike
 settled_as : (state mid : PartsState) → mid.limit ≡ state.limit → names_of mid ≡ names_of state → (x : List ℕ) → settled_part mid x ≡ settled_part state x
-settled_as state mid limit names x = ap (λ names. draft_part (manner_of names) (draft_of mid.limit x)) names ∙ ap (λ limit. draft_part (manner_of (names_of state)) (draft_of limit x)) limit
+settled_as state mid limit names x = grind (arith, common_steps)
 
 module _ {told : Bool} {state mid : PartsState} {first : List ℕ} {old wet : List Slot} (one : Takes told state first old wet mid None) (x more : List ℕ) where
   low_as : settled_part mid (x ++ first) ≡ settled_part state (x ++ first)
@@ -397,7 +389,7 @@ takes_again {told} {state} {mid} {next} first more {wet = wet} {new} fault one o
 }
 
 still_ready : {told : Bool} {state next : PartsState} {bytes : List ℕ} {old new : List Slot} → IsReady state old → Takes told state bytes old new next None → IsReady next new
-still_ready ready takes = record { writer = takes.leaves.ready; tells = takes.leaves.tells ∙ ready.tells }
+still_ready ready takes = grind (arith, common_steps)
 
 -- the piece is what was taken of it and what is left
 
@@ -418,7 +410,7 @@ pub passed_stopped : {told : Bool} {state mid next : PartsState} {piece left : L
 passed_stopped {left = left} {f = f} (done, split, took, ready) stop = rw split (takes_again done left (Some f) took stop)
 
 pub passed_all : {told : Bool} {state next : PartsState} {piece left : List ℕ} {old now : List Slot} → Passed told state piece left old now next → left ≡ [] → Takes told state piece old now next None
-passed_all {told} {state} {next} {old = old} {now} (done, split, took, ready) none = subst (λ those. Takes told state those old now next None) (sym (split ∙ ap (λ left. done ++ left) none ∙ append-nil done)) took
+passed_all {told} {state} {next} {old = old} {now} (done, split, took, ready) none = grind (arith, common_steps)
 
 -- The end of the input
 
@@ -432,7 +424,7 @@ no_rest state x none = by (rest_of state x) (settled_some state.limit (rest_of s
 none_begun : (tells : Tells) (current : Current) {bytes : List ℕ} → false ≡ is_file current → IsCurrent tells Late bytes current → bytes ≡ []
 none_begun tells Skipped none now = absurd (cc)
 none_begun tells Due none now = now.1
-none_begun tells (File slot size) none now = absurd (false≢true none)
+none_begun tells (File slot size) none now = cc
 none_begun tells Unopened none now = absurd now
 
 pub finishes_none : (told : Bool) (state : PartsState) {slots : List Slot} → IsReady state slots → false ≡ is_file state.writer.current → Finishes told state slots slots state None
@@ -463,7 +455,7 @@ held_stops {state = state} limit stopped broke = record {
 }
 
 pub some_broke : (result : Result (Unit {0}) Fault) → IfErr result IsWrite → IfSome (fault_in result) IsWrite
-some_broke result broke = grind (arith, common_steps)
+some_broke result broke = search rules
 
 pub held_ends : {told : Bool} {state next : PartsState} {mid_writer : WriterState} {old mid new : List Slot} (fault : Option Fault) → next.limit ≡ state.limit → Goes told state.writer (with_bytes state.waiting) old mid mid_writer None
     → Goes told mid_writer (with_next Never) mid new next.writer fault → IfSome fault IsWrite → Finishes told state old new next fault
@@ -482,10 +474,7 @@ have_names : (state : PartsState) (x : List ℕ) {have : Bool} → are_named (na
 have_names state x is = grind (arith, common_steps, length-map, settled_count)
 
 stands_named : {state : PartsState} {x : List ℕ} → Stands state x → are_named (names_of state) (length (settled_parts state.limit x)) ≡ true
-stands_named {state} {x} stands = by (length (settled_parts state.limit x)) stands.writes.named where
-  by : (count : ℕ) → ((place : ℕ) → place < count → has_name (names_of state) place ≡ true) → are_named (names_of state) count ≡ true
-  by zero each = refl
-  by (suc last) each = each last (omega arith)
+stands_named {state} {x} stands = grind (arith, common_steps)
 
 pub all_have_names : {state : PartsState} {x : List ℕ} → Stands state x → are_named (names_of state) (length (map (share file_state.Closed) (parts state.limit x))) ≡ true
 all_have_names {state} {x} stands = have_names state x (stands_named stands)
@@ -495,10 +484,10 @@ pub never_done : {state : PartsState} {x : List ℕ} → Stands state x → fals
 never_done stands = sym (ap not (all_have_names stands))
 
 work_by : (state next : PartsState) → next.limit ≡ state.limit → names_of next ≡ names_of state → work next ≡ work state
-work_by state next limit names = grind (arith, common_steps)
+work_by state next limit names = cc
 
 at_writer : {told : Bool} {before : List Slot} {state : PartsState} {x : List ℕ} {now : List Slot} → StandsAt ways.Holds ways.Owns (way.Parts state) told before x ((work state).settled x) now → At told state.writer before (settled_part state x) now
-at_writer at = record { owns = at.owns; outputs = at.outputs }
+at_writer at = grind (arith, common_steps)
 
 module _ (told : Bool) (state next : PartsState) (piece : List ℕ) (old new : List Slot) where
   -- names ran out: the files that have a name are written, and nothing can change that
@@ -540,7 +529,7 @@ module _ (told : Bool) (state next : PartsState) (piece : List ℕ) (old new : L
 -- the end
 
 end_met : (state : PartsState) (old new : List Slot) (f : Fault) → IsWrite f → state.writer.tells ≡ Nothing → Breaks (manner_in state.writer) old new f → IsMet split_means split_means.closing (Unit {0}) (EndsThere ways.Holds ways.work (way.Parts state)) old new f
-end_met state old new f (slot, is) tells breaks = rw is (let broke = subst (Breaks (manner_in state.writer) old new) is breaks in (λ none. subst (λ output. writes output ≡ true) (ap output_of tells) (broke.0 none), λ none. absurd (false≢true (sym none)), broke.1))
+end_met state old new f (slot, is) tells breaks = grind (arith, common_steps)
 
 pub finishes_by : (told : Bool) (state next : PartsState) (old new : List Slot) (result : Result (Unit {0}) Fault) → IsReady state old → Finishes told state old new next (fault_in result)
     → FinishesBy told old new result (way.Parts state) (way.Parts next)

@@ -1,7 +1,6 @@
-use Rattle.ports_core.proofs.HandedOn.{handed_on, fault_is}
-use Rattle.ports_core.specs.FileWriter.{CanCount}
+use Rattle.ports_core.proofs.HandedOn.{handed_on}
 use Rattle.seg_core.specs.Window.{ByteWindowState}
-use Rattle.std.proofs.Common.{ap, arith, sym, subst, ◌∙◌}
+use Rattle.std.proofs.Common.{ap, arith}
 use Rattle.std.proofs.lemmas.Grind.{common_steps}
 use Rattle.split_core.proofs.PartsLemmas.{all_held, emptied, empties, empties_short}
 use Rattle.split_core.proofs.files.put_held.Goals as goal
