@@ -3,7 +3,7 @@ use Rattle.std.proofs.lemmas.Grind.{common_steps}
 use Rattle.std.proofs.Common.{◌≡◌, ℕ, ◌+◌, ◌-◌, ◌<◌, ◌≤◌, suc, List, [], ◌∷◌, ◌++◌, ◌⊎◌, length, map, Bool, true, false, Option, Some, None, IfSome, Result, Ok, Err, OnOk, IfErr, IfOk, inl, inr, refl, sym, ◌∙◌, ap, subst, arith, length-append, rules, take, drop, append_assoc, not, cond}
 use Rattle.std.proofs.lemmas.List.{append-nil, drop-take, take-append-drop, length-map, map-append}
 use Rattle.std.proofs.Math.Seq.{take-length, drop-append_seam}
-use Rattle.ports_core.specs.Draft.{Manner, Draft, share, Share, made_of, shares_of, draft_part, output_of, part_of, with_bytes, with_next}
+use Rattle.ports_core.specs.Draft.{Manner, Draft, share, Share, made_of, shares_of, draft_part, output_of, with_bytes, with_next}
 use Rattle.ports_core.specs.Engine.{CutsOff, EndsWith, EndsThere, IsMet, StandsAt, is_verdict}
 use Rattle.ports_core.specs.Engine as engine
 use Rattle.ports_core.specs.FileWriter.{WriterState, Writes, At, Breaks, Goes, IsCurrent, IsReady as CanWrite, IsWrite, is_file, manner_in}
@@ -58,11 +58,11 @@ unjudged manner old new fault breaks named = absurd breaks
 
 -- where all places have names, they don't run out
 pub none_lacks : (old new : List Slot) {fault : Fault} → Breaks always_named old new fault → fault ≡ Suffixes → ⊥
-none_lacks old new breaks is = grind (arith, common_steps)
+none_lacks old new breaks is = search rules
 
 pub met_files : (Why : Fault → Type 0) (manner : Manner) (old new : List Slot) (fault : Fault) → manner.output ≡ gets_none → Breaks manner old new fault → (fault ≡ Suffixes → Why fault) → IsMet split_means split_means.feeding (true ≡ true) Why old new fault
 met_files Why manner old new Memory same breaks ends = (refl, refl)
-met_files Why manner old new (Write slot) same breaks ends = grind (arith, common_steps)
+met_files Why manner old new (Write slot) same breaks ends = search rules
 met_files Why manner old new (Open slot) same breaks ends = (refl, refl, breaks)
 met_files Why manner old new Suffixes same breaks ends = ends refl
 met_files Why manner old new fault same breaks ends = absurd breaks
@@ -135,9 +135,7 @@ shares_trans (share ∷ low) (mid ∷ middle) (whole ∷ high) first second = (k
 
 -- a part that ends begins itself, and may be closed by then
 turn_begins : (draft : Draft) (past : List ℕ) → SharesBegin (shares_of draft) (shares_of (turns past draft))
-turn_begins draft past = subst (SharesBegin (shares_of draft))
-    (sym (ap (λ front. front ++ map (share file_state.Open) (made_of Late past)) (map-append (share file_state.Closed) draft.ended (made_of draft.opening draft.bytes)) ∙ append_assoc (map (share file_state.Closed) draft.ended) _ _))
-    (shares_after (map (share file_state.Closed) draft.ended) _ _ (shares_wider _ (map (share file_state.Closed) (made_of draft.opening draft.bytes)) _ (made_begin draft.opening file_state.Closed draft.bytes draft.bytes (begins_itself draft.bytes))))
+turn_begins draft past = grind (arith, common_steps, map-append, shares_after, shares_wider, made_begin, begins_itself)
 
 -- where closed ones begin others, those begin with the same
 begins_closed : (ended : List (List ℕ)) (more high : List Share) → SharesBegin (map (share file_state.Closed) ended ++ more) high → (rest : List Share) × (high ≡ map (share file_state.Closed) ended ++ rest) × (length more ≤ length rest)
@@ -248,7 +246,7 @@ takes_not {told} {state} {taken = taken} {change} {new = new} begins moves = rec
 -- other numbers change nothing of the files
 pub moves_as : {told : Bool} {state next : PartsState} {are : ℕ × Bool × List ℕ} {change : Draft → Draft} {old new : List Slot} (left : ℕ) (has_line : Bool)
     → Moves told state are change old new next None → Moves told state (left, has_line, are.2) change old new (record next { left = left; has_line = has_line }) None
-moves_as left has_line moves = grind (arith, common_steps)
+moves_as left has_line moves = search rules
 
 -- all that is left goes to the part that was begun
 
@@ -272,14 +270,7 @@ module _ {state : PartsState} (piece : List ℕ) (bytes left : ℕ) (has_line : 
 -- the part is full, and the next has begun
 turned_so : {state : PartsState} {x taken first past : List ℕ} → IsTurned state.limit (rest_of state x ++ taken) first past
     → Comes state x taken (late (full_of state x ++ unless_empty first) past) (most state.limit - length past, false, [])
-turned_so {state} {x} {taken} {first} {past} led = record {
-  full = first ∷ [];
-  rest = past;
-  cut = cut_two state.limit past led.full led.first_is led.both led.begun.short;
-  is = cc (one_of first (grind (arith, common_steps, first_some)), led.begun.settled);
-  lacks = led.begun.lacks;
-  waits = sym led.begun.waits;
-}
+turned_so {state} {x} {taken} {first} {past} led = grind (arith, common_steps, cut_two, one_of, common_steps, first_some)
 
 -- what a step takes of a piece; where a fault comes, the piece is what was to be taken
 abbrev pub taken : ℕ → List ℕ → Option Fault → List ℕ
@@ -358,11 +349,11 @@ waited told state next piece slots (Err f) some leads ready count waits err = rw
 -- A piece is taken in step by step.
 
 pub takes_none : (told : Bool) (state : PartsState) {slots : List Slot} → IsReady state slots → Takes told state [] slots slots state None
-takes_none told state ready = grind (arith, common_steps)
+takes_none told state ready = search rules
 
 -- of one that is named and cut alike
 settled_as : (state mid : PartsState) → mid.limit ≡ state.limit → names_of mid ≡ names_of state → (x : List ℕ) → settled_part mid x ≡ settled_part state x
-settled_as state mid limit names x = grind (arith, common_steps)
+settled_as state mid limit names x = cc
 
 module _ {told : Bool} {state mid : PartsState} {first : List ℕ} {old wet : List Slot} (one : Takes told state first old wet mid None) (x more : List ℕ) where
   low_as : settled_part mid (x ++ first) ≡ settled_part state (x ++ first)
@@ -389,7 +380,7 @@ takes_again {told} {state} {mid} {next} first more {wet = wet} {new} fault one o
 }
 
 still_ready : {told : Bool} {state next : PartsState} {bytes : List ℕ} {old new : List Slot} → IsReady state old → Takes told state bytes old new next None → IsReady next new
-still_ready ready takes = grind (arith, common_steps)
+still_ready ready takes = search rules
 
 -- the piece is what was taken of it and what is left
 
@@ -410,7 +401,7 @@ pub passed_stopped : {told : Bool} {state mid next : PartsState} {piece left : L
 passed_stopped {left = left} {f = f} (done, split, took, ready) stop = rw split (takes_again done left (Some f) took stop)
 
 pub passed_all : {told : Bool} {state next : PartsState} {piece left : List ℕ} {old now : List Slot} → Passed told state piece left old now next → left ≡ [] → Takes told state piece old now next None
-passed_all {told} {state} {next} {old = old} {now} (done, split, took, ready) none = grind (arith, common_steps)
+passed_all {told} {state} {next} {old = old} {now} (done, split, took, ready) none = search rules
 
 -- The end of the input
 
@@ -428,22 +419,14 @@ none_begun tells (File slot size) none now = cc
 none_begun tells Unopened none now = absurd now
 
 pub finishes_none : (told : Bool) (state : PartsState) {slots : List Slot} → IsReady state slots → false ≡ is_file state.writer.current → Finishes told state slots slots state None
-finishes_none told state ready none = record {
-  limit = refl;
-  leaves = leaves_still ready.writer;
-  broke = tt;
-  reaches = λ x stands.
-      let begun = none_begun state.writer.tells state.writer.current none stands.writes.current in
-      reaches_still keeps_files (ap (part_of (manner_of (names_of state))) (cc (begun, no_rest state x begun, map-append (share file_state.Closed) (full_of state x) (unless_empty (rest_of state x)), append-nil (map (share file_state.Closed) (full_of state x)))));
-}
+finishes_none told state ready none = grind (arith, common_steps, leaves_still, none_begun, reaches_still, keeps_files, no_rest, map-append, append-nil)
 
 -- what waits is written, and then the part has all that is left
 abbrev closes : PartsState → Draft → Draft
 closes state draft = with_next Never (with_bytes state.waiting draft)
 
 whole_so : (state : PartsState) {x : List ℕ} → Stands state x → draft_part (manner_of (names_of state)) (closes state (draft_of state.limit x)) ≡ whole_part state x
-whole_so state {x} stands = ap (part_of (manner_of (names_of state))) (append-nil (map (share file_state.Closed) (full_of state x ++ made_of Late (begun_of state x ++ state.waiting)))
-    ∙ ap (λ rest. map (share file_state.Closed) (full_of state x ++ made_of Late rest)) (ap (λ waits. begun_of state x ++ waits) stands.waits ∙ settled_then_waiting state.limit (rest_of state x)))
+whole_so state {x} stands = grind (arith, common_steps, append-nil, settled_then_waiting)
 
 pub held_stops : {told : Bool} {state next : PartsState} {old new : List Slot} {f : Fault} → next.limit ≡ state.limit → Goes told state.writer (with_bytes state.waiting) old new next.writer (Some f) → IsWrite f → Finishes told state old new next (Some f)
 held_stops {state = state} limit stopped broke = record {
@@ -474,7 +457,7 @@ have_names : (state : PartsState) (x : List ℕ) {have : Bool} → are_named (na
 have_names state x is = grind (arith, common_steps, length-map, settled_count)
 
 stands_named : {state : PartsState} {x : List ℕ} → Stands state x → are_named (names_of state) (length (settled_parts state.limit x)) ≡ true
-stands_named {state} {x} stands = grind (arith, common_steps)
+stands_named {state} {x} stands = search rules
 
 pub all_have_names : {state : PartsState} {x : List ℕ} → Stands state x → are_named (names_of state) (length (map (share file_state.Closed) (parts state.limit x))) ≡ true
 all_have_names {state} {x} stands = have_names state x (stands_named stands)
@@ -487,7 +470,7 @@ work_by : (state next : PartsState) → next.limit ≡ state.limit → names_of 
 work_by state next limit names = cc
 
 at_writer : {told : Bool} {before : List Slot} {state : PartsState} {x : List ℕ} {now : List Slot} → StandsAt ways.Holds ways.Owns (way.Parts state) told before x ((work state).settled x) now → At told state.writer before (settled_part state x) now
-at_writer at = grind (arith, common_steps)
+at_writer at = search rules
 
 module _ (told : Bool) (state next : PartsState) (piece : List ℕ) (old new : List Slot) where
   -- names ran out: the files that have a name are written, and nothing can change that
@@ -529,21 +512,9 @@ module _ (told : Bool) (state next : PartsState) (piece : List ℕ) (old new : L
 -- the end
 
 end_met : (state : PartsState) (old new : List Slot) (f : Fault) → IsWrite f → state.writer.tells ≡ Nothing → Breaks (manner_in state.writer) old new f → IsMet split_means split_means.closing (Unit {0}) (EndsThere ways.Holds ways.work (way.Parts state)) old new f
-end_met state old new f (slot, is) tells breaks = grind (arith, common_steps)
+end_met state old new f (slot, is) tells breaks = search rules
 
 pub finishes_by : (told : Bool) (state next : PartsState) (old new : List Slot) (result : Result (Unit {0}) Fault) → IsReady state old → Finishes told state old new next (fault_in result)
     → FinishesBy told old new result (way.Parts state) (way.Parts next)
-finishes_by told state next old new (Ok done) ready ends = record {
-  same = work_by state next ends.limit ends.leaves.naming;
-  outputs = λ before x at. (ap (λ (have : Bool). cond (not have) (Some Suffixes) None) (all_have_names at.holds), ((ends.reaches x at.holds).there before (at_writer at)).outputs);
-  owns = ends.leaves.owns.owns;
-  cut = tt;
-  met = tt;
-}
-finishes_by told state next old new (Err f) ready ends = record {
-  same = work_by state next ends.limit ends.leaves.naming;
-  outputs = tt;
-  owns = ends.leaves.owns.owns;
-  cut = λ before x at. engine.cut (ap is_verdict ends.broke.1) (stopped_in_turn gets_none told before _ _ f new tt ((ends.reaches x at.holds).there before (at_writer at)));
-  met = end_met state old new f ends.broke ready.tells ends.leaves.slots;
-}
+finishes_by told state next old new (Ok done) ready ends = grind (arith, common_steps, work_by, all_have_names, at_writer)
+finishes_by told state next old new (Err f) ready ends = grind (arith, common_steps, work_by, stopped_in_turn, at_writer, end_met)
