@@ -56,8 +56,8 @@ changed_by change f g start (suc n) (suc place) is within other here =
     cc (other start (λ same. omega arith), changed_by change f g (start + 1) n place (omega arith) (omega arith) other here)
 
 drop_by : {X : Type 0} (f : ℕ → X) (k start n : ℕ) {at : ℕ} → start + k ≡ at → drop k (map f (range_with_len start n)) ≡ map f (range_with_len at (n - k))
-drop_by f zero start n {at} is = let first : start ≡ at = omega arith in let all : n ≡ n - 0 = omega arith in cc
-drop_by f (suc k) start zero {at} is = let none : 0 ≡ 0 - suc k = omega arith in ap (λ count. map f (range_with_len at count)) none
+drop_by f zero start n {at} is = search rules
+drop_by f (suc k) start zero {at} is = search rules
 drop_by f (suc k) start (suc n) {at} is =
     let rest : n - k ≡ suc n - suc k = omega arith in
     drop_by f k (start + 1) n (omega arith) ∙ ap (λ count. map f (range_with_len at count)) rest
@@ -375,7 +375,7 @@ changes told change makes fits files {before} {now} {new} {low} high place stand
     (is ∙ ap (λ slot. changed_at slot change now) stands))
 
 none_outside : (place : ℕ) (bytes : List ℕ) (i : ℕ) → (i < place) ⊎ (place + 1 ≤ i) → only_at place bytes i ≡ []
-none_outside place bytes i out = ap (λ is. cond is bytes []) (ne_eqb i place (λ same. omega (arith, out, same)))
+none_outside place bytes i out = search rules
 
 writes : (told : Bool) {files : FilesState} {before : List Slot} {had has : ℕ → List ℕ} {old new : List Slot} (place : ℕ) (bytes : List ℕ) → place < length files.outputs
     → new ≡ with_written (output_at files place) (told_of told bytes) old → StandAt told files before had old → ((i : ℕ) → has i ≡ had i ++ only_at place bytes i)

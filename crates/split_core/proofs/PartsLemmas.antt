@@ -1,10 +1,9 @@
 -- What each call on parts leaves: a step of a piece, a piece that is taken in step by step, the end of the input, and what the stage owes.
 use Rattle.std.proofs.lemmas.Grind.{common_steps}
-use Rattle.std.proofs.Common.{◌≡◌, ℕ, ◌+◌, ◌-◌, ◌<◌, ◌≤◌, zero, suc, List, [], ◌∷◌, ◌++◌, ◌⊎◌, length, map, Bool, true, false, Option, Some, None, IfSome, Result, Ok, Err, OnOk, IfErr, IfOk, inl, inr, refl, sym, ◌∙◌, ap, subst, arith, length-append, take, drop, append_assoc, not, cond, zero-add}
+use Rattle.std.proofs.Common.{◌≡◌, ℕ, ◌+◌, ◌-◌, ◌<◌, ◌≤◌, suc, List, [], ◌∷◌, ◌++◌, ◌⊎◌, length, map, Bool, true, false, Option, Some, None, IfSome, Result, Ok, Err, OnOk, IfErr, IfOk, inl, inr, refl, sym, ◌∙◌, ap, subst, arith, length-append, take, drop, append_assoc, not, cond, rules}
 use Rattle.std.proofs.lemmas.List.{append-nil, drop-take, take-append-drop, length-map, map-append}
 use Rattle.std.proofs.Math.Seq.{take-length, drop-append_seam}
-use Rattle.std.proofs.lemmas.Bool.{false≢true}
-use Rattle.ports_core.specs.Draft.{Manner, Draft, share, Share, made_of, shares_of, draft_part, output_of, part_of, with_bytes, with_next}
+use Rattle.ports_core.specs.Draft.{Manner, Draft, share, Share, made_of, shares_of, draft_part, output_of, with_bytes, with_next}
 use Rattle.ports_core.specs.Engine.{CutsOff, EndsWith, EndsThere, IsMet, StandsAt, is_verdict}
 use Rattle.ports_core.specs.Engine as engine
 use Rattle.ports_core.specs.FileWriter.{WriterState, Writes, At, Breaks, Goes, IsCurrent, IsReady as CanWrite, IsWrite, is_file, manner_in}
@@ -39,7 +38,7 @@ use Rattle.split_core.specs.inner.Sharing.{CannotClose, always_named}
 use Rattle.split_core.specs.inner.Step.{IsTurned, Leads}
 use Rattle.split_core.specs.inner.Takes.{Emptying, Extends, Finishes, LacksNames, Moves, Steps, Takes, Turns, numbers, settled_part, turns, whole_part}
 use Rattle.split_core.specs.inner.Ways.{FinishesBy, PassesBy}
-use Rattle.split_core.specs.laws.CutLaws.{cut_none, cut_on, first_some, rest_short, settled_some, settled_then_waiting}
+use Rattle.split_core.specs.laws.CutLaws.{cut_none, cut_on, first_some, settled_some, settled_then_waiting}
 use Rattle.split_core.specs.laws.ShareLaws.{are_named_more, named_short, part_begins, settled_count, settled_grow, shares_fewer}
 use Rattle.split_core.proofs.AgreedLemmas.{one_of}
 use Rattle.split_core.proofs.CutLaws.{cut_two}
@@ -59,17 +58,17 @@ unjudged manner old new fault breaks named = absurd breaks
 
 -- where all places have names, they don't run out
 pub none_lacks : (old new : List Slot) {fault : Fault} → Breaks always_named old new fault → fault ≡ Suffixes → ⊥
-none_lacks old new breaks is = false≢true (sym (subst (Breaks always_named old new) is breaks).2)
+none_lacks old new breaks is = search rules
 
 pub met_files : (Why : Fault → Type 0) (manner : Manner) (old new : List Slot) (fault : Fault) → manner.output ≡ gets_none → Breaks manner old new fault → (fault ≡ Suffixes → Why fault) → IsMet split_means split_means.feeding (true ≡ true) Why old new fault
 met_files Why manner old new Memory same breaks ends = (refl, refl)
-met_files Why manner old new (Write slot) same breaks ends = (λ none. subst (λ output. writes output ≡ true) same (breaks.0 none), λ none. absurd (false≢true (sym none)), breaks.1)
+met_files Why manner old new (Write slot) same breaks ends = search rules
 met_files Why manner old new (Open slot) same breaks ends = (refl, refl, breaks)
 met_files Why manner old new Suffixes same breaks ends = ends refl
 met_files Why manner old new fault same breaks ends = absurd breaks
 
 pub met_closing : (Why : Fault → Type 0) (old new : List Slot) {fault : Fault} → CannotClose old new fault → IsMet split_means split_means.closing (Unit {0}) Why old new fault
-met_closing Why old new why = grind (arith, common_steps)
+met_closing Why old new why = search rules
 
 -- What waits goes to what is begun.
 
@@ -136,9 +135,7 @@ shares_trans (share ∷ low) (mid ∷ middle) (whole ∷ high) first second = (k
 
 -- a part that ends begins itself, and may be closed by then
 turn_begins : (draft : Draft) (past : List ℕ) → SharesBegin (shares_of draft) (shares_of (turns past draft))
-turn_begins draft past = subst (SharesBegin (shares_of draft))
-    (sym (ap (λ front. front ++ map (share file_state.Open) (made_of Late past)) (map-append (share file_state.Closed) draft.ended (made_of draft.opening draft.bytes)) ∙ append_assoc (map (share file_state.Closed) draft.ended) _ _))
-    (shares_after (map (share file_state.Closed) draft.ended) _ _ (shares_wider _ (map (share file_state.Closed) (made_of draft.opening draft.bytes)) _ (made_begin draft.opening file_state.Closed draft.bytes draft.bytes (begins_itself draft.bytes))))
+turn_begins draft past = grind (arith, common_steps, map-append, shares_after, shares_wider, made_begin, begins_itself)
 
 -- where closed ones begin others, those begin with the same
 begins_closed : (ended : List (List ℕ)) (more high : List Share) → SharesBegin (map (share file_state.Closed) ended ++ more) high → (rest : List Share) × (high ≡ map (share file_state.Closed) ended ++ rest) × (length more ≤ length rest)
@@ -152,7 +149,7 @@ begins_closed (one ∷ ended) more (whole ∷ high) begins = let on = begins_clo
 -- names ran out for the file that is due: what comes after it makes none
 
 ended_nameless : (names : Naming) (ended : List (List ℕ)) → has_name names (length ended) ≡ false → has_name names (0 + length (map (share file_state.Closed) ended)) ≡ false
-ended_nameless names ended none = subst (λ n. has_name names n ≡ false) (sym (zero-add (length (map (share file_state.Closed) ended)) ∙ length-map ended (share file_state.Closed))) none
+ended_nameless names ended none = grind (arith, common_steps)
 
 module _ (names : Naming) (draft : Draft) (high : List Share) (none : has_name names (length draft.ended) ≡ false) (begins : SharesBegin (shares_of draft) high) where
   closed_are : (rest : List Share) × (high ≡ map (share file_state.Closed) draft.ended ++ rest) × (length (map (share file_state.Open) (made_of draft.opening draft.bytes)) ≤ length rest)
@@ -249,7 +246,7 @@ takes_not {told} {state} {taken = taken} {change} {new = new} begins moves = rec
 -- other numbers change nothing of the files
 pub moves_as : {told : Bool} {state next : PartsState} {are : ℕ × Bool × List ℕ} {change : Draft → Draft} {old new : List Slot} (left : ℕ) (has_line : Bool)
     → Moves told state are change old new next None → Moves told state (left, has_line, are.2) change old new (record next { left = left; has_line = has_line }) None
-moves_as left has_line moves = record { limit = moves.limit; same = ap (λ (those : ℕ × Bool × List ℕ). (left, has_line, those.2)) moves.same; goes = moves.goes }
+moves_as left has_line moves = search rules
 
 -- all that is left goes to the part that was begun
 
@@ -273,14 +270,7 @@ module _ {state : PartsState} (piece : List ℕ) (bytes left : ℕ) (has_line : 
 -- the part is full, and the next has begun
 turned_so : {state : PartsState} {x taken first past : List ℕ} → IsTurned state.limit (rest_of state x ++ taken) first past
     → Comes state x taken (late (full_of state x ++ unless_empty first) past) (most state.limit - length past, false, [])
-turned_so {state} {x} {taken} {first} {past} led = record {
-  full = first ∷ [];
-  rest = past;
-  cut = cut_two state.limit past led.full led.first_is led.both led.begun.short;
-  is = cc (one_of first (grind (arith, common_steps, first_some)), led.begun.settled);
-  lacks = led.begun.lacks;
-  waits = sym led.begun.waits;
-}
+turned_so {state} {x} {taken} {first} {past} led = grind (arith, common_steps, cut_two, one_of, common_steps, first_some)
 
 -- what a step takes of a piece; where a fault comes, the piece is what was to be taken
 abbrev pub taken : ℕ → List ℕ → Option Fault → List ℕ
@@ -359,18 +349,11 @@ waited told state next piece slots (Err f) some leads ready count waits err = rw
 -- A piece is taken in step by step.
 
 pub takes_none : (told : Bool) (state : PartsState) {slots : List Slot} → IsReady state slots → Takes told state [] slots slots state None
-takes_none told state ready = takes_so {change = λ draft. draft} {are = numbers state} (λ x stands. record {
-  full = [];
-  rest = rest_of state x;
-  cut = ap (cut_up state.limit) (append-nil (rest_of state x)) ∙ cut_none state.limit _ (rest_short state.limit x);
-  is = ap (λ full. late full (begun_of state x)) (sym (append-nil (full_of state x)));
-  lacks = stands.lacks;
-  waits = stands.waits;
-}) (record { limit = refl; same = refl; goes = goes_still state.writer.current ready.writer ready.writer.current (λ first last. last) (λ draft now. (refl, now)) })
+takes_none told state ready = search rules
 
 -- of one that is named and cut alike
 settled_as : (state mid : PartsState) → mid.limit ≡ state.limit → names_of mid ≡ names_of state → (x : List ℕ) → settled_part mid x ≡ settled_part state x
-settled_as state mid limit names x = ap (λ names. draft_part (manner_of names) (draft_of mid.limit x)) names ∙ ap (λ limit. draft_part (manner_of (names_of state)) (draft_of limit x)) limit
+settled_as state mid limit names x = cc
 
 module _ {told : Bool} {state mid : PartsState} {first : List ℕ} {old wet : List Slot} (one : Takes told state first old wet mid None) (x more : List ℕ) where
   low_as : settled_part mid (x ++ first) ≡ settled_part state (x ++ first)
@@ -397,7 +380,7 @@ takes_again {told} {state} {mid} {next} first more {wet = wet} {new} fault one o
 }
 
 still_ready : {told : Bool} {state next : PartsState} {bytes : List ℕ} {old new : List Slot} → IsReady state old → Takes told state bytes old new next None → IsReady next new
-still_ready ready takes = record { writer = takes.leaves.ready; tells = takes.leaves.tells ∙ ready.tells }
+still_ready ready takes = search rules
 
 -- the piece is what was taken of it and what is left
 
@@ -418,7 +401,7 @@ pub passed_stopped : {told : Bool} {state mid next : PartsState} {piece left : L
 passed_stopped {left = left} {f = f} (done, split, took, ready) stop = rw split (takes_again done left (Some f) took stop)
 
 pub passed_all : {told : Bool} {state next : PartsState} {piece left : List ℕ} {old now : List Slot} → Passed told state piece left old now next → left ≡ [] → Takes told state piece old now next None
-passed_all {told} {state} {next} {old = old} {now} (done, split, took, ready) none = subst (λ those. Takes told state those old now next None) (sym (split ∙ ap (λ left. done ++ left) none ∙ append-nil done)) took
+passed_all {told} {state} {next} {old = old} {now} (done, split, took, ready) none = search rules
 
 -- The end of the input
 
@@ -432,26 +415,18 @@ no_rest state x none = by (rest_of state x) (settled_some state.limit (rest_of s
 none_begun : (tells : Tells) (current : Current) {bytes : List ℕ} → false ≡ is_file current → IsCurrent tells Late bytes current → bytes ≡ []
 none_begun tells Skipped none now = absurd (cc)
 none_begun tells Due none now = now.1
-none_begun tells (File slot size) none now = absurd (false≢true none)
+none_begun tells (File slot size) none now = cc
 none_begun tells Unopened none now = absurd now
 
 pub finishes_none : (told : Bool) (state : PartsState) {slots : List Slot} → IsReady state slots → false ≡ is_file state.writer.current → Finishes told state slots slots state None
-finishes_none told state ready none = record {
-  limit = refl;
-  leaves = leaves_still ready.writer;
-  broke = tt;
-  reaches = λ x stands.
-      let begun = none_begun state.writer.tells state.writer.current none stands.writes.current in
-      reaches_still keeps_files (ap (part_of (manner_of (names_of state))) (cc (begun, no_rest state x begun, map-append (share file_state.Closed) (full_of state x) (unless_empty (rest_of state x)), append-nil (map (share file_state.Closed) (full_of state x)))));
-}
+finishes_none told state ready none = grind (arith, common_steps, leaves_still, none_begun, reaches_still, keeps_files, no_rest, map-append, append-nil)
 
 -- what waits is written, and then the part has all that is left
 abbrev closes : PartsState → Draft → Draft
 closes state draft = with_next Never (with_bytes state.waiting draft)
 
 whole_so : (state : PartsState) {x : List ℕ} → Stands state x → draft_part (manner_of (names_of state)) (closes state (draft_of state.limit x)) ≡ whole_part state x
-whole_so state {x} stands = ap (part_of (manner_of (names_of state))) (append-nil (map (share file_state.Closed) (full_of state x ++ made_of Late (begun_of state x ++ state.waiting)))
-    ∙ ap (λ rest. map (share file_state.Closed) (full_of state x ++ made_of Late rest)) (ap (λ waits. begun_of state x ++ waits) stands.waits ∙ settled_then_waiting state.limit (rest_of state x)))
+whole_so state {x} stands = grind (arith, common_steps, append-nil, settled_then_waiting)
 
 pub held_stops : {told : Bool} {state next : PartsState} {old new : List Slot} {f : Fault} → next.limit ≡ state.limit → Goes told state.writer (with_bytes state.waiting) old new next.writer (Some f) → IsWrite f → Finishes told state old new next (Some f)
 held_stops {state = state} limit stopped broke = record {
@@ -463,7 +438,7 @@ held_stops {state = state} limit stopped broke = record {
 }
 
 pub some_broke : (result : Result (Unit {0}) Fault) → IfErr result IsWrite → IfSome (fault_in result) IsWrite
-some_broke result broke = grind (arith, common_steps)
+some_broke result broke = search rules
 
 pub held_ends : {told : Bool} {state next : PartsState} {mid_writer : WriterState} {old mid new : List Slot} (fault : Option Fault) → next.limit ≡ state.limit → Goes told state.writer (with_bytes state.waiting) old mid mid_writer None
     → Goes told mid_writer (with_next Never) mid new next.writer fault → IfSome fault IsWrite → Finishes told state old new next fault
@@ -482,10 +457,7 @@ have_names : (state : PartsState) (x : List ℕ) {have : Bool} → are_named (na
 have_names state x is = grind (arith, common_steps, length-map, settled_count)
 
 stands_named : {state : PartsState} {x : List ℕ} → Stands state x → are_named (names_of state) (length (settled_parts state.limit x)) ≡ true
-stands_named {state} {x} stands = by (length (settled_parts state.limit x)) stands.writes.named where
-  by : (count : ℕ) → ((place : ℕ) → place < count → has_name (names_of state) place ≡ true) → are_named (names_of state) count ≡ true
-  by zero each = refl
-  by (suc last) each = each last (omega arith)
+stands_named {state} {x} stands = search rules
 
 pub all_have_names : {state : PartsState} {x : List ℕ} → Stands state x → are_named (names_of state) (length (map (share file_state.Closed) (parts state.limit x))) ≡ true
 all_have_names {state} {x} stands = have_names state x (stands_named stands)
@@ -495,10 +467,10 @@ pub never_done : {state : PartsState} {x : List ℕ} → Stands state x → fals
 never_done stands = sym (ap not (all_have_names stands))
 
 work_by : (state next : PartsState) → next.limit ≡ state.limit → names_of next ≡ names_of state → work next ≡ work state
-work_by state next limit names = grind (arith, common_steps)
+work_by state next limit names = cc
 
 at_writer : {told : Bool} {before : List Slot} {state : PartsState} {x : List ℕ} {now : List Slot} → StandsAt ways.Holds ways.Owns (way.Parts state) told before x ((work state).settled x) now → At told state.writer before (settled_part state x) now
-at_writer at = record { owns = at.owns; outputs = at.outputs }
+at_writer at = search rules
 
 module _ (told : Bool) (state next : PartsState) (piece : List ℕ) (old new : List Slot) where
   -- names ran out: the files that have a name are written, and nothing can change that
@@ -540,21 +512,9 @@ module _ (told : Bool) (state next : PartsState) (piece : List ℕ) (old new : L
 -- the end
 
 end_met : (state : PartsState) (old new : List Slot) (f : Fault) → IsWrite f → state.writer.tells ≡ Nothing → Breaks (manner_in state.writer) old new f → IsMet split_means split_means.closing (Unit {0}) (EndsThere ways.Holds ways.work (way.Parts state)) old new f
-end_met state old new f (slot, is) tells breaks = rw is (let broke = subst (Breaks (manner_in state.writer) old new) is breaks in (λ none. subst (λ output. writes output ≡ true) (ap output_of tells) (broke.0 none), λ none. absurd (false≢true (sym none)), broke.1))
+end_met state old new f (slot, is) tells breaks = search rules
 
 pub finishes_by : (told : Bool) (state next : PartsState) (old new : List Slot) (result : Result (Unit {0}) Fault) → IsReady state old → Finishes told state old new next (fault_in result)
     → FinishesBy told old new result (way.Parts state) (way.Parts next)
-finishes_by told state next old new (Ok done) ready ends = record {
-  same = work_by state next ends.limit ends.leaves.naming;
-  outputs = λ before x at. (ap (λ (have : Bool). cond (not have) (Some Suffixes) None) (all_have_names at.holds), ((ends.reaches x at.holds).there before (at_writer at)).outputs);
-  owns = ends.leaves.owns.owns;
-  cut = tt;
-  met = tt;
-}
-finishes_by told state next old new (Err f) ready ends = record {
-  same = work_by state next ends.limit ends.leaves.naming;
-  outputs = tt;
-  owns = ends.leaves.owns.owns;
-  cut = λ before x at. engine.cut (ap is_verdict ends.broke.1) (stopped_in_turn gets_none told before _ _ f new tt ((ends.reaches x at.holds).there before (at_writer at)));
-  met = end_met state old new f ends.broke ready.tells ends.leaves.slots;
-}
+finishes_by told state next old new (Ok done) ready ends = grind (arith, common_steps, work_by, all_have_names, at_writer)
+finishes_by told state next old new (Err f) ready ends = grind (arith, common_steps, work_by, stopped_in_turn, at_writer, end_met)
