@@ -1,6 +1,6 @@
 -- Lemmas on the cutter of lines: what is settled, what holding lines leaves, and that a cut ends the open section and the next one begins.
 use Rattle.std.proofs.lemmas.Grind.{common_steps}
-use Rattle.std.proofs.Common.{◌≡◌, ℕ, ◌+◌, ◌-◌, ◌≤◌, Bool, true, false, List, [], ◌++◌, length, refl, sym, ◌∙◌, ap, arith, inl, inr, Option, None, subst, ◌<◌, min, Some, Result, Err, OnOk, take, drop, IfNone, rules, suc, ◌∷◌, map, append_assoc, cond}
+use Rattle.std.proofs.Common.{◌≡◌, ℕ, ◌+◌, ◌-◌, ◌≤◌, Bool, true, false, List, [], ◌++◌, length, refl, sym, ◌∙◌, ap, arith, inl, inr, Option, None, subst, ◌<◌, min, Some, Result, Err, OnOk, take, drop, IfNone, rules, suc, ◌∷◌, map, append_assoc}
 use Rattle.std.proofs.lemmas.Bool.{cases_lt}
 use Rattle.std.proofs.lemmas.List.{append-nil, length-take-le, length-drop, take-append-le, take_all, drop_all, drop-drop, map-append}
 use Rattle.seg_core.specs.Line.{line_count, first_lines, after_lines, but_last_lines, last_lines}
@@ -35,7 +35,7 @@ use Rattle.std.proofs.Math.Seq.{take-add, take-append-add}
 use Rattle.seg_core.specs.Window.{Window, without_first}
 use Rattle.seg_core.proofs.FirstLines.{first_lines-is_take, first_lines-zero, first_lines_then_rest}
 use Rattle.seg_core.proofs.Carried.{left_after, left_alone, but_last_lines-last, over-le-length}
-use Rattle.ports_core.specs.Part.{Begins, File, Part, gets_none, gets_lines, lines_for}
+use Rattle.ports_core.specs.Part.{Begins, File, Part, lines_for}
 use Rattle.ports_core.proofs.PartLemmas.{part_trans}
 use Rattle.ports_core.specs.declared.file_writer.Opening.{Opening}
 use Rattle.ports_core.specs.declared.file_writer.Opening.TheVariants.{Never}
@@ -63,7 +63,7 @@ draft_is past style operands x {steps} {state} {ending} taken {written} runs tak
 
 -- what standard output has of sections is the sizes of the files that are closed
 pub sizes_are : (style : Style) → style.quiet ≡ false → (files : List File) → told_of_files (sizes_wanted style) files ≡ lines_for size_of_file files
-sizes_are style loud files = ap (λ quiet. told_of_files (cond quiet gets_none (gets_lines size_of_file)) files) loud
+sizes_are style loud files = search rules
 
 -- the sections of steps are closed
 closed_shares : (style : Style) (lines : List Line) (steps : List Step) → shares_in style (map (section_of lines) steps) ≡ map (share Closed) (flat_map (file_in style) (map (section_of lines) steps))

@@ -4,8 +4,8 @@ use Rattle.bre_core.specs.Pattern.{Pattern}
 use Rattle.seg_core.specs.Window.{Window}
 use Rattle.ports_core.specs.Slot.{Slot, is_writable}
 use Rattle.ports_core.specs.declared.fault.Fault.{Fault}
-use Rattle.ports_core.specs.declared.fault.Fault.TheVariants.{Suffixes, Memory}
-use Rattle.ports_core.proofs.PartLemmas.{nothing_begins_part, outputs_count, stopped_in_turn, lines_before}
+use Rattle.ports_core.specs.declared.fault.Fault.TheVariants.{Memory}
+use Rattle.ports_core.proofs.PartLemmas.{nothing_begins_part, outputs_count, stopped_in_turn}
 use Rattle.ports_core.specs.Turn.{LinesTo}
 use Rattle.ports_core.specs.inner.Part.{HasLines}
 use Rattle.csplit_core.proofs.CutterLemmas.{draft_is, settled_part_is, whole_part_is, runs_to, live_part, live_taken, keeps_on, reaches_then, same_by, settled_same}
@@ -14,27 +14,25 @@ use Rattle.ports_core.specs.Draft.{Draft, draft_part, with_bytes, with_next}
 use Rattle.ports_core.specs.declared.file_writer.Opening.{Opening}
 use Rattle.ports_core.specs.declared.file_writer.Opening.TheVariants.{Never}
 use Rattle.ports_core.specs.FileWriter.{paused, Goes, Leaves, Reaches, At, KeepsFiles}
-use Rattle.ports_core.proofs.ShareLemmas.{bytes_begin, next_begins, has_told, nothing_part, nothing_told}
+use Rattle.ports_core.proofs.ShareLemmas.{bytes_begin, next_begins, nothing_part, nothing_told}
 use Rattle.csplit_core.specs.Input.{newline, all_lines, open_line}
 use Rattle.csplit_core.specs.Operand.{Operand, Line}
-use Rattle.csplit_core.specs.Output.{Style, manner_of, naming_of, opening_of, part_of, sizes_wanted}
-use Rattle.csplit_core.specs.Plan.{State, start, Step, Ending, below, Runs, missed, above}
+use Rattle.csplit_core.specs.Output.{Style, manner_of, opening_of, part_of, sizes_wanted}
+use Rattle.csplit_core.specs.Plan.{State, start, Ending, below, missed, above}
 use Rattle.csplit_core.specs.Planned.{plan, Plan}
 use Rattle.csplit_core.specs.laws.PlanLaws.{plan_runs, plan_once}
 use Rattle.csplit_core.specs.Progress.{state_of, AimsAt, EndsHere}
-use Rattle.csplit_core.specs.inner.Cutter.{BegunNot, new_for, tells_by, writer_for, AreSeen, Turns, MovesOn, Opened, settled_part, whole_part, IsJudged, EndsAll, IsWhole, Takes, IsLine, Clears, Keeps, Closed, Closes, ended_so, Judges, Passes, Sweeps, ended_well, ended_short}
-use Rattle.csplit_core.specs.Section.{settled_end, is_final, whole_end, bytes_of, waiting_lines, whole_sections}
+use Rattle.csplit_core.specs.inner.Cutter.{BegunNot, new_for, writer_for, AreSeen, Turns, MovesOn, Opened, settled_part, whole_part, IsJudged, EndsAll, IsWhole, Takes, IsLine, Clears, Keeps, Closed, Closes, ended_so, Judges, Passes, Sweeps, ended_well, ended_short}
+use Rattle.csplit_core.specs.Section.{is_final, whole_end, bytes_of, waiting_lines, whole_sections}
 use Rattle.csplit_core.specs.declared.progress.Progress.{Progress}
 use Rattle.csplit_core.specs.declared.progress.Turn.{Turn}
 use Rattle.csplit_core.specs.declared.progress.Turn.TheVariants.{Below, Missed, Above}
-use Rattle.ports_core.specs.FileWriter.{WriterState, Writes, size_of, IsReady as CanWrite, IsManner, Breaks, OwnsFiles, CanTell, manner_in}
-use Rattle.ports_core.specs.declared.file_writer.Keeps.TheVariants.{All}
-use Rattle.ports_core.specs.Draft.{Manner, size_of_file, output_of}
-use Rattle.ports_core.specs.declared.file_writer.Tells.TheVariants.{Nothing, Sizes}
+use Rattle.ports_core.specs.FileWriter.{WriterState, Writes, size_of, IsReady as CanWrite, IsManner, Breaks, OwnsFiles, manner_in}
+use Rattle.ports_core.specs.Draft.{Manner}
 use Rattle.csplit_core.specs.Cutter.{CutterState, most_next, pattern_next, kept_next, next_of, most_by, pattern_by, kept_by, settled_draft, IsFit, Stands, suppress_in, state_in, text_from, draft_by, IsLive, IsPast, IsSound, load}
 use Rattle.csplit_core.proofs.TryLemmas.{turn_ends, left_is}
 use Rattle.ports_core.proofs.SlotSteps.{none_past}
-use Rattle.ports_core.proofs.FileWriterLemmas.{breaks_as, same_manner, new_owns, in_turn, lacks_memory, reaches_as, stops_wider, in_any, leaves_again, reaches_again, leaves_lacking, where_well}
+use Rattle.ports_core.proofs.FileWriterLemmas.{breaks_as, same_manner, in_turn, lacks_memory, reaches_as, stops_wider, in_any, leaves_again, reaches_again, leaves_lacking, where_well}
 use Rattle.ports_core.proofs.WriterSteps.{files_left, goes_as}
 use Rattle.std.proofs.lemmas.List.{drop_all, drop-map, append-nil, take-append-drop}
 use Rattle.seg_core.specs.Line.{line_count, first_lines, after_lines, delimiters, ends_with, LastEndsAt}
@@ -43,13 +41,12 @@ use Rattle.csplit_core.specs.inner.PlanLaws.{EndsAs, AreWithin}
 use Rattle.csplit_core.specs.laws.SectionLaws.{ends_as, are_within, closed_still, ends_with as whole_grows}
 use Rattle.csplit_core.proofs.LineLemmas.{count_from, from_further, bytes_marked, length-all_lines, all_complete, lines_then_open, all_lines-append, joined_line, open_is_line, open_complete, first_complete, front_is, no_newline, tail_is, piece_lines, piece_open, lines_whole, lines_more, open_more}
 use Rattle.csplit_core.proofs.WholeLemmas.{ends_after_all}
-use Rattle.std.proofs.lemmas.Bool.{false≢true}
 use Rattle.std.proofs.lemmas.Bool.Decides.{nat_tests}
 use Rattle.std.proofs.lemmas.Grind.{common_steps}
 use Rattle.std.proofs.Math.Nat.{min-eq_left}
 use Rattle.csplit_core.specs.CsplitState.{CsplitState, Holds, whole_lines, IsReady, Owns, files, work}
 use Rattle.csplit_core.proofs.TakeLemmas.{past_plan, past_part, is_past, still_past, more_settled, takes_again, takes_none, takes_wider, took_past, none_there}
-use Rattle.ports_core.specs.Part.{Begins, OutputsAt, StoppedBetween, nothing, writes, gets_none, gets_lines}
+use Rattle.ports_core.specs.Part.{Begins, OutputsAt, StoppedBetween, nothing, writes}
 use Rattle.ports_core.specs.Turn.{fault_in}
 use Rattle.ports_core.specs.Engine.{is_verdict, TakesIn, PutsOut, CutsOff, EndsShort, EndsWith, EndsThere, Finishes, StandsAt, IsMet, KeepsOwn}
 use Rattle.ports_core.specs.Swept.{AreThere, Swept, is_among}
@@ -60,9 +57,6 @@ use Rattle.ports_core.specs.Engine as engine
 
 -- Over no line a plan has no step.
 
-first_only : {suppress : Bool} {first : State} {steps : List Step} {last : State} {ending : Ending} → Runs suppress [] first steps last ending → 1 ≤ first.current → Runs suppress [] first [] first ending
-first_only run some = grind (arith, common_steps)
-
 -- the first section, without a byte, is what is settled
 
 abbrev nothing_yet : Draft
@@ -72,31 +66,24 @@ abbrev first_draft : Style → Bool → Draft
 first_draft style kept = with_next (opening_of style kept) nothing_yet
 
 first_settled : (style : Style) (operands : List Operand) → first_draft style (kept_by operands) ≡ settled_draft style operands []
-first_settled style operands =
-    draft_is settled_end style operands [] 0 (first_only (plan_runs style.suppress operands []) (omega arith)) (grind (arith, common_steps)) refl
+first_settled style operands = search rules
 
 first_part : (style : Style) (operands : List Operand) → draft_part (manner_of style) (first_draft style (kept_by operands)) ≡ settled_of style operands []
 first_part style operands = ap (draft_part (manner_of style)) (first_settled style operands) ∙ settled_part_is style operands []
 
 -- 64 bits count more files than come
 first_manner : (style : Style) → IsManner (manner_of style) (manner_in (writer_for style))
-first_manner style = record { name = refl; output = by style.quiet; has = λ place less. (grind (arith, common_steps)) } where
-  by : (quiet : Bool) → output_of (cond quiet Nothing Sizes) ≡ cond quiet gets_none (gets_lines size_of_file)
-  by true = refl
-  by false = refl
+first_manner style = grind (arith, common_steps)
 
 first_owns : (style : Style) {slots : List Slot} → 2 ≤ length slots → OwnsFiles (writer_for style) (length slots) slots
-first_owns style two = let owns = new_owns (naming_of style) (tells_by style) All two in record { streams = owns.streams; within = owns.within; from = owns.from; own = owns.own; there = owns.there; last = tt }
+first_owns style two = grind (arith, common_steps)
 
 -- the first writer has been given nothing
 first_writes : (style : Style) → Writes (manner_of style) (writer_for style) nothing_yet
 first_writes style = record { same = first_manner style; made = refl; kept = λ all. refl; named = λ place less. refl; current = refl }
 
 pub first_ready : (style : Style) {writer : WriterState} {slots : List Slot} → writer ≡ new_for style → 2 ≤ length slots → IsTrue (is_writable slots 0) → CanWrite writer slots
-first_ready style {slots = slots} is two can = rw is (record { streams = two; output = can_tell style.quiet; files = tt; current = tt }) where
-  can_tell : (quiet : Bool) → CanTell (cond quiet Nothing Sizes) slots
-  can_tell true = tt
-  can_tell false = can
+first_ready style {slots = slots} is two can = grind (arith, common_steps)
 
 -- The first turn, before any line came in.
 
@@ -195,7 +182,7 @@ opened_not told {style} operands {opening = opening} {old} {new} {writer = write
     (begun_not two (subst (λ w. Goes told (paused w) (with_next opening) old new writer (Some fault)) made begun) (same ∙ ap (λ (w : WriterState). w.files) made))
 
 none_told : (style : Style) → LinesTo (sizes_wanted style) nothing 0 Memory
-none_told style = lines_before (sizes_wanted style) nothing 0 Memory (nothing_told (sizes_wanted style))
+none_told style = grind (arith, common_steps)
 
 -- where there is no memory, nothing was done
 pub opened_lacks : (told : Bool) {style : Style} (operands : List Operand) {slots : List Slot} {fault : Fault} → fault ≡ Memory → BegunNot told style (settled_of style operands []) slots slots fault
@@ -289,7 +276,7 @@ verdict_at turn operand repetition = None
 
 verdict_is : (suppress : Bool) (lines : List Line) (state : State) {operand : Operand} {operands : List Operand} (aim : Turn) (ending : Ending) → EndsAs suppress lines state ending → state.operands ≡ operand ∷ operands → AimsAt aim ending
     → verdict_at aim operand state.repetition ≡ verdict_of ending
-verdict_is suppress lines state aim ending ends are aims = grind (arith, common_steps)
+verdict_is suppress lines state aim ending ends are aims = search rules
 
 -- What `verdict` returns
 
@@ -427,10 +414,10 @@ past_passes {told} {stage = stage} {piece} {slots} is aim ready sound unbroken =
     })
 
 pub below_or_not : (turn : Turn) → (turn ≡ Below) ⊎ (turn ≡ Below → ⊥)
-below_or_not turn = grind (arith, common_steps)
+below_or_not turn = search rules
 
 on_both : {A B C : Type 0} (result : Result (Unit {0}) Fault) → OnOk result A → OnOk result B → (A → B → C) → OnOk result C
-on_both result one other follows = grind (arith, common_steps)
+on_both result one other follows = search rules
 
 -- no newline came: the piece is more of the open line
 pub none_passes : {told : Bool} {view stage : CsplitState} (next : CsplitState) {piece : List ℕ} {slots : List Slot} (result : Result (Unit {0}) Fault) → view ≡ stage → (view.cutter.aim ≡ Below → ⊥) → delimiters newline piece ≡ 0 → CanWrite stage.cutter.writer slots → IsSound stage.cutter
@@ -522,7 +509,7 @@ settled_then {stage} piece holds = settled_by_cases piece holds (below_or_not st
 
 -- the outputs stay its own
 pub owns_on : {stage next : CsplitState} {old new : List Slot} {fault : Option Fault} → Leaves stage.cutter.writer next.cutter.writer old new fault → (first : ℕ) → Owns stage first old → Owns next first new
-owns_on leaves first own = record { writer = leaves.owns.owns first own.writer; all = leaves.keeps ∙ own.all }
+owns_on leaves first own = grind (arith, common_steps)
 
 -- the outputs at it, which are the writer's own
 stands_so : (told : Bool) {before : List Slot} {stage : CsplitState} {x : List ℕ} {now : List Slot} → StandsAt Holds Owns stage told before x ((work stage).settled x) now → At told stage.cutter.writer before (settled_part stage.cutter (whole_lines x)) now
@@ -531,17 +518,11 @@ stands_so told {before} {stage} {x} {now} at = grind (arith, common_steps, settl
 -- faults
 
 not_verdict : (style : Style) (old new : List Slot) (fault : Fault) {own : Manner} → IsManner (manner_of style) own → Breaks own old new fault → is_verdict fault ≡ false
-not_verdict style old new fault same breaks = by fault (breaks_as old new fault same breaks) where
-  by : (fault : Fault) → Breaks (manner_of style) old new fault → is_verdict fault ≡ false
-  by Suffixes breaks = absurd (false≢true (sym breaks.2))
-  by fault breaks = grind (arith, common_steps)
+not_verdict style old new fault same breaks = grind (arith, common_steps)
 
 met_by : {Lacks : Type 0} → Lacks → (Ends : Fault → Type 0) (style : Style) (old new : List Slot) (fault : Fault) {own : Manner} → IsManner (manner_of style) own → Breaks own old new fault
     → IsMet (record { output = sizes_wanted style; files = true; feeding = record { memory = true; files = true }; closing = record { memory = true; files = true } }) (record { memory = true; files = true }) Lacks Ends old new fault
-met_by {Lacks} lacks Ends style old new fault same breaks = by fault (breaks_as old new fault same breaks) where
-  by : (fault : Fault) → Breaks (manner_of style) old new fault → IsMet (record { output = sizes_wanted style; files = true; feeding = record { memory = true; files = true }; closing = record { memory = true; files = true } }) (record { memory = true; files = true }) Lacks Ends old new fault
-  by Suffixes breaks = absurd (false≢true (sym breaks.2))
-  by fault breaks = grind (arith, common_steps)
+met_by {Lacks} lacks Ends style old new fault same breaks = grind (arith, common_steps)
 
 -- a piece
 
@@ -559,7 +540,7 @@ holds_by {stage = stage} {next} {piece} {x} passed holds (inr differs) = record 
 
 -- standard output has the sizes of what is settled
 has_settled : (stage : CsplitState) (x : List ℕ) → HasLines (sizes_wanted stage.cutter.style) (settled_part stage.cutter x).out (settled_part stage.cutter x).files
-has_settled stage x = has_told (sizes_wanted stage.cutter.style) _
+has_settled stage x = grind (arith, common_steps)
 
 -- why a fault came
 
