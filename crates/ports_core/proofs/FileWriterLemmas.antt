@@ -7,13 +7,13 @@ use Rattle.std.proofs.lemmas.List.Recursion.{or_push}
 use Rattle.std.proofs.Math.Bool.{or-false}
 use Rattle.std.proofs.Math.Seq.{take-append-add, take-append_seam, drop-append_seam}
 use Rattle.ports_core.specs.Draft.{Manner, AreNamed, Draft, share, files_from, told_of_files, part_with, part_of, size_of_file, output_of, made_of, shares_of, draft_part, with_bytes, with_next, manner_by}
-use Rattle.ports_core.specs.FileWriter.{WriterState, Writes, CanCount, IsCounted, IsCurrent, IsLast, IsOpenAt, IsReady, IsManner, IsWrite, CanTell, OwnsFiles, Breaks, RunsShort, manner_in}
+use Rattle.ports_core.specs.FileWriter.{WriterState, Writes, CanCount, IsCounted, IsCurrent, IsLast, IsOpenAt, IsReady, IsManner, IsWrite, CanTell, Breaks, RunsShort, manner_in}
 use Rattle.ports_core.specs.Name.{Naming}
 use Rattle.ports_core.specs.Names.{next_name, has_next, OpensNone, no_memory, no_file, no_name}
 use Rattle.ports_core.specs.Part.{File as PartFile, Part, OutputsAt, Begins, FilesBegin, IsNext, IsBeginning, Output, gets_lines, lines_for, writes}
 use Rattle.ports_core.specs.Slot.{Slot, with_written, told_of, has_file, slot_at, changed_at, opened, closes, with_broken, is_writable}
 use Rattle.ports_core.specs.Swept.{AreThere, is_among}
-use Rattle.ports_core.specs.FileWriter.{At, KeepsFiles, KeepsOrBreaks, Leaves, Reaches, Goes, new_writer, paused}
+use Rattle.ports_core.specs.FileWriter.{At, KeepsFiles, KeepsOrBreaks, Leaves, Reaches, Goes, paused}
 use Rattle.ports_core.specs.inner.FileWriter.{MakesNone, Made, Appends, TellsSize, CountsOn, files_with}
 use Rattle.ports_core.specs.Turn.{AllClosed, InTurn, IsThere, LinesTo, fault_in}
 use Rattle.ports_core.specs.inner.Part.{HasLines}
@@ -633,10 +633,6 @@ pub begin_made : {told : Bool} {writer next : WriterState} {opening : Opening} {
 begin_made {told} {writer} {next} {opening} {slot} {old} {new} is ready made =
     goes_made [] (λ draft never. (at_once is draft never, refl)) (paused_ready ready) (record { few = made.few; named = made.named; place = made.place; added = made.added; same = made.same })
     (record { same = refl; current = (0, ap (λ (w : WriterState). w.current) made.same, counts_none next.tells); still = tt; wrote = none_written told slot })
-
--- before anything was begun
-pub new_owns : (naming : Naming) (tells : Tells) (keeps : Keeps) {slots : List Slot} → 2 ≤ length slots → OwnsFiles (new_writer naming tells keeps) (length slots) slots
-new_owns naming tells keeps {slots} two = grind (arith, common_steps)
 
 -- What is begun ends, and what is next begins.
 

@@ -16,13 +16,13 @@ use Rattle.ports_core.specs.declared.slot.State.TheVariants.{Open, Closed}
 use Rattle.ports_core.specs.declared.fault.Fault.{Fault}
 use Rattle.ports_core.proofs.PartLemmas.{begins_itself, begins_trans, kept_trans, nothing_begins, marks_by, sound_at}
 use Rattle.ports_core.proofs.SlotSteps.{keeps_again, keeps_close, keeps_open, keeps_write, open_rose, rose_later, write_rose, writable_elsewhere, writable_within, opened_writable, broken_there, written_size, short_size, broken_size}
-use Rattle.split_core.specs.Split.{Share, share, file_at, only_files}
+use Rattle.split_core.specs.Split.{Share, share, only_files}
 use Rattle.split_core.specs.FilesState.{FilesState}
 use Rattle.split_core.specs.Round.{AreReady, output_at}
 use Rattle.split_core.specs.laws.ShareLaws.{kept_file}
 use Rattle.ports_core.proofs.OpenLemmas.{opens_marks, opens_at}
 use Rattle.ports_core.proofs.FileWriterLemmas.{breaks_later}
-use Rattle.split_core.specs.inner.Sharing.{part_by, all_open, only_at, StandAt, KeepsFiles, IsOfFiles, Adds, Leaves, Grow, Halts, closed_first, Opens, HaveClosed, ClosesAll, with_opened}
+use Rattle.split_core.specs.inner.Sharing.{file_at, part_by, all_open, only_at, StandAt, KeepsFiles, IsOfFiles, Adds, Leaves, Grow, Halts, closed_first, Opens, HaveClosed, ClosesAll, with_opened}
 use Rattle.std.proofs.lemmas.Bool.{cases_lt, false≢true, eq-eqb, ne_eqb}
 use Rattle.ports_core.specs.inner.Write as short
 use Rattle.ports_core.specs.declared.slot.Mode.TheVariants.{Fresh}

@@ -22,7 +22,7 @@ use Rattle.ports_core.specs.declared.slot.State.TheVariants.{Open, Closed}
 use Rattle.ports_core.proofs.PartLemmas.{outputs_count}
 use Rattle.split_core.specs.Parts.{dealt, round_robin}
 use Rattle.split_core.specs.Parts as cut
-use Rattle.split_core.specs.Split.{share, named, are_named, file_at, only_files, dealt_files, settled_by, is_short, is_some, split_work, bytes_in}
+use Rattle.split_core.specs.Split.{share, named, are_named, only_files, dealt_files, settled_by, is_short, is_some, split_work, bytes_in}
 use Rattle.split_core.specs.inner.Dealt.{dealt_piece, dealt_first, reached_by, share_of}
 use Rattle.split_core.specs.FilesState.{FilesState}
 use Rattle.split_core.specs.RoundState.{RoundState}
@@ -30,7 +30,7 @@ use Rattle.split_core.specs.Round.{round_plan, round_work, work, opened_by, Hold
 use Rattle.split_core.specs.Ways as ways
 use Rattle.split_core.specs.declared.splitter.Splitter.TheVariants as way
 use Rattle.split_core.specs.inner.Ways.{Deals, PassesBy, FinishesBy, held}
-use Rattle.split_core.specs.inner.Sharing.{always_named, part_by, all_open, closed_first, StandAt, Adds, Opens, Leaves, ClosesAll}
+use Rattle.split_core.specs.inner.Sharing.{file_at, always_named, part_by, all_open, closed_first, StandAt, Adds, Opens, Leaves, ClosesAll}
 use Rattle.split_core.specs.laws.DealLaws.{dealt_append, dealt_none, dealt_files_are, share_none}
 use Rattle.split_core.proofs.AgreedLemmas.{each_named, shared_bytes, waiting_is}
 use Rattle.split_core.proofs.CutLaws.{dealt_same, dealt_past}

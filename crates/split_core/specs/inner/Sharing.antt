@@ -4,17 +4,22 @@ use Rattle.std.specs.List.{range_with_len}
 use Rattle.ports_core.specs.Name.{Naming}
 use Rattle.ports_core.specs.Names.{with_one_drawn}
 use Rattle.ports_core.specs.Slot.{Slot}
-use Rattle.ports_core.specs.Part.{Part, OutputsAt, IsBeginning, StoppedBetween, gets_none}
+use Rattle.ports_core.specs.Part.{File, Part, OutputsAt, IsBeginning, StoppedBetween, gets_none}
 use Rattle.ports_core.specs.declared.fault.Fault.{Fault}
 use Rattle.ports_core.specs.declared.fault.Fault.TheVariants.{Write}
 use Rattle.ports_core.specs.declared.slot.State.TheVariants as state
-use Rattle.split_core.specs.Split.{Share, share, file_at, only_files}
+use Rattle.ports_core.specs.Draft as draft
+use Rattle.split_core.specs.Split.{Share, share, manner_of, only_files}
 use Rattle.ports_core.specs.Slot.{KeepsBroken, Rose}
 use Rattle.ports_core.specs.Draft.{Manner}
 use Rattle.ports_core.specs.FileWriter.{Breaks}
 use Rattle.split_core.specs.Sharing.{CannotOpen}
 use Rattle.split_core.specs.FilesState.{FilesState}
 use Rattle.split_core.specs.Round.{AreReady, OwnsFiles}
+
+-- the file of a share, by its place
+abbrev pub file_at : Naming → ℕ → Share → File
+file_at names place one = draft.file_at (manner_of names) place one
 
 -- as many files with the shares at their places
 abbrev pub part_by : Naming → (ℕ → Share) → ℕ → Part

@@ -9,7 +9,8 @@ use Rattle.ports_core.specs.Work.{IsLawful, IsComplete}
 use Rattle.ports_core.specs.declared.slot.State.{State}
 use Rattle.ports_core.specs.declared.slot.State.TheVariants.{Open, Closed}
 use Rattle.ports_core.proofs.PartLemmas.{begins_itself, nothing_begins}
-use Rattle.split_core.specs.Split.{share, named, file_at, only_files, dealt_files, are_named, settled_parts}
+use Rattle.split_core.specs.Split.{share, named, only_files, dealt_files, are_named, settled_parts}
+use Rattle.split_core.specs.inner.Sharing.{file_at}
 use Rattle.split_core.specs.Round.{round_plan, round_work, opened_by}
 use Rattle.split_core.specs.inner.Dealt.{share_of}
 use Rattle.split_core.specs.laws.DealLaws.{dealt_append, dealt_files_are, opened_by-grows}
