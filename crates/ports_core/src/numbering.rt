@@ -41,7 +41,7 @@ impl Numbering {
     {
         match self {
             Numbering::Fixed(alphabet, width, from) => {
-                push_number(name, alphabet, width as usize, number_at(from, place))
+                push_sum(name, alphabet, width as usize, number_at(from, place))
             }
             Numbering::Widening(alphabet, width) => push_widened(name, alphabet, width, place),
             Numbering::Decimal(digits) => push_decimal(name, digits as usize, place),
@@ -78,7 +78,7 @@ fn push_widened(
 {
     let (block, number) = block_at(alphabet, width, place);
     push_copies(name, alphabet.last(), block)?;
-    push_number(name, alphabet, width as usize + block, u128::from(number))
+    push_number(name, alphabet, width as usize + block, number)
 }
 
 /// How many times numbers have widened before the one at this place, and its number among those of its width.
@@ -109,8 +109,8 @@ fn first_block(alphabet: Alphabet, width: u32) -> Option<u64>
     (alphabet.radix() - 1).checked_mul(power)
 }
 
-/// Appends a number with this many digits.
-fn push_number(
+/// Appends a number with this many digits. Hardly any is above those of 64 bits, which the machine divides by itself.
+fn push_sum(
     name: &mut String,
     alphabet: Alphabet,
     digits: usize,
@@ -119,10 +119,31 @@ fn push_number(
     requires { number < radix alphabet ^ digits }
     ensures { IfOk result (λ _. string_bytes name.new ≡ string_bytes name.old ++ written alphabet digits number) }
 {
+    if let Ok(number) = u64::try_from(number) {
+        return push_number(name, alphabet, digits, number);
+    }
     if digits == 0 {
         return Ok(());
     }
     let radix = u128::from(alphabet.radix());
+    push_sum(name, alphabet, digits - 1, number / radix)?;
+    push_ascii(name, alphabet.character((number % radix) as u8))
+}
+
+/// Appends a number with this many digits.
+fn push_number(
+    name: &mut String,
+    alphabet: Alphabet,
+    digits: usize,
+    number: u64,
+) -> Result<(), AllocError>
+    requires { number < radix alphabet ^ digits }
+    ensures { IfOk result (λ _. string_bytes name.new ≡ string_bytes name.old ++ written alphabet digits number) }
+{
+    if digits == 0 {
+        return Ok(());
+    }
+    let radix = alphabet.radix();
     push_number(name, alphabet, digits - 1, number / radix)?;
     push_ascii(name, alphabet.character((number % radix) as u8))
 }

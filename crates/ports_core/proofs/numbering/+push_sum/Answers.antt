@@ -1,0 +1,11 @@
+use Rattle.std.proofs.lemmas.Grind.{common_steps}
+use Rattle.std.proofs.Common.{arith}
+use Rattle.std.proofs.lemmas.Result.{IfOk-weaker}
+use Rattle.ports_core.proofs.CounterLemmas.{front_small, pushed}
+use Rattle.ports_core.proofs.numbering.+push_sum.Goals as goal
+
+pub push_sum-requires : goal.push_sum-requires
+push_sum-requires t c = grind (arith, common_steps, front_small)
+
+pub returns : goal.returns
+returns t c = grind (arith, common_steps, IfOk-weaker, pushed)
