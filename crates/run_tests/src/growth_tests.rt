@@ -144,6 +144,19 @@ const SAID_BY_CSPLIT: &[&[u8]] = &[
     b"csplit: cannot write 'xx02'\n",
 ];
 
+/// Names by a format outgrow the room that they begin with.
+const SAID_OF_FORMATS: &[&[u8]] = &[
+    b"csplit: memory exhausted\n",
+    b"csplit: cannot open ''\n",
+    b"csplit: cannot open 'xx%000000000000000000.txt'\n",
+    b"csplit: cannot open 'xx%000000000000000001.txt'\n",
+    b"csplit: cannot open 'xx%000000000000000002.txt'\n",
+    b"csplit: cannot write 'standard output'\n",
+    b"csplit: cannot write 'xx%000000000000000000.txt'\n",
+    b"csplit: cannot write 'xx%000000000000000001.txt'\n",
+    b"csplit: cannot write 'xx%000000000000000002.txt'\n",
+];
+
 const SAID_BY_HEAD: &[&[u8]] = &[
     b"head: memory exhausted\n",
     b"head: cannot write 'standard output'\n",
@@ -240,6 +253,23 @@ const ROWS: &[Row<'static>] = &[
             },
             ..SECTIONS
         },
+        ..CSPLIT
+    },
+    Row {
+        run: Run {
+            words: &["csplit", "-b", "%%%018d.txt", "-", "/^b/", "{*}"],
+            left: Left {
+                output: b"0\n5\n5\n",
+                files: &[
+                    ("xx%000000000000000000.txt", b""),
+                    ("xx%000000000000000001.txt", b"b1\nx\n"),
+                    ("xx%000000000000000002.txt", b"b2\ny\n"),
+                ],
+                ..NOTHING
+            },
+            ..SECTIONS
+        },
+        said: SAID_OF_FORMATS,
         ..CSPLIT
     },
     Row {

@@ -10,6 +10,7 @@ const WORDS: &[&[&str]] = &[
     &["tail", "-F", "--looks=2", "f"],
     &["split", "-t", ",", "-n", "r/3", "f", "p"],
     &["csplit", "-f", "p", "-", "/a*b/+1", "{2}", "7"],
+    &["csplit", "-b", "%%a long text %#12x.txt", "-", "3"],
     &["tee", "-a", "s", "t"],
 ];
 
