@@ -8,7 +8,7 @@ use crate::compare::same;
 use mem_core::{Edit, MemIn, MemOut, MemWatch};
 use ports_core::{
     Alphabet, Base, Fault, Filling, Form, Inputs, Mode, Names, Naming, Numbering, Outs, Tool,
-    header, message, write_whole,
+    header, message, numbered, write_whole,
 };
 use std::alloc::Global;
 use std::process::Abort;
@@ -32,6 +32,7 @@ enum Call {
     Turn,
     Names,
     Next,
+    Numbered,
     Formatted,
     Header,
     Message,
@@ -53,6 +54,7 @@ const CALLS: &[Call] = &[
     Call::Turn,
     Call::Names,
     Call::Next,
+    Call::Numbered,
     Call::Formatted,
     Call::Header,
     Call::Message,
@@ -116,6 +118,7 @@ fn makes_more(rt: &impl Abort, alloc: Global, call: Call) -> Result<(), Fault> {
         Call::Turn => turn(rt, alloc),
         Call::Names => Names::new(alloc, "x", Alphabet::Letters, 2, true, ".txt").map(|_| ()),
         Call::Next => next(rt, alloc),
+        Call::Numbered => numbered(alloc, "xx", 2, 7).map(|_| ()),
         Call::Formatted => formatted(alloc),
         Call::Header => header(alloc, "f", false).map(|_| ()),
         _ => message(alloc, Tool::Head, &Fault::Open(1), "g").map(|_| ()),

@@ -1,6 +1,8 @@
 //! Names at the places where they widen or end, numbers in a form, and headers.
 use crate::compare::same_bytes;
-use ports_core::{Alphabet, Base, Fault, Filling, Form, Names, Naming, Numbering, header};
+use ports_core::{
+    Alphabet, Base, Fault, Filling, Form, Names, Naming, Numbering, header, numbered,
+};
 use std::test::Fail;
 
 /// Draws names up to a place, and returns the one there.
@@ -112,6 +114,18 @@ fn names_begin_at_a_number(rt: HostRuntime) -> Result<(), Fail> {
 fn names_have_an_ending(rt: HostRuntime) -> Result<(), Fail> {
     let names = Names::new(rt.alloc(), "x", Alphabet::Letters, 2, true, ".txt")?;
     assert!(rt; is_name(name_at(names, 650)?, Some(b"xzaaa.txt")));
+    Ok(())
+}
+
+/// How many digits a number has at least, the number, and the name with it.
+const NUMBERED: &[(u32, u64, &str)] = &[(2, 100, "xx100"), (0, 0, "xx0"), (2, 7, "xx07")];
+
+#[test]
+fn numbers_in_names(rt: HostRuntime) -> Result<(), Fail> {
+    for (digits, number, wanted) in NUMBERED {
+        let name = numbered(rt.alloc(), "xx", *digits, *number)?;
+        same_bytes(&rt, name.as_bytes(), wanted.as_bytes());
+    }
     Ok(())
 }
 

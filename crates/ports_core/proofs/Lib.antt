@@ -23,3 +23,4 @@ pub mod OpenLemmas
 pub mod FileWriterLemmas
 pub mod WriterSteps
 pub mod FormLemmas
+pub mod DecimalLemmas

@@ -41,7 +41,8 @@ pub struct Form {
     pub width: u8,
     /// What fills it to them.
     pub filling: Filling,
-    /// How many digits it has at least, where blanks fill it; 0 then has none without any.
+    /// How many digits it has at least, where blanks fill it. Where that is 0, the number 0 has no digit, but the one that
+    /// `#` gives in octal.
     pub precision: u8,
 }
 

@@ -250,8 +250,8 @@ pub record AreSections (style : Style) (operands : List Operand) (input : List �
       (whole_sections (all_lines input) (plan style.suppress operands (all_lines input)))
 
 -- The files are numbered in their order: each has its place's name, from 0 on, and no two have one name. Where there are
--- no more than numbers of one count of digits, which nothing marks, this is the order of the names, byte by byte. Each
--- file was made anew, and is sound.
+-- at most `ordered_count` files (as many numbers have one count of digits, and no `#` marks them), this is the order of
+-- the names, byte by byte. Each file was made anew, and is sound.
 pub record AreNumbered (style : Style) (files : List Slot) : Type 0 where
   pub named : (place : ℕ) → place < length files
       → text_at (map (λ (file : Slot). file.name) files) place ≡ name_at (section_naming style) place

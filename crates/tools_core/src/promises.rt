@@ -82,7 +82,7 @@ pub fn split_loses_nothing()
 {}
 
 /// `csplit` loses nothing. Its files are numbered in their order, and no two have one name. Their order is that of their names,
-/// byte by byte, while no number has more digits than were asked for, and no `#` marks them. Where no section is skipped (`%`) and no line is left out at a cut
+/// byte by byte, while no number has more digits than its precision says (`-n`), or a width that zeros fill, and no `#` marks them. Where no section is skipped (`%`) and no line is left out at a cut
 /// (`--suppress-matched`), they are joined the input. In any case each line is in just one section, in the order of the input,
 /// or is left out at a cut, and the files have just the sections that are kept; with `-z` an empty one has no file.
 pub fn csplit_loses_nothing()

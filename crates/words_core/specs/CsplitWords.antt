@@ -1,5 +1,5 @@
 -- What options and operands ask of `csplit`, or what is wrong with them.
-use Rattle.std.specs.Prelude.{◌≡◌, ℕ, Bool, false, true, max, List, [], ◌∷◌, ◌++◌, codes, slice_index_or, Option, Some, None, Result, Ok, Err}
+use Rattle.std.specs.Prelude.{◌≡◌, ℕ, Bool, false, true, List, [], ◌∷◌, ◌++◌, codes, slice_index_or, Option, Some, None, Result, Ok, Err}
 use Rattle.bre_core.specs.Fault.{number_of, offset_of}
 use Rattle.operand_core.specs.Fault.{number_of_kind}
 use Rattle.operand_core.specs.Style.{Style}
@@ -8,9 +8,7 @@ use Rattle.operand_core.specs.declared.operand.Operand.{Operand}
 use Rattle.operand_core.specs.declared.operand_fault.OperandFault.{OperandFault}
 use Rattle.operand_core.specs.declared.operand_fault.OperandFaultKind.{OperandFaultKind}
 use Rattle.operand_core.specs.declared.operand_fault.OperandFaultKind.TheVariants as kind
-use Rattle.ports_core.specs.declared.form.Base.TheVariants.{Decimal}
-use Rattle.ports_core.specs.declared.form.Filling.TheVariants.{BlanksBefore}
-use Rattle.ports_core.specs.declared.form.Form.{Form}
+pub use Rattle.ports_core.specs.Name.{decimal_form}
 use Rattle.ports_core.specs.declared.fault.Fault.{Fault}
 use Rattle.ports_core.specs.declared.fault.Fault.TheVariants.{Memory, Usage}
 use Rattle.ports_core.specs.declared.fault.UsageKind.{UsageKind}
@@ -63,16 +61,6 @@ csplit_by asked choice value = asked
 
 abbrev pub chosen_by : List GivenOption → CsplitOptions
 chosen_by options = asked_by csplit_by plain options
-
--- a number in decimal, with at least one digit, filled with zeros to this many
-abbrev pub decimal_form : ℕ → Form
-decimal_form digits = record {
-  base = Decimal;
-  is_marked = false;
-  width = 0;
-  filling = BlanksBefore;
-  precision = max 1 digits;
-}
 
 -- where there is a format, the number of digits has no effect
 abbrev pub format_or : ℕ → Option Format → Format

@@ -1,5 +1,5 @@
 -- The format of names that `csplit -b` takes: a text with one conversion of C's `printf`, which says how a number is
--- written (GNU coreutils manual, csplit; C standard, `fprintf`). Before and after it stand texts, where two `%` are one.
+-- written (GNU coreutils manual, csplit; C standard and POSIX, `fprintf`). Before and after it stand texts, where two `%` are one.
 use Rattle.std.specs.Prelude.{ℕ, ◌-◌, ◌==◌, ◌&&◌, ◌||◌, Bool, not, nat_le, List, [], ◌∷◌, length, take, drop, Option, Some, None, if◌then◌else◌}
 use Rattle.std.specs.List.{list_any, prefix_len}
 use Rattle.seg_core.specs.Count.{after_digits, leading_digits, value_of}
@@ -18,7 +18,7 @@ pub record Format : Type 0 where
 
 -- Texts; 37 is `%`.
 
--- what stands from the first `%` on that isn't one of two
+-- what stands from the conversion on: from the first `%` that is left where pairs are passed over from the left
 abbrev pub after_text : List ℕ → List ℕ
 after_text [] = []
 after_text (byte ∷ []) = if byte == 37 then byte ∷ [] else []
@@ -36,7 +36,7 @@ plain_text (byte ∷ []) = byte ∷ []
 plain_text (byte ∷ next ∷ rest) =
     if byte == 37 && next == 37 then 37 ∷ plain_text rest else byte ∷ plain_text (next ∷ rest)
 
--- a format as it is spelled
+-- what a spelled format says
 abbrev pub format_seen : Written → Format
 format_seen format = record {
   before = plain_text format.before.now;

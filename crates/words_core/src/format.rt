@@ -1,5 +1,5 @@
 //! The format of names that `csplit -b` takes: a text with one conversion of C's `printf`, which says how a number is
-//! written (GNU coreutils manual, csplit; C standard, `fprintf`).
+//! written (GNU coreutils manual, csplit; C standard and POSIX, `fprintf`).
 ghost use Rattle.std.specs.Prelude.{◌≡◌, ◌++◌, ◌<◌, ◌-◌, ◌^◌, length, min, option_map, string_bytes, IfNone, IfOk, IfSome, Some};
 ghost use Rattle.std.specs.List.{prefix_len};
 ghost use Rattle.words_core.specs.inner.Format.{AfterLetter, without_percent};
@@ -13,7 +13,7 @@ use std::alloc::AllocError;
 /// The greatest width and the greatest precision.
 const WIDEST: u64 = 255;
 
-/// A text, a number, and a text after it. The texts have two `%` for each one.
+/// A text, a number, and a text after it. The texts have two `%` for each `%` in a name.
 #[derive(Clone, Copy, PartialEq, Eq)]
 pub struct Format<'a> {
     /// The text before the number.
@@ -42,7 +42,7 @@ pub fn read_format(text: &str) -> Option<Format<'_>>
     })
 }
 
-/// What stands from the first `%` on that isn't one of two.
+/// What stands from the conversion on: from the first `%` that is left where pairs are passed over from the left.
 fn after_text(text: &[u8]) -> &[u8]
     ensures { result.now ≡ after_text text.now }
 {
