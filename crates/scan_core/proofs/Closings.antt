@@ -11,18 +11,19 @@ use mir.Val.{bool_byte}
 use Rattle.scan_core.specs.Code.{At}
 use Rattle.scan_core.specs.declared.closures.Closures.{Closures}
 use Rattle.scan_core.specs.declared.hops.Hop.{Hop}
+use Rattle.scan_core.specs.declared.hops.Hops.{Hops}
 use Rattle.scan_core.specs.declared.node.Node.{Node}
 use Rattle.scan_core.specs.declared.way.Way.{Way}
-use Rattle.scan_core.specs.inner.Closing.{Closer, Follows, IsApart, Passes}
+use Rattle.scan_core.specs.inner.Closing.{Closer, Follows, HasLanded, IsApart, Passes}
 use Rattle.scan_core.specs.inner.Closures.{AreClosures, Closes, IsPlain, Stays}
 use Rattle.scan_core.specs.inner.Each.{AreEach}
-use Rattle.scan_core.specs.inner.Hops.{AreHops, HopsTo, IsHop, Meets, end_of, no_hop}
+use Rattle.scan_core.specs.inner.Hops.{AreHops, AreLandings, HopsTo, IsHop, IsLanding, Meets, PartsTo, end_of, no_hop}
 use Rattle.scan_core.specs.inner.Sets.{Flows, FlowsOn, LeadsOn}
 use Rattle.scan_core.specs.inner.Ways.{IsWay}
 use Rattle.scan_core.specs.inner.Words.{Adds, IsIn, SpreadsOut, unset, width}
 use Rattle.scan_core.proofs.Countings.{set_elsewhere}
 use Rattle.scan_core.proofs.Enterings.{at_index, each_more, each_to, flows_of, led_by}
-use Rattle.scan_core.proofs.Insides.{adds_anywhere, adds_both, entered_one, either_bit, fresh_bit, is_in_word, is_within, left_bit, right_bit, spreads_out, unset-set}
+use Rattle.scan_core.proofs.Insides.{adds_anywhere, adds_both, adds_none, entered_one, either_bit, fresh_bit, is_in_word, is_within, left_bit, right_bit, spreads_out, unset-set}
 
 -- some of a word's numbers are those of a hop, or none
 pub one_of : (word from : ℕ) → word < 2 ^ 64 → (bit_and word from ≡ 0 → ⊥) → (bit : ℕ) × (bit < 64) × (bit_at word bit ≡ 1) × (bit_at from bit ≡ 1)
@@ -68,6 +69,54 @@ pub all_met : (code : List Node) (base : List ℕ) (old new : List Hop) {count :
 all_met code base old new {count} before grown here number to h f = elim (cases_eq number count) [
   | inl same ↦ subst (λ n. Meets base new (n / 64) to) (sym same) (here to (subst (λ n. Flows code false false n to) same f))
   | inr other ↦ meets_kept base old new grown (before number to (omega (arith, h, other)) f)
+]
+
+-- the first hops are in two parts
+pub record Parting (code : List Node) (base : List ℕ) (all onward landings : List Hop) (count : ℕ) : Type 0 where
+  pub first : AreHops code onward
+  pub last : AreLandings code base landings
+  pub parted : (place : ℕ) → place < count → PartsTo onward landings (get_or all place no_hop).at (end_of (get_or all place no_hop))
+
+hops_to_last : (old : List Hop) (hop : Hop) {new : List Hop} → new ≡ old ++ hop ∷ [] → HopsTo new hop.at (end_of hop)
+hops_to_last old hop e = grind (arith, common_steps)
+
+pub part_onward : {code : List Node} {base : List ℕ} {all onward landings new : List Hop} {count : ℕ} {hop : Hop} → Parting code base all onward landings count → IsHop code hop → hop ≡ get_or all count no_hop → new ≡ onward ++ hop ∷ []
+    → Parting code base all new landings (count + 1)
+part_onward {all = all} {onward} {landings} {new} {count} {hop} p is eh en = record {
+  first = adding_one p.first is en;
+  last = p.last;
+  parted = λ place l. elim (cases_eq place count) [
+    | inl same ↦ inl (subst (λ h. HopsTo new h.at (end_of h)) (eh ∙ ap (λ n. get_or all n no_hop) (sym same)) (hops_to_last onward hop en))
+    | inr other ↦ elim (p.parted place (omega (arith, l, other))) [
+      | inl on ↦ inl (hops_added onward (hop ∷ []) (get_or all place no_hop).at (end_of (get_or all place no_hop)) en on)
+      | inr land ↦ inr land
+    ]
+  ];
+}
+
+pub part_landing : {code : List Node} {base : List ℕ} {all onward landings new : List Hop} {count : ℕ} {hop : Hop} → Parting code base all onward landings count → IsLanding code base hop → hop ≡ get_or all count no_hop → new ≡ landings ++ hop ∷ []
+    → Parting code base all onward new (count + 1)
+part_landing {all = all} {onward} {landings} {new} {count} {hop} p is eh en = record {
+  first = p.first;
+  last = let l = ap length en in let m = length-append landings (hop ∷ []) in each_to (each_more p.last is en) (omega (arith, l, m));
+  parted = λ place l. elim (cases_eq place count) [
+    | inl same ↦ inr (subst (λ h. HopsTo new h.at (end_of h)) (eh ∙ ap (λ n. get_or all n no_hop) (sym same)) (hops_to_last landings hop en))
+    | inr other ↦ elim (p.parted place (omega (arith, l, other))) [
+      | inl on ↦ inl on
+      | inr land ↦ inr (hops_added landings (hop ∷ []) (get_or all place no_hop).at (end_of (get_or all place no_hop)) en land)
+    ]
+  ];
+}
+
+pub parting_ends : {code : List Node} {base : List ℕ} {all onward landings : List Hop} {count : ℕ} → Parting code base all onward landings count → length all ≤ count
+    → ((number to : ℕ) → Flows code false false number to → Meets base all (number / 64) to)
+    → (number to : ℕ) → Flows code false false number to → (to / 64 ≡ number / 64) ⊎ (IsIn base to ⊎ PartsTo onward landings (number / 64) to)
+parting_ends {all = all} {onward} {landings} p h met number to f = elim (met number to f) [
+  | inl near ↦ inl near
+  | inr other ↦ inr (elim other [
+    | inl based ↦ inl based
+    | inr hop ↦ inr (subst (PartsTo onward landings (number / 64)) hop.3 (subst (λ at. PartsTo onward landings at (end_of (get_or all hop.0 no_hop))) hop.2 (p.parted hop.0 (let l = hop.1 in omega (arith, l, h)))))
+  ])
 ]
 
 -- At a line's front and end.
@@ -148,8 +197,8 @@ based_of {code} {closures} {at} words start to c inside e here h f =
 
 -- a number of a word that was closed leads to numbers of the set, or by a hop
 closed_meets : {code : List Node} {closures : Closures} {at : ℕ} {old now : List ℕ} → AreClosures code closures → Closed code at old now → ((number : ℕ) → IsIn closures.base.items number → IsIn old number)
-    → (start to : ℕ) → start / 64 ≡ at → IsIn now start → Flows code false false start to → IsIn now to ⊎ HopsTo closures.hops.items (start / 64) to
-closed_meets c w begun start to here k f = elim (c.met start to f) [
+    → (start to : ℕ) → start / 64 ≡ at → IsIn now start → Flows code false false start to → IsIn now to ⊎ PartsTo closures.hops.onward.items closures.hops.landings.items (start / 64) to
+closed_meets c w begun start to here k f = elim (c.hops.met start to f) [
   | inl near ↦ inl (w.closed start to here k (f, near))
   | inr other ↦ elim other [ inl based ↦ inl (w.adds.kept to (begun to based)) | inr hop ↦ inr hop ]
 ]
@@ -157,7 +206,7 @@ closed_meets c w begun start to here k f = elim (c.met start to f) [
 -- the first words were closed
 pub record Apart (code : List Node) (closures : Closures) (old now : List ℕ) (count : ℕ) : Type 0 where
   pub adds : Adds code false false old now
-  pub done : (start to : ℕ) → start < 64 * count → IsIn now start → Flows code false false start to → IsIn now to ⊎ HopsTo closures.hops.items (start / 64) to
+  pub done : (start to : ℕ) → start < 64 * count → IsIn now start → Flows code false false start to → IsIn now to ⊎ PartsTo closures.hops.onward.items closures.hops.landings.items (start / 64) to
 
 pub apart_skip : {code : List Node} {closures : Closures} {old now : List ℕ} {count : ℕ} → Apart code closures old now count → AreClosures code closures → ((number : ℕ) → IsIn closures.base.items number → IsIn old number) → count < width code
     → bit_and (get_or now count 0) (get_or closures.leads.items count 0) ≡ 0 → Apart code closures old now (count + 1)
@@ -182,7 +231,7 @@ apart_more {code} {closures} {old} {now} {new} {count} all s c begun inside size
     w : Closed code count now new
     w = close_word all (let e = s.adds.size in omega (arith, e, size, inside)) refl closes en
 
-pub apart_ends : {code : List Node} {closures : Closures} {old now : List ℕ} {count : ℕ} → Apart code closures old now count → length now ≤ count → IsApart code closures.hops.items now
+pub apart_ends : {code : List Node} {closures : Closures} {old now : List ℕ} {count : ℕ} → Apart code closures old now count → length now ≤ count → IsApart code closures.hops now
 apart_ends {now = now} s h = λ start to k flow. let w = is_within now start k in s.done start to (omega (arith, w, h)) k flow
 
 -- Following a hop.
@@ -235,17 +284,13 @@ led_is {code} {hop} {old} {mid} holds is size fits high some any em = record {
         let start : ℕ = hop.at * 64 + one.0 in
         (start, (is_in_word old hop.at one.0 one.1).0 one.2, (1, (start, refl, subst (Flows code false false start) (sym e) ((is.exact one.0 one.1).0 one.3))))
 
--- no new number leads out of the base
-pub follows_none : {code : List Node} {closures : Closures} {hop : Hop} {old mid : List ℕ} (all : ℕ) {over : ℕ} → AreClosures code closures → IsHop code hop → length old ≡ width code → get_or old hop.word 0 < 2 ^ 64
-    → ((number : ℕ) → IsIn closures.base.items number → IsIn old number) → IsApart code closures.hops.items old → Led code hop old mid all
-    → over ≡ bit_and (bit_and all (bit_not w64 (get_or old hop.word 0))) (get_or closures.leads.items hop.word 0) → over ≡ 0 → Follows code closures hop old mid over
-follows_none {code} {closures} {hop} {old} {mid} all c is size high begun apart led eo z = record {
+-- no number is new
+pub follows_none : {code : List Node} {closures : Closures} {hop : Hop} {old mid : List ℕ} (all : ℕ) {over : ℕ} → IsHop code hop → length old ≡ width code → get_or old hop.word 0 < 2 ^ 64 → IsApart code closures.hops old → Led code hop old mid all
+    → over ≡ bit_and all (bit_not w64 (get_or old hop.word 0)) → over ≡ 0 → Follows code closures hop old mid over
+follows_none {code} {closures} {hop} {old} {mid} all is size high apart led eo z = record {
   closer = record {
     adds = led.adds;
-    apart = λ from to k flow. elim (settled from to k flow) [
-      | inl was ↦ elim (apart from to was flow) [ inl there ↦ inl (led.adds.kept to there) | inr hop ↦ inr hop ]
-      | inr based ↦ inl (led.adds.kept to (begun to based))
-    ];
+    apart = λ from to k flow. elim (apart from to (settled from k) flow) [ inl there ↦ inl (led.adds.kept to there) | inr hop ↦ inr hop ];
     fuller = subst (λ w. unset w ≤ unset old) (sym led.set) (unset_fuller old hop.word all led.larger);
     less = λ some. absurd (some z);
   };
@@ -257,28 +302,21 @@ follows_none {code} {closures} {hop} {old} {mid} all c is size high begun apart 
     read = ap (λ w. get_or w hop.word 0) led.set ∙ get_or-set_same old hop.word all 0 (let w = is.word in omega (arith, w, size))
 
     -- its bit was there
-    was_in : IsIn mid (end_of hop) → bit_at (get_or closures.leads.items hop.word 0) hop.bit ≡ 1 → IsIn old (end_of hop)
-    was_in k leads =
+    was_in : IsIn mid (end_of hop) → IsIn old (end_of hop)
+    was_in k =
         let now = sym (ap (λ w. bit_at w hop.bit) read) ∙ (is_in_word mid hop.word hop.bit is.bit).1 k in
         let e = fresh_bit all (get_or old hop.word 0) hop.bit high is.bit in
-        let b = bit_at_and (bit_and all (bit_not w64 (get_or old hop.word 0))) (get_or closures.leads.items hop.word 0) hop.bit in
         let none = ap (λ w. bit_at w hop.bit) (sym eo ∙ z) ∙ bit_at-zero hop.bit in
         let l = bit_at-lt (get_or old hop.word 0) hop.bit in
-        (is_in_word old hop.word hop.bit is.bit).0 (omega (arith, now, e, b, none, l, leads))
+        (is_in_word old hop.word hop.bit is.bit).0 (omega (arith, now, e, none, l))
 
-    settled : (from to : ℕ) → IsIn mid from → Flows code false false from to → IsIn old from ⊎ IsIn closures.base.items to
-    settled from to k flow = elim (led.new from k) [
-      | inl was ↦ inl was
-      | inr e ↦ elim (c.leads.each hop.word is.word hop.bit to is.bit (subst (λ n. Flows code false false n to) e flow)) [
-        | inl leads ↦ inl (subst (IsIn old) (sym e) (was_in (subst (IsIn mid) e k) leads))
-        | inr based ↦ inr based
-      ]
-    ]
+    settled : (number : ℕ) → IsIn mid number → IsIn old number
+    settled number k = elim (led.new number k) [ inl was ↦ was | inr e ↦ subst (IsIn old) (sym e) (was_in (subst (IsIn mid) e k)) ]
 
--- a new number leads on, and its word was closed
+-- a number is new, and its word was closed
 pub follows_more : {code : List Node} {closures : Closures} {hop : Hop} {old mid new : List ℕ} (all inside : ℕ) {over : ℕ} → AreClosures code closures → IsHop code hop → length old ≡ width code → get_or old hop.word 0 < 2 ^ 64
-    → ((number : ℕ) → IsIn closures.base.items number → IsIn old number) → IsApart code closures.hops.items old → Led code hop old mid all
-    → over ≡ bit_and (bit_and all (bit_not w64 (get_or old hop.word 0))) (get_or closures.leads.items hop.word 0) → (over ≡ 0 → ⊥)
+    → ((number : ℕ) → IsIn closures.base.items number → IsIn old number) → IsApart code closures.hops old → Led code hop old mid all
+    → over ≡ bit_and all (bit_not w64 (get_or old hop.word 0)) → (over ≡ 0 → ⊥)
     → Closes code hop.word all inside → new ≡ set mid hop.word (bit_or all inside) → Follows code closures hop old new over
 follows_more {code} {closures} {hop} {old} {mid} {new} all inside {over} c is size high begun apart led eo some closes en = record {
   closer = record {
@@ -308,13 +346,13 @@ follows_more {code} {closures} {hop} {old} {mid} {new} all inside {over} c is si
 
     differs : get_or old hop.word 0 ≡ all → ⊥
     differs e =
-        let fresh = bit_and all (bit_not w64 (get_or old hop.word 0)) in
         let f = and_le_l all (bit_not w64 (get_or old hop.word 0)) in
         let a = led.fits in
-        let one = one_of fresh (get_or closures.leads.items hop.word 0) (omega (arith, f, a)) (λ none. some (eo ∙ none)) in
-        let b = fresh_bit all (get_or old hop.word 0) one.0 high one.1 in
-        let is = one.2 in
-        let same = ap (λ w. bit_at w one.0) e in
+        let one = bit_at-trailing_zeros w64 over (omega (arith, some)) (omega (arith, eo, f, a)) in
+        let bit : ℕ = trailing_zeros w64 over in
+        let b = fresh_bit all (get_or old hop.word 0) bit high one.0 in
+        let is = sym (ap (λ w. bit_at w bit) eo) ∙ one.1 in
+        let same = ap (λ w. bit_at w bit) e in
         omega (arith, b, is, same)
 
     less : unset mid < unset old
@@ -324,25 +362,19 @@ follows_more {code} {closures} {hop} {old} {mid} {new} all inside {over} c is si
 
 -- the first hops were followed
 pub record Following (code : List Node) (closures : Closures) (old now : List ℕ) (count over : ℕ) : Type 0 where
-  pub closer : Closer code closures.hops.items old now over
-  pub done : over ≡ 0 → (place : ℕ) → place < count → (bit : ℕ) → bit < 64 → bit_at (get_or closures.hops.items place no_hop).from bit ≡ 1
-      → IsIn now ((get_or closures.hops.items place no_hop).at * 64 + bit) → IsIn now (end_of (get_or closures.hops.items place no_hop))
+  pub closer : Closer code closures.hops old now over
+  pub done : over ≡ 0 → (place : ℕ) → place < count → (bit : ℕ) → bit < 64 → bit_at (get_or closures.hops.onward.items place no_hop).from bit ≡ 1
+      → IsIn now ((get_or closures.hops.onward.items place no_hop).at * 64 + bit) → IsIn now (end_of (get_or closures.hops.onward.items place no_hop))
 
-pub following_starts : {code : List Node} {closures : Closures} {words : List ℕ} → IsApart code closures.hops.items words → Following code closures words words 0 0
-following_starts apart = record {
-  closer = record {
-    adds = record { size = refl; kept = λ n k. k; from = λ n k. (n, k, (0, refl)) };
-    apart = apart;
-    fuller = omega arith;
-    less = λ some. absurd (some refl);
-  };
+pub following_starts : {code : List Node} {closures : Closures} {words : List ℕ} → IsApart code closures.hops words → Following code closures words words 0 0
+following_starts {code} {words = words} apart = record {
+  closer = record { adds = adds_none code false false words; apart = apart; fuller = omega arith; less = λ some. absurd (some refl) };
   done = λ z place l. absurd (omega (arith, l));
 }
 
 pub following_more : {code : List Node} {closures : Closures} {hop : Hop} {old now new : List ℕ} {count over : ℕ} (led : ℕ) → Following code closures old now count over → Follows code closures hop now new led
-    → AreClosures code closures → ((number : ℕ) → IsIn closures.base.items number → IsIn old number) → hop ≡ get_or closures.hops.items count no_hop → count < length closures.hops.items
-    → Following code closures old new (count + 1) (bit_or over led)
-following_more {code} {closures} {hop} {old} {now} {new} {count} {over} led s f c begun eh inside = record {
+    → hop ≡ get_or closures.hops.onward.items count no_hop → Following code closures old new (count + 1) (bit_or over led)
+following_more {code} {closures} {hop} {old} {now} {new} {count} {over} led s f eh = record {
   closer = record {
     adds = adds_both s.closer.adds f.closer.adds;
     apart = f.closer.apart;
@@ -355,43 +387,89 @@ following_more {code} {closures} {hop} {old} {now} {new} {count} {over} led s f 
   done = λ z place l bit small one k.
       let a = le_or_l over led in
       let b = le_or_r over led in
-      let flow = ((c.hops.each place (omega (arith, l, inside))).exact bit small).0 one in
-      elim (f.settled (omega (arith, b, z)) ((get_or closures.hops.items place no_hop).at * 64 + bit) (end_of (get_or closures.hops.items place no_hop)) k flow) [
-        | inl was ↦ elim (cases_eq place count) [
-          | inl same ↦
-              let e : get_or closures.hops.items place no_hop ≡ hop = ap (λ p. get_or closures.hops.items p no_hop) same ∙ sym eh in
-              subst (λ h. IsIn new (end_of h)) (sym e) (f.followed bit small (subst (λ h. bit_at h.from bit ≡ 1) e one) (subst (λ h. IsIn now (h.at * 64 + bit)) e was))
-          | inr other ↦ f.closer.adds.kept (end_of (get_or closures.hops.items place no_hop)) (s.done (omega (arith, a, z)) place (omega (arith, l, other)) bit small one was)
-        ]
-        | inr based ↦ f.closer.adds.kept (end_of (get_or closures.hops.items place no_hop)) (s.closer.adds.kept (end_of (get_or closures.hops.items place no_hop)) (begun (end_of (get_or closures.hops.items place no_hop)) based))
+      let was = f.settled (omega (arith, b, z)) ((get_or closures.hops.onward.items place no_hop).at * 64 + bit) k in
+      elim (cases_eq place count) [
+        | inl same ↦
+            let e : get_or closures.hops.onward.items place no_hop ≡ hop = ap (λ p. get_or closures.hops.onward.items p no_hop) same ∙ sym eh in
+            subst (λ h. IsIn new (end_of h)) (sym e) (f.followed bit small (subst (λ h. bit_at h.from bit ≡ 1) e one) (subst (λ h. IsIn now (h.at * 64 + bit)) e was))
+        | inr other ↦ f.closer.adds.kept (end_of (get_or closures.hops.onward.items place no_hop)) (s.done (omega (arith, a, z)) place (omega (arith, l, other)) bit small one was)
       ];
 }
 
-pub following_ends : {code : List Node} {closures : Closures} {old now : List ℕ} {count over : ℕ} → Following code closures old now count over → AreClosures code closures → length closures.hops.items ≤ count → Passes code closures old now over
-following_ends {code} {closures} {old} {now} {count} {over} s c h = record {
+-- the numbers of a hop are those that lead to its end
+from_bit : {code : List Node} {hop : Hop} (from to : ℕ) → IsHop code hop → hop.at ≡ from / 64 → end_of hop ≡ to → Flows code false false from to → bit_at hop.from (from % 64) ≡ 1
+from_bit {code} {hop} from to is at end flow =
+    let same : from ≡ hop.at * 64 + from % 64 = omega (arith, at) in
+    (is.exact (from % 64) (omega arith)).1 (subst (λ n. Flows code false false n (end_of hop)) same (subst (Flows code false false from) (sym end) flow))
+
+pub following_ends : {code : List Node} {closures : Closures} {old now : List ℕ} {count over : ℕ} → Following code closures old now count over → AreHops code closures.hops.onward.items → length closures.hops.onward.items ≤ count → Passes code closures old now over
+following_ends {code} {closures} {old} {now} {count} {over} s are h = record {
   closer = s.closer;
-  done = λ z from to k flow. elim (s.closer.apart from to k flow) [ inl there ↦ there | inr hop ↦ ended z from to k flow hop ];
+  done = λ z from to k flow. elim (s.closer.apart from to k flow) [
+    | inl there ↦ inl there
+    | inr parts ↦ elim parts [ inl hop ↦ inl (ended z from to k flow hop) | inr landing ↦ inr landing ]
+  ];
 }
   where
-    ended : over ≡ 0 → (from to : ℕ) → IsIn now from → Flows code false false from to → HopsTo closures.hops.items (from / 64) to → IsIn now to
+    ended : over ≡ 0 → (from to : ℕ) → IsIn now from → Flows code false false from to → HopsTo closures.hops.onward.items (from / 64) to → IsIn now to
     ended z from to k flow hop =
-        let same : from ≡ (get_or closures.hops.items hop.0 no_hop).at * 64 + from % 64 = (let e = hop.2 in omega (arith, e)) in
-        let here = subst (λ n. Flows code false false n (end_of (get_or closures.hops.items hop.0 no_hop))) same (subst (Flows code false false from) (sym hop.3) flow) in
-        let one = ((c.hops.each hop.0 hop.1).exact (from % 64) (omega arith)).1 here in
+        let same : from ≡ (get_or closures.hops.onward.items hop.0 no_hop).at * 64 + from % 64 = (let e = hop.2 in omega (arith, e)) in
+        let one = from_bit from to (are.each hop.0 hop.1) hop.2 hop.3 flow in
         subst (IsIn now) hop.3 (s.done z hop.0 (let l = hop.1 in omega (arith, l, h)) (from % 64) (omega arith) one (subst (IsIn now) same k))
+
+-- Following the landings.
+
+-- the first landings were followed
+pub record Landing_on (code : List Node) (base : List ℕ) (landings : List Hop) (old now : List ℕ) (count : ℕ) : Type 0 where
+  pub adds : Adds code false false old now
+  pub over : (number : ℕ) → IsIn now number → IsIn old number ⊎ ((to : ℕ) → Flows code false false number to → IsIn base to)
+  pub led : (place : ℕ) → place < count → (bit : ℕ) → bit < 64 → bit_at (get_or landings place no_hop).from bit ≡ 1 → IsIn old ((get_or landings place no_hop).at * 64 + bit) → IsIn now (end_of (get_or landings place no_hop))
+
+pub landing_more : {code : List Node} {base : List ℕ} {landings : List Hop} {hop : Hop} {old now new : List ℕ} {count all : ℕ} → Landing_on code base landings old now count → IsLanding code base hop → Led code hop now new all → hop ≡ get_or landings count no_hop
+    → Landing_on code base landings old new (count + 1)
+landing_more {code} {base} {landings} {hop} {old} {now} {new} {count} s is led eh = record {
+  adds = adds_both s.adds led.adds;
+  over = λ n k. elim (led.new n k) [ inl was ↦ s.over n was | inr e ↦ inr (subst (λ m. (to : ℕ) → Flows code false false m to → IsIn base to) (sym e) is.ends) ];
+  led = λ place l bit small one k. elim (cases_eq place count) [
+    | inl same ↦
+        let e : get_or landings place no_hop ≡ hop = ap (λ p. get_or landings p no_hop) same ∙ sym eh in
+        subst (λ h. IsIn new (end_of h)) (sym e) (led.followed bit small (subst (λ h. bit_at h.from bit ≡ 1) e one) (s.adds.kept (hop.at * 64 + bit) (subst (λ h. IsIn old (h.at * 64 + bit)) e k)))
+    | inr other ↦ led.adds.kept (end_of (get_or landings place no_hop)) (s.led place (omega (arith, l, other)) bit small one k)
+  ];
+}
+
+pub landing_ends : {code : List Node} {base : List ℕ} {landings : List Hop} {old now : List ℕ} {count : ℕ} → Landing_on code base landings old now count → AreLandings code base landings → length landings ≤ count → HasLanded code base landings old now
+landing_ends {code} {landings = landings} {old} {now} s are h = record {
+  adds = s.adds;
+  over = s.over;
+  led = λ from to k flow hop.
+      let same : from ≡ (get_or landings hop.0 no_hop).at * 64 + from % 64 = (let e = hop.2 in omega (arith, e)) in
+      let one = from_bit from to (are.each hop.0 hop.1).leads hop.2 hop.3 flow in
+      subst (IsIn now) hop.3 (s.led hop.0 (let l = hop.1 in omega (arith, l, h)) (from % 64) (omega arith) one (subst (IsIn old) same k));
+}
 
 -- Until nothing is missing.
 
 pub record Spreads (code : List Node) (closures : Closures) (old now : List ℕ) (over : ℕ) : Type 0 where
   pub adds : Adds code false false old now
-  pub apart : IsApart code closures.hops.items now
-  pub done : over ≡ 0 → (from to : ℕ) → IsIn now from → Flows code false false from to → IsIn now to
+  pub apart : IsApart code closures.hops now
+  pub done : over ≡ 0 → (from to : ℕ) → IsIn now from → Flows code false false from to → IsIn now to ⊎ HopsTo closures.hops.landings.items (from / 64) to
 
 pub spreads_more : {code : List Node} {closures : Closures} {old now new : List ℕ} {before over : ℕ} → Spreads code closures old now before → Passes code closures now new over → Spreads code closures old new over
 spreads_more s p = record { adds = adds_both s.adds p.closer.adds; apart = p.closer.apart; done = p.done }
 
-pub spreads_end : {code : List Node} {closures : Closures} (at_first at_last : Bool) {old now : List ℕ} {over : ℕ} → Spreads code closures old now over → over ≡ 0 → ((from to : ℕ) → Flows code at_first at_last from to → Flows code false false from to) → SpreadsOut code at_first at_last old now
-spreads_end at_first at_last s z plain = spreads_out (adds_anywhere at_first at_last s.adds) (λ from to k flow. s.done z from to k (plain from to flow))
+pub spreads_end : {code : List Node} {closures : Closures} (base : List ℕ) (landings : List Hop) (at_first at_last : Bool) {old now new : List ℕ} {over : ℕ} → Spreads code closures old now over → over ≡ 0 → HasLanded code base landings now new → base ≡ closures.base.items → landings ≡ closures.hops.landings.items
+    → ((number : ℕ) → IsIn closures.base.items number → IsIn old number) → ((from to : ℕ) → Flows code at_first at_last from to → Flows code false false from to) → SpreadsOut code at_first at_last old new
+spreads_end {code} base landings at_first at_last {old} {now} {new} s z l eb el begun plain = spreads_out (adds_anywhere at_first at_last (adds_both s.adds l.adds)) (λ from to k f. closed from to k (plain from to f))
+  where
+    closed : (from to : ℕ) → IsIn new from → Flows code false false from to → IsIn new to
+    closed from to k flow = elim (l.over from k) [
+      | inl was ↦ elim (s.done z from to was flow) [
+        | inl there ↦ l.adds.kept to there
+        | inr landing ↦ l.led from to was flow (subst (λ hops. HopsTo hops (from / 64) to) (sym el) landing)
+      ]
+      | inr ends ↦ l.adds.kept to (s.adds.kept to (begun to (subst (λ w. IsIn w to) eb (ends to flow))))
+    ]
 
 pub not_zero : (n : ℕ) → IsTrue (not (eqb n 0)) → n ≡ 0 → ⊥
 not_zero n t = eqb-false n 0 (not-true (eqb n 0) t)

@@ -1,9 +1,9 @@
 //! Entering all that follows without a byte, ready to be looked up: each word is closed by itself, and then the hops are followed.
 
 ghost use Rattle.std.specs.Prelude.{◌≡◌, ◌<◌, ◌+◌, ◌*◌, ℕ, false, IsFalse, length};
-ghost use Rattle.scan_core.specs.inner.Closing.{Closer, Follows, IsApart, Passes};
+ghost use Rattle.scan_core.specs.inner.Closing.{Follows, HasLanded, IsApart, Passes};
 ghost use Rattle.scan_core.specs.inner.Closures.{AreClosures};
-ghost use Rattle.scan_core.specs.inner.Hops.{IsHop};
+ghost use Rattle.scan_core.specs.inner.Hops.{AreLandings, IsHop};
 ghost use Rattle.scan_core.specs.inner.Sets.{IsCode, Flows};
 ghost use Rattle.scan_core.specs.inner.Words.{Adds, IsIn, SpreadsOut, width};
 
@@ -19,7 +19,7 @@ fn close_words(words: &mut [u64], nodes: &[Node], closures: &Closures)
     requires closures { AreClosures nodes.now closures.now }
     requires begun { (number : ℕ) → IsIn closures.now.base.items number → IsIn words.old number }
     ensures adds { Adds nodes.now false false words.old words.new }
-    ensures apart { IsApart nodes.now closures.now.hops.items words.new }
+    ensures apart { IsApart nodes.now closures.now.hops words.new }
 {
     for at in 0..words.len() {
         let word = words[at];
@@ -29,43 +29,56 @@ fn close_words(words: &mut [u64], nodes: &[Node], closures: &Closures)
     }
 }
 
-/// Enters what a hop leads to, without a branch, and closes its word again if a number is new there that leads out of the base.
-/// Returns 0 if none is.
+/// Enters what a hop leads to, and closes its word again if that is new. Returns 0 if it isn't.
 #[inline(always)]
 fn follow(words: &mut [u64], nodes: &[Node], closures: &Closures, hop: &Hop) -> u64
     requires size { length words.old ≡ width nodes.now }
     requires closures { AreClosures nodes.now closures.now }
     requires hop { IsHop nodes.now hop.now }
     requires begun { (number : ℕ) → IsIn closures.now.base.items number → IsIn words.old number }
-    requires apart { IsApart nodes.now closures.now.hops.items words.old }
+    requires apart { IsApart nodes.now closures.now.hops words.old }
     ensures { Follows nodes.now closures.now hop.now words.old words.new result }
 {
     let is_led = words[hop.at] & hop.from != 0;
     let word = words[hop.word];
     let all = word | ((is_led as u64) << hop.bit);
     words[hop.word] = all;
-    let led = all & !word & closures.leads[hop.word];
+    let led = all & !word;
     if led != 0 {
         words[hop.word] = all | closed(closures, nodes, hop.word, all);
     }
     led
 }
 
-/// Follows all hops. Returns 0 if nothing is missing then.
+/// Follows all hops to numbers that lead on. Returns 0 if nothing is missing then but what the landings lead to.
 #[inline(always)]
 fn follow_all(words: &mut [u64], nodes: &[Node], closures: &Closures) -> u64
     requires size { length words.old ≡ width nodes.now }
     requires closures { AreClosures nodes.now closures.now }
     requires begun { (number : ℕ) → IsIn closures.now.base.items number → IsIn words.old number }
-    requires apart { IsApart nodes.now closures.now.hops.items words.old }
+    requires apart { IsApart nodes.now closures.now.hops words.old }
     ensures { Passes nodes.now closures.now words.old words.new result }
 {
     let mut over = 0;
-    for place in 0..closures.hops.len() {
-        let hop = &closures.hops[place];
+    for place in 0..closures.hops.onward.len() {
+        let hop = &closures.hops.onward[place];
         over |= follow(words, nodes, closures, hop);
     }
     over
+}
+
+/// Enters what all landings lead to, without a branch.
+#[inline(always)]
+fn land(words: &mut [u64], nodes: &[Node], base: &[u64], landings: &[Hop])
+    requires size { length words.old ≡ width nodes.now }
+    requires landings { AreLandings nodes.now base.now landings.now }
+    ensures { HasLanded nodes.now base.now landings.now words.old words.new }
+{
+    for place in 0..landings.len() {
+        let hop = &landings[place];
+        let is_led = words[hop.at] & hop.from != 0;
+        words[hop.word] |= (is_led as u64) << hop.bit;
+    }
 }
 
 /// Whether a node may lead on at this place that doesn't at each.
@@ -80,8 +93,7 @@ fn is_anchored(nodes: &[Node], closures: &Closures, at_first: bool, at_last: boo
     at_first || at_last
 }
 
-/// Enters all that a set leads to at one place, without a byte. The base is in the set. Hops lead mostly to numbers that lead
-/// nowhere: then they are followed once.
+/// Enters all that a set leads to at one place, without a byte. The base is in the set.
 #[inline(always)]
 pub fn spread(
     words: &mut [u64],
@@ -105,4 +117,5 @@ pub fn spread(
     'passes: while over != 0 {
         over = follow_all(words, nodes, closures);
     }
+    land(words, nodes, &closures.base, &closures.hops.landings);
 }

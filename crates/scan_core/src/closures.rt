@@ -9,10 +9,9 @@ ghost use Rattle.scan_core.specs.inner.Each.{AreEach};
 ghost use Rattle.scan_core.specs.inner.Sets.{IsCode, Flows, LeadsOn};
 ghost use Rattle.scan_core.specs.inner.Words.{IsIn, width};
 
-use crate::hops::{Hop, hops_of};
+use crate::hops::{Hops, hops_of, is_within};
 use crate::node::Node;
 use crate::way::{is_open, way_of};
-use crate::words::has;
 use crate::worklist::base_of;
 use bre_core::BreFault;
 use std::alloc::Global;
@@ -29,25 +28,9 @@ pub struct Closures {
     /// For each word, if numbers lead in it only to the next one, and none leads on from there: those that are led to.
     pub nexts: Vec<Option<u64>>,
     /// What leads out of a word, and of the base.
-    pub hops: Vec<Hop>,
+    pub hops: Hops,
     /// Whether some node leads on only at a line's front, or only at its end.
     pub anchored: bool,
-}
-
-/// Whether a node leads only to numbers of a set.
-fn is_within(nodes: &[Node], words: &[u64], number: usize) -> bool
-    requires code { IsCode nodes.now }
-    requires size { length words.now ≡ width nodes.now }
-    ensures { IsTrue result → (to : ℕ) → Flows nodes.now false false number to → IsIn words.now to }
-{
-    let way = way_of(nodes, number);
-    if !is_open(way.when, false, false) {
-        return true;
-    }
-    if !has(words, way.one) {
-        return false;
-    }
-    has(words, way.other)
 }
 
 /// The numbers of a word whose nodes lead out of a set.

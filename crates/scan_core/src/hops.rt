@@ -5,9 +5,9 @@ ghost use Rattle.std.specs.Prelude.{◌≡◌, ◌↔◌, ◌⊎◌, ◌<◌, �
 ghost use Rattle.std.specs.Int.{bit_at};
 ghost use Rattle.bre_core.specs.declared.fault.BreFault.TheVariants.{Memory};
 ghost use Rattle.scan_core.specs.declared.hops.Hop.{Hop};
-ghost use Rattle.scan_core.specs.inner.Hops.{AreHops, HopsTo, Meets};
+ghost use Rattle.scan_core.specs.inner.Hops.{AreHops, AreParted, HopsTo, Meets};
 ghost use Rattle.scan_core.specs.inner.Sets.{IsCode, Flows};
-ghost use Rattle.scan_core.specs.inner.Words.{width};
+ghost use Rattle.scan_core.specs.inner.Words.{IsIn, width};
 
 use crate::node::Node;
 use crate::way::{is_open, way_of};
@@ -25,6 +25,15 @@ pub struct Hop {
     /// The word of what they lead to, and its bit there.
     pub word: usize,
     pub bit: usize,
+}
+
+/// The hops of a code.
+#[derive(Drop)]
+pub struct Hops {
+    /// Those to numbers that lead out of what is in each set.
+    pub onward: Vec<Hop>,
+    /// Those to numbers that don't: nothing more follows once these are entered.
+    pub landings: Vec<Hop>,
 }
 
 /// Whether a node leads to a number without a byte, at any place of a line.
@@ -132,8 +141,8 @@ fn add_hops(
     add_hop(hops, nodes, base, start, number / 64, way.other)
 }
 
-/// The hops of a code, word by word. `base` is what is in each set.
-pub fn hops_of(alloc: Global, nodes: &[Node], base: &[u64]) -> Result<Vec<Hop>, BreFault>
+/// All hops of a code, word by word. `base` is what is in each set.
+fn all_hops(alloc: Global, nodes: &[Node], base: &[u64]) -> Result<Vec<Hop>, BreFault>
     requires code { IsCode nodes.now }
     requires size { length base.now ≡ width nodes.now }
     ensures sound { IfOk result (λ hops. AreHops nodes.now hops.items) }
@@ -149,4 +158,41 @@ pub fn hops_of(alloc: Global, nodes: &[Node], base: &[u64]) -> Result<Vec<Hop>, 
         add_hops(&mut hops, nodes, base, start, number)?;
     }
     Ok(hops)
+}
+
+/// Whether a node leads only to numbers of a set.
+pub fn is_within(nodes: &[Node], words: &[u64], number: usize) -> bool
+    requires code { IsCode nodes.now }
+    requires size { length words.now ≡ width nodes.now }
+    ensures { IsTrue result → (to : ℕ) → Flows nodes.now false false number to → IsIn words.now to }
+{
+    let way = way_of(nodes, number);
+    if !is_open(way.when, false, false) {
+        return true;
+    }
+    if !has(words, way.one) {
+        return false;
+    }
+    has(words, way.other)
+}
+
+/// The hops of a code, in two parts, each word by word. `base` is what is in each set.
+pub fn hops_of(alloc: Global, nodes: &[Node], base: &[u64]) -> Result<Hops, BreFault>
+    requires code { IsCode nodes.now }
+    requires size { length base.now ≡ width nodes.now }
+    ensures ok { IfOk result (AreParted nodes.now base.now) }
+    ensures err { IfErr result (λ fault. fault ≡ Memory) }
+{
+    let all = all_hops(alloc, nodes, base)?;
+    let mut onward = Vec::new(alloc);
+    let mut landings = Vec::new(alloc);
+    for place in 0..all.len() {
+        let hop = all[place];
+        if is_within(nodes, base, hop.word * 64 + hop.bit) {
+            landings.push(hop)?;
+        } else {
+            onward.push(hop)?;
+        }
+    }
+    Ok(Hops { onward, landings })
 }

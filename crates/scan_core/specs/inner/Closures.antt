@@ -4,7 +4,7 @@ use Rattle.std.specs.Int.{bit_at}
 use Rattle.scan_core.specs.declared.closures.Closures.{Closures}
 use Rattle.scan_core.specs.declared.node.Node.{Node}
 use Rattle.scan_core.specs.inner.Each.{AreEach}
-use Rattle.scan_core.specs.inner.Hops.{AreHops, Meets}
+use Rattle.scan_core.specs.inner.Hops.{AreParted}
 use Rattle.scan_core.specs.inner.Sets.{Flows, FlowsOn}
 use Rattle.scan_core.specs.inner.Words.{IsIn, width}
 
@@ -54,7 +54,5 @@ pub record AreClosures (code : List Node) (closures : Closures) : Type 0 where
   pub leads : AreEach 0 (IsLeading code closures.base.items) (width code) closures.leads.items
   pub inside : AreEach 0 (IsInside code) (width code * 2048) closures.inside.items
   pub nexts : AreEach None (λ at nexts. IfSome nexts (AreNexts code at)) (width code) closures.nexts.items
-  pub hops : AreHops code closures.hops.items
-  pub met : (number to : ℕ) → Flows code false false number to
-      → Meets closures.base.items closures.hops.items (number / 64) to
+  pub hops : AreParted code closures.base.items closures.hops
   pub plain : IsFalse closures.anchored → IsPlain code

@@ -2,6 +2,7 @@
 use Rattle.std.specs.Prelude.{◌≡◌, ◌⊎◌, ◌↔◌, ℕ, ◌+◌, ◌*◌, ◌/◌, ◌<◌, ◌≤◌, false, List, length, slice_index_or}
 use Rattle.std.specs.Int.{bit_at}
 use Rattle.scan_core.specs.declared.hops.Hop.{Hop}
+use Rattle.scan_core.specs.declared.hops.Hops.{Hops}
 use Rattle.scan_core.specs.declared.node.Node.{Node}
 use Rattle.scan_core.specs.inner.Each.{AreEach}
 use Rattle.scan_core.specs.inner.Sets.{Flows}
@@ -33,3 +34,22 @@ HopsTo hops at to = (place : ℕ) × (place < length hops) × ((slice_index_or h
 -- a number is in a word, or in each set, or a hop leads there
 abbrev pub Meets : List ℕ → List Hop → ℕ → ℕ → Type 0
 Meets base hops at to = (to / 64 ≡ at) ⊎ (IsIn base to ⊎ HopsTo hops at to)
+
+-- a hop to a number that leads only to what is in each set
+pub record IsLanding (code : List Node) (base : List ℕ) (hop : Hop) : Type 0 where
+  pub leads : IsHop code hop
+  pub ends : (to : ℕ) → Flows code false false (end_of hop) to → IsIn base to
+
+abbrev pub AreLandings : List Node → List ℕ → List Hop → Type 0
+AreLandings code base landings = AreEach no_hop (λ _. IsLanding code base) (length landings) landings
+
+-- one of either part leads from a word to a number
+abbrev pub PartsTo : List Hop → List Hop → ℕ → ℕ → Type 0
+PartsTo onward landings at to = HopsTo onward at to ⊎ HopsTo landings at to
+
+-- all hops in two parts
+pub record AreParted (code : List Node) (base : List ℕ) (hops : Hops) : Type 0 where
+  pub onward : AreHops code hops.onward.items
+  pub landings : AreLandings code base hops.landings.items
+  pub met : (number to : ℕ) → Flows code false false number to → (to / 64 ≡ number / 64)
+      ⊎ (IsIn base to ⊎ PartsTo hops.onward.items hops.landings.items (number / 64) to)

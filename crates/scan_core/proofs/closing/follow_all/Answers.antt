@@ -6,15 +6,15 @@ use Rattle.scan_core.proofs.closing.follow_all.Goals as goal
 
 pub follow-over-requires-clause-hop : goal.follow-over-requires-clause-hop
 follow-over-requires-clause-hop c =
-    let hops = c.args.closures.now.hops.items in
+    let hops = c.args.closures.now.hops.onward.items in
     let inside : c.loop-place.place < length hops = omega (arith, c.loop-place-test.true) in
-    subst (IsHop c.args.nodes.now) (sym (c.index-hop.ensures ∙ get_or_default hops c.loop-place.place _ no_hop inside)) (c.requires.closures.hops.each c.loop-place.place inside)
+    subst (IsHop c.args.nodes.now) (sym (c.index-hop.ensures ∙ get_or_default hops c.loop-place.place _ no_hop inside)) (c.requires.closures.hops.onward.each c.loop-place.place inside)
 
 pub loop-place-preserved : goal.loop-place-preserved
 loop-place-preserved c =
-    let hops = c.args.closures.now.hops.items in
+    let hops = c.args.closures.now.hops.onward.items in
     let inside : c.loop-place.place < length hops = omega (arith, c.loop-place-test.true) in
-    following_more c.follow-over.result c.loop-place.invariant c.follow-over.ensures c.requires.closures c.requires.begun (c.index-hop.ensures ∙ get_or_default hops c.loop-place.place _ no_hop inside) inside
+    following_more c.follow-over.result c.loop-place.invariant c.follow-over.ensures (c.index-hop.ensures ∙ get_or_default hops c.loop-place.place _ no_hop inside)
 
 pub returns : goal.returns
-returns c = following_ends c.loop-place.invariant c.requires.closures (omega arith)
+returns c = following_ends c.loop-place.invariant c.requires.closures.hops.onward (omega arith)

@@ -5,4 +5,4 @@ pub passes-preserved : goal.passes-preserved
 passes-preserved c = spreads_more c.passes.invariant c.follow_all-over.ensures
 
 pub returns : goal.returns
-returns c = spreads_end c.args.at_first c.args.at_last c.passes.invariant c.passes-test.false (c.is_anchored.ensures c.if-is_anchored.false)
+returns c = spreads_end _ _ c.args.at_first c.args.at_last c.passes.invariant c.passes-test.false c.land.ensures c.deref.ensures.value c.deref-2.ensures.value c.requires.begun (c.is_anchored.ensures c.if-is_anchored.false)

@@ -1,8 +1,7 @@
-use Rattle.std.proofs.Common.{◌≡◌, ◌/◌, ℕ, false, subst, arith}
+use Rattle.std.proofs.Common.{◌≡◌, subst, arith}
 use Rattle.scan_core.specs.inner.Closures.{IsLeading}
 use Rattle.scan_core.specs.inner.Each.{AreEach}
-use Rattle.scan_core.specs.inner.Hops.{Meets}
-use Rattle.scan_core.specs.inner.Sets.{Flows}
+use Rattle.scan_core.specs.inner.Hops.{AreParted}
 use Rattle.scan_core.specs.inner.Words.{width}
 use Rattle.scan_core.proofs.Enterings.{each_more, each_to}
 use Rattle.scan_core.proofs.closures.closures_of.Goals as goal
@@ -23,7 +22,6 @@ returns-clause-ok c =
       leads = subst (λ words. AreEach 0 (IsLeading nodes words) (width nodes) c.loop-at.leads.items) value (each_to c.loop-at.invariant.leads all);
       inside = c.in_ok-inside.ensures.ok;
       nexts = each_to c.loop-at.invariant.nexts all;
-      hops = c.in_ok-hops.ensures.sound;
-      met = subst (λ words. (number to : ℕ) → Flows nodes false false number to → Meets words c.in_ok-hops.hops.items (number / 64) to) value c.in_ok-hops.ensures.met;
+      hops = subst (λ words. AreParted nodes words c.in_ok-hops.hops) value c.in_ok-hops.ensures.ok;
       plain = c.has_anchors-anchored.ensures;
     }
