@@ -1,7 +1,7 @@
 -- Entering all that follows without a byte, by words that are closed and by hops.
 use Rattle.std.proofs.Common.{rules, ◌≡◌, ℕ, ◌+◌, ◌*◌, ◌/◌, ◌%◌, ◌^◌, ◌<◌, List, length, get_or, set, min, sym, ap, ◌∙◌, subst, arith, w64, ◌⊎◌, inl, inr, zero, suc, ◌≤◌, Bool, false, [], ◌∷◌, refl, ◌↔◌, ◌-◌, true, IsTrue, ◌++◌, length-append, append_assoc, eqb, not, bit_and, bit_or, Result, Ok, Err, OnOk}
 use Rattle.std.proofs.lemmas.Nat.{and_le_l, le_or_l, le_or_r, or_lt}
-use Rattle.std.proofs.lemmas.Nat.Bits.{bit_at-trailing_zeros, bit_at_and, bit_at-lt, bit_at-zero, bit_at_set_same}
+use Rattle.std.proofs.lemmas.Nat.Bits.{bit_at-trailing_zeros, bit_at_and, bit_at_or, bit_at-lt, bit_at-zero, same_from_bits_below}
 use Rattle.std.specs.Int.{bit_at, trailing_zeros, bit_not}
 use Rattle.std.specs.Int.Bits.{or_zero_l, or_zero_r}
 use Rattle.std.proofs.lemmas.Bool.{cases_eq, eqb-false, not-true, ne_eqb, cases_lt}
@@ -134,6 +134,13 @@ plain_more code {count} {read} before e inside plain at_first at_last from to h 
 
 -- Closing a word.
 
+-- what a word's numbers lead to has the word's own
+kept_or : {code : List Node} {at word all : ℕ} → Closes code at word all → word < 2 ^ 64 → all < 2 ^ 64 → bit_or word all ≡ all
+kept_or {word = word} {all} c fits small = same_from_bits_below 64 (bit_or word all) all (or_lt 64 word all fits small) small (λ bit h.
+    let e = bit_at_or word all bit in
+    let l = bit_at-lt word bit in
+    elim (cases_eq (bit_at word bit) 1) [ inl one ↦ let k = c.kept bit h one in omega (arith, e, one, k) | inr other ↦ omega (arith, e, l, other) ])
+
 unset_fuller : (words : List ℕ) (at word : ℕ) → get_or words at 0 ≤ word → unset (set words at word) ≤ unset words
 unset_fuller [] at word l = omega arith
 unset_fuller (x ∷ words) zero word l = omega (arith, l)
@@ -146,8 +153,8 @@ pub record Closed (code : List Node) (at : ℕ) (old now : List ℕ) : Type 0 wh
   pub fuller : unset now ≤ unset old
   pub closed : (start to : ℕ) → start / 64 ≡ at → IsIn now start → Stays code start to → IsIn now to
 
-pub close_word : {code : List Node} {at word : ℕ} (all : ℕ) {old now : List ℕ} → at < length old → word ≡ get_or old at 0 → Closes code at word all → now ≡ set old at (bit_or word all) → Closed code at old now
-close_word {code} {at} {word} all {old} {now} h ew c en = record {
+pub close_word : {code : List Node} {at word : ℕ} (all : ℕ) {old now : List ℕ} → at < length old → word ≡ get_or old at 0 → Closes code at word all → word < 2 ^ 64 → all < 2 ^ 64 → now ≡ set old at all → Closed code at old now
+close_word {code} {at} {word} all {old} {now} h ew c fits small es = record {
   adds = record {
     size = ap length en ∙ length-set old at (bit_or word all);
     kept = λ number k. elim (cases_eq (number / 64) at) [
@@ -172,6 +179,9 @@ close_word {code} {at} {word} all {old} {now} h ew c en = record {
       subst (IsIn now) (sym f) ((is_in_word now at (to % 64) (omega arith)).0 (bit_now (to % 64) (right_bit word all (to % 64) b)));
 }
   where
+    en : now ≡ set old at (bit_or word all)
+    en = es ∙ ap (set old at) (sym (kept_or c fits small))
+
     read : get_or now at 0 ≡ bit_or word all
     read = ap (λ w. get_or w at 0) en ∙ get_or-set_same old at (bit_or word all) 0 h
 
@@ -219,8 +229,8 @@ apart_skip {now = now} {count = count} s c begun inside e = record {
 }
 
 pub apart_more : {code : List Node} {closures : Closures} {old now new : List ℕ} {count : ℕ} (all : ℕ) → Apart code closures old now count → AreClosures code closures → ((number : ℕ) → IsIn closures.base.items number → IsIn old number) → count < width code → length old ≡ width code
-    → Closes code count (get_or now count 0) all → new ≡ set now count (bit_or (get_or now count 0) all) → Apart code closures old new (count + 1)
-apart_more {code} {closures} {old} {now} {new} {count} all s c begun inside size closes en = record {
+    → Closes code count (get_or now count 0) all → get_or now count 0 < 2 ^ 64 → all < 2 ^ 64 → new ≡ set now count all → Apart code closures old new (count + 1)
+apart_more {code} {closures} {old} {now} {new} {count} all s c begun inside size closes fits small en = record {
   adds = adds_both s.adds w.adds;
   done = λ start to h k flow. elim (cases_eq (start / 64) count) [
     | inl here ↦ closed_meets c w (λ number based. s.adds.kept number (begun number based)) start to here k flow
@@ -229,7 +239,7 @@ apart_more {code} {closures} {old} {now} {new} {count} all s c begun inside size
 }
   where
     w : Closed code count now new
-    w = close_word all (let e = s.adds.size in omega (arith, e, size, inside)) refl closes en
+    w = close_word all (let e = s.adds.size in omega (arith, e, size, inside)) refl closes fits small en
 
 pub apart_ends : {code : List Node} {closures : Closures} {old now : List ℕ} {count : ℕ} → Apart code closures old now count → length now ≤ count → IsApart code closures.hops now
 apart_ends {now = now} s h = λ start to k flow. let w = is_within now start k in s.done start to (omega (arith, w, h)) k flow
@@ -243,7 +253,7 @@ entered_if words {new} at bit true h small en other =
     let here : (at * 64 + bit) / 64 ≡ at = omega (arith, small) in
     let there : (at * 64 + bit) % 64 ≡ bit = omega (arith, small) in
     let e = entered_one words (at * 64 + bit) (omega (arith, h, small)) refl
-        (rw (here, there) en) other in
+    (rw (here, there) en) other in
     (λ k. elim (e.0 k) [ inl was ↦ inl was | inr same ↦ inr (refl, same) ], λ k. e.1 (elim k [ inl was ↦ inl was | inr q ↦ inr q.1 ]))
 entered_if words at bit false h small en other = search (rules, or_zero_r, set-get_or)
 
@@ -317,8 +327,8 @@ follows_none {code} {closures} {hop} {old} {mid} all is size high apart led eo z
 pub follows_more : {code : List Node} {closures : Closures} {hop : Hop} {old mid new : List ℕ} (all inside : ℕ) {over : ℕ} → AreClosures code closures → IsHop code hop → length old ≡ width code → get_or old hop.word 0 < 2 ^ 64
     → ((number : ℕ) → IsIn closures.base.items number → IsIn old number) → IsApart code closures.hops old → Led code hop old mid all
     → over ≡ bit_and all (bit_not w64 (get_or old hop.word 0)) → (over ≡ 0 → ⊥)
-    → Closes code hop.word all inside → new ≡ set mid hop.word (bit_or all inside) → Follows code closures hop old new over
-follows_more {code} {closures} {hop} {old} {mid} {new} all inside {over} c is size high begun apart led eo some closes en = record {
+    → Closes code hop.word all inside → inside < 2 ^ 64 → new ≡ set mid hop.word inside → Follows code closures hop old new over
+follows_more {code} {closures} {hop} {old} {mid} {new} all inside {over} c is size high begun apart led eo some closes small en = record {
   closer = record {
     adds = adds_both led.adds w.adds;
     apart = λ from to k flow. elim (cases_eq (from / 64) hop.word) [
@@ -342,7 +352,7 @@ follows_more {code} {closures} {hop} {old} {mid} {new} all inside {over} c is si
     read = sym (ap (λ w. get_or w hop.word 0) led.set ∙ get_or-set_same old hop.word all 0 inside_old)
 
     w : Closed code hop.word mid new
-    w = close_word inside (let s = led.adds.size in omega (arith, s, inside_old)) read closes en
+    w = close_word inside (let s = led.adds.size in omega (arith, s, inside_old)) read closes led.fits small en
 
     differs : get_or old hop.word 0 ≡ all → ⊥
     differs e =

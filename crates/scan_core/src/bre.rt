@@ -158,12 +158,6 @@ impl Bre {
     {
         let code = &self.code;
         let width = code.len() / 64 + 1;
-        search(
-            &self.masks,
-            &self.closures,
-            code,
-            line,
-            &mut words[..width],
-        )
+        search(&self.masks, &self.closures, code, line, &mut words[..width])
     }
 }

@@ -169,13 +169,7 @@ fn is_fixed(rows: &[u16], state: usize) -> bool
 }
 
 /// Makes of a set what a byte, and then none, leads to from it, the search having begun once more.
-fn advance(
-    words: &mut [u64],
-    nodes: &[Node],
-    masks: &Masks,
-    closures: &Closures,
-    byte: u8,
-)
+fn advance(words: &mut [u64], nodes: &[Node], masks: &Masks, closures: &Closures, byte: u8)
     requires code { IsCode nodes.now }
     requires masks { IsMasks nodes.now masks.now }
     requires closures { AreClosures nodes.now closures.now }
@@ -189,11 +183,7 @@ fn advance(
 
 impl Building {
     /// The set of the front of a line that isn't empty; none where the pattern's end is in it.
-    fn begin(
-        alloc: Global,
-        nodes: &[Node],
-        most: usize,
-    ) -> Result<Option<Building>, BreFault>
+    fn begin(alloc: Global, nodes: &[Node], most: usize) -> Result<Option<Building>, BreFault>
         requires most { 0 < most }
         requires code { IsCode nodes.now }
         ensures ok { IfOk result (λ begun. IfSome begun (IsBuilding nodes.now most 0)) }

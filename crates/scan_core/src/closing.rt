@@ -1,4 +1,5 @@
-//! Entering all that follows without a byte, ready to be looked up: each word is closed by itself, and then the hops are followed.
+//! Entering all that follows without a byte, as it was made ready: each word is closed by itself, and then the hops are
+//! followed.
 
 ghost use Rattle.std.specs.Prelude.{◌≡◌, ◌<◌, ◌+◌, ◌*◌, ℕ, false, IsFalse, length};
 ghost use Rattle.scan_core.specs.inner.Closing.{Follows, HasLanded, IsApart, Passes};
@@ -7,7 +8,7 @@ ghost use Rattle.scan_core.specs.inner.Hops.{AreLandings, IsHop};
 ghost use Rattle.scan_core.specs.inner.Sets.{IsCode, Flows};
 ghost use Rattle.scan_core.specs.inner.Words.{Adds, IsIn, SpreadsOut, width};
 
-use crate::closures::{Closures, closed};
+use crate::closures::{Closures, looked_up};
 use crate::hops::Hop;
 use crate::node::Node;
 use crate::worklist::spread_all;
@@ -24,7 +25,7 @@ fn close_words(words: &mut [u64], nodes: &[Node], closures: &Closures)
     for at in 0..words.len() {
         let word = words[at];
         if word & closures.leads[at] != 0 {
-            words[at] = word | closed(closures, nodes, at, word);
+            words[at] = looked_up(&closures.inside, nodes, at, word);
         }
     }
 }
@@ -45,7 +46,7 @@ fn follow(words: &mut [u64], nodes: &[Node], closures: &Closures, hop: &Hop) -> 
     words[hop.word] = all;
     let led = all & !word;
     if led != 0 {
-        words[hop.word] = all | closed(closures, nodes, hop.word, all);
+        words[hop.word] = looked_up(&closures.inside, nodes, hop.word, all);
     }
     led
 }
@@ -85,7 +86,8 @@ fn land(words: &mut [u64], nodes: &[Node], base: &[u64], landings: &[Hop])
 #[inline(always)]
 fn is_anchored(nodes: &[Node], closures: &Closures, at_first: bool, at_last: bool) -> bool
     requires closures { AreClosures nodes.now closures.now }
-    ensures { IsFalse result → (from to : ℕ) → Flows nodes.now at_first at_last from to → Flows nodes.now false false from to }
+    ensures { IsFalse result → (from to : ℕ) → Flows nodes.now at_first at_last from to
+        → Flows nodes.now false false from to }
 {
     if !closures.anchored {
         return false;
@@ -95,13 +97,7 @@ fn is_anchored(nodes: &[Node], closures: &Closures, at_first: bool, at_last: boo
 
 /// Enters all that a set leads to at one place, without a byte. The base is in the set.
 #[inline(always)]
-pub fn spread(
-    words: &mut [u64],
-    nodes: &[Node],
-    closures: &Closures,
-    at_first: bool,
-    at_last: bool,
-)
+pub fn spread(words: &mut [u64], nodes: &[Node], closures: &Closures, at_first: bool, at_last: bool)
     requires code { IsCode nodes.now }
     requires size { length words.old ≡ width nodes.now }
     requires closures { AreClosures nodes.now closures.now }

@@ -1,10 +1,9 @@
-//! What follows without a byte, ready to be looked up: within a word for eight numbers at once, or for all by a shift; and out of
-//! it by hops.
+//! What follows without a byte, ready to be looked up: within a word for eight numbers at once, and out of it by hops.
 
 ghost use Rattle.std.specs.Prelude.{◌≡◌, ◌⊎◌, ◌↔◌, ◌<◌, ◌≤◌, ◌+◌, ◌*◌, ◌/◌, ◌%◌, ◌^◌, ℕ, Bool, false, IsFalse, IsTrue, IfOk, IfErr, IfSome, None, length};
 ghost use Rattle.std.specs.Int.{bit_at};
 ghost use Rattle.bre_core.specs.declared.fault.BreFault.TheVariants.{Memory};
-ghost use Rattle.scan_core.specs.inner.Closures.{AreClosures, AreNexts, Closes, IsInside, IsLeading, IsPlain};
+ghost use Rattle.scan_core.specs.inner.Closures.{AreClosures, Closes, IsInside, IsLeading, IsPlain};
 ghost use Rattle.scan_core.specs.inner.Each.{AreEach};
 ghost use Rattle.scan_core.specs.inner.Sets.{IsCode, Flows, LeadsOn};
 ghost use Rattle.scan_core.specs.inner.Words.{IsIn, width};
@@ -25,8 +24,6 @@ pub struct Closures {
     pub leads: Vec<u64>,
     /// For each word, each eight of its numbers, and each choice from these: what the chosen ones lead to in the word.
     pub inside: Vec<u64>,
-    /// For each word, if numbers lead in it only to the next one, and none leads on from there: those that are led to.
-    pub nexts: Vec<Option<u64>>,
     /// What leads out of a word, and of the base.
     pub hops: Hops,
     /// Whether some node leads on only at a line's front, or only at its end.
@@ -49,7 +46,8 @@ fn leading(nodes: &[Node], words: &[u64], at: usize) -> u64
 
 /// Whether a node leads on only at a line's front, or only at its end.
 fn is_anchor(node: &Node) -> bool
-    ensures { IsFalse result → (at_first at_last : Bool) (from to : ℕ) → LeadsOn node.now at_first at_last from to → LeadsOn node.now false false from to }
+    ensures { IsFalse result → (at_first at_last : Bool) (from to : ℕ) → LeadsOn node.now at_first at_last from to
+        → LeadsOn node.now false false from to }
 {
     match node {
         Node::First | Node::Last => true,
@@ -111,27 +109,6 @@ fn inside_of(nodes: &[Node], at: usize, word: u64) -> u64
     all
 }
 
-/// The numbers that are led to in a word, if each follows the only one that leads to it there, and leads nowhere in the word.
-#[tactic(auto, using(crate::proofs::Insides::next_more, crate::proofs::Insides::next_ends))]
-fn nexts_in(nodes: &[Node], at: usize) -> Option<u64>
-    requires code { IsCode nodes.now }
-    requires at { at < width nodes.now }
-    ensures { IfSome result (AreNexts nodes.now at) }
-{
-    let mut nexts: u64 = 0;
-    for bit in 0..64usize {
-        let led = targets(nodes, at, bit);
-        if led & !(2u64 << bit) != 0 {
-            return None;
-        }
-        nexts |= led;
-    }
-    if (nexts << 1) & nexts != 0 {
-        return None;
-    }
-    Some(nexts)
-}
-
 /// What the numbers of a word lead to in it, looked up for eight of them at once.
 #[inline(always)]
 pub fn looked_up(inside: &[u64], nodes: &[Node], at: usize, word: u64) -> u64
@@ -145,19 +122,6 @@ pub fn looked_up(inside: &[u64], nodes: &[Node], at: usize, word: u64) -> u64
         all |= row[eight * 256 + ((word >> (eight * 8)) % 256) as usize];
     }
     all
-}
-
-/// What the numbers of a word lead to in it: by a shift where that is enough, and else looked up.
-#[inline(always)]
-pub fn closed(closures: &Closures, nodes: &[Node], at: usize, word: u64) -> u64
-    requires closures { AreClosures nodes.now closures.now }
-    requires at { at < width nodes.now }
-    ensures { Closes nodes.now at word result }
-{
-    match closures.nexts[at] {
-        Some(nexts) => word | ((word << 1) & nexts),
-        None => looked_up(&closures.inside, nodes, at, word),
-    }
 }
 
 /// What one choice from eight numbers leads to in their word: what its lower and its higher four lead to is in the table
@@ -207,17 +171,14 @@ pub fn closures_of(alloc: Global, nodes: &[Node]) -> Result<Closures, BreFault>
     let begun = base.as_slice();
     let hops = hops_of(alloc, nodes, begun)?;
     let mut leads = Vec::new(alloc);
-    let mut nexts = Vec::new(alloc);
     for at in 0..nodes.len() / 64 + 1 {
         leads.push(leading(nodes, begun, at))?;
-        nexts.push(nexts_in(nodes, at))?;
     }
     let anchored = has_anchors(nodes);
     Ok(Closures {
         base,
         leads,
         inside,
-        nexts,
         hops,
         anchored,
     })

@@ -1,5 +1,5 @@
-//! Hops: what leads out of a word and of what is in each set. Many numbers of a word may lead to the same one, which is then
-//! entered once for all of them.
+//! Hops: what leads out of a word and of what is in each set. Many numbers of a word may lead to the same one, which is
+//! then entered once for all of them.
 
 ghost use Rattle.std.specs.Prelude.{◌≡◌, ◌↔◌, ◌⊎◌, ◌<◌, ◌≤◌, ◌+◌, ◌*◌, ◌/◌, ◌%◌, ℕ, false, IsTrue, OnOk, IfOk, IfErr, List, ◌++◌, length};
 ghost use Rattle.std.specs.Int.{bit_at};
@@ -81,8 +81,8 @@ fn is_led(hops: &[Hop], start: usize, at: usize, to: usize) -> bool
     false
 }
 
-/// Adds the hop from a word to a number, if the number is neither in the word nor in each set, and there is no such hop from a
-/// place in their list on.
+/// Adds the hop from a word to a number, if the number is neither in the word nor in each set, and there is no such hop
+/// from a place in their list on.
 fn add_hop(
     hops: &mut Vec<Hop>,
     nodes: &[Node],
@@ -113,7 +113,12 @@ fn add_hop(
     let from = from_of(nodes, at, to);
     let word = to / 64;
     let bit = to % 64;
-    Ok(hops.push(Hop { at, from, word, bit })?)
+    Ok(hops.push(Hop {
+        at,
+        from,
+        word,
+        bit,
+    })?)
 }
 
 /// Adds the hops that a number's node asks for.
@@ -130,7 +135,8 @@ fn add_hops(
     requires sound { AreHops nodes.now hops.old.items }
     ensures sound { OnOk result (AreHops nodes.now hops.new.items) }
     ensures grown { OnOk result ((more : List Hop) × (hops.new.items ≡ hops.old.items ++ more)) }
-    ensures met { OnOk result ((to : ℕ) → Flows nodes.now false false number to → Meets base.now hops.new.items (number / 64) to) }
+    ensures met { OnOk result ((to : ℕ) → Flows nodes.now false false number to
+        → Meets base.now hops.new.items (number / 64) to) }
     ensures err { IfErr result (λ fault. fault ≡ Memory) }
 {
     let way = way_of(nodes, number);
@@ -146,7 +152,8 @@ fn all_hops(alloc: Global, nodes: &[Node], base: &[u64]) -> Result<Vec<Hop>, Bre
     requires code { IsCode nodes.now }
     requires size { length base.now ≡ width nodes.now }
     ensures sound { IfOk result (λ hops. AreHops nodes.now hops.items) }
-    ensures met { IfOk result (λ hops. (number to : ℕ) → Flows nodes.now false false number to → Meets base.now hops.items (number / 64) to) }
+    ensures met { IfOk result (λ hops. (number to : ℕ) → Flows nodes.now false false number to
+        → Meets base.now hops.items (number / 64) to) }
     ensures err { IfErr result (λ fault. fault ≡ Memory) }
 {
     let mut hops = Vec::new(alloc);

@@ -11,19 +11,14 @@ use crate::words::{clear, enter, has, lead};
 use bre_core::BreFault;
 use std::alloc::Global;
 
-/// Enters what a number leads to without a byte, if it is in the set. Returns the number to go on with: the next, or an earlier
-/// one that is new.
-fn visit(
-    words: &mut [u64],
-    nodes: &[Node],
-    number: usize,
-    at_first: bool,
-    at_last: bool,
-) -> usize
+/// Enters what a number leads to without a byte, if it is in the set. Returns the number to go on with: the next, or an
+/// earlier one that is new.
+fn visit(words: &mut [u64], nodes: &[Node], number: usize, at_first: bool, at_last: bool) -> usize
     requires code { IsCode nodes.now }
     requires size { length words.old ≡ width nodes.now }
     requires within { number < length nodes.now }
-    ensures { Grows (λ to. IsIn words.old number × Flows nodes.now at_first at_last number to) words.old words.new (number + 1) result }
+    ensures { Grows (λ to. IsIn words.old number × Flows nodes.now at_first at_last number to) words.old words.new
+        (number + 1) result }
 {
     if !has(words, number) {
         return number + 1;

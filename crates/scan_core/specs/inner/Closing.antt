@@ -38,4 +38,5 @@ pub record HasLanded (code : List Node) (base : List ℕ) (landings : List Hop) 
   pub adds : Adds code false false old new
   pub over : (number : ℕ) → IsIn new number
       → IsIn old number ⊎ ((to : ℕ) → Flows code false false number to → IsIn base to)
-  pub led : (from to : ℕ) → IsIn old from → Flows code false false from to → HopsTo landings (from / 64) to → IsIn new to
+  pub led : (from to : ℕ) → IsIn old from → Flows code false false from to → HopsTo landings (from / 64) to
+      → IsIn new to

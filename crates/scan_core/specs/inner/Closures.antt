@@ -1,5 +1,5 @@
 -- What numbers lead to without a byte, ready to be looked up.
-use Rattle.std.specs.Prelude.{◌≡◌, ◌⊎◌, ◌↔◌, ℕ, ◌+◌, ◌*◌, ◌/◌, ◌%◌, ◌^◌, ◌<◌, Bool, false, None, IfSome, IsFalse, List, length}
+use Rattle.std.specs.Prelude.{◌≡◌, ◌⊎◌, ◌↔◌, ℕ, ◌+◌, ◌*◌, ◌/◌, ◌%◌, ◌^◌, ◌<◌, Bool, false, IsFalse, List, length}
 use Rattle.std.specs.Int.{bit_at}
 use Rattle.scan_core.specs.declared.closures.Closures.{Closures}
 use Rattle.scan_core.specs.declared.node.Node.{Node}
@@ -20,7 +20,8 @@ IsLeading code words at word = (bit : ℕ) (to : ℕ) → bit < 64 → Flows cod
 
 -- at a line's front and at its end no node leads to more than elsewhere
 abbrev pub IsPlain : List Node → Type 0
-IsPlain code = (at_first at_last : Bool) (from to : ℕ) → Flows code at_first at_last from to → Flows code false false from to
+IsPlain code = (at_first at_last : Bool) (from to : ℕ) → Flows code at_first at_last from to
+    → Flows code false false from to
 
 -- a step without a byte to a number of the same word
 abbrev pub Stays : List Node → ℕ → ℕ → Type 0
@@ -34,14 +35,6 @@ pub record Closes (code : List Node) (at chosen all : ℕ) : Type 0 where
   pub closed : (number to : ℕ) → number < 64 → to < 64 → bit_at all number ≡ 1
       → Flows code false false (at * 64 + number) (at * 64 + to) → bit_at all to ≡ 1
 
--- the numbers that are led to in a word: each follows the only one that leads to it there, and leads nowhere in the
--- word
-pub record AreNexts (code : List Node) (at nexts : ℕ) : Type 0 where
-  pub only : (bit to : ℕ) → bit < 64 → to < 64 → Flows code false false (at * 64 + bit) (at * 64 + to) → (to ≡ bit + 1)
-      × (bit_at nexts to ≡ 1) × (bit_at nexts bit ≡ 1 → ⊥)
-  pub leads : (bit : ℕ) → bit + 1 < 64 → bit_at nexts (bit + 1) ≡ 1
-      → Flows code false false (at * 64 + bit) (at * 64 + (bit + 1))
-
 -- the numbers that a place of the table is for: a choice from eight of a word
 abbrev pub chosen_at : ℕ → ℕ
 chosen_at place = place % 256 * 2 ^ (place / 256 % 8 * 8) % 2 ^ 64
@@ -53,6 +46,5 @@ pub record AreClosures (code : List Node) (closures : Closures) : Type 0 where
   pub base : IsBase code closures.base.items
   pub leads : AreEach 0 (IsLeading code closures.base.items) (width code) closures.leads.items
   pub inside : AreEach 0 (IsInside code) (width code * 2048) closures.inside.items
-  pub nexts : AreEach None (λ at nexts. IfSome nexts (AreNexts code at)) (width code) closures.nexts.items
   pub hops : AreParted code closures.base.items closures.hops
   pub plain : IsFalse closures.anchored → IsPlain code

@@ -7,10 +7,7 @@ use Rattle.scan_core.proofs.Enterings.{each_more, each_to}
 use Rattle.scan_core.proofs.closures.closures_of.Goals as goal
 
 pub loop-at-preserved : goal.loop-at-preserved
-loop-at-preserved c = record {
-  leads = each_more c.loop-at.invariant.leads c.leading.ensures c.in_ok-push.ensures.items;
-  nexts = each_more c.loop-at.invariant.nexts c.nexts_in.ensures c.in_ok-push-2.ensures.items;
-}
+loop-at-preserved c = each_more c.loop-at.invariant c.leading.ensures c.in_ok-push.ensures.items
 
 pub returns-clause-ok : goal.returns-clause-ok
 returns-clause-ok c =
@@ -19,9 +16,8 @@ returns-clause-ok c =
     let value = c.as_slice-begun.ensures.value in
     record {
       base = c.in_ok-base.ensures.ok;
-      leads = subst (λ words. AreEach 0 (IsLeading nodes words) (width nodes) c.loop-at.leads.items) value (each_to c.loop-at.invariant.leads all);
+      leads = subst (λ words. AreEach 0 (IsLeading nodes words) (width nodes) c.loop-at.leads.items) value (each_to c.loop-at.invariant all);
       inside = c.in_ok-inside.ensures.ok;
-      nexts = each_to c.loop-at.invariant.nexts all;
       hops = subst (λ words. AreParted nodes words c.in_ok-hops.hops) value c.in_ok-hops.ensures.ok;
       plain = c.has_anchors-anchored.ensures;
     }
