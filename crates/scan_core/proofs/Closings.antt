@@ -1,5 +1,5 @@
 -- Entering all that follows without a byte, by words that are closed and by hops.
-use Rattle.std.proofs.Common.{rules, ◌≡◌, ℕ, ◌+◌, ◌*◌, ◌/◌, ◌%◌, ◌^◌, ◌<◌, List, length, get_or, set, min, sym, ap, ◌∙◌, subst, arith, w64, ◌⊎◌, inl, inr, zero, suc, ◌≤◌, Bool, false, [], ◌∷◌, refl, ◌↔◌, ◌-◌, true, IsTrue, ◌++◌, length-append, append_assoc, eqb, not, bit_and, bit_or, Result, Ok, Err, OnOk}
+use Rattle.std.proofs.Common.{rules, ◌≡◌, ℕ, ◌+◌, ◌*◌, ◌/◌, ◌%◌, ◌^◌, ◌<◌, List, length, get_or, set, sym, ap, ◌∙◌, subst, arith, w64, ◌⊎◌, inl, inr, zero, suc, ◌≤◌, Bool, false, [], ◌∷◌, refl, ◌↔◌, true, IsTrue, ◌++◌, length-append, eqb, not, bit_and, bit_or, Result, Ok, Err, OnOk}
 use Rattle.std.proofs.lemmas.Nat.{and_le_l, le_or_l, le_or_r, or_lt}
 use Rattle.std.proofs.lemmas.Nat.Bits.{bit_at-trailing_zeros, bit_at_and, bit_at_or, bit_at-lt, bit_at-zero, same_from_bits_below}
 use Rattle.std.specs.Int.{bit_at, trailing_zeros, bit_not}
@@ -11,19 +11,17 @@ use mir.Val.{bool_byte}
 use Rattle.scan_core.specs.Code.{At}
 use Rattle.scan_core.specs.declared.closures.Closures.{Closures}
 use Rattle.scan_core.specs.declared.hops.Hop.{Hop}
-use Rattle.scan_core.specs.declared.hops.Hops.{Hops}
 use Rattle.scan_core.specs.declared.node.Node.{Node}
 use Rattle.scan_core.specs.declared.way.Way.{Way}
 use Rattle.scan_core.specs.inner.Closing.{Closer, Follows, HasLanded, IsApart, Passes}
-use Rattle.scan_core.specs.inner.Closures.{AreClosures, Closes, IsPlain, Stays}
-use Rattle.scan_core.specs.inner.Each.{AreEach}
+use Rattle.scan_core.specs.inner.Closures.{AreClosures, Closes, Stays}
 use Rattle.scan_core.specs.inner.Hops.{AreHops, AreLandings, HopsTo, IsHop, IsLanding, Meets, PartsTo, end_of, no_hop}
 use Rattle.scan_core.specs.inner.Sets.{Flows, FlowsOn, LeadsOn}
 use Rattle.scan_core.specs.inner.Ways.{IsWay}
 use Rattle.scan_core.specs.inner.Words.{Adds, IsIn, SpreadsOut, unset, width}
 use Rattle.scan_core.proofs.Countings.{set_elsewhere}
 use Rattle.scan_core.proofs.Enterings.{at_index, each_more, each_to, flows_of, led_by}
-use Rattle.scan_core.proofs.Insides.{adds_anywhere, adds_both, adds_none, entered_one, either_bit, fresh_bit, is_in_word, is_within, left_bit, right_bit, spreads_out, unset-set}
+use Rattle.scan_core.proofs.Insides.{adds_anywhere, adds_both, entered_one, either_bit, fresh_bit, is_in_word, is_within, left_bit, right_bit, spreads_out, unset-set}
 
 -- some of a word's numbers are those of a hop, or none
 pub one_of : (word from : ℕ) → word < 2 ^ 64 → (bit_and word from ≡ 0 → ⊥) → (bit : ℕ) × (bit < 64) × (bit_at word bit ≡ 1) × (bit_at from bit ≡ 1)
@@ -375,12 +373,6 @@ pub record Following (code : List Node) (closures : Closures) (old now : List �
   pub closer : Closer code closures.hops old now over
   pub done : over ≡ 0 → (place : ℕ) → place < count → (bit : ℕ) → bit < 64 → bit_at (get_or closures.hops.onward.items place no_hop).from bit ≡ 1
       → IsIn now ((get_or closures.hops.onward.items place no_hop).at * 64 + bit) → IsIn now (end_of (get_or closures.hops.onward.items place no_hop))
-
-pub following_starts : {code : List Node} {closures : Closures} {words : List ℕ} → IsApart code closures.hops words → Following code closures words words 0 0
-following_starts {code} {words = words} apart = record {
-  closer = record { adds = adds_none code false false words; apart = apart; fuller = omega arith; less = λ some. absurd (some refl) };
-  done = λ z place l. absurd (omega (arith, l));
-}
 
 pub following_more : {code : List Node} {closures : Closures} {hop : Hop} {old now new : List ℕ} {count over : ℕ} (led : ℕ) → Following code closures old now count over → Follows code closures hop now new led
     → hop ≡ get_or closures.hops.onward.items count no_hop → Following code closures old new (count + 1) (bit_or over led)

@@ -5,7 +5,7 @@ use Rattle.std.specs.Int.Bits.{or_zero_r, or_zero_l}
 use mir.Val.{bool_byte}
 use Rattle.std.proofs.lemmas.List.{get_or-set_same, get_or-set_other, length-set, set-get_or}
 use Rattle.std.proofs.lemmas.Nat.{le_or_l, or_lt, and_le_l}
-use Rattle.std.proofs.lemmas.Nat.Bits.{shr_and_one, bit_at_set_same, bit_at_set_other, and_high, bit_at_and, bit_at_or, bit_at_not, bit_at-lt, bit_at-zero, bit_at_mask_inside, bit_at_ones, bit_at_above, bit_at_cat_low, bit_at_cat_high, bit_at-pow_other}
+use Rattle.std.proofs.lemmas.Nat.Bits.{shr_and_one, bit_at_set_same, bit_at_set_other, and_high, bit_at_and, bit_at_or, bit_at_not, bit_at-lt, bit_at-zero, bit_at_mask_inside, bit_at_ones, bit_at_above, bit_at_cat_low, bit_at_cat_high}
 use Rattle.std.specs.Int.{bit_at, bit_not}
 use Rattle.scan_core.specs.inner.Sets.{Flows, FlowsOn}
 use Rattle.scan_core.specs.declared.node.Node.{Node}
@@ -16,7 +16,7 @@ use Rattle.bre_core.specs.Match.{Parts}
 use Rattle.scan_core.proofs.Enterings.{at_least, parts_anywhere}
 use Rattle.std.proofs.lemmas.Grind.{common_steps}
 use Rattle.scan_core.specs.inner.Each.{AreEach}
-use Rattle.scan_core.specs.inner.Closures.{Closes, IsInside, Stays, chosen_at}
+use Rattle.scan_core.specs.inner.Closures.{Closes, IsInside, chosen_at}
 
 pub has_tests : (words : List ℕ) (number : ℕ) → (eqb (bit_and (get_or words (number / 64) 0 / 2 ^ (number % 64)) 1) 1 ≡ true) ↔ IsIn words number
 unfolding IsIn
@@ -108,9 +108,6 @@ grows_one {old} {new} number {word} h none ew fits en eo = record {
 pub goes_none : (words : List ℕ) (before : ℕ) → GoesOn words words before before
 goes_none words before = record { low = omega arith; under = λ number l h. h; fuller = omega arith; less = λ l. absurd (omega (arith, l)) }
 
-pub goes_both : {old middle new : List ℕ} {before between on : ℕ} → GoesOn old middle before between → GoesOn middle new between on → GoesOn old new before on
-goes_both {between} {on} f g = search rules
-
 pub grows_none : (Added : ℕ → Type 0) {words : List ℕ} {on : ℕ} → ((number : ℕ) → Added number → IsIn words number) → Grows Added words words on on
 grows_none Added {words} {on} within = record { size = refl; exact = λ number. (λ h. inl h, elim [ inl h ↦ h | inr h ↦ within number h ]); goes = goes_none words on }
 
@@ -146,9 +143,6 @@ is_within words number h = grind (arith, common_steps)
 pub flows_join : (code : List Node) (at_first at_last : Bool) (count start middle number : ℕ) → FlowsOn code at_first at_last start middle → Parts (Flows code at_first at_last) count middle number → FlowsOn code at_first at_last start number
 flows_join code at_first at_last zero start middle number f p = subst (FlowsOn code at_first at_last start) p f
 flows_join code at_first at_last (suc count) start middle number f p = let r = flows_join code at_first at_last count start middle p.0 f p.1 in (suc r.0, (p.0, r.1, p.2))
-
-pub adds_none : (code : List Node) (at_first at_last : Bool) (words : List ℕ) → Adds code at_first at_last words words
-adds_none code at_first at_last words = record { size = refl; kept = λ number h. h; from = λ number h. (number, h, (0, refl)) }
 
 pub adds_both : {code : List Node} {at_first at_last : Bool} {old middle new : List ℕ} → Adds code at_first at_last old middle → Adds code at_first at_last middle new → Adds code at_first at_last old new
 adds_both {code} {at_first} {at_last} f g = record {

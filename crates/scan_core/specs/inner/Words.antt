@@ -7,7 +7,7 @@ use Rattle.scan_core.specs.declared.masks.Masks.{Masks}
 use Rattle.scan_core.specs.declared.node.Node.{Node}
 use Rattle.scan_core.specs.Code.{weight_of}
 use Rattle.scan_core.specs.inner.Each.{AreEach}
-use Rattle.scan_core.specs.inner.Sets.{Flows, FlowsOn, Passes}
+use Rattle.scan_core.specs.inner.Sets.{FlowsOn, Passes}
 
 unfoldable pub IsIn : List ℕ → ℕ → Type 0
 IsIn words number = bit_at (slice_index_or words (number / 64) 0) (number % 64) ≡ 1
