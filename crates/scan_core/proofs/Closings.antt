@@ -1,28 +1,27 @@
--- Hops: numbers of a word that lead to the same one beyond it.
-use Rattle.std.proofs.Common.{rules, ◌≡◌, ℕ, ◌+◌, ◌*◌, ◌/◌, ◌%◌, ◌^◌, ◌<◌, List, length, get_or, set, min, sym, ap, ◌∙◌, subst, arith, w64, ◌⊎◌, inl, inr, zero, suc, ◌≤◌, Bool, false, [], ◌∷◌, refl, ◌↔◌, ◌-◌, true, IsTrue, ◌++◌, length-append, append_assoc, eqb, not, bit_and, bit_or}
-use Rattle.std.proofs.lemmas.Nat.{and_le_l, le_or_l, or_lt}
-use Rattle.std.proofs.lemmas.Nat.Bits.{bit_at-trailing_zeros, bit_at_and, bit_at-lt, bit_at-zero}
+-- Entering all that follows without a byte, by words that are closed and by hops.
+use Rattle.std.proofs.Common.{rules, ◌≡◌, ℕ, ◌+◌, ◌*◌, ◌/◌, ◌%◌, ◌^◌, ◌<◌, List, length, get_or, set, sym, ap, ◌∙◌, subst, arith, w64, ◌⊎◌, inl, inr, zero, suc, ◌≤◌, Bool, false, [], ◌∷◌, refl, ◌↔◌, true, IsTrue, ◌++◌, length-append, eqb, not, bit_and, bit_or, Result, Ok, Err, OnOk}
+use Rattle.std.proofs.lemmas.Nat.{and_le_l, le_or_l, le_or_r, or_lt}
+use Rattle.std.proofs.lemmas.Nat.Bits.{bit_at-trailing_zeros, bit_at_and, bit_at_or, bit_at-lt, bit_at-zero, same_from_bits_below}
 use Rattle.std.specs.Int.{bit_at, trailing_zeros, bit_not}
-use Rattle.scan_core.specs.declared.hops.Hop.{Hop}
-use Rattle.scan_core.specs.inner.Hops.{Hopped, HoppedBy, no_hop, AreHops}
-use Rattle.scan_core.specs.inner.Words.{IsIn, Grows, Adds, unset, Visits, width, SpreadsOut}
-use Rattle.scan_core.proofs.Insides.{grows_one, grows_by, bit_is, is_in_word, fresh_bit, left_bit, right_bit, either_bit, goes_both, Visiting, adds_anywhere, adds_both, adds_none, entered_one, flows_join, is_within, spreading_ends}
+use Rattle.std.specs.Int.Bits.{or_zero_l, or_zero_r}
 use Rattle.std.proofs.lemmas.Bool.{cases_eq, eqb-false, not-true, ne_eqb, cases_lt}
-use Rattle.std.proofs.lemmas.List.{get_or-set_same, length-set, get_or_default, set-get_or}
-use Rattle.scan_core.proofs.Enterings.{flow_anywhere, each_more, each_to}
-use Rattle.scan_core.specs.declared.base.Base.{Base}
-use Rattle.scan_core.specs.declared.closures.Closures.{Closures}
-use Rattle.scan_core.specs.declared.node.Node.{Node}
-use Rattle.scan_core.specs.inner.Base.{IsBase}
-use Rattle.scan_core.specs.inner.Closures.{AreClosures, ArePeers, Closes, IsLeaving, Stays}
-use Rattle.scan_core.specs.inner.Each.{AreEach}
-use Rattle.scan_core.specs.inner.Sets.{Flows, FlowsOn}
-use Rattle.scan_core.proofs.Countings.{set_elsewhere}
-use Rattle.std.specs.Int.Bits.{or_zero_r}
-use mir.Val.{bool_byte}
-use Rattle.scan_core.specs.declared.landing.Landing.{Landing}
-use Rattle.scan_core.specs.inner.Landings.{AreLandings, Ends, IsLanding, IsOther, Lands, no_landing, ClosesWords, HasLanded, LandsOn}
+use Rattle.std.proofs.lemmas.List.{get_or-set_same, length-set, set-get_or}
 use Rattle.std.proofs.lemmas.Grind.{common_steps}
+use mir.Val.{bool_byte}
+use Rattle.scan_core.specs.Code.{At}
+use Rattle.scan_core.specs.declared.closures.Closures.{Closures}
+use Rattle.scan_core.specs.declared.hops.Hop.{Hop}
+use Rattle.scan_core.specs.declared.node.Node.{Node}
+use Rattle.scan_core.specs.declared.way.Way.{Way}
+use Rattle.scan_core.specs.inner.Closing.{Closer, Follows, HasLanded, IsApart, Passes}
+use Rattle.scan_core.specs.inner.Closures.{AreClosures, Closes, Stays}
+use Rattle.scan_core.specs.inner.Hops.{AreHops, AreLandings, HopsTo, IsHop, IsLanding, Meets, PartsTo, end_of, no_hop}
+use Rattle.scan_core.specs.inner.Sets.{Flows, FlowsOn, LeadsOn}
+use Rattle.scan_core.specs.inner.Ways.{IsWay}
+use Rattle.scan_core.specs.inner.Words.{Adds, IsIn, SpreadsOut, unset, width}
+use Rattle.scan_core.proofs.Countings.{set_elsewhere}
+use Rattle.scan_core.proofs.Enterings.{at_index, each_more, each_to, flows_of, led_by}
+use Rattle.scan_core.proofs.Insides.{adds_anywhere, adds_both, entered_one, either_bit, fresh_bit, is_in_word, is_within, left_bit, right_bit, spreads_out, unset-set}
 
 -- some of a word's numbers are those of a hop, or none
 pub one_of : (word from : ℕ) → word < 2 ^ 64 → (bit_and word from ≡ 0 → ⊥) → (bit : ℕ) × (bit < 64) × (bit_at word bit ≡ 1) × (bit_at from bit ≡ 1)
@@ -42,27 +41,103 @@ none_of word from bit none here there =
     let z = ap (λ w. bit_at w bit) none ∙ bit_at-zero bit in
     omega (arith, e, z, here, there)
 
-pub hopped_more : (hops : List Hop) (at word count : ℕ) {old now new : List ℕ} {before on on' : ℕ} → Grows (Hopped hops at word count) old now before on
-    → Grows (HoppedBy (get_or hops (at * 3 + count) no_hop) word) now new on on' → Grows (Hopped hops at word (count + 1)) old new before on'
-hopped_more hops at word count {on} f g = search rules
+-- Hops are added.
 
--- a number by its word and bit
-pub entered_is : (words : List ℕ) (number : ℕ) {word bit : ℕ} → word ≡ number / 64 → bit ≡ 1 * 2 ^ (number % 64) % 2 ^ 64 → get_or words word 0 < 2 ^ 64 → (bit_and (get_or words word 0) bit ≡ 0 → ⊥) → IsIn words number
-entered_is words number {word} {bit} ew eb fits some = search (rules, one_of, bit_is, is_in_word)
+pub adding_one : {code : List Node} {old new : List Hop} {hop : Hop} → AreHops code old → IsHop code hop → new ≡ old ++ hop ∷ [] → AreHops code new
+adding_one {old = old} {hop = hop} are is e = let l = ap length e in let m = length-append old (hop ∷ []) in each_to (each_more are is e) (omega (arith, l, m))
 
-pub absent_is : (words : List ℕ) (number : ℕ) {word bit : ℕ} → word ≡ number / 64 → bit ≡ 1 * 2 ^ (number % 64) % 2 ^ 64 → bit_and (get_or words word 0) bit ≡ 0 → IsIn words number → ⊥
-absent_is words number {word} {bit} ew eb none h =
-    let same : number ≡ word * 64 + number % 64 = omega (arith, ew) in
-    let one = (is_in_word words word (number % 64) (omega arith)).1 (subst (IsIn words) same h) in
-    let two = ap (λ x. bit_at x (number % 64)) eb ∙ (bit_is number (number % 64) (sym ew) (omega arith)).1 same in
-    none_of (get_or words word 0) bit (number % 64) none one two
+pub hops_added : (old more : List Hop) {new : List Hop} (at to : ℕ) → new ≡ old ++ more → HopsTo old at to → HopsTo new at to
+hops_added old more at to e h = grind (arith, common_steps)
 
-pub follow_new : {old new : List ℕ} (hop : Hop) (numbers : ℕ) {before on : ℕ} → hop.to < 64 * length old → hop.word ≡ hop.to / 64 → hop.bit ≡ 1 * 2 ^ (hop.to % 64) % 2 ^ 64
-    → get_or old hop.word 0 < 2 ^ 64 → (bit_and numbers hop.from ≡ 0 → ⊥) → bit_and (get_or old hop.word 0) hop.bit ≡ 0 → new ≡ set old hop.word (bit_or (get_or old hop.word 0) hop.bit)
-    → on ≡ min before hop.word → Grows (HoppedBy hop numbers) old new before on
-follow_new {old} hop numbers {before} h ew eb fits some none en eo = search (rules, grows_by, grows_one, absent_is)
+-- what is met stays so when hops are added
+pub meets_kept : (base : List ℕ) (old new : List Hop) {at to : ℕ} → (more : List Hop) × (new ≡ old ++ more) → Meets base old at to → Meets base new at to
+meets_kept base old new grown (inl near) = inl near
+meets_kept base old new grown (inr (inl based)) = inr (inl based)
+meets_kept base old new {at} {to} grown (inr (inr hop)) = inr (inr (hops_added old grown.0 at to grown.1 hop))
 
--- Entering what the numbers of a word lead to, by closures and then by those that lead out of it.
+-- what a node leads to is met once both are
+pub both_met : {code : List Node} (base : List ℕ) (old new : List Hop) {number : ℕ} {way : Way} {T : Type 0} {E : Type 0} (result : Result T E) → IsWay code number way → Meets base old (number / 64) way.one
+    → OnOk result ((more : List Hop) × (new ≡ old ++ more)) → OnOk result (Meets base new (number / 64) way.other) → OnOk result ((to : ℕ) → Flows code false false number to → Meets base new (number / 64) to)
+both_met base old new {number} (Ok done) w one grown other = λ to f. led_by (Meets base new (number / 64)) w (meets_kept base old new grown one) other f
+both_met base old new (Err fault) w one grown other = tt
+
+-- what the first numbers lead to is met
+pub all_met : (code : List Node) (base : List ℕ) (old new : List Hop) {count : ℕ} → ((number to : ℕ) → number < count → Flows code false false number to → Meets base old (number / 64) to) → (more : List Hop) × (new ≡ old ++ more)
+    → ((to : ℕ) → Flows code false false count to → Meets base new (count / 64) to) → (number to : ℕ) → number < count + 1 → Flows code false false number to → Meets base new (number / 64) to
+all_met code base old new {count} before grown here number to h f = elim (cases_eq number count) [
+  | inl same ↦ subst (λ n. Meets base new (n / 64) to) (sym same) (here to (subst (λ n. Flows code false false n to) same f))
+  | inr other ↦ meets_kept base old new grown (before number to (omega (arith, h, other)) f)
+]
+
+-- the first hops are in two parts
+pub record Parting (code : List Node) (base : List ℕ) (all onward landings : List Hop) (count : ℕ) : Type 0 where
+  pub first : AreHops code onward
+  pub last : AreLandings code base landings
+  pub parted : (place : ℕ) → place < count → PartsTo onward landings (get_or all place no_hop).at (end_of (get_or all place no_hop))
+
+hops_to_last : (old : List Hop) (hop : Hop) {new : List Hop} → new ≡ old ++ hop ∷ [] → HopsTo new hop.at (end_of hop)
+hops_to_last old hop e = grind (arith, common_steps)
+
+pub part_onward : {code : List Node} {base : List ℕ} {all onward landings new : List Hop} {count : ℕ} {hop : Hop} → Parting code base all onward landings count → IsHop code hop → hop ≡ get_or all count no_hop → new ≡ onward ++ hop ∷ []
+    → Parting code base all new landings (count + 1)
+part_onward {all = all} {onward} {landings} {new} {count} {hop} p is eh en = record {
+  first = adding_one p.first is en;
+  last = p.last;
+  parted = λ place l. elim (cases_eq place count) [
+    | inl same ↦ inl (subst (λ h. HopsTo new h.at (end_of h)) (eh ∙ ap (λ n. get_or all n no_hop) (sym same)) (hops_to_last onward hop en))
+    | inr other ↦ elim (p.parted place (omega (arith, l, other))) [
+      | inl on ↦ inl (hops_added onward (hop ∷ []) (get_or all place no_hop).at (end_of (get_or all place no_hop)) en on)
+      | inr land ↦ inr land
+    ]
+  ];
+}
+
+pub part_landing : {code : List Node} {base : List ℕ} {all onward landings new : List Hop} {count : ℕ} {hop : Hop} → Parting code base all onward landings count → IsLanding code base hop → hop ≡ get_or all count no_hop → new ≡ landings ++ hop ∷ []
+    → Parting code base all onward new (count + 1)
+part_landing {all = all} {onward} {landings} {new} {count} {hop} p is eh en = record {
+  first = p.first;
+  last = let l = ap length en in let m = length-append landings (hop ∷ []) in each_to (each_more p.last is en) (omega (arith, l, m));
+  parted = λ place l. elim (cases_eq place count) [
+    | inl same ↦ inr (subst (λ h. HopsTo new h.at (end_of h)) (eh ∙ ap (λ n. get_or all n no_hop) (sym same)) (hops_to_last landings hop en))
+    | inr other ↦ elim (p.parted place (omega (arith, l, other))) [
+      | inl on ↦ inl on
+      | inr land ↦ inr (hops_added landings (hop ∷ []) (get_or all place no_hop).at (end_of (get_or all place no_hop)) en land)
+    ]
+  ];
+}
+
+pub parting_ends : {code : List Node} {base : List ℕ} {all onward landings : List Hop} {count : ℕ} → Parting code base all onward landings count → length all ≤ count
+    → ((number to : ℕ) → Flows code false false number to → Meets base all (number / 64) to)
+    → (number to : ℕ) → Flows code false false number to → (to / 64 ≡ number / 64) ⊎ (IsIn base to ⊎ PartsTo onward landings (number / 64) to)
+parting_ends {all = all} {onward} {landings} p h met number to f = elim (met number to f) [
+  | inl near ↦ inl near
+  | inr other ↦ inr (elim other [
+    | inl based ↦ inl based
+    | inr hop ↦ inr (subst (PartsTo onward landings (number / 64)) hop.3 (subst (λ at. PartsTo onward landings at (end_of (get_or all hop.0 no_hop))) hop.2 (p.parted hop.0 (let l = hop.1 in omega (arith, l, h)))))
+  ])
+]
+
+-- At a line's front and end.
+
+pub plain_more : (code : List Node) {count : ℕ} {read : Node} → ((at_first at_last : Bool) (from to : ℕ) → from < count → Flows code at_first at_last from to → Flows code false false from to)
+    → read ≡ get_or code count read → count < length code → ((at_first at_last : Bool) (from to : ℕ) → LeadsOn read at_first at_last from to → LeadsOn read false false from to)
+    → (at_first at_last : Bool) (from to : ℕ) → from < count + 1 → Flows code at_first at_last from to → Flows code false false from to
+plain_more code {count} {read} before e inside plain at_first at_last from to h f = elim (cases_eq from count) [
+  | inl same ↦
+      let here = subst (At code count) (sym e) (at_index code count read inside) in
+      let flow = flows_of code read at_first at_last to here (subst (λ n. Flows code at_first at_last n to) same f) in
+      subst (λ n. Flows code false false n to) (sym same) (read, here, plain at_first at_last count to flow)
+  | inr other ↦ before at_first at_last from to (omega (arith, h, other)) f
+]
+
+-- Closing a word.
+
+-- what a word's numbers lead to has the word's own
+kept_or : {code : List Node} {at word all : ℕ} → Closes code at word all → word < 2 ^ 64 → all < 2 ^ 64 → bit_or word all ≡ all
+kept_or {word = word} {all} c fits small = same_from_bits_below 64 (bit_or word all) all (or_lt 64 word all fits small) small (λ bit h.
+    let e = bit_at_or word all bit in
+    let l = bit_at-lt word bit in
+    elim (cases_eq (bit_at word bit) 1) [ inl one ↦ let k = c.kept bit h one in omega (arith, e, one, k) | inr other ↦ omega (arith, e, l, other) ])
 
 unset_fuller : (words : List ℕ) (at word : ℕ) → get_or words at 0 ≤ word → unset (set words at word) ≤ unset words
 unset_fuller [] at word l = omega arith
@@ -72,12 +147,12 @@ unset_fuller (x ∷ words) (suc at) word l = let r = unset_fuller words at word 
 -- a word was closed
 pub record Closed (code : List Node) (at : ℕ) (old now : List ℕ) : Type 0 where
   pub adds : Adds code false false old now
-  pub under : (number : ℕ) → number < 64 * at → IsIn now number → IsIn old number
+  pub elsewhere : (number : ℕ) → (number / 64 ≡ at → ⊥) → IsIn now number → IsIn old number
   pub fuller : unset now ≤ unset old
   pub closed : (start to : ℕ) → start / 64 ≡ at → IsIn now start → Stays code start to → IsIn now to
 
-pub close_word : {code : List Node} {at word : ℕ} (all : ℕ) {old now : List ℕ} → at < length old → word ≡ get_or old at 0 → Closes code at word all → now ≡ set old at (bit_or word all) → Closed code at old now
-close_word {code} {at} {word} all {old} {now} h ew c en = record {
+pub close_word : {code : List Node} {at word : ℕ} (all : ℕ) {old now : List ℕ} → at < length old → word ≡ get_or old at 0 → Closes code at word all → word < 2 ^ 64 → all < 2 ^ 64 → now ≡ set old at all → Closed code at old now
+close_word {code} {at} {word} all {old} {now} h ew c fits small es = record {
   adds = record {
     size = ap length en ∙ length-set old at (bit_or word all);
     kept = λ number k. elim (cases_eq (number / 64) at) [
@@ -92,7 +167,7 @@ close_word {code} {at} {word} all {old} {now} h ew c en = record {
       | inr other ↦ (number, (set_elsewhere old (bit_or word all) number other).0 (subst (λ w. IsIn w number) en k), (0, refl))
     ];
   };
-  under = λ number l k. (set_elsewhere old (bit_or word all) number (λ q. omega (arith, q, l))).0 (subst (λ w. IsIn w number) en k);
+  elsewhere = λ number other k. (set_elsewhere old (bit_or word all) number other).0 (subst (λ w. IsIn w number) en k);
   fuller = subst (λ w. unset w ≤ unset old) (sym en) (unset_fuller old at (bit_or word all) (let l = le_or_l word all in omega (arith, l, ew)));
   closed = λ start to here k s.
       let e : start ≡ at * 64 + start % 64 = omega (arith, here) in
@@ -102,6 +177,9 @@ close_word {code} {at} {word} all {old} {now} h ew c en = record {
       subst (IsIn now) (sym f) ((is_in_word now at (to % 64) (omega arith)).0 (bit_now (to % 64) (right_bit word all (to % 64) b)));
 }
   where
+    en : now ≡ set old at (bit_or word all)
+    en = es ∙ ap (set old at) (sym (kept_or c fits small))
+
     read : get_or now at 0 ≡ bit_or word all
     read = ap (λ w. get_or w at 0) en ∙ get_or-set_same old at (bit_or word all) 0 h
 
@@ -114,305 +192,289 @@ close_word {code} {at} {word} all {old} {now} h ew c en = record {
     in_all : (bit : ℕ) → bit < 64 → IsIn now (at * 64 + bit) → bit_at all bit ≡ 1
     in_all bit l k = elim (either_bit word all bit (sym (ap (λ w. bit_at w bit) read) ∙ (is_in_word now at bit l).1 k)) [ inl w ↦ c.kept bit l w | inr a ↦ a ]
 
-pub peers_smaller : {code : List Node} (at left : ℕ) {mask : ℕ} (bit : ℕ) → mask < 2 ^ 64 → bit < 64 → bit_at left bit ≡ 1 → ArePeers code (at * 64 + bit) mask → bit_and left (bit_not w64 mask) < left
-peers_smaller at left {mask} bit m l is p =
-    let e : (at * 64 + bit) % 64 ≡ bit = omega (arith, l) in
-    let own = ap (bit_at mask) (sym e) ∙ p.own in
-    let b = fresh_bit left mask bit m l in
-    elim (cases_eq (bit_and left (bit_not w64 mask)) left) [
-      | inl same ↦ let q = ap (λ w. bit_at w bit) same in absurd (omega (arith, q, b, own, is))
-      | inr other ↦ let s = and_le_l left (bit_not w64 mask) in omega (arith, s, other)
-    ]
-
--- the lowest number that is left, and its peers
-pub lowest_left : {code : List Node} {peers : List ℕ} (at left : ℕ) {read : ℕ} (d : ℕ) → AreEach 0 (ArePeers code) (width code * 64) peers → at < width code
-    → left < 2 ^ 64 → 0 < left → read ≡ get_or peers (at * 64 + trailing_zeros w64 left) d
-    → (trailing_zeros w64 left < 64) × (bit_at left (trailing_zeros w64 left) ≡ 1) × ArePeers code (at * 64 + trailing_zeros w64 left) read
-lowest_left {code} {peers} at left d all within fits some e =
-    let lowest = bit_at-trailing_zeros w64 left some fits in
-    let place : ℕ = at * 64 + trailing_zeros w64 left in
-    let is = get_or_default peers place d 0 (omega (arith, all.size, lowest.0, within)) in
-    (lowest.0, lowest.1, subst (ArePeers code place) (sym (e ∙ is)) (all.each place (omega (arith, lowest.0, within))))
-
--- numbers that the old ones lead to were added
-visit_more : {code : List Node} {at_first at_last : Bool} {at pending left still : ℕ} (Added : ℕ → Type 0) {old now new : List ℕ} {on on' : ℕ} → Visiting code at_first at_last at pending left old now on → Grows Added now new on on'
-    → ((number : ℕ) → Added number → (start : ℕ) × IsIn old start × Flows code at_first at_last start number)
-    → ((bit : ℕ) → bit < 64 → bit_at still bit ≡ 1 → bit_at pending bit ≡ 1)
-    → ((bit : ℕ) → bit < 64 → bit_at pending bit ≡ 1 → (bit_at still bit ≡ 1) ⊎ ((to : ℕ) → Flows code at_first at_last (at * 64 + bit) to → IsIn new to))
-    → Visiting code at_first at_last at pending still old new on'
-visit_more Added {on} {on'} v g led within rest = record {
-  adds = record {
-    size = g.size ∙ v.adds.size;
-    kept = λ number h. (g.exact number).1 (inl (v.adds.kept number h));
-    from = λ number h. elim ((g.exact number).0 h) [ inl was ↦ v.adds.from number was | inr added ↦ let f = led number added in (f.0, f.1, (1, (f.0, refl, f.2))) ];
-  };
-  goes = goes_both v.goes g.goes;
-  within = within;
-  rest = rest;
-}
-
--- a node that leads out of the word, and its peers with it
-pub close_more : {code : List Node} {at_first at_last : Bool} {at : ℕ} (leaves : ℕ) {left mask : ℕ} (bit : ℕ) {start old now new : List ℕ} {on on' : ℕ} → Closed code at start old → Visiting code at_first at_last at (bit_and (get_or old at 0) leaves) left old now on → bit < 64 → bit_at left bit ≡ 1 → mask < 2 ^ 64 → ArePeers code (at * 64 + bit) mask
-    → Grows (Flows code at_first at_last (at * 64 + bit)) now new on on' → Visiting code at_first at_last at (bit_and (get_or old at 0) leaves) (bit_and left (bit_not w64 mask)) old new on'
-close_more {code} {at_first} {at_last} {at} leaves {left} {mask} bit {old} closed v small here m p g =
-    visit_more (Flows code at_first at_last (at * 64 + bit)) v g (λ number f. (at * 64 + bit, in_old bit small (v.within bit small here), f))
-    (λ k s h. let b = fresh_bit left mask k m s in v.within k s (let l = bit_at-lt left k in omega (arith, h, b, l)))
-    (λ k s h. elim (cases_eq (bit_at mask k) 1) [
-      | inl peer ↦ inr (λ to f. elim (others k s peer to f) [
-        | inl stays ↦ (g.exact to).1 (inl (v.adds.kept to (closed.closed (at * 64 + k) to (omega (arith, s)) (in_old k s h) stays)))
-        | inr led ↦ (g.exact to).1 (inr led)
-      ])
-      | inr other ↦ elim (v.rest k s h) [
-        | inl waits ↦ inl (let b = fresh_bit left mask k m s in let l = bit_at-lt mask k in omega (arith, b, l, other, waits))
-        | inr led ↦ inr (λ to f. (g.exact to).1 (inl (led to f)))
-      ]
-    ])
-  where
-    in_old : (k : ℕ) → k < 64 → bit_at (bit_and (get_or old at 0) leaves) k ≡ 1 → IsIn old (at * 64 + k)
-    in_old k s h = (is_in_word old at k s).0 (let b = bit_at_and (get_or old at 0) leaves k in omega (arith, h, b))
-
-    others : (k : ℕ) → k < 64 → bit_at mask k ≡ 1 → (to : ℕ) → Flows code at_first at_last (at * 64 + k) to → Stays code (at * 64 + k) to ⊎ Flows code at_first at_last (at * 64 + bit) to
-    others k s peer to f =
-        let e : (at * 64 + bit) / 64 * 64 ≡ at * 64 = omega (arith, small) in
-        subst (λ n. Flows code at_first at_last (n + k) to → Stays code (n + k) to ⊎ Flows code at_first at_last (at * 64 + bit) to) e (p.others k at_first at_last to s peer) f
-
--- what the hops of a word lead to
-pub close_hops : {code : List Node} {hops : List Hop} {at_first at_last : Bool} {at pending left : ℕ} {old now new : List ℕ} {on on' : ℕ} → AreHops code hops → at < width code → get_or old at 0 < 2 ^ 64 → Visiting code at_first at_last at pending left old now on → Grows (Hopped hops at (get_or old at 0) 3) now new on on'
-    → Visiting code at_first at_last at pending left old new on'
-close_hops {code} {hops} {at_first} {at_last} {at} {old} are inside fits v g =
-    visit_more (Hopped hops at (get_or old at 0) 3) v g from v.within
-    (λ k s h. elim (v.rest k s h) [ inl waits ↦ inl waits | inr led ↦ inr (λ to f. (g.exact to).1 (inl (led to f))) ])
-  where
-    from : (number : ℕ) → Hopped hops at (get_or old at 0) 3 number → (start : ℕ) × IsIn old start × Flows code at_first at_last start number
-    from number h =
-        let place : (at * 3 + h.0) / 3 ≡ at = (let l = h.1 in omega (arith, l)) in
-        let hop = are.each (at * 3 + h.0) (let l = h.1 in omega (arith, l, inside)) in
-        let one = one_of (get_or old at 0) (get_or hops (at * 3 + h.0) no_hop).from fits h.2.0 in
-        let here = subst (λ n. Flows code false false (n * 64 + one.0) (get_or hops (at * 3 + h.0) no_hop).to) place (hop.leads one.0 one.1 one.3) in
-        (at * 64 + one.0, (is_in_word old at one.0 one.1).0 one.2, flow_anywhere code at_first at_last (at * 64 + one.0) number (subst (Flows code false false (at * 64 + one.0)) (sym h.2.1) here))
-
-pub close_ends : {code : List Node} {hops : List Hop} {at_first at_last : Bool} {at left : ℕ} (leaves : ℕ) {start old now new : List ℕ} {on on' : ℕ} → Closed code at start old → Visiting code at_first at_last at (bit_and (get_or old at 0) leaves) left old now on → left ≡ 0 → IsLeaving code hops at leaves → AreHops code hops → at < width code → get_or old at 0 < 2 ^ 64
-    → Grows (Hopped hops at (get_or old at 0) 3) now new on on' → Visits code at_first at_last at start new on'
-close_ends {code} {hops} {at_first} {at_last} {at} {left} leaves {start} {old} {new} {on'} c w e leaving are inside fits g = record {
-  adds = adds_both (adds_anywhere at_first at_last c.adds) v.adds;
-  low = v.goes.low;
-  under = λ number l below h. c.under number below (v.goes.under number l h);
-  fuller = omega (arith, v.goes.fuller, c.fuller);
-  less = λ l. let s = v.goes.less l in let f = c.fuller in omega (arith, s, f);
-  done = λ last from to here h f. all from to here (v.goes.under from (omega (arith, last, here)) h) f;
-}
-  where
-    v : Visiting code at_first at_last at (bit_and (get_or old at 0) leaves) left old new on'
-    v = close_hops are inside fits w g
-
-    all : (from to : ℕ) → from / 64 ≡ at → IsIn old from → Flows code at_first at_last from to → IsIn new to
-    all from to here h f =
-        let same : from ≡ at * 64 + from % 64 = omega (arith, here) in
-        let flow = subst (λ n. Flows code at_first at_last n to) same f in
-        let one = (is_in_word old at (from % 64) (omega arith)).1 (subst (IsIn old) same h) in
-        elim (leaving (from % 64) at_first at_last to (omega arith) flow) [
-          | inl leaves_it ↦
-              let m = bit_at_and (get_or old at 0) leaves (from % 64) in
-              elim (v.rest (from % 64) (omega arith) (omega (arith, m, one, leaves_it))) [
-                | inl waits ↦ let z = ap (λ w. bit_at w (from % 64)) e ∙ bit_at-zero (from % 64) in absurd (omega (arith, z, waits))
-                | inr led ↦ led to flow
-              ]
-          | inr more ↦ elim more [
-            | inl stays ↦ v.adds.kept to (c.closed (at * 64 + from % 64) to (omega arith) ((is_in_word old at (from % 64) (omega arith)).0 one) stays)
-            | inr hop ↦ (g.exact to).1 (inr (hop.0, hop.1, (λ none. none_of (get_or old at 0) (get_or hops (at * 3 + hop.0) no_hop).from (from % 64) none one hop.2, hop.3)))
-          ]
-        ]
-
--- a word was closed, and what else its numbers lead to was entered
-pub close_all : {code : List Node} {closures : Closures} {at_first at_last : Bool} {at left : ℕ} (looked : ℕ) (before : List ℕ) {now new : List ℕ} {hops : List Hop} {on on' : ℕ} → AreClosures code closures → at < width code → length before ≡ width code → Closes code at (get_or before at 0) looked
-    → get_or before at 0 < 2 ^ 64 → looked < 2 ^ 64 → hops ≡ closures.hops.items
-    → Visiting code at_first at_last at (bit_and (get_or (set before at (bit_or (get_or before at 0) looked)) at 0) (get_or closures.leaves.items at 0)) left (set before at (bit_or (get_or before at 0) looked)) now on → left ≡ 0
-    → Grows (Hopped hops at (bit_or (get_or before at 0) looked) 3) now new on on' → Visits code at_first at_last at before new on'
-close_all {code} {closures} {at} looked before {now} {new} {on} {on'} sets within size c word fits eh v z g =
-    let all : ℕ = bit_or (get_or before at 0) looked in
-    let same : all ≡ get_or (set before at all) at 0 = sym (get_or-set_same before at all 0 (omega (arith, size, within))) in
-    close_ends (get_or closures.leaves.items at 0) (close_word looked (omega (arith, size, within)) refl c refl) v z (sets.leaves.each at within) sets.hops within
-    (subst (λ n. n < 2 ^ 64) same (or_lt 64 (get_or before at 0) looked word fits))
-    (subst (λ word. Grows (Hopped closures.hops.items at word 3) now new on on') same (subst (λ hops. Grows (Hopped hops at all 3) now new on on') eh g))
-
 -- a number of a word of which none leads out of the base leads to numbers of it
-based_of : {code : List Node} {base : Base} {at : ℕ} (words : List ℕ) {at_first at_last : Bool} (start to : ℕ) → IsBase code base → at < width code → bit_and (get_or words at 0) (get_or base.leads.items at 0) ≡ 0 → start / 64 ≡ at → IsIn words start → Flows code at_first at_last start to
-    → IsIn base.words.items to
-based_of {code} {base} {at} words {at_first} {at_last} start to b inside e here h f =
+based_of : {code : List Node} {closures : Closures} {at : ℕ} (words : List ℕ) (start to : ℕ) → AreClosures code closures → at < width code → bit_and (get_or words at 0) (get_or closures.leads.items at 0) ≡ 0 → start / 64 ≡ at → IsIn words start → Flows code false false start to
+    → IsIn closures.base.items to
+based_of {code} {closures} {at} words start to c inside e here h f =
     let same : start ≡ at * 64 + start % 64 = omega (arith, here) in
     let one = (is_in_word words at (start % 64) (omega arith)).1 (subst (IsIn words) same h) in
-    elim (b.leads.each at inside (start % 64) at_first at_last to (omega arith) (subst (λ n. Flows code at_first at_last n to) same f)) [
-      | inl two ↦ absurd (none_of (get_or words at 0) (get_or base.leads.items at 0) (start % 64) e one two)
+    elim (c.leads.each at inside (start % 64) to (omega arith) (subst (λ n. Flows code false false n to) same f)) [
+      | inl two ↦ absurd (none_of (get_or words at 0) (get_or closures.leads.items at 0) (start % 64) e one two)
       | inr based ↦ based
     ]
 
--- none of the word's numbers leads out of the base
-pub close_none : {code : List Node} {base : Base} {at_first at_last : Bool} {at : ℕ} {words : List ℕ} → IsBase code base → ((number : ℕ) → IsIn base.words.items number → IsIn words number) → at < width code → bit_and (get_or words at 0) (get_or base.leads.items at 0) ≡ 0 → Visits code at_first at_last at words words (at + 1)
-close_none {code} {base} {at_first} {at_last} {at} {words} b begun inside e = record {
-  adds = adds_none code at_first at_last words;
-  low = omega arith;
-  under = λ number l below h. h;
-  fuller = omega arith;
-  less = λ l. absurd (omega (arith, l));
-  done = λ last start to here h f. begun to (based_of words start to b inside e here h f);
+-- a number of a word that was closed leads to numbers of the set, or by a hop
+closed_meets : {code : List Node} {closures : Closures} {at : ℕ} {old now : List ℕ} → AreClosures code closures → Closed code at old now → ((number : ℕ) → IsIn closures.base.items number → IsIn old number)
+    → (start to : ℕ) → start / 64 ≡ at → IsIn now start → Flows code false false start to → IsIn now to ⊎ PartsTo closures.hops.onward.items closures.hops.landings.items (start / 64) to
+closed_meets c w begun start to here k f = elim (c.hops.met start to f) [
+  | inl near ↦ inl (w.closed start to here k (f, near))
+  | inr other ↦ elim other [ inl based ↦ inl (w.adds.kept to (begun to based)) | inr hop ↦ inr hop ]
+]
+
+-- the first words were closed
+pub record Apart (code : List Node) (closures : Closures) (old now : List ℕ) (count : ℕ) : Type 0 where
+  pub adds : Adds code false false old now
+  pub done : (start to : ℕ) → start < 64 * count → IsIn now start → Flows code false false start to → IsIn now to ⊎ PartsTo closures.hops.onward.items closures.hops.landings.items (start / 64) to
+
+pub apart_skip : {code : List Node} {closures : Closures} {old now : List ℕ} {count : ℕ} → Apart code closures old now count → AreClosures code closures → ((number : ℕ) → IsIn closures.base.items number → IsIn old number) → count < width code
+    → bit_and (get_or now count 0) (get_or closures.leads.items count 0) ≡ 0 → Apart code closures old now (count + 1)
+apart_skip {now = now} {count = count} s c begun inside e = record {
+  adds = s.adds;
+  done = λ start to h k flow. elim (cases_lt start (64 * count)) [
+    | inl before ↦ s.done start to before k flow
+    | inr here ↦ inl (s.adds.kept to (begun to (based_of now start to c inside e (omega (arith, h, here)) k flow)))
+  ];
 }
 
--- Entering what landings lead to.
-
-pub enters_if : (words : List ℕ) {new : List ℕ} (number : ℕ) (holds : Bool) → number < 64 * length words → new ≡ set words (number / 64) (bit_or (get_or words (number / 64) 0) (bool_byte holds * 2 ^ (number % 64) % 2 ^ 64))
-    → (other : ℕ) → IsIn new other ↔ (IsIn words other ⊎ (IsTrue holds × (other ≡ number)))
-enters_if words number true h en other =
-    let e = entered_one words number h refl en other in
-    (λ k. elim (e.0 k) [ inl was ↦ inl was | inr same ↦ inr (refl, same) ], λ k. e.1 (elim k [ inl was ↦ inl was | inr q ↦ inr q.1 ]))
-enters_if words number false h en other = search (rules, or_zero_r, set-get_or)
-
--- the last landings were followed
-pub record Landing_on (code : List Node) (landings : List Landing) (old now : List ℕ) (count : ℕ) : Type 0 where
-  pub adds : Adds code false false old now
-  pub over : (number : ℕ) → IsIn now number → IsIn old number ⊎ Ends code number
-  pub led : (place : ℕ) → length landings ≤ place + count → place < length landings → (bit : ℕ) → bit < 64 → bit_at (get_or landings place no_landing).from bit ≡ 1 → IsIn old ((get_or landings place no_landing).at * 64 + bit) → IsIn now (get_or landings place no_landing).to
-
-pub land_more : {code : List Node} {landings : List Landing} {old now new : List ℕ} {count : ℕ} {landing : Landing} {holds : Bool} → Landing_on code landings old now count → AreLandings code landings → count < length landings → landing ≡ get_or landings (length landings - 1 - count) no_landing → get_or now landing.at 0 < 2 ^ 64
-    → (IsTrue holds → bit_and (get_or now landing.at 0) landing.from ≡ 0 → ⊥) → ((bit_and (get_or now landing.at 0) landing.from ≡ 0 → ⊥) → IsTrue holds)
-    → length new ≡ length now → ((other : ℕ) → IsIn new other ↔ (IsIn now other ⊎ (IsTrue holds × (other ≡ landing.to)))) → Landing_on code landings old new (count + 1)
-land_more {code} {landings} {old} {now} {new} {count} {landing} {holds} s are h el fits some all size exact = record {
-  adds = adds_both s.adds (record { size = size; kept = λ n k. (exact n).1 (inl k); from = λ n k. elim ((exact n).0 k) [ inl was ↦ (n, was, (0, refl)) | inr new ↦ entered n new.0 new.1 ] });
-  over = λ n k. elim ((exact n).0 k) [ inl was ↦ s.over n was | inr new ↦ inr (subst (Ends code) (sym new.1) is.ends) ];
-  led = λ place l inside bit small one k. elim (cases_eq place last) [
-    | inl same ↦
-        let e : get_or landings place no_landing ≡ landing = ap (λ p. get_or landings p no_landing) same ∙ sym el in
-        subst (λ x. IsIn new x.to) (sym e) (reached bit small (subst (λ x. bit_at x.from bit ≡ 1) e one) (subst (λ x. IsIn old (x.at * 64 + bit)) e k))
-    | inr other ↦ (exact (get_or landings place no_landing).to).1 (inl (s.led place (omega (arith, l, inside, other, h)) inside bit small one k))
+pub apart_more : {code : List Node} {closures : Closures} {old now new : List ℕ} {count : ℕ} (all : ℕ) → Apart code closures old now count → AreClosures code closures → ((number : ℕ) → IsIn closures.base.items number → IsIn old number) → count < width code → length old ≡ width code
+    → Closes code count (get_or now count 0) all → get_or now count 0 < 2 ^ 64 → all < 2 ^ 64 → new ≡ set now count all → Apart code closures old new (count + 1)
+apart_more {code} {closures} {old} {now} {new} {count} all s c begun inside size closes fits small en = record {
+  adds = adds_both s.adds w.adds;
+  done = λ start to h k flow. elim (cases_eq (start / 64) count) [
+    | inl here ↦ closed_meets c w (λ number based. s.adds.kept number (begun number based)) start to here k flow
+    | inr other ↦ elim (s.done start to (omega (arith, h, other)) (w.elsewhere start other k) flow) [ inl was ↦ inl (w.adds.kept to was) | inr hop ↦ inr hop ]
   ];
 }
   where
-    last : ℕ
-    last = length landings - 1 - count
+    w : Closed code count now new
+    w = close_word all (let e = s.adds.size in omega (arith, e, size, inside)) refl closes fits small en
 
-    is : IsLanding code landing
-    is = subst (IsLanding code) (sym el) (are.each (length landings - 1 - count) (omega (arith, h)))
+pub apart_ends : {code : List Node} {closures : Closures} {old now : List ℕ} {count : ℕ} → Apart code closures old now count → length now ≤ count → IsApart code closures.hops now
+apart_ends {now = now} s h = λ start to k flow. let w = is_within now start k in s.done start to (omega (arith, w, h)) k flow
 
-    entered : (number : ℕ) → IsTrue holds → number ≡ landing.to → (start : ℕ) × IsIn now start × FlowsOn code false false start number
+-- Following a hop.
+
+-- a number of a word is entered if something holds
+entered_if : (words : List ℕ) {new : List ℕ} (at bit : ℕ) (holds : Bool) → at < length words → bit < 64 → new ≡ set words at (bit_or (get_or words at 0) (bool_byte holds * 2 ^ bit % 2 ^ 64))
+    → (other : ℕ) → IsIn new other ↔ (IsIn words other ⊎ (IsTrue holds × (other ≡ at * 64 + bit)))
+entered_if words {new} at bit true h small en other =
+    let here : (at * 64 + bit) / 64 ≡ at = omega (arith, small) in
+    let there : (at * 64 + bit) % 64 ≡ bit = omega (arith, small) in
+    let e = entered_one words (at * 64 + bit) (omega (arith, h, small)) refl
+    (rw (here, there) en) other in
+    (λ k. elim (e.0 k) [ inl was ↦ inl was | inr same ↦ inr (refl, same) ], λ k. e.1 (elim k [ inl was ↦ inl was | inr q ↦ inr q.1 ]))
+entered_if words at bit false h small en other = search (rules, or_zero_r, set-get_or)
+
+-- what a hop leads to was entered, if it leads from the set
+pub record Led (code : List Node) (hop : Hop) (old mid : List ℕ) (all : ℕ) : Type 0 where
+  pub adds : Adds code false false old mid
+  pub new : (number : ℕ) → IsIn mid number → IsIn old number ⊎ (number ≡ end_of hop)
+  pub followed : (bit : ℕ) → bit < 64 → bit_at hop.from bit ≡ 1 → IsIn old (hop.at * 64 + bit) → IsIn mid (end_of hop)
+  pub set : mid ≡ set old hop.word all
+  pub larger : get_or old hop.word 0 ≤ all
+  pub fits : all < 2 ^ 64
+
+pub led_is : {code : List Node} {hop : Hop} {old mid : List ℕ} (holds : Bool) → IsHop code hop → length old ≡ width code → get_or old hop.at 0 < 2 ^ 64 → get_or old hop.word 0 < 2 ^ 64
+    → (IsTrue holds → bit_and (get_or old hop.at 0) hop.from ≡ 0 → ⊥) → ((bit_and (get_or old hop.at 0) hop.from ≡ 0 → ⊥) → IsTrue holds)
+    → mid ≡ set old hop.word (bit_or (get_or old hop.word 0) (bool_byte holds * 2 ^ hop.bit % 2 ^ 64))
+    → Led code hop old mid (bit_or (get_or old hop.word 0) (bool_byte holds * 2 ^ hop.bit % 2 ^ 64))
+led_is {code} {hop} {old} {mid} holds is size fits high some any em = record {
+  adds = record {
+    size = ap length em ∙ length-set old hop.word (bit_or (get_or old hop.word 0) (bool_byte holds * 2 ^ hop.bit % 2 ^ 64));
+    kept = λ n k. (exact n).1 (inl k);
+    from = λ n k. elim ((exact n).0 k) [ inl was ↦ (n, was, (0, refl)) | inr led ↦ entered n led.0 led.1 ];
+  };
+  new = λ n k. elim ((exact n).0 k) [ inl was ↦ inl was | inr led ↦ inr led.1 ];
+  followed = λ bit small one k.
+      let here = (is_in_word old hop.at bit small).1 k in
+      (exact (end_of hop)).1 (inr (any (λ none. none_of (get_or old hop.at 0) hop.from bit none here one), refl));
+  set = em;
+  larger = le_or_l (get_or old hop.word 0) (bool_byte holds * 2 ^ hop.bit % 2 ^ 64);
+  fits = or_lt 64 (get_or old hop.word 0) (bool_byte holds * 2 ^ hop.bit % 2 ^ 64) high (omega arith);
+}
+  where
+    exact : (other : ℕ) → IsIn mid other ↔ (IsIn old other ⊎ (IsTrue holds × (other ≡ end_of hop)))
+    exact = entered_if old hop.word hop.bit holds (let w = is.word in omega (arith, w, size)) is.bit em
+
+    entered : (number : ℕ) → IsTrue holds → number ≡ end_of hop → (start : ℕ) × IsIn old start × FlowsOn code false false start number
     entered number t e =
-        let one = one_of (get_or now landing.at 0) landing.from fits (some t) in
-        let start : ℕ = landing.at * 64 + one.0 in
-        (start, (is_in_word now landing.at one.0 one.1).0 one.2, (1, (start, refl, subst (Flows code false false start) (sym e) (is.leads one.0 one.1 one.3))))
+        let one = one_of (get_or old hop.at 0) hop.from fits (some t) in
+        let start : ℕ = hop.at * 64 + one.0 in
+        (start, (is_in_word old hop.at one.0 one.1).0 one.2, (1, (start, refl, subst (Flows code false false start) (sym e) ((is.exact one.0 one.1).0 one.3))))
 
-    reached : (bit : ℕ) → bit < 64 → bit_at landing.from bit ≡ 1 → IsIn old (landing.at * 64 + bit) → IsIn new landing.to
-    reached bit small one k =
-        let here = (is_in_word now landing.at bit small).1 (s.adds.kept (landing.at * 64 + bit) k) in
-        (exact landing.to).1 (inr (all (λ none. none_of (get_or now landing.at 0) landing.from bit none here one), refl))
+-- no number is new
+pub follows_none : {code : List Node} {closures : Closures} {hop : Hop} {old mid : List ℕ} (all : ℕ) {over : ℕ} → IsHop code hop → length old ≡ width code → get_or old hop.word 0 < 2 ^ 64 → IsApart code closures.hops old → Led code hop old mid all
+    → over ≡ bit_and all (bit_not w64 (get_or old hop.word 0)) → over ≡ 0 → Follows code closures hop old mid over
+follows_none {code} {closures} {hop} {old} {mid} all is size high apart led eo z = record {
+  closer = record {
+    adds = led.adds;
+    apart = λ from to k flow. elim (apart from to (settled from k) flow) [ inl there ↦ inl (led.adds.kept to there) | inr hop ↦ inr hop ];
+    fuller = subst (λ w. unset w ≤ unset old) (sym led.set) (unset_fuller old hop.word all led.larger);
+    less = λ some. absurd (some z);
+  };
+  followed = led.followed;
+  settled = λ none. settled;
+}
+  where
+    read : get_or mid hop.word 0 ≡ all
+    read = ap (λ w. get_or w hop.word 0) led.set ∙ get_or-set_same old hop.word all 0 (let w = is.word in omega (arith, w, size))
 
--- landings are added
-pub record Adding (code : List Node) (old now : List Landing) : Type 0 where
-  pub sound : AreLandings code now
-  pub grown : (more : List Landing) × (now ≡ old ++ more)
+    -- its bit was there
+    was_in : IsIn mid (end_of hop) → IsIn old (end_of hop)
+    was_in k =
+        let now = sym (ap (λ w. bit_at w hop.bit) read) ∙ (is_in_word mid hop.word hop.bit is.bit).1 k in
+        let e = fresh_bit all (get_or old hop.word 0) hop.bit high is.bit in
+        let none = ap (λ w. bit_at w hop.bit) (sym eo ∙ z) ∙ bit_at-zero hop.bit in
+        let l = bit_at-lt (get_or old hop.word 0) hop.bit in
+        (is_in_word old hop.word hop.bit is.bit).0 (omega (arith, now, e, none, l))
 
-pub adding_more : {code : List Node} {old now new : List Landing} {landing : Landing} → Adding code old now → IsLanding code landing → new ≡ now ++ landing ∷ [] → Adding code old new
-adding_more {old} {now} {landing} a is e = record {
-  sound = let l = ap length e in let m = length-append now (landing ∷ []) in each_to (each_more a.sound is e) (omega (arith, l, m));
-  grown = (a.grown.0 ++ landing ∷ [], e ∙ ap (λ l. l ++ landing ∷ []) a.grown.1 ∙ append_assoc old a.grown.0 (landing ∷ []));
+    settled : (number : ℕ) → IsIn mid number → IsIn old number
+    settled number k = elim (led.new number k) [ inl was ↦ was | inr e ↦ subst (IsIn old) (sym e) (was_in (subst (IsIn mid) e k)) ]
+
+-- a number is new, and its word was closed
+pub follows_more : {code : List Node} {closures : Closures} {hop : Hop} {old mid new : List ℕ} (all inside : ℕ) {over : ℕ} → AreClosures code closures → IsHop code hop → length old ≡ width code → get_or old hop.word 0 < 2 ^ 64
+    → ((number : ℕ) → IsIn closures.base.items number → IsIn old number) → IsApart code closures.hops old → Led code hop old mid all
+    → over ≡ bit_and all (bit_not w64 (get_or old hop.word 0)) → (over ≡ 0 → ⊥)
+    → Closes code hop.word all inside → inside < 2 ^ 64 → new ≡ set mid hop.word inside → Follows code closures hop old new over
+follows_more {code} {closures} {hop} {old} {mid} {new} all inside {over} c is size high begun apart led eo some closes small en = record {
+  closer = record {
+    adds = adds_both led.adds w.adds;
+    apart = λ from to k flow. elim (cases_eq (from / 64) hop.word) [
+      | inl here ↦ closed_meets c w (λ number based. led.adds.kept number (begun number based)) from to here k flow
+      | inr other ↦ elim (led.new from (w.elsewhere from other k)) [
+        | inl was ↦ elim (apart from to was flow) [ inl there ↦ inl (w.adds.kept to (led.adds.kept to there)) | inr hop ↦ inr hop ]
+        | inr e ↦ absurd (other (let b = is.bit in omega (arith, e, b)))
+      ]
+    ];
+    fuller = omega (arith, w.fuller, less);
+    less = λ some. omega (arith, w.fuller, less);
+  };
+  followed = λ bit small one k. w.adds.kept (end_of hop) (led.followed bit small one k);
+  settled = λ none. absurd (some none);
+}
+  where
+    inside_old : hop.word < length old
+    inside_old = let w = is.word in omega (arith, w, size)
+
+    read : all ≡ get_or mid hop.word 0
+    read = sym (ap (λ w. get_or w hop.word 0) led.set ∙ get_or-set_same old hop.word all 0 inside_old)
+
+    w : Closed code hop.word mid new
+    w = close_word inside (let s = led.adds.size in omega (arith, s, inside_old)) read closes led.fits small en
+
+    differs : get_or old hop.word 0 ≡ all → ⊥
+    differs e =
+        let f = and_le_l all (bit_not w64 (get_or old hop.word 0)) in
+        let a = led.fits in
+        let one = bit_at-trailing_zeros w64 over (omega (arith, some)) (omega (arith, eo, f, a)) in
+        let bit : ℕ = trailing_zeros w64 over in
+        let b = fresh_bit all (get_or old hop.word 0) bit high one.0 in
+        let is = sym (ap (λ w. bit_at w bit) eo) ∙ one.1 in
+        let same = ap (λ w. bit_at w bit) e in
+        omega (arith, b, is, same)
+
+    less : unset mid < unset old
+    less = subst (λ w. unset w < unset old) (sym led.set) (unset-set old hop.word all inside_old (let l = led.larger in omega (arith, l, differs)) (let l = led.fits in omega (arith, l)))
+
+-- Following all hops.
+
+-- the first hops were followed
+pub record Following (code : List Node) (closures : Closures) (old now : List ℕ) (count over : ℕ) : Type 0 where
+  pub closer : Closer code closures.hops old now over
+  pub done : over ≡ 0 → (place : ℕ) → place < count → (bit : ℕ) → bit < 64 → bit_at (get_or closures.hops.onward.items place no_hop).from bit ≡ 1
+      → IsIn now ((get_or closures.hops.onward.items place no_hop).at * 64 + bit) → IsIn now (end_of (get_or closures.hops.onward.items place no_hop))
+
+pub following_more : {code : List Node} {closures : Closures} {hop : Hop} {old now new : List ℕ} {count over : ℕ} (led : ℕ) → Following code closures old now count over → Follows code closures hop now new led
+    → hop ≡ get_or closures.hops.onward.items count no_hop → Following code closures old new (count + 1) (bit_or over led)
+following_more {code} {closures} {hop} {old} {now} {new} {count} {over} led s f eh = record {
+  closer = record {
+    adds = adds_both s.closer.adds f.closer.adds;
+    apart = f.closer.apart;
+    fuller = omega (arith, s.closer.fuller, f.closer.fuller);
+    less = λ some. elim (cases_eq over 0) [
+      | inl z ↦ let l = f.closer.less (λ y. some (ap (λ n. bit_or n led) z ∙ or_zero_l led ∙ y)) in let m = s.closer.fuller in omega (arith, l, m)
+      | inr more ↦ let l = s.closer.less more in let m = f.closer.fuller in omega (arith, l, m)
+    ];
+  };
+  done = λ z place l bit small one k.
+      let a = le_or_l over led in
+      let b = le_or_r over led in
+      let was = f.settled (omega (arith, b, z)) ((get_or closures.hops.onward.items place no_hop).at * 64 + bit) k in
+      elim (cases_eq place count) [
+        | inl same ↦
+            let e : get_or closures.hops.onward.items place no_hop ≡ hop = ap (λ p. get_or closures.hops.onward.items p no_hop) same ∙ sym eh in
+            subst (λ h. IsIn new (end_of h)) (sym e) (f.followed bit small (subst (λ h. bit_at h.from bit ≡ 1) e one) (subst (λ h. IsIn now (h.at * 64 + bit)) e was))
+        | inr other ↦ f.closer.adds.kept (end_of (get_or closures.hops.onward.items place no_hop)) (s.done (omega (arith, a, z)) place (omega (arith, l, other)) bit small one was)
+      ];
 }
 
-pub hop_lands : {code : List Node} {hops : List Hop} {at : ℕ} (which : ℕ) {hop : Hop} → AreHops code hops → at < width code → which < 3 → hop ≡ get_or hops (at * 3 + which) no_hop → Ends code hop.to → IsLanding code (record { at = at; from = hop.from; to = hop.to })
-hop_lands {code} {hops} {at} which are h l e ends = search rules
+-- the numbers of a hop are those that lead to its end
+from_bit : {code : List Node} {hop : Hop} (from to : ℕ) → IsHop code hop → hop.at ≡ from / 64 → end_of hop ≡ to → Flows code false false from to → bit_at hop.from (from % 64) ≡ 1
+from_bit {code} {hop} from to is at end flow =
+    let same : from ≡ hop.at * 64 + from % 64 = omega (arith, at) in
+    (is.exact (from % 64) (omega arith)).1 (subst (λ n. Flows code false false n (end_of hop)) same (subst (Flows code false false from) (sym end) flow))
+
+pub following_ends : {code : List Node} {closures : Closures} {old now : List ℕ} {count over : ℕ} → Following code closures old now count over → AreHops code closures.hops.onward.items → length closures.hops.onward.items ≤ count → Passes code closures old now over
+following_ends {code} {closures} {old} {now} {count} {over} s are h = record {
+  closer = s.closer;
+  done = λ z from to k flow. elim (s.closer.apart from to k flow) [
+    | inl there ↦ inl there
+    | inr parts ↦ elim parts [ inl hop ↦ inl (ended z from to k flow hop) | inr landing ↦ inr landing ]
+  ];
+}
+  where
+    ended : over ≡ 0 → (from to : ℕ) → IsIn now from → Flows code false false from to → HopsTo closures.hops.onward.items (from / 64) to → IsIn now to
+    ended z from to k flow hop =
+        let same : from ≡ (get_or closures.hops.onward.items hop.0 no_hop).at * 64 + from % 64 = (let e = hop.2 in omega (arith, e)) in
+        let one = from_bit from to (are.each hop.0 hop.1) hop.2 hop.3 flow in
+        subst (IsIn now) hop.3 (s.done z hop.0 (let l = hop.1 in omega (arith, l, h)) (from % 64) (omega arith) one (subst (IsIn now) same k))
+
+-- Following the landings.
+
+-- the first landings were followed
+pub record Landing_on (code : List Node) (base : List ℕ) (landings : List Hop) (old now : List ℕ) (count : ℕ) : Type 0 where
+  pub adds : Adds code false false old now
+  pub over : (number : ℕ) → IsIn now number → IsIn old number ⊎ ((to : ℕ) → Flows code false false number to → IsIn base to)
+  pub led : (place : ℕ) → place < count → (bit : ℕ) → bit < 64 → bit_at (get_or landings place no_hop).from bit ≡ 1 → IsIn old ((get_or landings place no_hop).at * 64 + bit) → IsIn now (end_of (get_or landings place no_hop))
+
+pub landing_more : {code : List Node} {base : List ℕ} {landings : List Hop} {hop : Hop} {old now new : List ℕ} {count all : ℕ} → Landing_on code base landings old now count → IsLanding code base hop → Led code hop now new all → hop ≡ get_or landings count no_hop
+    → Landing_on code base landings old new (count + 1)
+landing_more {code} {base} {landings} {hop} {old} {now} {new} {count} s is led eh = record {
+  adds = adds_both s.adds led.adds;
+  over = λ n k. elim (led.new n k) [ inl was ↦ s.over n was | inr e ↦ inr (subst (λ m. (to : ℕ) → Flows code false false m to → IsIn base to) (sym e) is.ends) ];
+  led = λ place l bit small one k. elim (cases_eq place count) [
+    | inl same ↦
+        let e : get_or landings place no_hop ≡ hop = ap (λ p. get_or landings p no_hop) same ∙ sym eh in
+        subst (λ h. IsIn new (end_of h)) (sym e) (led.followed bit small (subst (λ h. bit_at h.from bit ≡ 1) e one) (s.adds.kept (hop.at * 64 + bit) (subst (λ h. IsIn old (h.at * 64 + bit)) e k)))
+    | inr other ↦ led.adds.kept (end_of (get_or landings place no_hop)) (s.led place (omega (arith, l, other)) bit small one k)
+  ];
+}
+
+pub landing_ends : {code : List Node} {base : List ℕ} {landings : List Hop} {old now : List ℕ} {count : ℕ} → Landing_on code base landings old now count → AreLandings code base landings → length landings ≤ count → HasLanded code base landings old now
+landing_ends {code} {landings = landings} {old} {now} s are h = record {
+  adds = s.adds;
+  over = s.over;
+  led = λ from to k flow hop.
+      let same : from ≡ (get_or landings hop.0 no_hop).at * 64 + from % 64 = (let e = hop.2 in omega (arith, e)) in
+      let one = from_bit from to (are.each hop.0 hop.1).leads hop.2 hop.3 flow in
+      subst (IsIn now) hop.3 (s.led hop.0 (let l = hop.1 in omega (arith, l, h)) (from % 64) (omega arith) one (subst (IsIn old) same k));
+}
+
+-- Until nothing is missing.
+
+pub record Spreads (code : List Node) (closures : Closures) (old now : List ℕ) (over : ℕ) : Type 0 where
+  pub adds : Adds code false false old now
+  pub apart : IsApart code closures.hops now
+  pub done : over ≡ 0 → (from to : ℕ) → IsIn now from → Flows code false false from to → IsIn now to ⊎ HopsTo closures.hops.landings.items (from / 64) to
+
+pub spreads_more : {code : List Node} {closures : Closures} {old now new : List ℕ} {before over : ℕ} → Spreads code closures old now before → Passes code closures now new over → Spreads code closures old new over
+spreads_more s p = record { adds = adds_both s.adds p.closer.adds; apart = p.closer.apart; done = p.done }
+
+pub spreads_end : {code : List Node} {closures : Closures} (base : List ℕ) (landings : List Hop) (at_first at_last : Bool) {old now new : List ℕ} {over : ℕ} → Spreads code closures old now over → over ≡ 0 → HasLanded code base landings now new → base ≡ closures.base.items → landings ≡ closures.hops.landings.items
+    → ((number : ℕ) → IsIn closures.base.items number → IsIn old number) → ((from to : ℕ) → Flows code at_first at_last from to → Flows code false false from to) → SpreadsOut code at_first at_last old new
+spreads_end {code} base landings at_first at_last {old} {now} {new} s z l eb el begun plain = spreads_out (adds_anywhere at_first at_last (adds_both s.adds l.adds)) (λ from to k f. closed from to k (plain from to f))
+  where
+    closed : (from to : ℕ) → IsIn new from → Flows code false false from to → IsIn new to
+    closed from to k flow = elim (l.over from k) [
+      | inl was ↦ elim (s.done z from to was flow) [
+        | inl there ↦ l.adds.kept to there
+        | inr landing ↦ l.led from to was flow (subst (λ hops. HopsTo hops (from / 64) to) (sym el) landing)
+      ]
+      | inr ends ↦ l.adds.kept to (s.adds.kept to (begun to (subst (λ w. IsIn w to) eb (ends to flow))))
+    ]
 
 pub not_zero : (n : ℕ) → IsTrue (not (eqb n 0)) → n ≡ 0 → ⊥
 not_zero n t = eqb-false n 0 (not-true (eqb n 0) t)
 
 pub is_not_zero : {n : ℕ} → (n ≡ 0 → ⊥) → IsTrue (not (eqb n 0))
 is_not_zero {n} h = ap not (ne_eqb n 0 h)
-
--- what a landing leads to stays when others are added
-lands_kept : (base : List ℕ) (old more : List Landing) (at bit to : ℕ) → Lands base old at bit to → Lands base (old ++ more) at bit to
-lands_kept base old more at bit to (inl near) = inl near
-lands_kept base old more at bit to (inr (inl based)) = inr (inl based)
-lands_kept base old more at bit to (inr (inr on)) = grind (arith, common_steps)
-
-pub other_kept : (code : List Node) (base : List ℕ) (old new : List Landing) (at word : ℕ) → (more : List Landing) × (new ≡ old ++ more) → IsOther code base old at word → IsOther code base new at word
-other_kept code base old new at word grown is bit at_first at_last to small f = elim (is bit at_first at_last to small f) [
-  | inl one ↦ inl one
-  | inr led ↦ inr (led.0, subst (λ l. Lands base l at bit to) (sym grown.1) (lands_kept base old grown.0 at bit to led.1))
-]
-
--- Closing each word by itself, before the landings are followed.
-
--- the first words were closed
-pub record Apart (code : List Node) (landings : List Landing) (old now : List ℕ) (count over : ℕ) : Type 0 where
-  pub adds : Adds code false false old now
-  pub done : over ≡ 0 → (start to : ℕ) (at_first at_last : Bool) → start < 64 * count → IsIn now start → Flows code at_first at_last start to → IsIn now to ⊎ LandsOn landings (start / 64) (start % 64) to
-
-pub apart_skip : {code : List Node} {base : Base} {old now : List ℕ} {count : ℕ} (over : ℕ) → Apart code base.landings.items old now count over → IsBase code base → ((number : ℕ) → IsIn base.words.items number → IsIn old number) → count < width code → bit_and (get_or now count 0) (get_or base.leads.items count 0) ≡ 0
-    → Apart code base.landings.items old now (count + 1) over
-apart_skip {code} {base} {now} {count} over s b begun inside e = record {
-  adds = s.adds;
-  done = λ z start to f l h k flow. elim (cases_lt start (64 * count)) [
-    | inl before ↦ s.done z start to f l before k flow
-    | inr here ↦ inl (s.adds.kept to (begun to (based_of now start to b inside e (omega (arith, h, here)) k flow)))
-  ];
-}
-
-pub apart_more : {code : List Node} {base : Base} {old now new : List ℕ} {count : ℕ} (over : ℕ) {over' : ℕ} (all : ℕ) → Apart code base.landings.items old now count over → IsBase code base → ((number : ℕ) → IsIn base.words.items number → IsIn old number) → count < width code → length old ≡ width code
-    → Closes code count (get_or now count 0) all → new ≡ set now count (bit_or (get_or now count 0) all) → over' ≡ bit_or over (bit_and (bit_or (get_or now count 0) all) (get_or base.others.items count 0)) → Apart code base.landings.items old new (count + 1) over'
-apart_more {code} {base} {now} {new} {count} over {over'} all s b begun inside size closes en eo = record {
-  adds = adds_both s.adds c.adds;
-  done = λ z start to f l h k flow. elim (cases_lt start (64 * count)) [
-    | inl before ↦
-        let less = le_or_l over (bit_and (bit_or (get_or now count 0) all) (get_or base.others.items count 0)) in
-        elim (s.done (omega (arith, less, eo, z)) start to f l before (c.under start before k) flow) [ inl was ↦ inl (c.adds.kept to was) | inr on ↦ inr on ]
-    | inr here ↦ inside_word z start to f l (omega (arith, h, here)) k flow
-  ];
-}
-  where
-    c : Closed code count now new
-    c = close_word all (let e = s.adds.size in omega (arith, e, size, inside)) refl closes en
-
-    read : get_or new count 0 ≡ bit_or (get_or now count 0) all
-    read = ap (λ w. get_or w count 0) en ∙ get_or-set_same now count (bit_or (get_or now count 0) all) 0 (let e = s.adds.size in omega (arith, e, size, inside))
-
-    led : (start to : ℕ) → start / 64 ≡ count → IsIn new start → Flows code false false start to → Lands base.words.items base.landings.items count (start % 64) to → IsIn new to ⊎ LandsOn base.landings.items (start / 64) (start % 64) to
-    led start to here k flow (inl near) = inl (c.closed start to here k (flow, near ∙ sym here))
-    led start to here k flow (inr (inl based)) = inl (c.adds.kept to (s.adds.kept to (begun to based)))
-    led start to here k flow (inr (inr on)) = inr (subst (λ n. LandsOn base.landings.items n (start % 64) to) (sym here) on)
-
-    inside_word : over' ≡ 0 → (start to : ℕ) (f l : Bool) → start / 64 ≡ count → IsIn new start → Flows code f l start to → IsIn new to ⊎ LandsOn base.landings.items (start / 64) (start % 64) to
-    inside_word z start to f l here k flow =
-        let same : start ≡ count * 64 + start % 64 = omega (arith, here) in
-        let one = sym (ap (λ w. bit_at w (start % 64)) read) ∙ (is_in_word new count (start % 64) (omega arith)).1 (subst (IsIn new) same k) in
-        elim (b.others.each count inside (start % 64) f l to (omega arith) (subst (λ n. Flows code f l n to) same flow)) [
-          | inl two ↦
-              let both = bit_at_and (bit_or (get_or now count 0) all) (get_or base.others.items count 0) (start % 64) in
-              let more = right_bit over (bit_and (bit_or (get_or now count 0) all) (get_or base.others.items count 0)) (start % 64) (omega (arith, both, one, two)) in
-              let none = ap (λ w. bit_at w (start % 64)) (sym eo ∙ z) ∙ bit_at-zero (start % 64) in
-              absurd (omega (arith, more, none))
-          | inr lands ↦ led start to here k (subst (λ n. Flows code false false n to) (sym same) lands.0) lands.1
-        ]
-
-pub apart_ends : {code : List Node} {landings : List Landing} {old now : List ℕ} {count : ℕ} (over : ℕ) → Apart code landings old now count over → length now ≤ count → ClosesWords code landings old now over
-apart_ends {now} over s h = record {
-  adds = s.adds;
-  done = λ z start to f l k flow. let w = is_within now start k in s.done z start to f l (omega (arith, w, h)) k flow;
-}
-
--- with the landings, all was entered
-pub spread_landed : (code : List Node) (landings : List Landing) (at_first at_last : Bool) (old now new : List ℕ) (over : ℕ) → ClosesWords code landings old now over → over ≡ 0 → HasLanded code landings now new → SpreadsOut code at_first at_last old new
-spread_landed code landings at_first at_last old now new over s z h = spreading_ends {code = code} {at_first = at_first} {at_last = at_last} {old = old} {now = new} {at = length new} (record {
-  adds = adds_anywhere at_first at_last (adds_both s.adds h.adds);
-  closed = λ start to l k flow. elim (h.over start k) [
-    | inl was ↦ elim (s.done z start to at_first at_last was flow) [
-      | inl there ↦ h.adds.kept to there
-      | inr on ↦ h.led (start / 64) (start % 64) to (omega arith) (let e : start ≡ start / 64 * 64 + start % 64 = omega arith in subst (IsIn now) e was) on
-    ]
-    | inr ends ↦ absurd (ends at_first at_last to flow)
-  ];
-}) (omega arith)
-
--- what the closed words lead to, the words before led to
-pub spread_after : {code : List Node} {landings : List Landing} {at_first at_last : Bool} {old now new : List ℕ} (over : ℕ) → ClosesWords code landings old now over → SpreadsOut code at_first at_last now new → SpreadsOut code at_first at_last old new
-spread_after {code} {at_first} {at_last} over s o = let a = adds_anywhere at_first at_last s.adds in record {
-  size = o.size ∙ a.size;
-  exact = λ n. (
-    λ k. let one = (o.exact n).0 k in let f = a.from one.0 one.1 in (f.0, f.1, flows_join code at_first at_last one.2.0 f.0 one.0 n f.2 one.2.1),
-    λ f. (o.exact n).1 (f.0, a.kept f.0 f.1, f.2),
-  );
-}

@@ -9,9 +9,8 @@ use Rattle.scan_core.specs.inner.Sets.{LeadsOn, Flows, IsCode, Passes}
 use Rattle.bre_core.specs.ByteSet.{has}
 use Rattle.scan_core.specs.declared.node.Node.TheVariants.{Take, First, Last, Choose, Back}
 use Rattle.scan_core.specs.declared.way.Way.{Way}
-use Rattle.scan_core.specs.declared.way.When.{When}
 use Rattle.scan_core.specs.declared.way.When.TheVariants.{Never, AtFront, AtEnd, Always}
-use Rattle.scan_core.specs.inner.Ways.{IsWay, Opens}
+use Rattle.scan_core.specs.inner.Ways.{IsWay}
 use Rattle.std.proofs.lemmas.Grind.{common_steps}
 use Rattle.scan_core.specs.inner.Each.{AreEach}
 
@@ -53,9 +52,6 @@ leads_anywhere First at_first at_last from to h = absurd (false≢true h.0)
 leads_anywhere Last at_first at_last from to h = absurd (false≢true h.0)
 leads_anywhere (Choose skip) at_first at_last from to h = h
 leads_anywhere (Back by) at_first at_last from to h = h
-
-pub flow_anywhere : (code : List Node) (at_first at_last : Bool) (from to : ℕ) → Flows code false false from to → Flows code at_first at_last from to
-flow_anywhere code at_first at_last from to f = (f.0, f.1, leads_anywhere f.0 at_first at_last from to f.2)
 
 pub parts_anywhere : (code : List Node) (at_first at_last : Bool) (count from to : ℕ) → Parts (Flows code false false) count from to → Parts (Flows code at_first at_last) count from to
 parts_anywhere code at_first at_last zero from to p = p
@@ -128,23 +124,10 @@ way_is code number (Back by) c here = let l = at_least code number (Back by) her
   );
 }
 
--- what is open at any place
-pub opens_more : (when : When) (at_first at_last : Bool) → Opens when false false → Opens when at_first at_last
-opens_more Never at_first at_last o = o
-opens_more AtFront at_first at_last o = absurd (false≢true o)
-opens_more AtEnd at_first at_last o = absurd (false≢true o)
-opens_more Always at_first at_last o = o
-
 module _ {code : List Node} {number : ℕ} {way : Way} where
   -- what is so of both is so of all that is led to
   pub led_by : {at_first at_last : Bool} {to : ℕ} (So : ℕ → Type 0) → IsWay code number way → So way.one → So way.other → Flows code at_first at_last number to → So to
   led_by {at_first} {at_last} {to} So w one other f = elim ((w.exact at_first at_last to).0 f).1 [ inl e ↦ subst So (sym e) one | inr e ↦ subst So (sym e) other ]
-
-  pub led_never : {at_first at_last : Bool} {to : ℕ} → IsWay code number way → way.when ≡ Never → Flows code at_first at_last number to → ⊥
-  led_never {at_first} {at_last} {to} w e f = subst (λ when. Opens when at_first at_last) e ((w.exact at_first at_last to).0 f).0
-
-  pub led_anywhere : {at_first at_last : Bool} {to : ℕ} → IsWay code number way → way.when ≡ Always → Flows code at_first at_last number to → Flows code false false number to
-  led_anywhere {at_first} {at_last} {to} w e f = (w.exact false false to).1 (subst (λ when. Opens when false false) (sym e) tt, ((w.exact at_first at_last to).0 f).1)
 
 -- Lists of which each entry is what its place asks for.
 

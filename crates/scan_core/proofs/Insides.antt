@@ -5,26 +5,24 @@ use Rattle.std.specs.Int.Bits.{or_zero_r, or_zero_l}
 use mir.Val.{bool_byte}
 use Rattle.std.proofs.lemmas.List.{get_or-set_same, get_or-set_other, length-set, set-get_or}
 use Rattle.std.proofs.lemmas.Nat.{le_or_l, or_lt, and_le_l}
-use Rattle.std.proofs.lemmas.Nat.Bits.{shr_and_one, bit_at_set_same, bit_at_set_other, and_high, bit_at_and, bit_at_or, bit_at_not, bit_at-lt, bit_at-zero, bit_at_mask_inside, bit_at_ones, bit_at_above, bit_at_cat_low, bit_at_cat_high, bit_at-pow_other}
+use Rattle.std.proofs.lemmas.Nat.Bits.{shr_and_one, bit_at_set_same, bit_at_set_other, and_high, bit_at_and, bit_at_or, bit_at_not, bit_at-lt, bit_at-zero, bit_at_mask_inside, bit_at_ones, bit_at_above, bit_at_cat_low, bit_at_cat_high}
 use Rattle.std.specs.Int.{bit_at, bit_not}
 use Rattle.scan_core.specs.inner.Sets.{Flows, FlowsOn}
 use Rattle.scan_core.specs.declared.node.Node.{Node}
-use Rattle.scan_core.specs.inner.Words.{GoesOn, IsIn, unset, Grows, Adds, Visits, SpreadsOut, width}
+use Rattle.scan_core.specs.inner.Words.{GoesOn, IsIn, unset, Grows, Adds, SpreadsOut, width}
 use Rattle.scan_core.specs.declared.way.Way.{Way}
 use Rattle.scan_core.specs.inner.Ways.{IsWay, Opens}
 use Rattle.bre_core.specs.Match.{Parts}
-use Rattle.scan_core.proofs.Enterings.{parts_anywhere}
+use Rattle.scan_core.proofs.Enterings.{at_least, parts_anywhere}
 use Rattle.std.proofs.lemmas.Grind.{common_steps}
 use Rattle.scan_core.specs.inner.Each.{AreEach}
-use Rattle.scan_core.specs.inner.Closures.{Closes, IsInside, Stays, chosen_at, AreNexts}
-use Rattle.scan_core.specs.declared.hops.Hop.{Hop}
-use Rattle.scan_core.specs.inner.Hops.{HopsTo}
+use Rattle.scan_core.specs.inner.Closures.{Closes, IsInside, chosen_at}
 
 pub has_tests : (words : List ℕ) (number : ℕ) → (eqb (bit_and (get_or words (number / 64) 0 / 2 ^ (number % 64)) 1) 1 ≡ true) ↔ IsIn words number
 unfolding IsIn
 has_tests words number = rw shr_and_one (eqb-true _ 1, eq-eqb _ 1)
 
-unset-set : (words : List ℕ) (at word : ℕ) → at < length words → get_or words at 0 < word → word ≤ 2 ^ 64 → unset (set words at word) < unset words
+pub unset-set : (words : List ℕ) (at word : ℕ) → at < length words → get_or words at 0 < word → word ≤ 2 ^ 64 → unset (set words at word) < unset words
 unset-set [] at word h l m = absurd (omega (arith, h))
 unset-set (x ∷ words) zero word h l m = omega (arith, l, m)
 unset-set (x ∷ words) (suc at) word h l m = let r = unset-set words at word (omega (arith, h)) l m in omega (arith, r)
@@ -53,10 +51,6 @@ pub not_one : (flag : Bool) → IsTrue flag ⊎ (bool_byte (not flag) ≡ 1)
 not_one true = inl refl
 not_one false = inr refl
 
--- a number's bit is set, or all that it leads to is so
-abbrev pub Unless : List Node → (ℕ → ℕ → Type 0) → ℕ → ℕ → ℕ → Type 0
-Unless code So at bit value = (at_first at_last : Bool) (to : ℕ) → Flows code at_first at_last (at * 64 + bit) to → (value ≡ 1) ⊎ So bit to
-
 -- a number's bit is set
 pub entered_one : (old : List ℕ) {new : List ℕ} (number : ℕ) {word : ℕ} → number < 64 * length old → word ≡ get_or old (number / 64) 0
     → new ≡ set old (number / 64) (bit_or word (1 * 2 ^ (number % 64) % 2 ^ 64)) → (other : ℕ) → IsIn new other ↔ (IsIn old other ⊎ (other ≡ number))
@@ -80,7 +74,7 @@ entered_one old {new} number {word} h ew en other = elim (cases_eq other number)
     ]
 
 -- one number more
-pub grows_one : {old new : List ℕ} (number : ℕ) {word before on : ℕ} → number < 64 * length old → (IsIn old number → ⊥) → word ≡ get_or old (number / 64) 0 → word < 2 ^ 64 → new ≡ set old (number / 64) (bit_or word (1 * 2 ^ (number % 64) % 2 ^ 64)) → on ≡ min before (number / 64)
+pub grows_one : {old new : List ℕ} (number : ℕ) {word before on : ℕ} → number < 64 * length old → (IsIn old number → ⊥) → word ≡ get_or old (number / 64) 0 → word < 2 ^ 64 → new ≡ set old (number / 64) (bit_or word (1 * 2 ^ (number % 64) % 2 ^ 64)) → on ≡ min before number
     → Grows (λ other. other ≡ number) old new before on
 grows_one {old} {new} number {word} h none ew fits en eo = record {
   size = ap length en ∙ length-set old (number / 64) more;
@@ -114,9 +108,6 @@ grows_one {old} {new} number {word} h none ew fits en eo = record {
 pub goes_none : (words : List ℕ) (before : ℕ) → GoesOn words words before before
 goes_none words before = record { low = omega arith; under = λ number l h. h; fuller = omega arith; less = λ l. absurd (omega (arith, l)) }
 
-pub goes_both : {old middle new : List ℕ} {before between on : ℕ} → GoesOn old middle before between → GoesOn middle new between on → GoesOn old new before on
-goes_both {between} {on} f g = search rules
-
 pub grows_none : (Added : ℕ → Type 0) {words : List ℕ} {on : ℕ} → ((number : ℕ) → Added number → IsIn words number) → Grows Added words words on on
 grows_none Added {words} {on} within = record { size = refl; exact = λ number. (λ h. inl h, elim [ inl h ↦ h | inr h ↦ within number h ]); goes = goes_none words on }
 
@@ -139,7 +130,7 @@ grows_way {code} {number} {way} {at_first} {at_last} {between} w o f g =
     grows_by (λ n. (n ≡ way.one) ⊎ (n ≡ way.other)) (Flows code at_first at_last number) (grows_both (λ n. n ≡ way.one) (λ n. n ≡ way.other) between f g)
     (λ to e. (w.exact at_first at_last to).1 (o, e)) (λ to k. ((w.exact at_first at_last to).0 k).1)
 
--- Entering all that a set of words leads to, word by word.
+-- Entering all that a set of words leads to, number by number.
 
 pub is_in_word : (words : List ℕ) (at bit : ℕ) → bit < 64 → (bit_at (get_or words at 0) bit ≡ 1) ↔ IsIn words (at * 64 + bit)
 unfolding IsIn
@@ -153,9 +144,6 @@ pub flows_join : (code : List Node) (at_first at_last : Bool) (count start middl
 flows_join code at_first at_last zero start middle number f p = subst (FlowsOn code at_first at_last start) p f
 flows_join code at_first at_last (suc count) start middle number f p = let r = flows_join code at_first at_last count start middle p.0 f p.1 in (suc r.0, (p.0, r.1, p.2))
 
-pub adds_none : (code : List Node) (at_first at_last : Bool) (words : List ℕ) → Adds code at_first at_last words words
-adds_none code at_first at_last words = record { size = refl; kept = λ number h. h; from = λ number h. (number, h, (0, refl)) }
-
 pub adds_both : {code : List Node} {at_first at_last : Bool} {old middle new : List ℕ} → Adds code at_first at_last old middle → Adds code at_first at_last middle new → Adds code at_first at_last old new
 adds_both {code} {at_first} {at_last} f g = record {
   size = g.size ∙ f.size;
@@ -167,53 +155,48 @@ adds_both {code} {at_first} {at_last} f g = record {
 pub adds_anywhere : {code : List Node} (at_first at_last : Bool) {old new : List ℕ} → Adds code false false old new → Adds code at_first at_last old new
 adds_anywhere {code} at_first at_last a = search (rules, parts_anywhere)
 
--- some of a word's nodes are still to be looked at
-pub record Visiting (code : List Node) (at_first at_last : Bool) (at pending left : ℕ) (old now : List ℕ) (on : ℕ) : Type 0 where
-  pub adds : Adds code at_first at_last old now
-  pub goes : GoesOn old now (at + 1) on
-  pub within : (bit : ℕ) → bit < 64 → bit_at left bit ≡ 1 → bit_at pending bit ≡ 1
-  pub rest : (bit : ℕ) → bit < 64 → bit_at pending bit ≡ 1 → (bit_at left bit ≡ 1) ⊎ ((to : ℕ) → Flows code at_first at_last (at * 64 + bit) to → IsIn now to)
-
-pub visit_starts : {code : List Node} {at_first at_last : Bool} {at pending : ℕ} {old : List ℕ} → Visiting code at_first at_last at pending pending old old (at + 1)
-visit_starts {code} {at_first} {at_last} {at} {old} = search rules
-
--- what the first words lead to was entered
-pub record Spreading (code : List Node) (at_first at_last : Bool) (old now : List ℕ) (at : ℕ) : Type 0 where
-  pub adds : Adds code at_first at_last old now
-  pub closed : (start to : ℕ) → start < 64 * at → IsIn now start → Flows code at_first at_last start to → IsIn now to
-
-pub spreading_more : {code : List Node} {at_first at_last : Bool} {old now new : List ℕ} {at on : ℕ} → Spreading code at_first at_last old now at → Visits code at_first at_last at now new on → Spreading code at_first at_last old new on
-spreading_more {code} {at_first} {at_last} {at} s v = record {
-  adds = adds_both s.adds v.adds;
-  closed = λ start to l h f. elim (cases_lt start (64 * at)) [
-    | inl before ↦ v.adds.kept to (s.closed start to before (v.under start l before h) f)
-    | inr here ↦ let w = v.low in v.done (omega (arith, w, l, here)) start to (omega (arith, w, l, here)) h f
-  ];
-}
-
-pub spreading_ends : {code : List Node} {at_first at_last : Bool} {old now : List ℕ} {at : ℕ} → Spreading code at_first at_last old now at → length now ≤ at → SpreadsOut code at_first at_last old now
-spreading_ends {code} {at_first} {at_last} {old} {now} s h = record {
-  size = s.adds.size;
-  exact = λ number. (s.adds.from number, λ f. follow f.2.0 f.0 number f.1 f.2.1);
+-- what a set leads to is in it
+pub spreads_out : {code : List Node} {at_first at_last : Bool} {old now : List ℕ} → Adds code at_first at_last old now
+    → ((start to : ℕ) → IsIn now start → Flows code at_first at_last start to → IsIn now to) → SpreadsOut code at_first at_last old now
+spreads_out {code} {at_first} {at_last} {old} {now} adds closed = record {
+  size = adds.size;
+  exact = λ number. (adds.from number, λ f. follow f.2.0 f.0 number f.1 f.2.1);
 }
   where
     follow : (count start number : ℕ) → IsIn old start → Parts (Flows code at_first at_last) count start number → IsIn now number
-    follow zero start number k p = subst (IsIn now) p (s.adds.kept start k)
-    follow (suc count) start number k p =
-        let before = follow count start p.0 k p.1 in
-        let l = is_within now p.0 before in
-        s.closed p.0 number (omega (arith, l, h)) before p.2
+    follow zero start number k p = subst (IsIn now) p (adds.kept start k)
+    follow (suc count) start number k p = closed p.0 number (follow count start p.0 k p.1) p.2
 
-pub visits_smaller : {code : List Node} {at_first at_last : Bool} {at : ℕ} {old new : List ℕ} {on : ℕ} → Visits code at_first at_last at old new on
-    → at < length old → unset new * (length new + 1) + (length new - on) < unset old * (length old + 1) + (length old - at)
-visits_smaller {at} {old} {new} {on} v h = grind (arith, common_steps)
+-- what the first numbers lead to was entered
+pub record Spreading (code : List Node) (at_first at_last : Bool) (old now : List ℕ) (number : ℕ) : Type 0 where
+  pub adds : Adds code at_first at_last old now
+  pub closed : (start to : ℕ) → start < number → IsIn now start → Flows code at_first at_last start to → IsIn now to
+
+pub spreading_more : {code : List Node} {at_first at_last : Bool} {old now new : List ℕ} {number on : ℕ} → Spreading code at_first at_last old now number
+    → Grows (λ to. IsIn now number × Flows code at_first at_last number to) now new (number + 1) on → Spreading code at_first at_last old new on
+spreading_more {code} {at_first} {at_last} {now = now} {number = number} s g = record {
+  adds = adds_both s.adds (record {
+    size = g.size;
+    kept = λ n k. (g.exact n).1 (inl k);
+    from = λ n k. elim ((g.exact n).0 k) [ inl was ↦ (n, was, (0, refl)) | inr led ↦ (number, led.0, (1, (number, refl, led.1))) ];
+  });
+  closed = λ start to h k flow. let was = g.goes.under start h k in elim (cases_lt start number) [
+    | inl before ↦ (g.exact to).1 (inl (s.closed start to before was flow))
+    | inr here ↦
+        let w = g.goes.low in
+        let e : start ≡ number = omega (arith, w, h, here) in
+        (g.exact to).1 (inr (subst (IsIn now) e was, subst (λ n. Flows code at_first at_last n to) e flow))
+  ];
+}
+
+pub spreading_ends : {code : List Node} {at_first at_last : Bool} {old now : List ℕ} {number : ℕ} → Spreading code at_first at_last old now number → length code ≤ number → SpreadsOut code at_first at_last old now
+spreading_ends {code} s h = spreads_out s.adds (λ start to k flow. s.closed start to (let l = at_least code start flow.0 flow.1 in omega (arith, l, h)) k flow)
+
+pub visits_smaller : (Added : ℕ → Type 0) {old new : List ℕ} {number on most : ℕ} → Grows Added old new (number + 1) on
+    → number < most → unset new * (most + 1) + (most - on) < unset old * (most + 1) + (most - number)
+visits_smaller Added g h = let l = g.goes in grind (arith, common_steps)
 
 -- What numbers lead to without a byte, ready to be looked up.
-
--- a step without a byte to a number of the word, or by a hop
-pub stays_or_hops : (code : List Node) (hops : List Hop) (at bit to : ℕ) → bit < 64 → Flows code false false (at * 64 + bit) to → (to / 64 ≡ at) ⊎ HopsTo hops at bit to
-    → Stays code (at * 64 + bit) to ⊎ HopsTo hops at bit to
-stays_or_hops code hops at bit to h f way = elim way [ inl near ↦ inl (f, omega (arith, near, h)) | inr hop ↦ inr hop ]
 
 pub either_bit : (a b bit : ℕ) → bit_at (bit_or a b) bit ≡ 1 → (bit_at a bit ≡ 1) ⊎ (bit_at b bit ≡ 1)
 either_bit a b bit h = search (rules, cases_eq, bit_at_or, bit_at-lt)
@@ -429,105 +412,3 @@ entry_of_halves {code} {inside} {place} i low high = closes_both _ _ _ _ one oth
 
     bits : (bit : ℕ) → bit < 64 → bit_at (chosen_at place) bit ≡ max (bit_at (place / 16 % 16 * 16 * 2 ^ (place / 256 % 8 * 8) % 2 ^ 64) bit) (bit_at (place % 16 * 2 ^ (place / 256 % 8 * 8) % 2 ^ 64) bit)
     bits bit h = ap (λ n. bit_at (n * 2 ^ (place / 256 % 8 * 8) % 2 ^ 64) bit) chosen ∙ halved_placed (place / 16 % 16) (place % 16) (place / 256 % 8 * 8) bit (omega arith) h
-
--- Words in which numbers lead only to the next one.
-
--- the first numbers of a word are looked at
-pub record Nexting (code : List Node) (at count nexts : ℕ) : Type 0 where
-  pub only : (bit to : ℕ) → bit < count → to < 64 → Flows code false false (at * 64 + bit) (at * 64 + to) → (to ≡ bit + 1) × (bit_at nexts to ≡ 1)
-  pub leads : (bit : ℕ) → bit + 1 < 64 → bit_at nexts (bit + 1) ≡ 1 → Flows code false false (at * 64 + bit) (at * 64 + (bit + 1))
-
--- the bit after another
-after : (bit : ℕ) {to : ℕ} → to < 64 → bit_at (2 * 2 ^ bit % 2 ^ 64) to ≡ 1 → to ≡ bit + 1
-after bit {to} h is = elim (cases_lt to bit) [
-  | inl l ↦ let z = placed_below 2 bit to h l in absurd (omega (arith, z, is))
-  | inr l ↦ elim (cases_eq (to - bit) 1) [
-    | inl one ↦ omega (arith, one, l)
-    | inr other ↦
-        let z : bit_at 2 (to - bit) ≡ 0 = bit_at-pow_other 1 (to - bit) other in
-        let e = placed 2 bit to h l in
-        absurd (omega (arith, z, e, is))
-  ]
-]
-
-pub next_more : {code : List Node} {at count nexts : ℕ} (led : ℕ) → Nexting code at count nexts → ((to : ℕ) → to < 64 → (bit_at led to ≡ 1) ↔ Flows code false false (at * 64 + count) (at * 64 + to)) → bit_and led (bit_not w64 (2 * 2 ^ count % 2 ^ 64)) ≡ 0
-    → Nexting code at (count + 1) (bit_or nexts led)
-next_more {code} {at} {count} {nexts} led n is none = record {
-  only = λ bit to h l f. elim (cases_eq bit count) [
-    | inl same ↦
-        let one = (is to l).1 (subst (λ b. Flows code false false (at * 64 + b) (at * 64 + to)) same f) in
-        (near to l one ∙ ap (λ b. b + 1) (sym same), right_bit nexts led to one)
-    | inr other ↦ let o = n.only bit to (omega (arith, h, other)) l f in (o.0, left_bit nexts led to o.1)
-  ];
-  leads = λ bit h k. elim (either_bit nexts led (bit + 1) k) [
-    | inl old ↦ n.leads bit h old
-    | inr new ↦ let e = near (bit + 1) h new in subst (λ b. Flows code false false (at * 64 + b) (at * 64 + (bit + 1))) (omega (arith, e)) ((is (bit + 1) h).0 new)
-  ];
-}
-  where
-    near : (to : ℕ) → to < 64 → bit_at led to ≡ 1 → to ≡ count + 1
-    near to h one =
-        let e = fresh_bit led (2 * 2 ^ count % 2 ^ 64) to (omega arith) h in
-        let z = ap (λ x. bit_at x to) none ∙ bit_at-zero to in
-        let l = bit_at-lt (2 * 2 ^ count % 2 ^ 64) to in
-        after count h (omega (arith, e, z, l, one))
-
--- a bit of a word that is shifted up by one, among others
-next_bit : (word nexts bit : ℕ) → bit + 1 < 64 → bit_at (bit_and (word * 2 ^ 1 % 2 ^ 64) nexts) (bit + 1) ≡ min (bit_at word bit) (bit_at nexts (bit + 1))
-next_bit word nexts bit h =
-    let e = bit_at_and (word * 2 ^ 1 % 2 ^ 64) nexts (bit + 1) in
-    let p = placed word 1 (bit + 1) h (omega arith) in
-    let s : bit_at word (bit + 1 - 1) ≡ bit_at word bit = ap (bit_at word) (omega arith) in
-    omega (arith, e, p, s)
-
-pub next_ends : {code : List Node} {at count nexts : ℕ} → Nexting code at count nexts → 64 ≤ count → bit_and (nexts * 2 ^ 1 % 2 ^ 64) nexts ≡ 0 → AreNexts code at nexts
-next_ends {nexts} n all none = record {
-  only = λ bit to h l f.
-      let o = n.only bit to (omega (arith, h, all)) l f in
-      let t = o.0 in
-      let more : bit_at nexts (bit + 1) ≡ 1 = ap (bit_at nexts) (sym t) ∙ o.1 in
-      let e = next_bit nexts nexts bit (omega (arith, l, t)) in
-      let z = ap (λ x. bit_at x (bit + 1)) none ∙ bit_at-zero (bit + 1) in
-      (t, o.1, λ is. omega (arith, more, e, z, is));
-  leads = n.leads;
-}
-
--- what a word leads to is in it, or stands next to one of its numbers
-pub close_nexts : {code : List Node} {at word nexts : ℕ} → AreNexts code at nexts → Closes code at word (bit_or word (bit_and (word * 2 ^ 1 % 2 ^ 64) nexts))
-close_nexts {code} {at} {word} {nexts} n = record {
-  kept = λ bit h is. left_bit word more bit is;
-  from_chosen = λ number h is. elim (either_bit word more number is) [
-    | inl old ↦ (number, h, old, (0, refl))
-    | inr new ↦ elim (cases_eq number 0) [
-      | inl first ↦
-          let e = bit_at_and (word * 2 ^ 1 % 2 ^ 64) nexts number in
-          let z = placed_below word 1 number h (omega (arith, first)) in
-          absurd (omega (arith, e, z, new))
-      | inr other ↦
-          let bit : ℕ = number - 1 in
-          let same : bit + 1 ≡ number = omega (arith, other) in
-          let one : bit_at more (bit + 1) ≡ 1 = ap (bit_at more) same ∙ new in
-          let e = next_bit word nexts bit (omega (arith, h, other)) in
-          let l = bit_at-lt word bit in
-          let flow = n.leads bit (omega (arith, h, other)) (in_nexts (bit + 1) one) in
-          (bit, omega (arith, h), omega (arith, e, l, one), (suc 0, (at * 64 + bit, refl, subst (λ to. Flows code false false (at * 64 + bit) (at * 64 + to)) same flow)))
-    ]
-  ];
-  closed = λ number to h l is f. let o = n.only number to h l f in elim (either_bit word more number is) [
-    | inl old ↦
-        let t = o.0 in
-        let e = next_bit word nexts number (omega (arith, l, t)) in
-        let next : bit_at nexts (number + 1) ≡ 1 = ap (bit_at nexts) (sym t) ∙ o.1 in
-        right_bit word more to (ap (bit_at more) t ∙ omega (arith, e, next, old))
-    | inr new ↦ absurd (o.2 (in_nexts number new))
-  ];
-}
-  where
-    more : ℕ
-    more = bit_and (word * 2 ^ 1 % 2 ^ 64) nexts
-
-    in_nexts : (number : ℕ) → bit_at (bit_and (word * 2 ^ 1 % 2 ^ 64) nexts) number ≡ 1 → bit_at nexts number ≡ 1
-    in_nexts number new =
-        let e = bit_at_and (word * 2 ^ 1 % 2 ^ 64) nexts number in
-        let l = bit_at-lt nexts number in
-        omega (arith, e, l, new)

@@ -1,9 +1,8 @@
 -- A search by sets of words, place by place.
 use Rattle.std.proofs.Common.{◌≡◌, ◌⊎◌, ◌↔◌, inl, inr, ℕ, suc, ◌+◌, ◌*◌, ◌<◌, ◌≤◌, Bool, true, false, IsTrue, List, length, slice_index, refl, sym, ◌∙◌, subst, arith, rules, ◌/◌, ◌%◌, [], ◌∷◌, ◌++◌, length-append, get_or, ap, mul-le-mul}
 use Rattle.std.proofs.lemmas.Bool.{false≢true, cases_eq}
-use Rattle.scan_core.specs.declared.base.Base.{Base}
 use Rattle.scan_core.specs.declared.node.Node.{Node}
-use Rattle.scan_core.specs.inner.Base.{IsBase}
+use Rattle.scan_core.specs.inner.Closures.{IsBase}
 use Rattle.scan_core.specs.Code.{Entered, weight, At}
 use Rattle.scan_core.specs.Sets.{IsMarked, positions_among}
 use Rattle.scan_core.specs.inner.Sets.{FlowsOn, Passes, Came}
@@ -60,10 +59,10 @@ marked_here : (code : List Node) (line : List ℕ) (place : ℕ) (words : List �
 marked_here code line place words here number = (λ h. (here number).0 ((flags_are words number).0 h), λ e. (flags_are words number).1 ((here number).1 e))
 
 -- one byte more
-pub search_more : {code : List Node} (line : List ℕ) {base : Base} {place byte steps positions : ℕ} {old : List ℕ} (now : List ℕ) {new : List ℕ} {found : Bool} → IsBase code base → Searched code line place old steps
+pub search_more : {code : List Node} (line : List ℕ) {base : List ℕ} {place byte steps positions : ℕ} {old : List ℕ} (now : List ℕ) {new : List ℕ} {found : Bool} → IsBase code base → Searched code line place old steps
     → ((number : ℕ) → IsIn now number ↔ Entered code line number place) → place < length line → byte ≡ slice_index line place → positions ≡ positions_among code (flags_of now)
     → found ≡ false → (IsTrue found ↔ IsIn now (length code)) → length new ≡ width code
-    → ((number : ℕ) → IsIn new number ↔ (((before : ℕ) × IsIn now before × Passes code byte before number) ⊎ IsIn base.words.items number)) → Searched code line (place + 1) new (steps + positions)
+    → ((number : ℕ) → IsIn new number ↔ (((before : ℕ) × IsIn now before × Passes code byte before number) ⊎ IsIn base number)) → Searched code line (place + 1) new (steps + positions)
 search_more {code} line {place} {byte} {steps} now {new} b s here h e p absent test size passed = record {
   size = size;
   came = λ number.
@@ -201,8 +200,8 @@ pub front_built : {code : List Node} (words : List ℕ) {sets : List (List Bool)
 front_built {code} words size exact none e = search (rules, flags_are, each_more, flags_length)
 
 -- what a byte leads to from a set, with all that follows
-pub advanced : {code : List Node} {byte : ℕ} {base : Base} (old : List ℕ) {middle new : List ℕ} → IsBase code base
-    → ((number : ℕ) → IsIn middle number ↔ (((before : ℕ) × IsIn old before × Passes code byte before number) ⊎ IsIn base.words.items number)) → SpreadsOut code false false middle new
+pub advanced : {code : List Node} {byte : ℕ} {base : List ℕ} (old : List ℕ) {middle new : List ℕ} → IsBase code base
+    → ((number : ℕ) → IsIn middle number ↔ (((before : ℕ) × IsIn old before × Passes code byte before number) ⊎ IsIn base number)) → SpreadsOut code false false middle new
     → (number : ℕ) → IsIn new number ↔ Next code byte (IsIn old) number
 advanced {code} old b passed s number = (
   λ h. let f = (s.exact number).0 h in elim ((passed f.0).0 f.1) [

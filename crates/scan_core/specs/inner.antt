@@ -1,11 +1,10 @@
 pub mod Backwards
-pub mod Base
 pub mod Built
+pub mod Closing
 pub mod Closures
 pub mod Compiling
 pub mod Each
 pub mod Hops
-pub mod Landings
 pub mod Needles
 pub mod Sets
 pub mod Shifts

@@ -9,7 +9,6 @@ ghost use Rattle.scan_core.specs.Clear.{IsClear};
 ghost use Rattle.scan_core.specs.Code.{code_of, IsOrdered};
 ghost use Rattle.scan_core.specs.Table.{IsOutcome};
 
-use crate::base::{Base, base_of};
 use crate::build::build;
 use crate::closures::{Closures, closures_of};
 use crate::compile::compile;
@@ -33,7 +32,6 @@ pub struct Bre {
     code: Vec<Node>,
     masks: Masks,
     closures: Closures,
-    base: Base,
     table: Option<Table>,
     shifts: Option<ShiftTable>,
     /// What each line with a match has, where that is known.
@@ -47,7 +45,6 @@ impl Model for Bre {
     ghost use Rattle.scan_core.specs.Code.{code_of, IsOrdered};
     ghost use Rattle.scan_core.specs.inner.Table.{IsTable};
     ghost use Rattle.scan_core.specs.inner.Shifts.{IsShiftTable};
-    ghost use Rattle.scan_core.specs.inner.Base.{IsBase};
     ghost use Rattle.scan_core.specs.inner.Closures.{AreClosures};
     ghost use Rattle.scan_core.specs.inner.Needles.{IsNeedle};
     ghost use Rattle.scan_core.specs.inner.Words.{IsMasks};
@@ -59,7 +56,7 @@ impl Model for Bre {
     ghost view = { λ b. b.expression };
 
     ghost invariant = { λ b. (b.code.items ≡ code_of b.expression) × IsOrdered b.expression × (positions_of b.expression ≤ 65535)
-        × IsMasks b.code.items b.masks × IfSome b.table (IsTable b.code.items) × IfSome b.shifts (IsShiftTable b.code.items) × AreClosures b.code.items b.closures × IsBase b.code.items b.base × IfSome b.needle (IsNeedle b.code.items) };
+        × IsMasks b.code.items b.masks × IfSome b.table (IsTable b.code.items) × IfSome b.shifts (IsShiftTable b.code.items) × AreClosures b.code.items b.closures × IfSome b.needle (IsNeedle b.code.items) };
 }
 
 impl Bre {
@@ -89,8 +86,7 @@ impl Bre {
         let nodes = code.as_slice();
         let masks = masks_of(alloc, nodes)?;
         let closures = closures_of(alloc, nodes)?;
-        let base = base_of(alloc, nodes, &closures)?;
-        let table = build(alloc, nodes, &masks, &closures, &base)?;
+        let table = build(alloc, nodes, &masks, &closures)?;
         let shifts = shifts_of(alloc, nodes, &table)?;
         let needle = needle_of(alloc, nodes)?;
         Ok(Bre {
@@ -98,7 +94,6 @@ impl Bre {
             code,
             masks,
             closures,
-            base,
             table,
             shifts,
             needle,
@@ -163,13 +158,6 @@ impl Bre {
     {
         let code = &self.code;
         let width = code.len() / 64 + 1;
-        search(
-            &self.masks,
-            &self.closures,
-            &self.base,
-            code,
-            line,
-            &mut words[..width],
-        )
+        search(&self.masks, &self.closures, code, line, &mut words[..width])
     }
 }

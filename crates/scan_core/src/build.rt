@@ -4,7 +4,6 @@ ghost use Rattle.std.specs.Prelude.{◌≡◌, ◌↔◌, ◌<◌, ◌≤◌, �
 ghost use Rattle.bre_core.specs.declared.fault.BreFault.TheVariants.{Memory};
 ghost use Rattle.bre_core.specs.ByteSet.{has};
 ghost use Rattle.scan_core.specs.declared.node.Node.TheVariants.{Take};
-ghost use Rattle.scan_core.specs.inner.Base.{IsBase};
 ghost use Rattle.scan_core.specs.inner.Built.{AreAlike, IsBuilding, IsOpen, LeadsTo, Led};
 ghost use Rattle.scan_core.specs.inner.Closures.{AreClosures};
 ghost use Rattle.scan_core.specs.inner.Each.{AreEach};
@@ -12,13 +11,13 @@ ghost use Rattle.scan_core.specs.inner.Sets.{IsCode};
 ghost use Rattle.scan_core.specs.inner.Table.{Next, entry, no_state, IsState, IsTable};
 ghost use Rattle.scan_core.specs.inner.Words.{IsIn, IsMasks, flags_of, width};
 
-use crate::base::{Base, begin};
-use crate::closing::{spread, spread_all};
+use crate::closing::spread;
 use crate::closures::Closures;
 use crate::masks::Masks;
 use crate::node::Node;
 use crate::table::{STOP, State, Table, UNKNOWN};
 use crate::words::{has, pass, positions};
+use crate::worklist::{begin, spread_all};
 use bre_core::BreFault;
 use std::alloc::Global;
 use std::marker::Model;
@@ -170,42 +169,28 @@ fn is_fixed(rows: &[u16], state: usize) -> bool
 }
 
 /// Makes of a set what a byte, and then none, leads to from it, the search having begun once more.
-fn advance(
-    words: &mut [u64],
-    nodes: &[Node],
-    masks: &Masks,
-    closures: &Closures,
-    base: &Base,
-    byte: u8,
-)
+fn advance(words: &mut [u64], nodes: &[Node], masks: &Masks, closures: &Closures, byte: u8)
     requires code { IsCode nodes.now }
     requires masks { IsMasks nodes.now masks.now }
     requires closures { AreClosures nodes.now closures.now }
-    requires base { IsBase nodes.now base.now }
     requires size { length words.old ≡ width nodes.now }
     ensures size { length words.new ≡ length words.old }
     ensures exact { (number : ℕ) → IsIn words.new number ↔ Next nodes.now byte (IsIn words.old) number }
 {
-    pass(words, nodes, &base.words, &masks.takes, byte);
-    spread(words, nodes, base, closures, false, false);
+    pass(words, nodes, &closures.base, &masks.takes, byte);
+    spread(words, nodes, closures, false, false);
 }
 
 impl Building {
     /// The set of the front of a line that isn't empty; none where the pattern's end is in it.
-    fn begin(
-        alloc: Global,
-        nodes: &[Node],
-        closures: &Closures,
-        most: usize,
-    ) -> Result<Option<Building>, BreFault>
+    fn begin(alloc: Global, nodes: &[Node], most: usize) -> Result<Option<Building>, BreFault>
         requires most { 0 < most }
         requires code { IsCode nodes.now }
-        requires closures { AreClosures nodes.now closures.now }
         ensures ok { IfOk result (λ begun. IfSome begun (IsBuilding nodes.now most 0)) }
         ensures err { IfErr result (λ fault. fault ≡ Memory) }
     {
         let mut words = vec![in alloc; 0u64; nodes.len() / 64 + 1]?;
-        begin(&mut words, nodes, closures, true);
+        begin(&mut words, nodes, true);
         if has(&words, nodes.len()) {
             return Ok(None);
         }
@@ -227,7 +212,6 @@ impl Building {
         nodes: &[Node],
         masks: &Masks,
         closures: &Closures,
-        base: &Base,
         twin: u8,
         place: usize,
         most: usize,
@@ -239,7 +223,6 @@ impl Building {
         requires code { IsCode nodes.now }
         requires masks { IsMasks nodes.now masks.now }
         requires closures { AreClosures nodes.now closures.now }
-        requires base { IsBase nodes.now base.now }
         ensures ok { IfOk result (Led nodes.now most place self.new) }
         ensures err { IfErr result (λ fault. fault ≡ Memory) }
     {
@@ -250,7 +233,7 @@ impl Building {
         }
         let set = &self.sets[state];
         self.words.copy_from_slice(&set.words);
-        advance(&mut self.words, nodes, masks, closures, base, byte);
+        advance(&mut self.words, nodes, masks, closures, byte);
         lead_to(alloc, &mut self.sets, &self.words, nodes.len(), most)
     }
 }
@@ -262,7 +245,6 @@ fn state_of(
     rows: &[u16],
     nodes: &[Node],
     masks: &Masks,
-    closures: &Closures,
     state: usize,
 ) -> State
     requires size { length words.old ≡ width nodes.now }
@@ -271,14 +253,13 @@ fn state_of(
     requires rows { state * 256 + 256 ≤ length rows.now }
     requires code { IsCode nodes.now }
     requires masks { IsMasks nodes.now masks.now }
-    requires closures { AreClosures nodes.now closures.now }
     ensures size { length words.new ≡ length words.old }
     ensures noted { IsState nodes.now sets.now rows.now state result }
 {
     let set = &sets[state];
     words.copy_from_slice(&set.words);
     let count = positions(words, nodes, &masks.counts);
-    spread_all(words, nodes, closures, false, true);
+    spread_all(words, nodes, false, true);
     State {
         positions: count,
         last_positions: positions(words, nodes, &masks.counts),
@@ -295,27 +276,25 @@ fn states_of(
     rows: &[u16],
     nodes: &[Node],
     masks: &Masks,
-    closures: &Closures,
 ) -> Result<Vec<State>, BreFault>
     requires size { length words.old ≡ width nodes.now }
     requires sets { AreEach [] (λ _. IsOpen nodes.now) (length sets.now) sets.now }
     requires rows { length rows.now ≡ length sets.now * 256 }
     requires code { IsCode nodes.now }
     requires masks { IsMasks nodes.now masks.now }
-    requires closures { AreClosures nodes.now closures.now }
     ensures ok { IfOk result (λ states. AreEach no_state (IsState nodes.now sets.now rows.now) (length sets.now) states.items) }
     ensures err { IfErr result (λ fault. fault ≡ Memory) }
 {
     let mut states = Vec::new(alloc);
     for state in 0..sets.len() {
-        let noted = state_of(words, sets, rows, nodes, masks, closures, state);
+        let noted = state_of(words, sets, rows, nodes, masks, state);
         states.push(noted)?;
     }
     Ok(states)
 }
 
 /// The table of a code: none where the pattern's end is entered at the front of each line, or where the code is long. The
-/// masks, closures and base are those of these nodes.
+/// masks and closures are those of these nodes.
 ///
 /// It has up to 4,096 sets, and fewer where the code is long, with 512 bytes of entries for each, and its state.
 pub fn build(
@@ -323,12 +302,10 @@ pub fn build(
     nodes: &[Node],
     masks: &Masks,
     closures: &Closures,
-    base: &Base,
 ) -> Result<Option<Table>, BreFault>
     requires code { IsCode nodes.now }
     requires masks { IsMasks nodes.now masks.now }
     requires closures { AreClosures nodes.now closures.now }
-    requires base { IsBase nodes.now base.now }
     ensures ok { IfOk result (λ made. IfSome made (IsTable nodes.now)) }
     ensures err { IfErr result (λ fault. fault ≡ Memory) }
 {
@@ -337,7 +314,7 @@ pub fn build(
     }
     let most = MOST_SETS.min(MOST_FLAGS / (nodes.len() + 1));
     let twins = twins_of(alloc, nodes)?;
-    let Some(mut building) = Building::begin(alloc, nodes, closures, most)? else {
+    let Some(mut building) = Building::begin(alloc, nodes, most)? else {
         return Ok(None);
     };
     for place in 0..most * 256 {
@@ -345,7 +322,7 @@ pub fn build(
             break;
         }
         let twin = twins[place % 256];
-        let read = building.entry_of(alloc, nodes, masks, closures, base, twin, place, most)?;
+        let read = building.entry_of(alloc, nodes, masks, closures, twin, place, most)?;
         building.rows.push(read)?;
     }
     let states = states_of(
@@ -355,7 +332,6 @@ pub fn build(
         &building.rows,
         nodes,
         masks,
-        closures,
     )?;
     let rows = building.rows;
     Ok(Some(Table { rows, states }))

@@ -1,118 +1,70 @@
-//! What follows without a byte, ready to be looked up: within a word for eight numbers at once, or for all by a shift.
+//! What follows without a byte, ready to be looked up: within a word for eight numbers at once, and out of it by hops.
 
-ghost use Rattle.std.specs.Prelude.{◌≡◌, ◌⊎◌, ◌↔◌, ◌<◌, ◌≤◌, ◌+◌, ◌*◌, ◌/◌, ◌%◌, ◌^◌, ℕ, Bool, false, IsTrue, IfOk, IfErr, IfSome, None, length};
+ghost use Rattle.std.specs.Prelude.{◌≡◌, ◌⊎◌, ◌↔◌, ◌<◌, ◌≤◌, ◌+◌, ◌*◌, ◌/◌, ◌%◌, ◌^◌, ℕ, Bool, false, IsFalse, IsTrue, IfOk, IfErr, IfSome, None, length};
 ghost use Rattle.std.specs.Int.{bit_at};
 ghost use Rattle.bre_core.specs.declared.fault.BreFault.TheVariants.{Memory};
-ghost use Rattle.scan_core.specs.inner.Closures.{AreClosures, AreNexts, ArePeers, Closes, IsInside, IsLeaving, Stays};
+ghost use Rattle.scan_core.specs.inner.Closures.{AreClosures, Closes, IsInside, IsLeading, IsPlain};
 ghost use Rattle.scan_core.specs.inner.Each.{AreEach};
-ghost use Rattle.scan_core.specs.inner.Hops.{HopsTo};
-ghost use Rattle.scan_core.specs.inner.Sets.{IsCode, Flows};
-ghost use Rattle.scan_core.specs.inner.Words.{width};
+ghost use Rattle.scan_core.specs.inner.Sets.{IsCode, Flows, LeadsOn};
+ghost use Rattle.scan_core.specs.inner.Words.{IsIn, width};
 
-use crate::hops::{Hop, hops_of, is_hop};
+use crate::hops::{Hops, hops_of, is_within};
 use crate::node::Node;
-use crate::way::{When, is_open, way_of};
+use crate::way::{is_open, way_of};
+use crate::worklist::base_of;
 use bre_core::BreFault;
 use std::alloc::Global;
 
 /// What the numbers of a code lead to without a byte.
 #[derive(Drop)]
 pub struct Closures {
+    /// What number 0 leads to, itself among it: since a search begins at every place, it is in each set.
+    pub base: Vec<u64>,
+    /// For each word, the numbers whose nodes lead to others than the base.
+    pub leads: Vec<u64>,
     /// For each word, each eight of its numbers, and each choice from these: what the chosen ones lead to in the word.
     pub inside: Vec<u64>,
-    /// For each word, if numbers lead in it only to the next one, and none leads on from there: those that are led to.
-    pub nexts: Vec<Option<u64>>,
-    /// For each word its hops.
-    pub hops: Vec<Hop>,
-    /// The numbers whose nodes lead to more than that.
-    pub leaves: Vec<u64>,
-    /// For each number those of its word that lead to no more than it does, but for what is inside.
-    pub peers: Vec<u64>,
+    /// What leads out of a word, and of the base.
+    pub hops: Hops,
+    /// Whether some node leads on only at a line's front, or only at its end.
+    pub anchored: bool,
 }
 
-/// Whether a number is in a word, or one of the word's hops leads there from one of its numbers.
-fn is_met(hops: &[Hop], at: usize, bit: usize, to: usize) -> bool
-    requires at { at * 3 + 3 ≤ length hops.now }
-    requires bit { bit < 64 }
-    ensures { IsTrue result → (to / 64 ≡ at) ⊎ HopsTo hops.now at bit to }
-{
-    if to / 64 == at {
-        return true;
-    }
-    is_hop(hops, at, bit, to)
-}
-
-/// Whether a node leads only to numbers of its word, and by its hops, at any place of a line.
-fn stays(nodes: &[Node], hops: &[Hop], at: usize, bit: usize) -> bool
+/// The numbers of a word whose nodes lead out of a set.
+fn leading(nodes: &[Node], words: &[u64], at: usize) -> u64
     requires code { IsCode nodes.now }
+    requires size { length words.now ≡ width nodes.now }
     requires at { at < width nodes.now }
-    requires hops { length hops.now ≡ width nodes.now * 3 }
-    requires bit { bit < 64 }
-    ensures { IsTrue result → (at_first at_last : Bool) (to : ℕ) → Flows nodes.now at_first at_last (at * 64 + bit) to
-        → Stays nodes.now (at * 64 + bit) to ⊎ HopsTo hops.now at bit to }
+    ensures { IsLeading nodes.now words.now at result }
 {
-    let way = way_of(nodes, at * 64 + bit);
-    match way.when {
-        When::Never => true,
-        When::AtFront | When::AtEnd => false,
-        When::Always => {
-            if !is_met(hops, at, bit, way.one) {
-                return false;
-            }
-            is_met(hops, at, bit, way.other)
+    let mut word: u64 = 0;
+    for bit in 0..64usize {
+        word |= (!is_within(nodes, words, at * 64 + bit) as u64) << bit;
+    }
+    word
+}
+
+/// Whether a node leads on only at a line's front, or only at its end.
+fn is_anchor(node: &Node) -> bool
+    ensures { IsFalse result → (at_first at_last : Bool) (from to : ℕ) → LeadsOn node.now at_first at_last from to
+        → LeadsOn node.now false false from to }
+{
+    match node {
+        Node::First | Node::Last => true,
+        Node::Take(_) | Node::Choose(_) | Node::Back(_) => false,
+    }
+}
+
+/// Whether some node does.
+fn has_anchors(nodes: &[Node]) -> bool
+    ensures { IsFalse result → IsPlain nodes.now }
+{
+    for number in 0..nodes.len() {
+        if is_anchor(&nodes[number]) {
+            return true;
         }
     }
-}
-
-/// Whether a node leads to no more than another does, but for numbers of its word.
-fn is_peer(nodes: &[Node], number: usize, other: usize) -> bool
-    requires { IsCode nodes.now }
-    ensures own { number ≡ other → IsTrue result }
-    ensures yes { IsTrue result → (at_first at_last : Bool) (to : ℕ) → Flows nodes.now at_first at_last other to
-        → Stays nodes.now other to ⊎ Flows nodes.now at_first at_last number to }
-{
-    if number == other {
-        return true;
-    }
-    let way = way_of(nodes, number);
-    let peer = way_of(nodes, other);
-    if !is_open(way.when, false, false) {
-        return false;
-    }
-    let When::Always = peer.when else {
-        return false;
-    };
-    if peer.one / 64 != other / 64 {
-        return false;
-    }
-    way.other == peer.other
-}
-
-/// The numbers of a word whose nodes lead out of it otherwise than by its hops.
-fn leaving(nodes: &[Node], hops: &[Hop], at: usize) -> u64
-    requires code { IsCode nodes.now }
-    requires at { at < width nodes.now }
-    requires hops { length hops.now ≡ width nodes.now * 3 }
-    ensures { IsLeaving nodes.now hops.now at result }
-{
-    let mut word: u64 = 0;
-    for bit in 0..64usize {
-        word |= (!stays(nodes, hops, at, bit) as u64) << bit;
-    }
-    word
-}
-
-/// The numbers of a number's word that lead to no more than it does.
-fn peers_of(nodes: &[Node], number: usize) -> u64
-    requires code { IsCode nodes.now }
-    requires number { number ≤ length nodes.now + 64 }
-    ensures { ArePeers nodes.now number result }
-{
-    let mut word: u64 = 0;
-    for bit in 0..64usize {
-        word |= (is_peer(nodes, number, number / 64 * 64 + bit) as u64) << bit;
-    }
-    word
+    false
 }
 
 /// A number's bit, if it stands in this word.
@@ -157,27 +109,6 @@ fn inside_of(nodes: &[Node], at: usize, word: u64) -> u64
     all
 }
 
-/// The numbers that are led to in a word, if each follows the only one that leads to it there, and leads nowhere in the word.
-#[tactic(auto, using(crate::proofs::Insides::next_more, crate::proofs::Insides::next_ends))]
-fn nexts_in(nodes: &[Node], at: usize) -> Option<u64>
-    requires code { IsCode nodes.now }
-    requires at { at < width nodes.now }
-    ensures { IfSome result (AreNexts nodes.now at) }
-{
-    let mut nexts: u64 = 0;
-    for bit in 0..64usize {
-        let led = targets(nodes, at, bit);
-        if led & !(2u64 << bit) != 0 {
-            return None;
-        }
-        nexts |= led;
-    }
-    if (nexts << 1) & nexts != 0 {
-        return None;
-    }
-    Some(nexts)
-}
-
 /// What the numbers of a word lead to in it, looked up for eight of them at once.
 #[inline(always)]
 pub fn looked_up(inside: &[u64], nodes: &[Node], at: usize, word: u64) -> u64
@@ -191,19 +122,6 @@ pub fn looked_up(inside: &[u64], nodes: &[Node], at: usize, word: u64) -> u64
         all |= row[eight * 256 + ((word >> (eight * 8)) % 256) as usize];
     }
     all
-}
-
-/// What the numbers of a word lead to in it: by a shift where that is enough, and else looked up.
-#[inline(always)]
-pub fn closed(closures: &Closures, nodes: &[Node], at: usize, word: u64) -> u64
-    requires closures { AreClosures nodes.now closures.now }
-    requires at { at < width nodes.now }
-    ensures { Closes nodes.now at word result }
-{
-    match closures.nexts[at] {
-        Some(nexts) => word | ((word << 1) & nexts),
-        None => looked_up(&closures.inside, nodes, at, word),
-    }
 }
 
 /// What one choice from eight numbers leads to in their word: what its lower and its higher four lead to is in the table
@@ -248,24 +166,20 @@ pub fn closures_of(alloc: Global, nodes: &[Node]) -> Result<Closures, BreFault>
     ensures ok { IfOk result (AreClosures nodes.now) }
     ensures err { IfErr result (λ fault. fault ≡ Memory) }
 {
+    let base = base_of(alloc, nodes)?;
     let inside = insides_of(alloc, nodes)?;
-    let hops = hops_of(alloc, nodes)?;
-    let led = hops.as_slice();
-    let mut nexts = Vec::new(alloc);
-    let mut leaves = Vec::new(alloc);
+    let begun = base.as_slice();
+    let hops = hops_of(alloc, nodes, begun)?;
+    let mut leads = Vec::new(alloc);
     for at in 0..nodes.len() / 64 + 1 {
-        nexts.push(nexts_in(nodes, at))?;
-        leaves.push(leaving(nodes, led, at))?;
+        leads.push(leading(nodes, begun, at))?;
     }
-    let mut peers = Vec::new(alloc);
-    for number in 0..(nodes.len() / 64 + 1) * 64 {
-        peers.push(peers_of(nodes, number))?;
-    }
+    let anchored = has_anchors(nodes);
     Ok(Closures {
+        base,
+        leads,
         inside,
-        nexts,
         hops,
-        leaves,
-        peers,
+        anchored,
     })
 }

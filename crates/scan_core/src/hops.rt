@@ -1,37 +1,45 @@
-//! Hops: many numbers of a word lead to the same one beyond it, which is then entered once for all of them.
+//! Hops: what leads out of a word and of what is in each set. Many numbers of a word may lead to the same one, which is
+//! then entered once for all of them.
 
-ghost use Rattle.std.specs.Prelude.{◌≡◌, ◌⊎◌, ◌<◌, ◌≤◌, ◌+◌, ◌*◌, ◌/◌, ℕ, false, IsTrue, IfOk, IfErr, length};
+ghost use Rattle.std.specs.Prelude.{◌≡◌, ◌↔◌, ◌⊎◌, ◌<◌, ◌≤◌, ◌+◌, ◌*◌, ◌/◌, ◌%◌, ℕ, false, IsTrue, OnOk, IfOk, IfErr, List, ◌++◌, length};
 ghost use Rattle.std.specs.Int.{bit_at};
 ghost use Rattle.bre_core.specs.declared.fault.BreFault.TheVariants.{Memory};
-ghost use Rattle.scan_core.specs.inner.Hops.{AreHops, HopsTo, IsHop};
+ghost use Rattle.scan_core.specs.declared.hops.Hop.{Hop};
+ghost use Rattle.scan_core.specs.inner.Hops.{AreHops, AreParted, HopsTo, Meets};
 ghost use Rattle.scan_core.specs.inner.Sets.{IsCode, Flows};
-ghost use Rattle.scan_core.specs.inner.Words.{width};
+ghost use Rattle.scan_core.specs.inner.Words.{IsIn, width};
 
 use crate::node::Node;
-use crate::way::{When, is_open, way_of};
+use crate::way::{is_open, way_of};
+use crate::words::has;
 use bre_core::BreFault;
 use std::alloc::Global;
 
-/// How many hops each word has.
-pub const HOPS: usize = 3;
-
-/// Numbers of a word that lead to the same one beyond it.
+/// All numbers of a word that lead to the same one beyond it, at any place of a line.
 #[derive(Clone, Copy)]
 pub struct Hop {
-    /// The numbers, as the bits of their word: none where the word has fewer hops.
+    /// The word.
+    pub at: usize,
+    /// The numbers, as the bits of their word.
     pub from: u64,
-    /// What they lead to.
-    pub to: usize,
-    /// The word of that number, and its bit there. They follow from the number, and are kept so that following a hop takes no
-    /// shift.
+    /// The word of what they lead to, and its bit there.
     pub word: usize,
-    pub bit: u64,
+    pub bit: usize,
+}
+
+/// The hops of a code.
+#[derive(Drop)]
+pub struct Hops {
+    /// Those to numbers that lead out of what is in each set.
+    pub onward: Vec<Hop>,
+    /// Those to numbers that don't: nothing more follows once these are entered.
+    pub landings: Vec<Hop>,
 }
 
 /// Whether a node leads to a number without a byte, at any place of a line.
 fn leads_to(nodes: &[Node], number: usize, to: usize) -> bool
     requires { IsCode nodes.now }
-    ensures { IsTrue result → Flows nodes.now false false number to }
+    ensures { IsTrue result ↔ Flows nodes.now false false number to }
 {
     let way = way_of(nodes, number);
     if !is_open(way.when, false, false) {
@@ -44,11 +52,10 @@ fn leads_to(nodes: &[Node], number: usize, to: usize) -> bool
 }
 
 /// The numbers of a word that lead to a number.
-#[tactic(auto, using(crate::proofs::Insides::bits_more, crate::proofs::Insides::flag_one))]
 fn from_of(nodes: &[Node], at: usize, to: usize) -> u64
     requires code { IsCode nodes.now }
     requires at { at < width nodes.now }
-    ensures { (bit : ℕ) → bit < 64 → bit_at result bit ≡ 1 → Flows nodes.now false false (at * 64 + bit) to }
+    ensures { (bit : ℕ) → bit < 64 → (bit_at result bit ≡ 1) ↔ Flows nodes.now false false (at * 64 + bit) to }
 {
     let mut word: u64 = 0;
     for bit in 0..64usize {
@@ -57,102 +64,142 @@ fn from_of(nodes: &[Node], at: usize, to: usize) -> u64
     word
 }
 
-/// Whether a number is beyond a word, and none of its hops leads there.
-fn is_missed(hops: &[Hop], at: usize, to: usize) -> bool {
-    if to / 64 == at {
-        return false;
-    }
-    for hop in hops {
-        if hop.to == to {
-            return false;
-        }
-    }
-    true
-}
-
-/// What a number of a word leads to, at any place of a line: of two numbers the one that the word has no hop to. Else the
-/// word's own first.
-fn target_of(nodes: &[Node], hops: &[Hop], at: usize, number: usize) -> usize
-    requires code { IsCode nodes.now }
-    requires at { at < width nodes.now }
-    ensures { result ≤ length nodes.now }
+/// Whether one of the hops from a place in their list on leads from a word to a number.
+fn is_led(hops: &[Hop], start: usize, at: usize, to: usize) -> bool
+    ensures { IsTrue result → HopsTo hops.now at to }
 {
-    let way = way_of(nodes, number);
-    match way.when {
-        When::Never | When::AtFront | When::AtEnd => at * 64,
-        When::Always => {
-            if is_missed(hops, at, way.other) {
-                return way.other;
-            }
-            way.one
-        }
-    }
-}
-
-/// The first number beyond a word that one of its nodes leads to by none of its hops, or else the word's own first.
-fn next_of(nodes: &[Node], hops: &[Hop], at: usize) -> usize
-    requires code { IsCode nodes.now }
-    requires at { at < width nodes.now }
-    ensures { result ≤ length nodes.now }
-{
-    for bit in 0..64usize {
-        let to = target_of(nodes, hops, at, at * 64 + bit);
-        if is_missed(hops, at, to) {
-            return to;
-        }
-    }
-    at * 64
-}
-
-/// One more hop of a word that has some.
-fn hop_of(nodes: &[Node], hops: &[Hop], at: usize) -> Hop
-    requires code { IsCode nodes.now }
-    requires at { at < width nodes.now }
-    ensures { IsHop nodes.now at result }
-{
-    let to = next_of(nodes, hops, at);
-    let from = if to / 64 == at {
-        0
-    } else {
-        from_of(nodes, at, to)
-    };
-    Hop {
-        from,
-        to,
-        word: to / 64,
-        bit: 1u64 << (to % 64),
-    }
-}
-
-/// The hops of each word.
-#[tactic(auto, using(crate::proofs::Enterings::each_more))]
-pub fn hops_of(alloc: Global, nodes: &[Node]) -> Result<Vec<Hop>, BreFault>
-    requires { IsCode nodes.now }
-    ensures ok { IfOk result (λ hops. AreHops nodes.now hops.items) }
-    ensures err { IfErr result (λ fault. fault ≡ Memory) }
-{
-    let mut hops = Vec::new(alloc);
-    for place in 0..(nodes.len() / 64 + 1) * HOPS {
-        let at = place / HOPS;
-        let hop = hop_of(nodes, &hops[at * HOPS..place], at);
-        hops.push(hop)?;
-    }
-    Ok(hops)
-}
-
-/// Whether a hop of a word leads from one of its numbers to another number.
-pub fn is_hop(hops: &[Hop], at: usize, bit: usize, to: usize) -> bool
-    requires at { at * 3 + 3 ≤ length hops.now }
-    requires bit { bit < 64 }
-    ensures { IsTrue result → HopsTo hops.now at bit to }
-{
-    for place in 0..HOPS {
-        let hop = &hops[at * HOPS + place];
-        if (hop.from >> bit) & 1 == 1 {
-            if hop.to == to {
-                return true;
+    for place in start..hops.len() {
+        let hop = &hops[place];
+        if hop.at == at {
+            if hop.word == to / 64 {
+                if hop.bit == to % 64 {
+                    return true;
+                }
             }
         }
     }
     false
+}
+
+/// Adds the hop from a word to a number, if the number is neither in the word nor in each set, and there is no such hop
+/// from a place in their list on.
+fn add_hop(
+    hops: &mut Vec<Hop>,
+    nodes: &[Node],
+    base: &[u64],
+    start: usize,
+    at: usize,
+    to: usize,
+) -> Result<(), BreFault>
+    requires code { IsCode nodes.now }
+    requires size { length base.now ≡ width nodes.now }
+    requires at { at < width nodes.now }
+    requires to { to ≤ length nodes.now }
+    requires sound { AreHops nodes.now hops.old.items }
+    ensures sound { OnOk result (AreHops nodes.now hops.new.items) }
+    ensures grown { OnOk result ((more : List Hop) × (hops.new.items ≡ hops.old.items ++ more)) }
+    ensures met { OnOk result (Meets base.now hops.new.items at to) }
+    ensures err { IfErr result (λ fault. fault ≡ Memory) }
+{
+    if to / 64 == at {
+        return Ok(());
+    }
+    if has(base, to) {
+        return Ok(());
+    }
+    if is_led(hops, start, at, to) {
+        return Ok(());
+    }
+    let from = from_of(nodes, at, to);
+    let word = to / 64;
+    let bit = to % 64;
+    Ok(hops.push(Hop {
+        at,
+        from,
+        word,
+        bit,
+    })?)
+}
+
+/// Adds the hops that a number's node asks for.
+fn add_hops(
+    hops: &mut Vec<Hop>,
+    nodes: &[Node],
+    base: &[u64],
+    start: usize,
+    number: usize,
+) -> Result<(), BreFault>
+    requires code { IsCode nodes.now }
+    requires size { length base.now ≡ width nodes.now }
+    requires within { number < length nodes.now }
+    requires sound { AreHops nodes.now hops.old.items }
+    ensures sound { OnOk result (AreHops nodes.now hops.new.items) }
+    ensures grown { OnOk result ((more : List Hop) × (hops.new.items ≡ hops.old.items ++ more)) }
+    ensures met { OnOk result ((to : ℕ) → Flows nodes.now false false number to
+        → Meets base.now hops.new.items (number / 64) to) }
+    ensures err { IfErr result (λ fault. fault ≡ Memory) }
+{
+    let way = way_of(nodes, number);
+    if !is_open(way.when, false, false) {
+        return Ok(());
+    }
+    add_hop(hops, nodes, base, start, number / 64, way.one)?;
+    add_hop(hops, nodes, base, start, number / 64, way.other)
+}
+
+/// All hops of a code, word by word. `base` is what is in each set.
+fn all_hops(alloc: Global, nodes: &[Node], base: &[u64]) -> Result<Vec<Hop>, BreFault>
+    requires code { IsCode nodes.now }
+    requires size { length base.now ≡ width nodes.now }
+    ensures sound { IfOk result (λ hops. AreHops nodes.now hops.items) }
+    ensures met { IfOk result (λ hops. (number to : ℕ) → Flows nodes.now false false number to
+        → Meets base.now hops.items (number / 64) to) }
+    ensures err { IfErr result (λ fault. fault ≡ Memory) }
+{
+    let mut hops = Vec::new(alloc);
+    let mut start = 0;
+    for number in 0..nodes.len() {
+        if number % 64 == 0 {
+            start = hops.len();
+        }
+        add_hops(&mut hops, nodes, base, start, number)?;
+    }
+    Ok(hops)
+}
+
+/// Whether a node leads only to numbers of a set.
+pub fn is_within(nodes: &[Node], words: &[u64], number: usize) -> bool
+    requires code { IsCode nodes.now }
+    requires size { length words.now ≡ width nodes.now }
+    ensures { IsTrue result → (to : ℕ) → Flows nodes.now false false number to → IsIn words.now to }
+{
+    let way = way_of(nodes, number);
+    if !is_open(way.when, false, false) {
+        return true;
+    }
+    if !has(words, way.one) {
+        return false;
+    }
+    has(words, way.other)
+}
+
+/// The hops of a code, in two parts, each word by word. `base` is what is in each set.
+pub fn hops_of(alloc: Global, nodes: &[Node], base: &[u64]) -> Result<Hops, BreFault>
+    requires code { IsCode nodes.now }
+    requires size { length base.now ≡ width nodes.now }
+    ensures ok { IfOk result (AreParted nodes.now base.now) }
+    ensures err { IfErr result (λ fault. fault ≡ Memory) }
+{
+    let all = all_hops(alloc, nodes, base)?;
+    let mut onward = Vec::new(alloc);
+    let mut landings = Vec::new(alloc);
+    for place in 0..all.len() {
+        let hop = all[place];
+        if is_within(nodes, base, hop.word * 64 + hop.bit) {
+            landings.push(hop)?;
+        } else {
+            onward.push(hop)?;
+        }
+    }
+    Ok(Hops { onward, landings })
 }

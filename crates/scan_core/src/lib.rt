@@ -6,7 +6,6 @@
 //! end is entered exactly where the line contains a match, and that its positions are the pattern's, are laws.
 #![tactic(auto)]
 
-mod base;
 mod bre;
 mod build;
 mod closing;
@@ -15,7 +14,6 @@ mod compile;
 mod emit;
 mod few_bytes;
 mod hops;
-mod landing;
 pub mod laws;
 mod masks;
 mod needle;
@@ -29,6 +27,7 @@ mod table;
 mod walk;
 mod way;
 mod words;
+mod worklist;
 
 pub use bre::Bre;
 pub use bre_core::BreFault;

@@ -1,6 +1,6 @@
 //! Sets of a code's numbers as words: a step of the whole set takes a few operations for 64 numbers.
 
-ghost use Rattle.std.specs.Prelude.{◌≡◌, ◌⊎◌, ◌↔◌, ◌<◌, ◌≤◌, ◌+◌, ◌*◌, ℕ, IsTrue, length};
+ghost use Rattle.std.specs.Prelude.{◌≡◌, ◌⊎◌, ◌↔◌, ◌<◌, ◌+◌, ◌*◌, ℕ, IsTrue, length};
 ghost use Rattle.scan_core.specs.declared.masks.Kind.TheVariants.{Counts};
 ghost use Rattle.scan_core.specs.inner.Each.{AreEach};
 ghost use Rattle.scan_core.specs.inner.Sets.{IsCode, Flows, Passes};
@@ -20,7 +20,7 @@ pub fn has(words: &[u64], number: usize) -> bool
     (words[number / 64] >> (number % 64)) & 1 == 1
 }
 
-/// Enters a number. Returns the word to go on with: that of the number where it is new and its word stands before.
+/// Enters a number. Returns the number to go on with: this one, if it is new and stands before.
 #[inline(always)]
 pub fn enter(words: &mut [u64], number: usize, on: usize) -> usize
     requires { number < 64 * length words.old }
@@ -30,17 +30,7 @@ pub fn enter(words: &mut [u64], number: usize, on: usize) -> usize
         return on;
     }
     words[number / 64] |= 1u64 << (number % 64);
-    on.min(number / 64)
-}
-
-/// Enters a number where something holds, with no branch.
-#[inline(always)]
-pub fn enter_if(words: &mut [u64], number: usize, holds: bool)
-    requires { number < 64 * length words.old }
-    ensures size { length words.new ≡ length words.old }
-    ensures exact { (other : ℕ) → IsIn words.new other ↔ (IsIn words.old other ⊎ (IsTrue holds × (other ≡ number))) }
-{
-    words[number / 64] |= (holds as u64) << (number % 64);
+    on.min(number)
 }
 
 /// Enters what a node leads to without a byte at one place: the line's first, its last, or neither.

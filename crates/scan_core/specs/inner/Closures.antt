@@ -1,30 +1,31 @@
 -- What numbers lead to without a byte, ready to be looked up.
-use Rattle.std.specs.Prelude.{◌≡◌, ◌⊎◌, ℕ, ◌+◌, ◌*◌, ◌/◌, ◌%◌, ◌^◌, ◌<◌, Bool, false, None, IfSome, List}
+use Rattle.std.specs.Prelude.{◌≡◌, ◌⊎◌, ◌↔◌, ℕ, ◌+◌, ◌*◌, ◌/◌, ◌%◌, ◌^◌, ◌<◌, Bool, false, IsFalse, List, length}
 use Rattle.std.specs.Int.{bit_at}
 use Rattle.scan_core.specs.declared.closures.Closures.{Closures}
 use Rattle.scan_core.specs.declared.node.Node.{Node}
-use Rattle.scan_core.specs.declared.hops.Hop.{Hop}
 use Rattle.scan_core.specs.inner.Each.{AreEach}
-use Rattle.scan_core.specs.inner.Hops.{AreHops, HopsTo}
+use Rattle.scan_core.specs.inner.Hops.{AreParted}
 use Rattle.scan_core.specs.inner.Sets.{Flows, FlowsOn}
-use Rattle.scan_core.specs.inner.Words.{width}
+use Rattle.scan_core.specs.inner.Words.{IsIn, width}
 
--- a step without a byte to a number of the same word, at any place
+-- what is in each set: all that number 0 leads to
+pub record IsBase (code : List Node) (words : List ℕ) : Type 0 where
+  pub size : length words ≡ width code
+  pub exact : (number : ℕ) → IsIn words number ↔ FlowsOn code false false 0 number
+
+-- where a node of a word leads out of a set, the bit is set
+abbrev pub IsLeading : List Node → List ℕ → ℕ → ℕ → Type 0
+IsLeading code words at word = (bit : ℕ) (to : ℕ) → bit < 64 → Flows code false false (at * 64 + bit) to
+    → (bit_at word bit ≡ 1) ⊎ IsIn words to
+
+-- at a line's front and at its end no node leads to more than elsewhere
+abbrev pub IsPlain : List Node → Type 0
+IsPlain code = (at_first at_last : Bool) (from to : ℕ) → Flows code at_first at_last from to
+    → Flows code false false from to
+
+-- a step without a byte to a number of the same word
 abbrev pub Stays : List Node → ℕ → ℕ → Type 0
 Stays code from to = Flows code false false from to × (to / 64 ≡ from / 64)
-
--- where more than that follows, and no hop leads there, the bit is set
-abbrev pub IsLeaving : List Node → List Hop → ℕ → ℕ → Type 0
-IsLeaving code hops at word = (bit : ℕ) (at_first at_last : Bool) (to : ℕ) → bit < 64
-    → Flows code at_first at_last (at * 64 + bit) to → (bit_at word bit ≡ 1)
-    ⊎ (Stays code (at * 64 + bit) to ⊎ HopsTo hops at bit to)
-
--- a number itself, and others of its word of which no more follows
-pub record ArePeers (code : List Node) (number word : ℕ) : Type 0 where
-  pub own : bit_at word (number % 64) ≡ 1
-  pub others : (bit : ℕ) (at_first at_last : Bool) (to : ℕ) → bit < 64 → bit_at word bit ≡ 1
-      → Flows code at_first at_last (number / 64 * 64 + bit) to → Stays code (number / 64 * 64 + bit) to
-      ⊎ Flows code at_first at_last number to
 
 -- the numbers of a word that some of its numbers lead to
 pub record Closes (code : List Node) (at chosen all : ℕ) : Type 0 where
@@ -34,14 +35,6 @@ pub record Closes (code : List Node) (at chosen all : ℕ) : Type 0 where
   pub closed : (number to : ℕ) → number < 64 → to < 64 → bit_at all number ≡ 1
       → Flows code false false (at * 64 + number) (at * 64 + to) → bit_at all to ≡ 1
 
--- the numbers that are led to in a word: each follows the only one that leads to it there, and leads nowhere in the
--- word
-pub record AreNexts (code : List Node) (at nexts : ℕ) : Type 0 where
-  pub only : (bit to : ℕ) → bit < 64 → to < 64 → Flows code false false (at * 64 + bit) (at * 64 + to) → (to ≡ bit + 1)
-      × (bit_at nexts to ≡ 1) × (bit_at nexts bit ≡ 1 → ⊥)
-  pub leads : (bit : ℕ) → bit + 1 < 64 → bit_at nexts (bit + 1) ≡ 1
-      → Flows code false false (at * 64 + bit) (at * 64 + (bit + 1))
-
 -- the numbers that a place of the table is for: a choice from eight of a word
 abbrev pub chosen_at : ℕ → ℕ
 chosen_at place = place % 256 * 2 ^ (place / 256 % 8 * 8) % 2 ^ 64
@@ -50,8 +43,8 @@ abbrev pub IsInside : List Node → ℕ → ℕ → Type 0
 IsInside code place entry = Closes code (place / 2048) (chosen_at place) entry
 
 pub record AreClosures (code : List Node) (closures : Closures) : Type 0 where
+  pub base : IsBase code closures.base.items
+  pub leads : AreEach 0 (IsLeading code closures.base.items) (width code) closures.leads.items
   pub inside : AreEach 0 (IsInside code) (width code * 2048) closures.inside.items
-  pub nexts : AreEach None (λ at nexts. IfSome nexts (AreNexts code at)) (width code) closures.nexts.items
-  pub hops : AreHops code closures.hops.items
-  pub leaves : AreEach 0 (IsLeaving code closures.hops.items) (width code) closures.leaves.items
-  pub peers : AreEach 0 (ArePeers code) (width code * 64) closures.peers.items
+  pub hops : AreParted code closures.base.items closures.hops
+  pub plain : IsFalse closures.anchored → IsPlain code

@@ -1,35 +1,55 @@
 -- Hops: numbers of a word that lead to the same one beyond it.
-use Rattle.std.specs.Prelude.{◌≡◌, ℕ, ◌+◌, ◌*◌, ◌/◌, ◌%◌, ◌^◌, ◌<◌, ◌≤◌, false, List, length, slice_index_or, bit_and}
+use Rattle.std.specs.Prelude.{◌≡◌, ◌⊎◌, ◌↔◌, ℕ, ◌+◌, ◌*◌, ◌/◌, ◌<◌, false, List, length, slice_index_or}
 use Rattle.std.specs.Int.{bit_at}
 use Rattle.scan_core.specs.declared.hops.Hop.{Hop}
+use Rattle.scan_core.specs.declared.hops.Hops.{Hops}
 use Rattle.scan_core.specs.declared.node.Node.{Node}
 use Rattle.scan_core.specs.inner.Each.{AreEach}
 use Rattle.scan_core.specs.inner.Sets.{Flows}
-use Rattle.scan_core.specs.inner.Words.{width}
+use Rattle.scan_core.specs.inner.Words.{IsIn, width}
 
 abbrev pub no_hop : Hop
-no_hop = record { from = 0; to = 0; word = 0; bit = 0 }
+no_hop = record { at = 0; from = 0; word = 0; bit = 0 }
 
--- at any place, the numbers lead where the hop does
-pub record IsHop (code : List Node) (at : ℕ) (hop : Hop) : Type 0 where
-  pub within : hop.to ≤ length code
-  pub word : hop.word ≡ hop.to / 64
-  pub bit : hop.bit ≡ 1 * 2 ^ (hop.to % 64) % 2 ^ 64
-  pub leads : (bit : ℕ) → bit < 64 → bit_at hop.from bit ≡ 1 → Flows code false false (at * 64 + bit) hop.to
+-- what a hop leads to
+abbrev pub end_of : Hop → ℕ
+end_of hop = hop.word * 64 + hop.bit
 
--- three for each word
+-- the numbers are those of the word that lead to the hop's end
+pub record IsHop (code : List Node) (hop : Hop) : Type 0 where
+  pub at : hop.at < width code
+  pub word : hop.word < width code
+  pub bit : hop.bit < 64
+  pub exact : (bit : ℕ) → bit < 64
+      → (bit_at hop.from bit ≡ 1) ↔ Flows code false false (hop.at * 64 + bit) (end_of hop)
+
 abbrev pub AreHops : List Node → List Hop → Type 0
-AreHops code hops = AreEach no_hop (λ place. IsHop code (place / 3)) (width code * 3) hops
+AreHops code hops = AreEach no_hop (λ _. IsHop code) (length hops) hops
 
--- one of a word's hops leads from one of its numbers to another number
-abbrev pub HopsTo : List Hop → ℕ → ℕ → ℕ → Type 0
-HopsTo hops at bit to = (which : ℕ) × (which < 3) × (bit_at (slice_index_or hops (at * 3 + which) no_hop).from bit ≡ 1)
-    × (to ≡ (slice_index_or hops (at * 3 + which) no_hop).to)
+-- one of the hops leads from a word to a number
+abbrev pub HopsTo : List Hop → ℕ → ℕ → Type 0
+HopsTo hops at to = (place : ℕ) × (place < length hops) × ((slice_index_or hops place no_hop).at ≡ at)
+    × (end_of (slice_index_or hops place no_hop) ≡ to)
 
--- what a hop leads to from some numbers of its word, and what the first hops of a word lead to
-abbrev pub HoppedBy : Hop → ℕ → ℕ → Type 0
-HoppedBy hop word to = (bit_and word hop.from ≡ 0 → ⊥) × (to ≡ hop.to)
+-- a number is in a word, or in each set, or a hop leads there
+abbrev pub Meets : List ℕ → List Hop → ℕ → ℕ → Type 0
+Meets base hops at to = (to / 64 ≡ at) ⊎ (IsIn base to ⊎ HopsTo hops at to)
 
-abbrev pub Hopped : List Hop → ℕ → ℕ → ℕ → ℕ → Type 0
-Hopped hops at word count to = (which : ℕ) × (which < count)
-    × HoppedBy (slice_index_or hops (at * 3 + which) no_hop) word to
+-- a hop to a number that leads only to what is in each set
+pub record IsLanding (code : List Node) (base : List ℕ) (hop : Hop) : Type 0 where
+  pub leads : IsHop code hop
+  pub ends : (to : ℕ) → Flows code false false (end_of hop) to → IsIn base to
+
+abbrev pub AreLandings : List Node → List ℕ → List Hop → Type 0
+AreLandings code base landings = AreEach no_hop (λ _. IsLanding code base) (length landings) landings
+
+-- one of either part leads from a word to a number
+abbrev pub PartsTo : List Hop → List Hop → ℕ → ℕ → Type 0
+PartsTo onward landings at to = HopsTo onward at to ⊎ HopsTo landings at to
+
+-- all hops in two parts
+pub record AreParted (code : List Node) (base : List ℕ) (hops : Hops) : Type 0 where
+  pub onward : AreHops code hops.onward.items
+  pub landings : AreLandings code base hops.landings.items
+  pub met : (number to : ℕ) → Flows code false false number to → (to / 64 ≡ number / 64)
+      ⊎ (IsIn base to ⊎ PartsTo hops.onward.items hops.landings.items (number / 64) to)

@@ -7,7 +7,7 @@ use Rattle.scan_core.specs.declared.masks.Masks.{Masks}
 use Rattle.scan_core.specs.declared.node.Node.{Node}
 use Rattle.scan_core.specs.Code.{weight_of}
 use Rattle.scan_core.specs.inner.Each.{AreEach}
-use Rattle.scan_core.specs.inner.Sets.{Flows, FlowsOn, Passes}
+use Rattle.scan_core.specs.inner.Sets.{FlowsOn, Passes}
 
 unfoldable pub IsIn : List ℕ → ℕ → Type 0
 IsIn words number = bit_at (slice_index_or words (number / 64) 0) (number % 64) ≡ 1
@@ -30,10 +30,10 @@ abbrev pub unset : List ℕ → ℕ
 unset [] = 0
 unset (word ∷ words) = (2 ^ 64 - word) + unset words
 
--- no number was added below the word to go on with, which is an earlier one only where some were
+-- no number was added below the one to go on with, which is an earlier one only where some were
 pub record GoesOn (old new : List ℕ) (before on : ℕ) : Type 0 where
   pub low : on ≤ before
-  pub under : (number : ℕ) → number < 64 * on → IsIn new number → IsIn old number
+  pub under : (number : ℕ) → number < on → IsIn new number → IsIn old number
   pub fuller : unset new ≤ unset old
   pub less : on < before → unset new < unset old
 
@@ -72,17 +72,6 @@ AreTakes code =
 pub record IsMasks (code : List Node) (masks : Masks) : Type 0 where
   pub takes : AreTakes code masks.takes.items
   pub counts : AreEach 0 (IsMask code Counts) (width code) masks.counts.items
-
--- what the nodes of a word lead to was entered, if the word to go on with is the next; in earlier words none was, up to
--- that
-pub record Visits (code : List Node) (at_first at_last : Bool) (at : ℕ) (old new : List ℕ) (on : ℕ) : Type 0 where
-  pub adds : Adds code at_first at_last old new
-  pub low : on ≤ at + 1
-  pub under : (number : ℕ) → number < 64 * on → number < 64 * at → IsIn new number → IsIn old number
-  pub fuller : unset new ≤ unset old
-  pub less : on < at + 1 → unset new < unset old
-  pub done : on ≡ at + 1 → (start to : ℕ) → start / 64 ≡ at → IsIn new start → Flows code at_first at_last start to
-      → IsIn new to
 
 -- all was entered that a set leads to without a byte
 pub record SpreadsOut (code : List Node) (at_first at_last : Bool) (old new : List ℕ) : Type 0 where

@@ -1,19 +1,24 @@
-use Rattle.std.proofs.Common.{rules, ◌≡◌, ◌<◌, ◌^◌, min, get_or, refl, sym, subst}
-use Rattle.scan_core.specs.inner.Words.{IsIn}
-use Rattle.scan_core.proofs.Insides.{grows_none}
-use Rattle.scan_core.proofs.Closings.{entered_is, follow_new}
+use Rattle.std.proofs.Common.{rules, ◌<◌, ◌*◌, ◌%◌, ◌^◌, ℕ, eqb, not, get_or, refl, bit_and, bit_or}
+use mir.Val.{bool_byte}
+use Rattle.scan_core.proofs.Closings.{led_is, follows_none, follows_more, not_zero, is_not_zero}
 use Rattle.scan_core.proofs.closing.follow.Goals as goal
 
-pub returns-then-numbers-hop-eq0 : goal.returns-then-numbers-hop-eq0
-returns-then-numbers-hop-eq0 c = grows_none _ (λ other led. absurd (led.0 c.if-numbers-hop-eq0.true))
+pub returns-then-led-ne0 : goal.returns-then-led-ne0
+returns-then-led-ne0 c =
+    let hop = c.args.hop.now in
+    let fits : get_or c.args.words.now hop.at 0 < 2 ^ 64 = search rules in
+    let high : get_or c.args.words.now hop.word 0 < 2 ^ 64 = search rules in
+    let holds = not (eqb (bit_and (get_or c.args.words.now hop.at 0) hop.from) 0) in
+    let all : ℕ = bit_or (get_or c.args.words.now hop.word 0) (bool_byte holds * 2 ^ hop.bit % 2 ^ 64) in
+    follows_more all c.looked_up.result c.requires.closures c.requires.hop c.requires.size high c.requires.begun c.requires.apart
+    (led_is holds c.requires.hop c.requires.size fits high (not_zero _) is_not_zero refl) refl c.if-led-ne0.true c.looked_up.ensures (search rules) refl
 
-pub returns-then-word-hop-ne0 : goal.returns-then-word-hop-ne0
-returns-then-word-hop-ne0 c =
-    let f : get_or c.args.words.now c.args.hop.now.word 0 < 2 ^ 64 = search rules in
-    grows_none _ (λ other led. subst (IsIn c.args.words.now) (sym led.1) (entered_is c.args.words.now c.args.hop.now.to c.requires.word c.requires.bit f c.if-word-hop-ne0.true))
-
-pub returns : goal.returns
-returns c =
-    let m : c.min.result ≡ min c.args.on c.args.hop.now.word = search rules in
-    let f : get_or c.args.words.now c.args.hop.now.word 0 < 2 ^ 64 = search rules in
-    follow_new c.args.hop.now c.args.numbers c.requires.room c.requires.word c.requires.bit f c.if-numbers-hop-eq0.false c.if-word-hop-ne0.false refl m
+pub returns-else-led-ne0 : goal.returns-else-led-ne0
+returns-else-led-ne0 c =
+    let hop = c.args.hop.now in
+    let fits : get_or c.args.words.now hop.at 0 < 2 ^ 64 = search rules in
+    let high : get_or c.args.words.now hop.word 0 < 2 ^ 64 = search rules in
+    let holds = not (eqb (bit_and (get_or c.args.words.now hop.at 0) hop.from) 0) in
+    let all : ℕ = bit_or (get_or c.args.words.now hop.word 0) (bool_byte holds * 2 ^ hop.bit % 2 ^ 64) in
+    follows_none all c.requires.hop c.requires.size high c.requires.apart
+    (led_is holds c.requires.hop c.requires.size fits high (not_zero _) is_not_zero refl) refl c.if-led-ne0.false

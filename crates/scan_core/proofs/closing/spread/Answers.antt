@@ -1,12 +1,8 @@
-use Rattle.std.proofs.Common.{subst}
-use Rattle.scan_core.specs.inner.Landings.{HasLanded}
-use Rattle.scan_core.proofs.Closings.{spread_landed, spread_after}
+use Rattle.scan_core.proofs.Closings.{spreads_more, spreads_end}
 use Rattle.scan_core.proofs.closing.spread.Goals as goal
 
-pub returns-then-over-eq0 : goal.returns-then-over-eq0
-returns-then-over-eq0 c =
-    spread_landed c.args.nodes.now c.args.base.now.landings.items c.args.at_first c.args.at_last c.args.words.now c.close_words-over.new.words c.land.new.words c.close_words-over.result c.close_words-over.ensures c.if-over-eq0.true
-    (subst (λ landings. HasLanded c.args.nodes.now landings c.close_words-over.new.words c.land.new.words) c.deref.ensures.value c.land.ensures)
+pub passes-preserved : goal.passes-preserved
+passes-preserved c = spreads_more c.passes.invariant c.follow_all-over.ensures
 
 pub returns : goal.returns
-returns c = spread_after c.close_words-over.result c.close_words-over.ensures c.spread_words-2.ensures
+returns c = spreads_end _ _ c.args.at_first c.args.at_last c.passes.invariant c.passes-test.false c.land.ensures c.deref.ensures.value c.deref-2.ensures.value c.requires.begun (c.is_anchored.ensures c.if-is_anchored.false)

@@ -1,24 +1,23 @@
 use Rattle.std.proofs.Common.{◌≡◌, subst, arith}
-use Rattle.scan_core.specs.inner.Closures.{IsLeaving}
+use Rattle.scan_core.specs.inner.Closures.{IsLeading}
 use Rattle.scan_core.specs.inner.Each.{AreEach}
+use Rattle.scan_core.specs.inner.Hops.{AreParted}
 use Rattle.scan_core.specs.inner.Words.{width}
 use Rattle.scan_core.proofs.Enterings.{each_more, each_to}
 use Rattle.scan_core.proofs.closures.closures_of.Goals as goal
 
 pub loop-at-preserved : goal.loop-at-preserved
-loop-at-preserved c = record {
-  nexts = each_more c.loop-at.invariant.nexts c.nexts_in.ensures c.in_ok-push.ensures.items;
-  leaves = each_more c.loop-at.invariant.leaves c.leaving.ensures c.in_ok-push-2.ensures.items;
-}
-
-pub loop-number-preserved : goal.loop-number-preserved
-loop-number-preserved c = each_more c.loop-number.invariant c.peers_of.ensures c.in_ok-push-3.ensures.items
+loop-at-preserved c = each_more c.loop-at.invariant c.leading.ensures c.in_ok-push.ensures.items
 
 pub returns-clause-ok : goal.returns-clause-ok
-returns-clause-ok c = let all : c.loop-at.at ≡ width c.args.nodes.now = omega (arith, c.loop-at-test.false, c.loop-at.auto) in record {
-  inside = c.in_ok-inside.ensures.ok;
-  nexts = each_to c.loop-at.invariant.nexts all;
-  hops = c.in_ok-hops.ensures.ok;
-  leaves = each_to (subst (λ hops. AreEach 0 (IsLeaving c.args.nodes.now hops) c.loop-at.at c.loop-at.leaves.items) c.as_slice-led.ensures.value c.loop-at.invariant.leaves) all;
-  peers = each_to c.loop-number.invariant (omega (arith, c.loop-number-test.false, c.loop-number.auto));
-}
+returns-clause-ok c =
+    let nodes = c.args.nodes.now in
+    let all : c.loop-at.at ≡ width nodes = omega (arith, c.loop-at-test.false, c.loop-at.auto) in
+    let value = c.as_slice-begun.ensures.value in
+    record {
+      base = c.in_ok-base.ensures.ok;
+      leads = subst (λ words. AreEach 0 (IsLeading nodes words) (width nodes) c.loop-at.leads.items) value (each_to c.loop-at.invariant all);
+      inside = c.in_ok-inside.ensures.ok;
+      hops = subst (λ words. AreParted nodes words c.in_ok-hops.hops) value c.in_ok-hops.ensures.ok;
+      plain = c.has_anchors-anchored.ensures;
+    }

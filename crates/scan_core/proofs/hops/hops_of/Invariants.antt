@@ -1,7 +1,5 @@
-use Rattle.std.proofs.Common.{◌/◌}
-use Rattle.scan_core.specs.inner.Hops.{IsHop, no_hop}
-use Rattle.scan_core.specs.inner.Each.{AreEach}
+use Rattle.scan_core.proofs.Closings.{Parting}
 use Rattle.scan_core.proofs.hops.hops_of.Given as goal
 
 abbrev pub invariant-loop-place : goal.invariant-loop-place
-invariant-loop-place l = AreEach no_hop (λ place. IsHop l.nodes (place / 3)) l.place l.hops.items
+invariant-loop-place l = Parting l.nodes l.base l.all.items l.onward.items l.landings.items l.place

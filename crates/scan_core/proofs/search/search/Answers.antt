@@ -25,7 +25,7 @@ returns-then-has-clause-outcome c =
 pub loop-place-preserved : goal.loop-place-preserved
 loop-place-preserved c =
     let here = entered_here c.args.line.now c.loop-place.invariant (inner c.args.line.now c.loop-place-test.true refl) c.spread.ensures in
-    search_more c.args.line.now c.spread.new.words c.requires.base c.loop-place.invariant here c.loop-place-test.true refl c.positions.ensures
+    search_more c.args.line.now c.spread.new.words c.requires.closures.base c.loop-place.invariant here c.loop-place-test.true refl c.positions.ensures
     c.if-has.false c.has.ensures (c.pass.ensures.size ∙ c.spread.ensures.size ∙ c.loop-place.invariant.size)
     (subst (λ base. (number : ℕ) → IsIn c.pass.new.words number ↔ (((before : ℕ) × IsIn c.spread.new.words before × Passes c.args.nodes.now (slice_index c.args.line.now c.loop-place.place) before number) ⊎ IsIn base number)) c.deref-in-loop-place-2.ensures.value c.pass.ensures.exact)
 

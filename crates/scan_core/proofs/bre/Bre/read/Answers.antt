@@ -19,9 +19,6 @@ closures_of-requires c =
     let e = c.as_slice-nodes.ensures.value ∙ c.in_ok-code.ensures.ok in
     record { code = subst IsCode (sym e) (is_code _ o); short = let l = ap length e in let r = enough_room _ o in omega (arith, l, r, c.in_ok-expression.ensures.size) }
 
-pub base_of-requires-clause-code : goal.base_of-requires-clause-code
-base_of-requires-clause-code c = subst IsCode (sym (c.as_slice-nodes.ensures.value ∙ c.in_ok-code.ensures.ok)) (is_code _ c.in_ok-code.ensures.order)
-
 pub build-requires-clause-code : goal.build-requires-clause-code
 build-requires-clause-code c = subst IsCode (sym (c.as_slice-nodes.ensures.value ∙ c.in_ok-code.ensures.ok)) (is_code _ c.in_ok-code.ensures.order)
 

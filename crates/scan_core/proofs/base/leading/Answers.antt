@@ -1,9 +1,0 @@
-use Rattle.std.proofs.Common.{inl, inr, arith}
-use Rattle.scan_core.proofs.Insides.{bits_more, not_one}
-use Rattle.scan_core.proofs.base.leading.Goals as goal
-
-pub loop-bit-preserved : goal.loop-bit-preserved
-loop-bit-preserved c = bits_more _ c.loop-bit.invariant c.loop-bit-test.true (λ at_first at_last to f. elim (not_one c.is_within.result) [ inl t ↦ inr (c.is_within.ensures t at_first at_last to f) | inr one ↦ inl one ])
-
-pub returns : goal.returns
-returns c = λ bit at_first at_last to h f. c.loop-bit.invariant.past bit (omega (arith, h, c.loop-bit-test.false)) at_first at_last to f
