@@ -40,7 +40,7 @@ use Rattle.ports_core.proofs.PartSteps.{Becomes, becomes_again, with_last, halts
 use Rattle.ports_core.proofs.OpenLemmas.{IsNextName, opens_not, stops_opening}
 use Rattle.ports_core.proofs.ShareLemmas.{stopped_part, part_grows, closed_files, ended_files, name_after, open_part, closed_part, none_part, still_made, made_or}
 use Rattle.ports_core.proofs.SlotLemmas.{length-changed_at}
-use Rattle.ports_core.proofs.SlotSteps.{KeepsMade, none_past, file_before, at_end, opened_last, writable_within, write_rose, close_rose, keeps_write, made_write, written_writable, made_short, keeps_open, writable_before, made_again, open_rose, rose_later, opened_writable, made_close, made_break, keeps_close, writable_elsewhere, keeps_again}
+use Rattle.ports_core.proofs.SlotSteps.{KeepsFiled, KeepsMade, filed_more, filed_same, none_past, file_before, at_end, opened_last, writable_within, write_rose, close_rose, keeps_write, made_write, written_writable, made_short, keeps_open, writable_before, made_again, open_rose, rose_later, opened_writable, made_close, made_break, keeps_close, writable_elsewhere, keeps_again}
 use Rattle.ports_core.proofs.WriteLemmas.{none_written}
 use Rattle.ports_core.proofs.SweepLemmas.{by_place}
 
@@ -188,7 +188,7 @@ pub last_file : (writer : WriterState) {slot size first : ℕ} (slots : List Slo
 last_file writer {first = first} slots is last = subst (λ current. IsLast current first slots) is last
 
 -- what can be told stays so, where standard output can still be written
-can_tell : (tells : Tells) (old new : List Slot) → (IsTrue (is_writable old 0) → IsTrue (is_writable new 0)) → CanTell tells old → CanTell tells new
+pub can_tell : (tells : Tells) (old new : List Slot) → (IsTrue (is_writable old 0) → IsTrue (is_writable new 0)) → CanTell tells old → CanTell tells new
 can_tell Nothing old new stays can = tt
 can_tell Sizes old new stays can = stays can
 can_tell Openings old new stays can = stays can
@@ -244,22 +244,6 @@ opened_by All {writer} {slot} {old} {new} name two is at added = grind (arith, c
 
 pub owned_opened : {writer next : WriterState} {slot : ℕ} {old new : List Slot} → 2 ≤ length old → Made writer old new next slot → KeepsFiles writer next old new
 owned_opened {writer} {old = old} {new} two made = rw made.same (opened_by writer.keeps (next_name writer.names) two refl made.place made.added)
-
--- no more files are there, and no fewer outputs
-record KeepsFiled (old new : List Slot) : Type 0 where
-  same : (place : ℕ) → has_file (slot_at new place).state ≡ has_file (slot_at old place).state
-  within : length old ≤ length new
-
-filed_same : {old new : List Slot} → KeepsMade old new → KeepsFiled old new
-filed_same made = record { same = made.same; within = omega (arith, made.size) }
-
-filed_more : {old mid new : List Slot} (kept : List ℕ) → KeepsMade old mid → new ≡ mid ++ unopened kept ∷ [] → KeepsFiled old new
-filed_more {old} {mid} {new} kept made added = record {
-  same = λ place. ap (λ slots. has_file (slot_at slots place).state) added ∙ still place ∙ made.same place;
-  within = omega (arith, made.size, ap length added, length-append mid (unopened kept ∷ []));
-} where
-  still : (place : ℕ) → has_file (slot_at (mid ++ unopened kept ∷ []) place).state ≡ has_file (slot_at mid place).state
-  still place = grind (arith, common_steps)
 
 unmade_keeps : {told : Bool} {tells : Tells} {names next : Names} {old new : List Slot} {f : Fault} → OpensNone told tells names next old new f → KeepsFiled old new
 unmade_keeps (no_memory same) = rw same (record { same = λ place. refl; within = omega arith })
