@@ -379,6 +379,13 @@ const SPLIT: &[OptionRow] = &[
         value: "",
         does: "taken without effect",
     },
+    OptionRow {
+        names: &["--verbose"],
+        choice: Choice::Verbose,
+        takes: Takes::Nothing,
+        value: "",
+        does: "write each file's name before it is opened",
+    },
     HELP,
     VERSION,
 ];
