@@ -140,7 +140,7 @@ split_table =
     ∷ option (codes "-u" ∷ codes "--unbuffered" ∷ []) NoEffect Nothing []
     (codes "taken without effect")
     ∷ option (codes "--verbose" ∷ []) Verbose Nothing []
-    (codes "write each file's name before it is opened")
+    (codes "write each name before its file is opened")
     ∷ help_row
     ∷ version_row
     ∷ []

@@ -384,7 +384,7 @@ const SPLIT: &[OptionRow] = &[
         choice: Choice::Verbose,
         takes: Takes::Nothing,
         value: "",
-        does: "write each file's name before it is opened",
+        does: "write each name before its file is opened",
     },
     HELP,
     VERSION,
