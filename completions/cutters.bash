@@ -25,7 +25,7 @@ _cutters_options() {
         plain='-d --numeric-suffixes --numeric-suffixes= -x --hex-suffixes --hex-suffixes= -e --elide-empty-files -u --unbuffered --verbose --help --version'
         ;;
     csplit)
-        valued='-f --prefix -n --digits'
+        valued='-f --prefix -n --digits -b --suffix-format'
         plain='-k --keep-files -s -q --quiet --silent -z --elide-empty-files --suppress-matched --help --version'
         ;;
     tee) plain='-a --append -p --output-error --output-error= --help --version' ;;

@@ -57,6 +57,7 @@ complete -c cutters -n '__cutters_tool split' -l version -d 'Write the version, 
 
 complete -c cutters -n '__cutters_tool csplit' -s f -l prefix -x -d 'Names begin with PREFIX, not with xx'
 complete -c cutters -n '__cutters_tool csplit' -s n -l digits -x -d 'Numbers in names have this many digits, not 2'
+complete -c cutters -n '__cutters_tool csplit' -s b -l suffix-format -x -d 'Write numbers as printf does, as in %03d.txt'
 complete -c cutters -n '__cutters_tool csplit' -s k -l keep-files -d 'Keep files after a fault'
 complete -c cutters -n '__cutters_tool csplit' -s s -s q -l quiet -l silent -d 'Write no sizes'
 complete -c cutters -n '__cutters_tool csplit' -s z -l elide-empty-files -d 'Make no empty files'

@@ -5,7 +5,7 @@ use Rattle.std.specs.List.{flat_map}
 use Rattle.ports_core.specs.Draft.{Manner, Share, share, made_of, part_of as part_by}
 pub use Rattle.ports_core.specs.Draft.{size_of_file}
 use Rattle.ports_core.specs.Name.{Naming, name_at}
-use Rattle.ports_core.specs.declared.numbering.Numbering.TheVariants.{Decimal}
+use Rattle.ports_core.specs.declared.numbering.Numbering.TheVariants.{Formatted}
 use Rattle.ports_core.specs.Part.{Part, Output, gets_none, gets_lines}
 use Rattle.ports_core.specs.declared.file_writer.Opening.{Opening}
 use Rattle.ports_core.specs.declared.file_writer.Opening.TheVariants.{Never, Late, AtOnce}
@@ -20,7 +20,7 @@ sizes_wanted style = if style.quiet then gets_none else gets_lines size_of_file
 
 -- its files are numbered from 0, as they are made
 abbrev pub naming_of : Style → Naming
-naming_of style = record { prefix = style.prefix; numbering = Decimal style.digits; ending = [] }
+naming_of style = record { prefix = style.prefix; numbering = Formatted style.form; ending = style.ending }
 
 -- how they are made
 abbrev pub manner_of : Style → Manner

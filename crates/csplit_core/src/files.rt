@@ -12,13 +12,14 @@ use std::alloc::Global;
 ///
 /// # Errors
 ///
-/// `Memory` where there is no room for what names begin with.
+/// `Memory` where there is no room for what names begin and end with.
 pub(crate) fn writer_of(alloc: Global, style: &Style) -> Result<FileWriter, Fault>
     ensures ok { IfOk result (λ writer. seen_writer writer ≡ new_for style.now) }
     ensures err { IfErr result (λ fault. fault ≡ Fault.Memory) }
 {
     let tells = tells_of(style);
-    let naming = Naming::new(alloc, &style.prefix, Numbering::Decimal(style.digits), "")?;
+    let numbering = Numbering::Formatted(style.form);
+    let naming = Naming::new(alloc, &style.prefix, numbering, &style.ending)?;
     Ok(FileWriter::new(alloc, naming, tells, Keeps::All))
 }
 

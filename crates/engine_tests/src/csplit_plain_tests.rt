@@ -1,6 +1,6 @@
 //! The engine beside the plain program: lists of operands on short texts, cut into pieces in each way.
 use crate::csplit_plain::{Made, plain};
-use crate::csplit_tests::run;
+use crate::csplit_tests::{TWO_DIGITS, run};
 use crate::test_texts::{pieces_of, short_texts};
 use csplit_core::{Operands, Style, read_operands};
 use mem_core::MemOut;
@@ -177,7 +177,8 @@ fn agrees_on_text(
     for options in 0..8 {
         let style = Style {
             prefix: String::from_str(alloc, "xx")?,
-            digits: 2,
+            form: TWO_DIGITS,
+            ending: String::new(alloc),
             keep: options % 2 == 1,
             quiet: false,
             elide: options / 2 % 2 == 1,

@@ -6,7 +6,7 @@ ghost use Rattle.csplit_core.specs.CsplitState.{IsReady};
 use crate::play::{feed, feed_and_close, has_files};
 use csplit_core::{Csplitter, Operands, Style, read_operands};
 use mem_core::MemOut;
-use ports_core::{Fault, Guarded, Outs};
+use ports_core::{Base, Fault, Filling, Form, Guarded, Outs};
 use std::alloc::{AllocError, Global};
 use std::process::Abort;
 use std::test::Fail;
@@ -382,10 +382,20 @@ fn give_up_twice(
     Ok(())
 }
 
+/// Numbers in decimal, with two digits at least.
+pub(crate) const TWO_DIGITS: Form = Form {
+    base: Base::Decimal,
+    is_marked: false,
+    width: 0,
+    filling: Filling::BlanksBefore,
+    precision: 2,
+};
+
 pub(crate) fn style_of(alloc: Global, options: Options) -> Result<Style, AllocError> {
     Ok(Style {
         prefix: String::from_str(alloc, "xx")?,
-        digits: 2,
+        form: TWO_DIGITS,
+        ending: String::new(alloc),
         keep: matches!(options, Options::Keep),
         quiet: matches!(options, Options::Quiet),
         elide: matches!(options, Options::Elide | Options::SuppressElide),

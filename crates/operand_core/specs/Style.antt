@@ -1,11 +1,13 @@
--- How `csplit` makes files of sections (POSIX.1-2017, XCU csplit, OPTIONS; `elide` and `suppress` are GNU's).
+-- How `csplit` makes files of sections (POSIX.1-2017, XCU csplit, OPTIONS; `-b`, `elide` and `suppress` are GNU's).
 use Rattle.std.specs.Prelude.{ℕ, Bool, List}
+use Rattle.ports_core.specs.declared.form.Form.{Form}
 
 -- how files are made
 pub record Style : Type 0 where
-  -- what a file's name begins with, and how many digits follow at least
+  -- what a file's name has before its number and after it, and how the number is written
   pub prefix : List ℕ
-  pub digits : ℕ
+  pub form : Form
+  pub ending : List ℕ
   -- files are kept after a fault
   pub keep : Bool
   -- no sizes are written

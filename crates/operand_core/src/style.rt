@@ -1,16 +1,19 @@
 //! How files are made of sections.
 ghost use Rattle.std.specs.Prelude.{◌≡◌, IfOk};
 
+use ports_core::Form;
 use std::alloc::{AllocError, Global};
 use std::marker::Model;
 
-/// How `csplit` makes files (POSIX.1-2017, XCU csplit, OPTIONS; `elide` and `suppress` are GNU's).
+/// How `csplit` makes files (POSIX.1-2017, XCU csplit, OPTIONS; `-b`, `elide` and `suppress` are GNU's).
 #[derive(Drop)]
 pub struct Style {
-    /// What a file's name begins with (`-f`).
+    /// What a file's name has before its number (`-f`, `-b`).
     pub prefix: String,
-    /// The least number of digits that follow it in a name, filled with zeros, 0 to 255 (`-n`).
-    pub digits: u32,
+    /// How the number is written (`-n`, `-b`).
+    pub form: Form,
+    /// What it has after the number (`-b`).
+    pub ending: String,
     /// Files are kept after a fault (`-k`).
     pub keep: bool,
     /// No sizes are written (`-s`).
@@ -27,11 +30,11 @@ impl Model for Style {
 
     ghost Value = { Asked };
 
-    ghost view = { λ s. record { prefix = string_bytes s.prefix; digits = s.digits; keep = s.keep; quiet = s.quiet; elide = s.elide; suppress = s.suppress } };
+    ghost view = { λ s. record { prefix = string_bytes s.prefix; form = s.form; ending = string_bytes s.ending; keep = s.keep; quiet = s.quiet; elide = s.elide; suppress = s.suppress } };
 }
 
 impl Style {
-    /// The same style, with a prefix of its own, for which it takes memory.
+    /// The same style, with texts of its own, for which it takes memory.
     ///
     /// # Errors
     ///
@@ -41,7 +44,8 @@ impl Style {
     {
         Ok(Style {
             prefix: String::from_str(alloc, &self.prefix)?,
-            digits: self.digits,
+            form: self.form,
+            ending: String::from_str(alloc, &self.ending)?,
             keep: self.keep,
             quiet: self.quiet,
             elide: self.elide,

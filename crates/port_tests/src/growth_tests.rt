@@ -7,7 +7,8 @@ ghost use Rattle.ports_core.specs.Slot.{is_writable};
 use crate::compare::same;
 use mem_core::{Edit, MemIn, MemOut, MemWatch};
 use ports_core::{
-    Alphabet, Fault, Inputs, Mode, Names, Outs, Tool, header, message, numbered, write_whole,
+    Alphabet, Base, Fault, Filling, Form, Inputs, Mode, Names, Naming, Numbering, Outs, Tool,
+    header, message, write_whole,
 };
 use std::alloc::Global;
 use std::process::Abort;
@@ -31,7 +32,7 @@ enum Call {
     Turn,
     Names,
     Next,
-    Numbered,
+    Formatted,
     Header,
     Message,
 }
@@ -52,7 +53,7 @@ const CALLS: &[Call] = &[
     Call::Turn,
     Call::Names,
     Call::Next,
-    Call::Numbered,
+    Call::Formatted,
     Call::Header,
     Call::Message,
 ];
@@ -115,10 +116,23 @@ fn makes_more(rt: &impl Abort, alloc: Global, call: Call) -> Result<(), Fault> {
         Call::Turn => turn(rt, alloc),
         Call::Names => Names::new(alloc, "x", Alphabet::Letters, 2, true, ".txt").map(|_| ()),
         Call::Next => next(rt, alloc),
-        Call::Numbered => numbered(alloc, "xx", 2, 7).map(|_| ()),
+        Call::Formatted => formatted(alloc),
         Call::Header => header(alloc, "f", false).map(|_| ()),
         _ => message(alloc, Tool::Head, &Fault::Open(1), "g").map(|_| ()),
     }
+}
+
+/// A name whose number outgrows its room.
+fn formatted(alloc: Global) -> Result<(), Fault> {
+    let form = Form {
+        base: Base::Hex,
+        is_marked: true,
+        width: 40,
+        filling: Filling::BlanksAfter,
+        precision: 30,
+    };
+    let naming = Naming::new(alloc, "xx", Numbering::Formatted(form), ".txt")?;
+    naming.name_at(7).map(|_| ())
 }
 
 fn input(rt: &impl Abort, alloc: Global) -> Result<(), Fault> {

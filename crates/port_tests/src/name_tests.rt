@@ -1,6 +1,6 @@
-//! Names at the places where they widen or end, numbers in names, and headers.
+//! Names at the places where they widen or end, numbers in a form, and headers.
 use crate::compare::same_bytes;
-use ports_core::{Alphabet, Fault, Names, Naming, Numbering, header, numbered};
+use ports_core::{Alphabet, Base, Fault, Filling, Form, Names, Naming, Numbering, header};
 use std::test::Fail;
 
 /// Draws names up to a place, and returns the one there.
@@ -115,14 +115,159 @@ fn names_have_an_ending(rt: HostRuntime) -> Result<(), Fail> {
     Ok(())
 }
 
-/// How many digits a number has at least, the number, and the name with it.
-const NUMBERED: &[(u32, u64, &str)] = &[(2, 100, "xx100"), (0, 0, "xx0"), (2, 7, "xx07")];
+/// A base, whether numbers are marked, a width, what fills it, and a precision.
+type Written = (Base, bool, u8, Filling, u8);
+
+fn form(written: Written) -> Form {
+    let (base, is_marked, width, filling, precision) = written;
+    Form {
+        base,
+        is_marked,
+        width,
+        filling,
+        precision,
+    }
+}
+
+/// Forms, a number, and what C's `printf` writes of it.
+const FORMATTED: &[(Written, u64, &str)] = &[
+    ((Base::Decimal, false, 0, Filling::BlanksBefore, 1), 0, "0"),
+    ((Base::Decimal, false, 0, Filling::BlanksBefore, 1), 7, "7"),
+    (
+        (Base::Decimal, false, 0, Filling::BlanksBefore, 1),
+        u64::MAX,
+        "18446744073709551615",
+    ),
+    (
+        (Base::Decimal, false, 5, Filling::BlanksBefore, 1),
+        0,
+        "    0",
+    ),
+    (
+        (Base::Decimal, false, 5, Filling::BlanksBefore, 1),
+        12_345,
+        "12345",
+    ),
+    (
+        (Base::Decimal, false, 5, Filling::BlanksBefore, 1),
+        123_456,
+        "123456",
+    ),
+    (
+        (Base::Decimal, false, 5, Filling::BlanksAfter, 1),
+        0,
+        "0    ",
+    ),
+    (
+        (Base::Decimal, false, 5, Filling::BlanksAfter, 1),
+        12_345,
+        "12345",
+    ),
+    (
+        (Base::Decimal, false, 5, Filling::BlanksAfter, 1),
+        123_456,
+        "123456",
+    ),
+    ((Base::Decimal, false, 3, Filling::Zeros, 1), 7, "007"),
+    ((Base::Decimal, false, 3, Filling::Zeros, 1), 999, "999"),
+    ((Base::Decimal, false, 3, Filling::Zeros, 1), 1000, "1000"),
+    ((Base::Decimal, false, 0, Filling::Zeros, 1), 0, "0"),
+    (
+        (Base::Decimal, false, 0, Filling::BlanksBefore, 3),
+        0,
+        "000",
+    ),
+    (
+        (Base::Decimal, false, 0, Filling::BlanksBefore, 3),
+        7,
+        "007",
+    ),
+    (
+        (Base::Decimal, false, 0, Filling::BlanksBefore, 3),
+        1000,
+        "1000",
+    ),
+    (
+        (Base::Decimal, false, 5, Filling::BlanksBefore, 3),
+        7,
+        "  007",
+    ),
+    ((Base::Decimal, false, 0, Filling::BlanksBefore, 0), 0, ""),
+    ((Base::Decimal, false, 0, Filling::BlanksBefore, 0), 1, "1"),
+    (
+        (Base::Decimal, false, 3, Filling::BlanksBefore, 0),
+        0,
+        "   ",
+    ),
+    ((Base::Octal, false, 0, Filling::BlanksBefore, 1), 8, "10"),
+    (
+        (Base::Octal, false, 0, Filling::BlanksBefore, 1),
+        u64::MAX,
+        "1777777777777777777777",
+    ),
+    ((Base::Octal, true, 0, Filling::BlanksBefore, 1), 0, "0"),
+    ((Base::Octal, true, 0, Filling::BlanksBefore, 1), 8, "010"),
+    (
+        (Base::Octal, true, 0, Filling::BlanksBefore, 1),
+        u64::MAX,
+        "01777777777777777777777",
+    ),
+    ((Base::Octal, true, 0, Filling::BlanksBefore, 0), 0, "0"),
+    ((Base::Octal, true, 0, Filling::BlanksBefore, 3), 8, "010"),
+    ((Base::Octal, true, 0, Filling::BlanksBefore, 3), 64, "0100"),
+    ((Base::Octal, true, 5, Filling::Zeros, 1), 8, "00010"),
+    ((Base::Octal, true, 2, Filling::Zeros, 1), 8, "010"),
+    ((Base::Hex, true, 0, Filling::BlanksBefore, 1), 0, "0"),
+    ((Base::Hex, true, 0, Filling::BlanksBefore, 1), 255, "0xff"),
+    (
+        (Base::Hex, true, 0, Filling::BlanksBefore, 1),
+        u64::MAX,
+        "0xffffffffffffffff",
+    ),
+    ((Base::Hex, true, 6, Filling::Zeros, 1), 0, "000000"),
+    ((Base::Hex, true, 6, Filling::Zeros, 1), 255, "0x00ff"),
+    (
+        (Base::Hex, true, 6, Filling::Zeros, 1),
+        1_048_575,
+        "0xfffff",
+    ),
+    (
+        (Base::Hex, true, 8, Filling::BlanksBefore, 3),
+        0,
+        "     000",
+    ),
+    (
+        (Base::Hex, true, 8, Filling::BlanksBefore, 3),
+        10,
+        "   0x00a",
+    ),
+    (
+        (Base::Hex, true, 8, Filling::BlanksAfter, 1),
+        10,
+        "0xa     ",
+    ),
+    (
+        (Base::Capitals, false, 0, Filling::BlanksBefore, 2),
+        10,
+        "0A",
+    ),
+    (
+        (Base::Capitals, false, 0, Filling::BlanksBefore, 2),
+        u64::MAX,
+        "FFFFFFFFFFFFFFFF",
+    ),
+    ((Base::Capitals, true, 4, Filling::Zeros, 1), 171, "0XAB"),
+];
 
 #[test]
-fn numbers_in_names(rt: HostRuntime) -> Result<(), Fail> {
-    for (digits, number, wanted) in NUMBERED {
-        let name = numbered(rt.alloc(), "xx", *digits, *number)?;
-        same_bytes(&rt, name.as_bytes(), wanted.as_bytes());
+fn numbers_have_a_form(rt: HostRuntime) -> Result<(), Fail> {
+    for (written, number, wanted) in FORMATTED {
+        let numbering = Numbering::Formatted(form(*written));
+        let naming = Naming::new(rt.alloc(), "", numbering, "")?;
+        assert!(rt;
+            is_name(naming.name_at(*number)?, Some(wanted.as_bytes())),
+            "{wanted} at {number}"
+        );
     }
     Ok(())
 }

@@ -22,3 +22,4 @@ pub mod ShareLemmas
 pub mod OpenLemmas
 pub mod FileWriterLemmas
 pub mod WriterSteps
+pub mod FormLemmas

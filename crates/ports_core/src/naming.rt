@@ -84,7 +84,7 @@ impl Naming {
 const ROOM: usize = 16;
 
 /// The name at a place that has one.
-pub(crate) fn write_name(
+fn write_name(
     alloc: Global,
     prefix: &str,
     numbering: Numbering,

@@ -1,9 +1,8 @@
-ghost use Rattle.std.specs.Prelude.{nat_lt, ◌≡◌, ◌++◌, ◌∷◌, [], ◌+◌, ◌-◌, ◌*◌, ◌≤◌, ◌<◌, ◌^◌, replicate, decimal, string_bytes, IsTrue, IfOk, SomeIff};
-ghost use Rattle.ports_core.specs.Name.{radix, written, suffix_at, has_suffix, widening_suffix, zero_filled, IsWide, block_size};
+ghost use Rattle.std.specs.Prelude.{nat_lt, ◌≡◌, ◌++◌, ◌∷◌, [], ◌+◌, ◌-◌, ◌*◌, ◌≤◌, ◌<◌, ◌^◌, replicate, string_bytes, IsTrue, IfOk, SomeIff};
+ghost use Rattle.ports_core.specs.Name.{radix, written, suffix_at, has_suffix, widening_suffix, IsWide, block_size};
 ghost use Rattle.ports_core.specs.inner.Name.{IsInBlock};
 
-use crate::Alphabet;
-use itoa::Buffer;
+use crate::{Alphabet, Form};
 use std::alloc::AllocError;
 
 /// How a name writes the number of its place.
@@ -15,9 +14,8 @@ pub enum Numbering {
     /// With this many characters of the alphabet, at least 1, and with more of them before the first character becomes
     /// the last of the alphabet: so there is always a next number, and they stay in order (GNU coreutils manual, split).
     Widening(Alphabet, u32),
-    /// In decimal, filled with zeros on the left to this many digits, and whole where it has more (POSIX.1-2017, XCU
-    /// csplit, `-n`).
-    Decimal(u32),
+    /// In a form, with at least as many digits as it says (POSIX.1-2017, XCU csplit, `-n`; its `-b` is GNU's).
+    Formatted(Form),
 }
 
 impl Numbering {
@@ -29,7 +27,7 @@ impl Numbering {
             Numbering::Fixed(alphabet, width, from) => {
                 is_counted(alphabet, width, number_at(from, place))
             }
-            Numbering::Widening(..) | Numbering::Decimal(_) => true,
+            Numbering::Widening(..) | Numbering::Formatted(_) => true,
         }
     }
 
@@ -44,7 +42,7 @@ impl Numbering {
                 push_sum(name, alphabet, width as usize, number_at(from, place))
             }
             Numbering::Widening(alphabet, width) => push_widened(name, alphabet, width, place),
-            Numbering::Decimal(digits) => push_decimal(name, digits as usize, place),
+            Numbering::Formatted(form) => form.push(name, place),
         }
     }
 }
@@ -131,7 +129,7 @@ fn push_sum(
 }
 
 /// Appends a number with this many digits.
-fn push_number(
+pub(crate) fn push_number(
     name: &mut String,
     alphabet: Alphabet,
     digits: usize,
@@ -148,17 +146,7 @@ fn push_number(
     push_ascii(name, alphabet.character((number % radix) as u8))
 }
 
-/// Appends a number in decimal, with zeros before it where it has fewer digits.
-fn push_decimal(name: &mut String, digits: usize, number: u64) -> Result<(), AllocError>
-    ensures { IfOk result (λ _. string_bytes name.new ≡ string_bytes name.old ++ zero_filled digits (decimal number)) }
-{
-    let mut buffer = Buffer::new();
-    let text = buffer.format(number);
-    push_copies(name, b'0', digits.saturating_sub(text.len()))?;
-    name.push_str(text)
-}
-
-fn push_copies(name: &mut String, character: u8, count: usize) -> Result<(), AllocError>
+pub(crate) fn push_copies(name: &mut String, character: u8, count: usize) -> Result<(), AllocError>
     requires { character < 128 }
     ensures { IfOk result (λ _. string_bytes name.new ≡ string_bytes name.old ++ replicate count character) }
 {

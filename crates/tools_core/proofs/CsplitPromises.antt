@@ -10,20 +10,21 @@ use Rattle.operand_core.specs.Reading.{Aim, line, match, Spelled, Aimed, aims, f
 use Rattle.operand_core.specs.Word.{Spelling, number, search, spelling, closed_at, repeated, numbered}
 use Rattle.csplit_core.specs.Operand.{is_kept, Line, has_more}
 use Rattle.tools_core.specs.Promises.{SkipNothing, skips, Run, Does, HasInput, AreNumbered, AreSections, IsSound, contents_of, files_of, in_turn, last_section, left_out, text_at}
-use Rattle.std.proofs.lemmas.Bool.{cond_both, false≢true}
+use Rattle.std.proofs.lemmas.Bool.{cond_both, false≢true, lt-ltb}
 use Rattle.std.proofs.lemmas.List.{append-nil, length-map, map-append, drop-drop, take-append-drop}
 use Rattle.std.proofs.lemmas.List.Elements.{All-append, All-cons, All-map, All-nil}
 use Rattle.seg_core.specs.Line.{joined, lines_of}
 use Rattle.seg_core.proofs.FirstLines.{joined-append}
 use Rattle.seg_core.proofs.LinesOf.{joined-lines_of}
-use Rattle.ports_core.specs.Name.{numbered_name}
+use Rattle.ports_core.specs.Name.{name_at}
+use Rattle.ports_core.proofs.OrderLemmas.{no_two}
 use Rattle.ports_core.specs.Part.{File}
 use Rattle.ports_core.specs.Slot.{Slot}
 use Rattle.ports_core.specs.declared.slot.Mode.TheVariants.{Fresh}
 use Rattle.operand_core.specs.Style.{Style}
 use Rattle.csplit_core.specs.Csplit.{verdict_of}
 use Rattle.csplit_core.specs.Input.{all_lines, marked, newline}
-use Rattle.csplit_core.specs.Output.{file_in, manner_of, shares_in, state_in}
+use Rattle.csplit_core.specs.Output.{file_in, manner_of, naming_of, shares_in, state_in}
 use Rattle.ports_core.specs.Draft.{Share, share, file_at, files_from, made_of}
 use Rattle.ports_core.specs.declared.file_writer.Opening.TheVariants.{Never, Late, AtOnce}
 use Rattle.ports_core.specs.declared.slot.State.{State as SlotState}
@@ -37,7 +38,7 @@ use Rattle.csplit_core.proofs.WholeLemmas.{ends_after_all, none_lost_at_end}
 use Rattle.words_core.specs.CsplitAsked.{CsplitAsked}
 use Rattle.words_core.specs.declared.settings.Settings.TheVariants.{Csplit}
 use Rattle.tools_core.specs.Tasks.{csplit_task}
-use Rattle.tools_core.proofs.SplitPromises.{numbered_in_order, AreNamed, bytes_written, named_step}
+use Rattle.tools_core.proofs.SplitPromises.{formatted_in_order, AreNamed, bytes_written, named_step}
 use Rattle.tools_core.proofs.LeftLemmas.{each_made, each_section, slot_of}
 use Rattle.tools_core.proofs.PromiseLemmas.{did_one, one_made}
 
@@ -194,10 +195,10 @@ files_joined style (section ∷ sections) kept =
 
 -- Their names
 
-numbered_from : (style : Style) (start : ℕ) (shares : List Share) → AreNamed (numbered_name style.prefix style.digits) start (files_from (manner_of style) start shares)
+numbered_from : (style : Style) (start : ℕ) (shares : List Share) → AreNamed (name_at (naming_of style)) start (files_from (manner_of style) start shares)
 numbered_from style start [] k within = absurd (omega (arith, within))
 numbered_from style start (one ∷ shares) k within =
-    named_step (numbered_name style.prefix style.digits) start (file_at (manner_of style) start one) (files_from (manner_of style) (start + 1) shares) [] true refl (numbered_from style (start + 1) shares) (λ k within. absurd (omega (arith, within))) k within
+    named_step (name_at (naming_of style)) start (file_at (manner_of style) start one) (files_from (manner_of style) (start + 1) shares) [] true refl (numbered_from style (start + 1) shares) (λ k within. absurd (omega (arith, within))) k within
 
 -- What a run leaves
 
@@ -228,7 +229,7 @@ is_csplit {run} {asked} {input} does has =
       contents = ap (map (λ (file : Slot). file.written)) files ∙ bytes_written _ ∙ files_have asked.style 0 (shares_in asked.style sections) ∙ shares_have asked.style sections;
     }
 
-pub are_numbered : (run : Run) (asked : CsplitAsked) (input : List ℕ) → Does run (Csplit asked) → HasInput run input → AreNumbered asked.style.prefix asked.style.digits (files_of run)
+pub are_numbered : (run : Run) (asked : CsplitAsked) (input : List ℕ) → Does run (Csplit asked) → HasInput run input → AreNumbered asked.style (files_of run)
 are_numbered run asked input does has =
     let split = is_csplit does has in
     let lines = all_lines input in
@@ -238,11 +239,14 @@ are_numbered run asked input does has =
     let shares = shares_in asked.style sections in
     let files = map slot_of (files_from (manner_of asked.style) 0 shares) in
     let size : length (map (λ (file : Slot). file.name) files) ≡ length files = length-map files (λ (file : Slot). file.name) in
-    let named : (place : ℕ) → place < length files → text_at (map (λ (file : Slot). file.name) files) place ≡ numbered_name asked.style.prefix asked.style.digits place =
-    λ place within. numbered_from asked.style 0 shares place within ∙ ap (numbered_name asked.style.prefix asked.style.digits) (omega arith) in
+    let named : (place : ℕ) → place < length files → text_at (map (λ (file : Slot). file.name) files) place ≡ name_at (naming_of asked.style) place =
+    λ place within. numbered_from asked.style 0 shares place within ∙ ap (name_at (naming_of asked.style)) (omega arith) in
+    let naming = naming_of asked.style in
     rw split.files (record {
       named = named;
-      in_order = λ few least. numbered_in_order asked.style.prefix asked.style.digits (map (λ (file : Slot). file.name) files) (λ place within. named place (omega (arith, size, within))) (omega (arith, size, few)) (omega (arith, size, least));
+      apart = λ least one other first second same.
+          no_two naming one other tt (lt-ltb _ _ (omega (arith, first, least))) (lt-ltb _ _ (omega (arith, second, least))) (sym (named one first) ∙ same ∙ named other second);
+      in_order = λ few least. formatted_in_order naming asked.style.form (map (λ (file : Slot). file.name) files) refl (λ place within. named place (omega (arith, size, within))) (omega (arith, size, few)) (omega (arith, size, least));
       sound = All-map (IsSound Fresh) slot_of _ (each_made (λ (file : File). IsSound Fresh (slot_of file)) (manner_of asked.style) 0 shares
           (each_section (λ one. (place : ℕ) → IsSound Fresh (slot_of (file_at (manner_of asked.style) place one))) asked.style sections
           (All-append IsClosed (map (section_of lines) steps) _ (All-map IsClosed (section_of lines) steps (λ k step within bytes place. (refl, refl, refl))) (All-cons IsClosed _ [] (λ bytes place. (refl, refl, refl)) (All-nil IsClosed)))));

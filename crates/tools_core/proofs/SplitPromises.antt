@@ -3,8 +3,9 @@ use Rattle.std.proofs.lemmas.Grind.{common_steps}
 use Rattle.std.proofs.Common.{◌≡◌, ℕ, ◌+◌, ◌-◌, ◌/◌, ◌%◌, ◌^◌, ◌<◌, ◌≤◌, zero, suc, List, [], ◌∷◌, ◌++◌, length, inl, inr, refl, sym, ◌∙◌, ap, arith, append_assoc, length-append, Less, nat_cmp, append-nil, div-add-mod', rules, ◌*◌, min, Bool, true, false, IsTrue, not, cond, map, take, drop, subst, filter, get_or, Some, None, All, suc-mul}
 use Rattle.std.specs.Cmp.Lexicographic.{slice_cmp}
 use Rattle.std.proofs.lemmas.Bool.{cases_lt, cond_both, false≢true, lt-ltb}
-use Rattle.ports_core.specs.Name.{numbered_name, IsWide, keeps_order, Naming, has_name, name_at}
-use Rattle.ports_core.specs.declared.numbering.Numbering.TheVariants.{Decimal}
+use Rattle.ports_core.specs.Name.{ordered_count, IsWide, keeps_order, Naming, has_name, name_at}
+use Rattle.ports_core.specs.declared.numbering.Numbering.TheVariants.{Formatted}
+use Rattle.ports_core.specs.declared.form.Form.{Form}
 use Rattle.ports_core.proofs.OrderLemmas.{in_order}
 use Rattle.tools_core.specs.Promises.{AreInOrder, text_at, Run, Does, HasInput, AreListed, ArePieces, AreLinePieces, AreUncut, AreDealt, EndsLine, IsFilled, IsSound, contents_of, files_of, lines_telling, output_of}
 use Rattle.std.proofs.lemmas.List.{length-map, length-take, length-take-le, length-drop, get_or-take, get_or_past, take-append-drop, take-append-le, take_all}
@@ -55,10 +56,11 @@ pub order_by : (name : ℕ → List ℕ) (names : List (List ℕ)) → ((place :
     → ((k : ℕ) → suc k < length names → slice_cmp nat_cmp (name k) (name (suc k)) ≡ Less) → AreInOrder names
 order_by name names named less = grind (arith, common_steps, by_places)
 
-pub numbered_in_order : (prefix : List ℕ) (digits : ℕ) (names : List (List ℕ)) → ((place : ℕ) → place < length names → text_at names place ≡ numbered_name prefix digits place)
-    → length names ≤ 10 ^ digits → length names ≤ 2 ^ 64 → AreInOrder names
-numbered_in_order prefix digits names named few least =
-    order_by (numbered_name prefix digits) names named (λ k next. in_order (record { prefix = prefix; numbering = Decimal digits; ending = [] }) k (suc k) tt (omega arith) (lt-ltb _ _ (omega (arith, next, least))) (lt-ltb _ _ (omega (arith, next, few))))
+-- those of numbers that have one count of digits
+pub formatted_in_order : (naming : Naming) (form : Form) (names : List (List ℕ)) → naming.numbering ≡ Formatted form
+    → ((place : ℕ) → place < length names → text_at names place ≡ name_at naming place) → length names ≤ ordered_count form → length names ≤ 2 ^ 64 → AreInOrder names
+formatted_in_order naming form names is named few least =
+    order_by (name_at naming) names named (λ k next. in_order naming k (suc k) (rw is tt) (omega arith) (rw is (lt-ltb _ _ (omega (arith, next, least)))) (rw is (lt-ltb _ _ (omega (arith, next, few)))))
 
 -- The pieces, and their files
 

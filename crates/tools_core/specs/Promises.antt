@@ -9,7 +9,7 @@ use Rattle.seg_core.specs.Line.{delimiters, ends_with, first_lines, joined, line
 use Rattle.ports_core.specs.Draft.{opening_line}
 use Rattle.ports_core.specs.Inputs.{largest_piece}
 use Rattle.ports_core.specs.Message.{SaysAll}
-use Rattle.ports_core.specs.Name.{name_at, numbered_name}
+use Rattle.ports_core.specs.Name.{name_at, ordered_count}
 use Rattle.ports_core.specs.Part.{IsBeginning}
 use Rattle.ports_core.specs.Slot.{Slot, has_file, slot_at}
 use Rattle.ports_core.specs.Source.{Content, Source, source_at, source_of}
@@ -31,7 +31,7 @@ use Rattle.operand_core.specs.Style.{Style}
 use Rattle.operand_core.specs.declared.operand.Operand.{Operand}
 use Rattle.csplit_core.specs.Input.{all_lines}
 use Rattle.csplit_core.specs.Operand.{Line}
-use Rattle.csplit_core.specs.Output.{file_in}
+use Rattle.csplit_core.specs.Output.{file_in, naming_of as section_naming}
 use Rattle.csplit_core.specs.Plan.{Step}
 use Rattle.csplit_core.specs.Planned.{Plan, plan}
 use Rattle.csplit_core.specs.Section.{lines_between, section_of, whole_end, whole_sections}
@@ -254,13 +254,16 @@ pub record AreSections (style : Style) (operands : List Operand) (input : List �
   pub files : contents ≡ flat_map (file_in style)
       (whole_sections (all_lines input) (plan style.suppress operands (all_lines input)))
 
--- The files are numbered in their order: each name is the prefix and the file's number, from 0 on, filled with zeros to
--- this many digits. Where no number has more digits, this is the order of the names, byte by byte. Each file was made
--- anew, and is sound.
-pub record AreNumbered (prefix : List ℕ) (digits : ℕ) (files : List Slot) : Type 0 where
+-- The files are numbered in their order: each has its place's name, from 0 on, and no two have one name. Where there are
+-- no more than numbers of one count of digits, which nothing marks, this is the order of the names, byte by byte. Each
+-- file was made anew, and is sound.
+pub record AreNumbered (style : Style) (files : List Slot) : Type 0 where
   pub named : (place : ℕ) → place < length files
-      → text_at (map (λ (file : Slot). file.name) files) place ≡ numbered_name prefix digits place
-  pub in_order : length files ≤ 10 ^ digits → length files ≤ 2 ^ 64
+      → text_at (map (λ (file : Slot). file.name) files) place ≡ name_at (section_naming style) place
+  pub apart : length files ≤ 2 ^ 64 → (one other : ℕ) → one < length files → other < length files
+      → text_at (map (λ (file : Slot). file.name) files) one ≡ text_at (map (λ (file : Slot). file.name) files) other
+      → one ≡ other
+  pub in_order : length files ≤ ordered_count style.form → length files ≤ 2 ^ 64
       → AreInOrder (map (λ (file : Slot). file.name) files)
   pub sound : All (IsSound Fresh) files
 

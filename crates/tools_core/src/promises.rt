@@ -82,12 +82,12 @@ pub fn split_loses_nothing()
     ensures dealt { (split : Run) (asked : SplitAsked) (n delim : ℕ) (input : List ℕ) → Does split (Split asked) → HasInput split input → asked.cut ≡ Round n delim → AreDealt delim n asked.elide input (contents_of split) }
 {}
 
-/// `csplit` loses nothing. Its files are numbered in their order, which is that of their names, byte by byte, while no number
-/// has more digits than were asked for. Where no section is skipped (`%`) and no line is left out at a cut
+/// `csplit` loses nothing. Its files are numbered in their order, and no two have one name. Their order is that of their names,
+/// byte by byte, while no number has more digits than were asked for, and no `#` marks them. Where no section is skipped (`%`) and no line is left out at a cut
 /// (`--suppress-matched`), they are joined the input. In any case each line is in just one section, in the order of the input,
 /// or is left out at a cut, and the files have just the sections that are kept; with `-z` an empty one has no file.
 pub fn csplit_loses_nothing()
-    ensures numbered { (csplit : Run) (asked : CsplitAsked) (input : List ℕ) → Does csplit (Csplit asked) → HasInput csplit input → AreNumbered asked.style.prefix asked.style.digits (files_of csplit) }
+    ensures numbered { (csplit : Run) (asked : CsplitAsked) (input : List ℕ) → Does csplit (Csplit asked) → HasInput csplit input → AreNumbered asked.style (files_of csplit) }
     ensures joined { (csplit : Run) (asked : CsplitAsked) (input : List ℕ) → Does csplit (Csplit asked) → HasInput csplit input → asked.style.suppress ≡ false → SkipNothing asked.operands → joined (contents_of csplit) ≡ input }
     ensures sections { (csplit : Run) (asked : CsplitAsked) (input : List ℕ) → Does csplit (Csplit asked) → HasInput csplit input → (operands : List Operand) × Asks asked.operands operands × AreSections asked.style operands input (contents_of csplit) }
 {}

@@ -13,14 +13,13 @@ use Rattle.ports_core.specs.declared.tool.Tool.TheVariants as tool
 use Rattle.ports_core.specs.declared.slot.Mode.{Mode}
 use Rattle.ports_core.specs.declared.slot.Mode.TheVariants as mode
 use Rattle.ports_core.specs.declared.slot.Mode.TheVariants.{Fresh}
-use Rattle.operand_core.specs.Style.{Style}
 use Rattle.seg_core.specs.declared.cut.Cut.{Cut}
 use Rattle.words_core.specs.declared.table.Choice.{Choice}
-use Rattle.words_core.specs.declared.table.Choice.TheVariants.{Lines, Bytes, SuffixLength, AdditionalSuffix, Separator, Prefix, Digits, Append, Follow, NoEffect, OutputError, Looks as HowOften, Pause as HowLong, Process as WaitsFor}
+use Rattle.words_core.specs.declared.table.Choice.TheVariants.{Lines, Bytes, SuffixLength, AdditionalSuffix, Separator, Prefix, Digits, SuffixFormat, Append, Follow, NoEffect, OutputError, Looks as HowOften, Pause as HowLong, Process as WaitsFor}
 use Rattle.words_core.specs.declared.tail_words.FollowOptions.{FollowOptions}
-use Rattle.words_core.specs.Value.{Meant, Breaking, Byte, Counted, Following, Looks, Pause, Process, Text, Width}
+use Rattle.words_core.specs.Value.{Meant, Breaking, Byte, Counted, Following, Formatted, Looks, Pause, Process, Text, Width}
 use Rattle.words_core.specs.Given.{GivenOperand, GivenOption, asked_by}
-use Rattle.words_core.specs.CsplitWords.{csplit_by, plain}
+use Rattle.words_core.specs.CsplitWords.{CsplitOptions, csplit_by, plain}
 use Rattle.words_core.specs.EndsAsked.{EndsAsked}
 use Rattle.words_core.specs.SplitAsked.{SplitAsked}
 use Rattle.words_core.specs.EndsWords.{ends_by, ten_lines}
@@ -28,7 +27,7 @@ use Rattle.words_core.specs.SplitWords.{delim_by, is_way, no_options, only_way, 
 use Rattle.words_core.specs.TailWords.{follow_by, no_following}
 use Rattle.words_core.specs.TeeWords.{mode_by, on_broken_by}
 use Rattle.words_core.specs.Words.{about_or, or_later, settings_for, topic_in, topic_of, work_for}
-use Rattle.words_core.specs.Laws.{LastDecides, says, amount_of, appends, counts, counts_digits, counts_looks, counts_pause, names_process, drops_sizes, elides_files, tells_of_files, ends_with_zero, gives_ending, has, heads, keeps_files, leaves_lines_out, names_prefix, retries, says_followed, says_on_broken, separates, spells, widens}
+use Rattle.words_core.specs.Laws.{LastDecides, says, amount_of, appends, counts, counts_digits, counts_looks, counts_pause, names_process, drops_sizes, elides_files, tells_of_files, ends_with_zero, gives_ending, gives_format, has, heads, keeps_files, leaves_lines_out, names_prefix, retries, says_followed, says_on_broken, separates, spells, widens}
 
 -- a part of what is asked for that some options set, whatever was asked before them, and that the others leave
 
@@ -93,15 +92,17 @@ pub delim-sets : (asked other : ℕ) (choice : Choice) (value : Meant) → delim
 delim-sets asked other Separator (Byte byte) = refl
 delim-sets asked other choice value = refl
 
-pub csplit-sets : (asked other : Style) (choice : Choice) (value : Meant)
+pub csplit-sets : (asked other : CsplitOptions) (choice : Choice) (value : Meant)
     → ((csplit_by asked choice value).prefix ≡ (if names_prefix choice value then (csplit_by other choice value).prefix else asked.prefix))
     × ((csplit_by asked choice value).digits ≡ (if counts_digits choice value then (csplit_by other choice value).digits else asked.digits))
+    × ((csplit_by asked choice value).format ≡ (if gives_format choice value then (csplit_by other choice value).format else asked.format))
     × ((csplit_by asked choice value).keep ≡ (if keeps_files choice then true else asked.keep))
     × ((csplit_by asked choice value).quiet ≡ (if drops_sizes choice then true else asked.quiet))
     × ((csplit_by asked choice value).elide ≡ (if elides_files choice then true else asked.elide))
     × ((csplit_by asked choice value).suppress ≡ (if leaves_lines_out choice then true else asked.suppress))
 csplit-sets asked other Prefix (Text text) = search rules
 csplit-sets asked other Digits (Width digits) = search rules
+csplit-sets asked other SuffixFormat (Formatted format) = search rules
 csplit-sets asked other choice value = search rules
 
 pub append-sets : (old : Mode) (choice : Choice) (value : Meant) → mode_by old choice value ≡ (if appends choice then mode.Append else old)

@@ -8,3 +8,4 @@ pub mod SpellingLemmas
 pub mod ValueLemmas
 mod WidthLemmas
 pub mod WordsLemmas
+pub mod FormatLemmas

@@ -1,16 +1,15 @@
 -- Whatever words spell, sizes, counts of files and widths are within their limits, and files that lines are dealt to have names.
 use Rattle.std.proofs.lemmas.Grind.{common_steps}
-use Rattle.std.proofs.Common.{◌≡◌, ℕ, zero, suc, ◌+◌, ◌-◌, ◌^◌, ◌≤◌, false, refl, arith, List, [], ◌∷◌, ◌++◌, Option, Some, None, Result, Ok, Err, IfOk, inl, inr, ◌⊎◌, rules}
+use Rattle.std.proofs.Common.{◌≡◌, ℕ, zero, suc, ◌+◌, ◌-◌, ◌^◌, ◌≤◌, false, refl, arith, List, [], ◌∷◌, ◌++◌, Option, Some, None, Result, Ok, Err, IfOk, inl, inr, ◌⊎◌}
 use Rattle.std.proofs.lemmas.Bool.{cond_both}
 use Rattle.std.specs.Prelude.{⊤, filter, ◌==◌, if◌then◌else◌}
 use Rattle.ports_core.specs.declared.fault.Fault.{Fault}
 use Rattle.ports_core.specs.declared.alphabet.Alphabet.{Alphabet}
-use Rattle.ports_core.specs.declared.alphabet.Alphabet.TheVariants.{Letters, Digits, Hex}
+use Rattle.ports_core.specs.declared.alphabet.Alphabet.TheVariants.{Letters, Digits, Hex, Capitals, Octal}
 use Rattle.ports_core.specs.Name.{name_count}
 use Rattle.ports_core.proofs.CounterLemmas.{power_positive}
 use Rattle.ports_core.specs.declared.tool.Tool.{Tool}
 use Rattle.ports_core.specs.declared.tool.Tool.TheVariants as tool
-use Rattle.operand_core.specs.Style.{Style}
 use Rattle.seg_core.specs.declared.cut.Cut.{Cut}
 use Rattle.seg_core.specs.declared.cut.Cut.TheVariants as cut
 use Rattle.words_core.specs.declared.table.Choice.{Choice}
@@ -22,7 +21,7 @@ use Rattle.words_core.specs.declared.settings.Topic.{Topic}
 use Rattle.words_core.specs.Table.{OptionRow, ToolRow}
 use Rattle.words_core.specs.Value.{Meant, Width, Number, Text, then_check}
 use Rattle.words_core.specs.Given.{asked_by, Given, GivenOption, GivenOperand}
-use Rattle.words_core.specs.CsplitWords.{asked_of, csplit_by, csplit_asked, style_of, plain}
+use Rattle.words_core.specs.CsplitWords.{csplit_asked}
 use Rattle.words_core.specs.Spelling.{Meaning, meaning_of, given_before, onward, spelled, start_of, given_by}
 use Rattle.words_core.specs.SplitAsked.{SplitAsked}
 use Rattle.words_core.specs.SplitWords.{AreNamed, CanSplit, IsInLimits, IsWidth, is_way, only_way, way_of, split_by, no_options, suffix_for, files_in, split_asked, separator_in, dealt, first_number, fixed, free, least_width, wide_enough}
@@ -106,16 +105,18 @@ Serves cut alphabet from suffix = AreNamed cut alphabet from suffix.width × IsW
 wide_enough-can : (alphabet : Alphabet) (count width : ℕ) → 1 ≤ width → width ≤ 255 → IfOk (wide_enough alphabet count width) (λ suffix. (count ≤ name_count alphabet suffix.width) × IsWidth suffix.width)
 wide_enough-can alphabet count width some most = grind (arith, common_steps)
 
-twenty : (alphabet : Alphabet) {count : ℕ} → count ≤ 10 ^ 20 → count ≤ name_count alphabet 20
-twenty Letters few = omega (arith, few)
-twenty Digits few = omega (arith, few)
-twenty Hex few = omega (arith, few)
+all_writes : (alphabet : Alphabet) {count : ℕ} → count ≤ 10 ^ 20 → count ≤ name_count alphabet 23
+all_writes Letters few = omega (arith, few)
+all_writes Digits few = omega (arith, few)
+all_writes Hex few = omega (arith, few)
+all_writes Capitals few = omega (arith, few)
+all_writes Octal few = omega (arith, few)
 
 least-can : (alphabet : Alphabet) {count : ℕ} → count ≤ 10 ^ 20 → (count ≤ name_count alphabet (least_width alphabet count)) × IsWidth (least_width alphabet count)
 unfolding least_width
 least-can alphabet {count} few =
-    let within = least_within alphabet count 18 2 in
-    (least_writes alphabet count 18 2 (twenty alphabet few), (omega (arith, within.0), omega (arith, within.1)))
+    let within = least_within alphabet count 21 2 in
+    (least_writes alphabet count 21 2 (all_writes alphabet few), (omega (arith, within.0), omega (arith, within.1)))
 
 some_if : (width : ℕ) → (width == 0) ≡ false → 1 ≤ width
 some_if zero given = absurd (cc)
@@ -179,25 +180,10 @@ asked-can given sound =
     then_check-kept (λ _. ⊤) CanSplit (files_in given.operands) _ (anything (files_in given.operands)) (λ files _.
     record { cut = is; width = those.1; named = those.0 })))
 
--- `csplit`: the least number of digits
-
-csplit_by-few : (asked : Style) (choice : Choice) (value : Meant) → asked.digits ≤ 255 → IsSound value → (csplit_by asked choice value).digits ≤ 255
-csplit_by-few asked choice.Digits (Width digits) few is = is
-csplit_by-few asked choice.Prefix (Text text) few is = few
-csplit_by-few asked choice value few is = few
-
-asked_of-few : (style : Style) (operands : List GivenOperand) → style.digits ≤ 255 → IfOk (asked_of style operands) (λ asked. asked.style.digits ≤ 255)
-asked_of-few style (file ∷ operand ∷ operands) few = few
-asked_of-few style operands few = tt
-
-csplit-can : (given : Given) → AreSound given.options → IfOk (csplit_asked given) (λ asked. asked.style.digits ≤ 255)
-csplit-can given sound =
-    asked_of-few (style_of given.options) given.operands (asked-keeps csplit_by (λ asked. asked.digits ≤ 255) csplit_by-few given.options plain (omega arith) sound)
-
 work-can : (which : Tool) (given : Given) → AreSound given.options → IfOk (work_for which given) CanRun
 work-can tool.Tail given sound = grind (arith, common_steps)
 work-can tool.Split given sound = then_check-kept CanSplit CanRun (split_asked given) _ (asked-can given sound) (λ asked is. is)
-work-can tool.Csplit given sound = search (rules, then_check-kept, csplit-can)
+work-can tool.Csplit given sound = then_check-kept (λ _. ⊤) CanRun (csplit_asked given) _ (anything (csplit_asked given)) (λ asked is. tt)
 work-can which given sound = tt
 
 about-can : (which : Tool) (topic : Option Topic) (work : Result Settings Fault) → IfOk work CanRun → IfOk (about_or which topic work) CanRun

@@ -6,10 +6,10 @@ use Rattle.ports_core.specs.Name.{name_count}
 use Rattle.words_core.specs.SplitWords.{least_from, names_all}
 
 -- where a width doesn't write them, the next one is tried
-pub least_next : (alphabet : Alphabet) (count width : ℕ) → width < 20 → names_all alphabet count width ≡ false
-    → least_from alphabet count (20 - width) width ≡ least_from alphabet count (20 - (width + 1)) (width + 1)
+pub least_next : (alphabet : Alphabet) (count width : ℕ) → width < 23 → names_all alphabet count width ≡ false
+    → least_from alphabet count (23 - width) width ≡ least_from alphabet count (23 - (width + 1)) (width + 1)
 least_next alphabet count width few not =
-    let more : 20 - width ≡ suc (20 - (width + 1)) = omega arith in
+    let more : 23 - width ≡ suc (23 - (width + 1)) = omega arith in
     ap (λ more. least_from alphabet count more width) more ∙ rw not refl
 
 -- what is found is from the first width on and at most the last, and writes them if that one does

@@ -1,5 +1,5 @@
 -- What options and operands ask of `csplit`, or what is wrong with them.
-use Rattle.std.specs.Prelude.{◌≡◌, ℕ, false, true, List, [], ◌∷◌, codes, slice_index_or, Option, Some, None, Result, Ok, Err}
+use Rattle.std.specs.Prelude.{◌≡◌, ℕ, Bool, false, true, max, List, [], ◌∷◌, ◌++◌, codes, slice_index_or, Option, Some, None, Result, Ok, Err}
 use Rattle.bre_core.specs.Fault.{number_of, offset_of}
 use Rattle.operand_core.specs.Fault.{number_of_kind}
 use Rattle.operand_core.specs.Style.{Style}
@@ -8,6 +8,9 @@ use Rattle.operand_core.specs.declared.operand.Operand.{Operand}
 use Rattle.operand_core.specs.declared.operand_fault.OperandFault.{OperandFault}
 use Rattle.operand_core.specs.declared.operand_fault.OperandFaultKind.{OperandFaultKind}
 use Rattle.operand_core.specs.declared.operand_fault.OperandFaultKind.TheVariants as kind
+use Rattle.ports_core.specs.declared.form.Base.TheVariants.{Decimal}
+use Rattle.ports_core.specs.declared.form.Filling.TheVariants.{BlanksBefore}
+use Rattle.ports_core.specs.declared.form.Form.{Form}
 use Rattle.ports_core.specs.declared.fault.Fault.{Fault}
 use Rattle.ports_core.specs.declared.fault.Fault.TheVariants.{Memory, Usage}
 use Rattle.ports_core.specs.declared.fault.UsageKind.{UsageKind}
@@ -16,26 +19,83 @@ use Rattle.words_core.specs.declared.table.Choice.{Choice}
 use Rattle.words_core.specs.declared.table.Choice.TheVariants as choice
 use Rattle.words_core.specs.CsplitAsked.{CsplitAsked}
 use Rattle.words_core.specs.Given.{asked_by, Given, GivenOption, GivenOperand, places_of, texts_of}
-use Rattle.words_core.specs.Value.{Meant, Text, Width}
+use Rattle.words_core.specs.Format.{Format}
+use Rattle.words_core.specs.Value.{Meant, Text, Width, Formatted}
 
--- without options: names begin with `xx` and have two digits, and nothing is kept, dropped or left out
-abbrev pub plain : Style
-plain = record { prefix = codes "xx"; digits = 2; keep = false; quiet = false; elide = false; suppress = false }
+-- what options ask for
+pub record CsplitOptions : Type 0 where
+  -- what names begin with, how many digits they have at least, and their format
+  pub prefix : List ℕ
+  pub digits : ℕ
+  pub format : Option Format
+  -- files are kept after a fault
+  pub keep : Bool
+  -- no sizes are written
+  pub quiet : Bool
+  -- an empty section makes no file
+  pub elide : Bool
+  -- the line at a cut is left out
+  pub suppress : Bool
 
--- with one more option: the last prefix decides, and so does the last number of digits
+-- without any: names begin with `xx` and have two digits, and nothing is kept, dropped or left out
+abbrev pub plain : CsplitOptions
+plain = record {
+  prefix = codes "xx";
+  digits = 2;
+  format = None;
+  keep = false;
+  quiet = false;
+  elide = false;
+  suppress = false;
+}
 
-abbrev pub csplit_by : Style → Choice → Meant → Style
+-- with one more option: the last prefix decides, and so do the last number of digits and the last format
+
+abbrev pub csplit_by : CsplitOptions → Choice → Meant → CsplitOptions
 csplit_by asked choice.Prefix (Text text) = record asked { prefix = text }
 csplit_by asked choice.Digits (Width digits) = record asked { digits = digits }
+csplit_by asked choice.SuffixFormat (Formatted format) = record asked { format = Some format }
 csplit_by asked choice.KeepFiles value = record asked { keep = true }
 csplit_by asked choice.Quiet value = record asked { quiet = true }
 csplit_by asked choice.ElideEmptyFiles value = record asked { elide = true }
 csplit_by asked choice.SuppressMatched value = record asked { suppress = true }
 csplit_by asked choice value = asked
 
+abbrev pub chosen_by : List GivenOption → CsplitOptions
+chosen_by options = asked_by csplit_by plain options
+
+-- a number in decimal, with at least one digit, filled with zeros to this many
+abbrev pub decimal_form : ℕ → Form
+decimal_form digits = record {
+  base = Decimal;
+  is_marked = false;
+  width = 0;
+  filling = BlanksBefore;
+  precision = max 1 digits;
+}
+
+-- where there is a format, the number of digits has no effect
+abbrev pub format_or : ℕ → Option Format → Format
+format_or digits None = record { before = []; form = decimal_form digits; after = [] }
+format_or digits (Some format) = format
+
 -- how files are made
+abbrev pub style_with : CsplitOptions → Format → Style
+style_with asked format = record {
+  prefix = asked.prefix ++ format.before;
+  form = format.form;
+  ending = format.after;
+  keep = asked.keep;
+  quiet = asked.quiet;
+  elide = asked.elide;
+  suppress = asked.suppress;
+}
+
+abbrev pub style_by : CsplitOptions → Style
+style_by asked = style_with asked (format_or asked.digits asked.format)
+
 abbrev pub style_of : List GivenOption → Style
-style_of options = asked_by csplit_by plain options
+style_of options = style_by (chosen_by options)
 
 abbrev pub asked_with : Style → List ℕ → List GivenOperand → CsplitAsked
 asked_with style input rest = record { style = style; input = input; operands = texts_of rest; places = places_of rest }

@@ -5,13 +5,15 @@ use Rattle.seg_core.specs.declared.count.Count.{Count}
 use Rattle.seg_core.specs.declared.unit.Unit.{Unit as Measured}
 use Rattle.seg_core.specs.declared.unit.Unit.TheVariants as unit
 use Rattle.ports_core.specs.declared.alphabet.Alphabet.{Alphabet}
+use Rattle.ports_core.specs.declared.form.Base.TheVariants.{Decimal}
+use Rattle.ports_core.specs.declared.form.Filling.TheVariants.{BlanksBefore}
 use Rattle.ports_core.specs.declared.fault.Fault.{Fault}
 use Rattle.ports_core.specs.declared.on_broken.OnBroken.{OnBroken}
 use Rattle.ports_core.specs.declared.on_broken.OnBroken.TheVariants.{GoOn}
 use Rattle.seg_core.specs.declared.cut.Cut.{Cut}
 use Rattle.operand_core.specs.Style.{Style}
 use Rattle.words_core.specs.declared.table.Choice.{Choice}
-use Rattle.words_core.specs.declared.table.Choice.TheVariants.{Lines, Bytes, Quiet, Verbose, ZeroTerminated, SuffixLength, NumericSuffixes, HexSuffixes, ElideEmptyFiles, AdditionalSuffix, Separator, Prefix, Digits, KeepFiles, SuppressMatched, Append, Follow, FollowNames, Retry, OutputError, Looks as HowOften, Pause as HowLong, Process as WaitsFor}
+use Rattle.words_core.specs.declared.table.Choice.TheVariants.{Lines, Bytes, Quiet, Verbose, ZeroTerminated, SuffixLength, NumericSuffixes, HexSuffixes, ElideEmptyFiles, AdditionalSuffix, Separator, Prefix, Digits, SuffixFormat, KeepFiles, SuppressMatched, Append, Follow, FollowNames, Retry, OutputError, Looks as HowOften, Pause as HowLong, Process as WaitsFor}
 use Rattle.words_core.specs.declared.table.Kind.{Kind}
 use Rattle.words_core.specs.declared.table.Takes.{Takes}
 use Rattle.words_core.specs.declared.table.Takes.TheVariants as takes
@@ -25,7 +27,7 @@ use Rattle.words_core.specs.CsplitAsked.{CsplitAsked}
 use Rattle.words_core.specs.EndsAsked.{EndsAsked}
 use Rattle.words_core.specs.SplitAsked.{SplitAsked}
 use Rattle.words_core.specs.declared.settings.TailSettings.{TailSettings}
-use Rattle.words_core.specs.Value.{Meant, Byte, Counted, Text, Width, Looks, Pause, Process}
+use Rattle.words_core.specs.Value.{Meant, Byte, Counted, Text, Width, Looks, Pause, Process, Formatted}
 use Rattle.words_core.specs.Given.{asked_by, Given, GivenOption, GivenOperand, one_option}
 use Rattle.words_core.specs.Spelling.{given_before, is_equals, spelled}
 use Rattle.words_core.specs.Table.{OptionRow, option_named}
@@ -114,7 +116,7 @@ abbrev pub gives_ending : Choice → Meant → Bool
 gives_ending AdditionalSuffix (Text text) = true
 gives_ending choice value = false
 
--- which option of `csplit` it is: one for the prefix, one for the digits, or one without a value; and of `tee`, whether
+-- which option of `csplit` it is: one for the prefix, the digits or the format, or one without a value; and of `tee`, whether
 -- it lets it append, and whether it says what is done once an output is broken
 
 abbrev pub names_prefix : Choice → Meant → Bool
@@ -124,6 +126,10 @@ names_prefix choice value = false
 abbrev pub counts_digits : Choice → Meant → Bool
 counts_digits Digits (Width digits) = true
 counts_digits choice value = false
+
+abbrev pub gives_format : Choice → Meant → Bool
+gives_format SuffixFormat (Formatted format) = true
+gives_format choice value = false
 
 abbrev pub keeps_files : Choice → Bool
 keeps_files KeepFiles = true
@@ -285,4 +291,12 @@ csplit_as style place = record { style = style; input = codes "-"; operands = co
 
 -- files as they are made without options
 abbrev pub plain_style : Style
-plain_style = record { prefix = codes "xx"; digits = 2; keep = false; quiet = false; elide = false; suppress = false }
+plain_style = record {
+  prefix = codes "xx";
+  form = record { base = Decimal; is_marked = false; width = 0; filling = BlanksBefore; precision = 2 };
+  ending = [];
+  keep = false;
+  quiet = false;
+  elide = false;
+  suppress = false;
+}

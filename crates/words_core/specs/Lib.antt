@@ -2,6 +2,7 @@ pub mod CsplitAsked
 pub mod CsplitWords
 pub mod EndsAsked
 pub mod EndsWords
+pub mod Format
 pub mod Given
 pub mod Help
 pub mod Laws

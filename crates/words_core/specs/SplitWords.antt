@@ -116,9 +116,9 @@ least_from alphabet count zero width = width
 least_from alphabet count (suc more) width =
     if names_all alphabet count width then width else least_from alphabet count more (width + 1)
 
--- numbers are 2^63 + 65,535 at the most, and 20 characters of any alphabet write those
+-- numbers are 2^63 + 65,535 at the most, and 23 characters of any alphabet write those
 unfoldable pub least_width : Alphabet → ℕ → ℕ
-least_width alphabet count = least_from alphabet count 18 2
+least_width alphabet count = least_from alphabet count 21 2
 
 -- this width, if it writes as many numbers
 abbrev pub wide_enough : Alphabet → ℕ → ℕ → Result Suffix Fault

@@ -10,9 +10,9 @@ use Rattle.ports_core.specs.declared.fault.UsageKind.TheVariants.{UnknownOption,
 use Rattle.ports_core.specs.declared.tool.Tool.{Tool}
 use Rattle.ports_core.specs.declared.tool.Tool.TheVariants.{Head, Tail, Split, Csplit, Tee}
 use Rattle.words_core.specs.declared.table.Choice.{Choice}
-use Rattle.words_core.specs.declared.table.Choice.TheVariants.{Lines, Bytes, LineBytes, Files, Quiet, Verbose, SuffixLength, NumericSuffixes, HexSuffixes, ElideEmptyFiles, ZeroTerminated, Separator, AdditionalSuffix, Prefix, Digits, KeepFiles, SuppressMatched, Append, Follow, FollowNames, Retry, Looks, Help, Version, Pause, OutputError, NoEffect, Process as WaitsFor}
+use Rattle.words_core.specs.declared.table.Choice.TheVariants.{Lines, Bytes, LineBytes, Files, Quiet, Verbose, SuffixLength, NumericSuffixes, HexSuffixes, ElideEmptyFiles, ZeroTerminated, Separator, AdditionalSuffix, Prefix, Digits, SuffixFormat, KeepFiles, SuppressMatched, Append, Follow, FollowNames, Retry, Looks, Help, Version, Pause, OutputError, NoEffect, Process as WaitsFor}
 use Rattle.words_core.specs.declared.table.Kind.{Kind}
-use Rattle.words_core.specs.declared.table.Kind.TheVariants.{Count, Size, Round, Width, Text, Byte, Ending, Following, Number, HexNumber, OnBroken, Seconds, Looks as number_of_looks, Process as process_number}
+use Rattle.words_core.specs.declared.table.Kind.TheVariants.{Count, Size, Round, Width, Text, Byte, Ending, Following, Number, HexNumber, OnBroken, Seconds, Looks as number_of_looks, Process as process_number, Format}
 use Rattle.words_core.specs.declared.table.Letters.{Letters}
 use Rattle.words_core.specs.declared.table.Letters.TheVariants.{Never, OfHead, OfTail}
 use Rattle.words_core.specs.declared.table.OptionRow.{OptionRow as WrittenOption}
@@ -152,6 +152,8 @@ csplit_table =
     (codes "names begin with PREFIX, not with xx")
     ∷ option (codes "-n" ∷ codes "--digits" ∷ []) Digits (Value Width) (codes "DIGITS")
     (codes "numbers in names have this many digits, not 2")
+    ∷ option (codes "-b" ∷ codes "--suffix-format" ∷ []) SuffixFormat (Value Format) (codes "FORMAT")
+    (codes "write numbers as printf does, as in %03d.txt")
     ∷ option (codes "-k" ∷ codes "--keep-files" ∷ []) KeepFiles Nothing []
     (codes "keep files after a fault")
     ∷ option (codes "-s" ∷ codes "-q" ∷ codes "--quiet" ∷ codes "--silent" ∷ []) Quiet Nothing []

@@ -11,7 +11,8 @@ use Rattle.seg_core.specs.declared.count.CountFault.TheVariants.{TooLarge}
 use Rattle.ports_core.specs.declared.on_broken.OnBroken.{OnBroken}
 use Rattle.ports_core.specs.declared.on_broken.OnBroken.TheVariants as on_broken
 use Rattle.ports_core.specs.declared.fault.UsageKind.{UsageKind}
-use Rattle.ports_core.specs.declared.fault.UsageKind.TheVariants.{BadNumber, NumberTooLarge, Zero, BadSeparator, BadSuffix, BadFollow, BadMode}
+use Rattle.ports_core.specs.declared.fault.UsageKind.TheVariants.{BadNumber, NumberTooLarge, Zero, BadSeparator, BadSuffix, BadFollow, BadMode, BadFormat}
+use Rattle.words_core.specs.Format.{Format, format_in, format_seen}
 use Rattle.words_core.specs.declared.table.Kind.{Kind}
 use Rattle.words_core.specs.declared.table.Kind.TheVariants as kind
 use Rattle.words_core.specs.declared.value.Followed.{Followed}
@@ -34,6 +35,7 @@ pub data Meant : Type 0 where
   Pause : ℕ → Meant
   Process : ℕ → Meant
   Breaking : OnBroken → Meant
+  Formatted : Format → Meant
 
 abbrev pub seen : Value → Meant
 seen value.Nothing = Nothing
@@ -49,6 +51,7 @@ seen (value.Number number) = Number number
 seen (value.Pause pause) = Pause pause
 seen (value.Process process) = Process process
 seen (value.OnBroken on_broken) = Breaking on_broken
+seen (value.Format format) = Formatted (format_seen format)
 
 -- one check, and those after it where nothing is wrong so far
 abbrev pub then_check : {A B E : Type 0} → Result A E → (A → Result B E) → Result B E
@@ -119,6 +122,11 @@ on_broken_in text =
     else (if bytes_eq text (codes "exit") || bytes_eq text (codes "exit-nopipe") then Ok on_broken.Stop
     else Err BadMode)
 
+-- a text with one conversion
+abbrev pub or_bad_format : Option Format → Result Meant UsageKind
+or_bad_format None = Err BadFormat
+or_bad_format (Some format) = Ok (Formatted format)
+
 -- the number of a process
 abbrev pub process_in : List ℕ → Result ℕ UsageKind
 process_in text = then_check (up_to (2 ^ 31 - 1) (digits_of text)) not_zero
@@ -173,3 +181,4 @@ value_in kind.HexNumber text = as_value (λ number. Number number) (hex_in text)
 value_in kind.Process text = as_value (λ process. Process process) (process_in text)
 value_in kind.Seconds text = as_value (λ pause. Pause pause) (pause_in text)
 value_in kind.OnBroken text = as_value (λ on_broken. Breaking on_broken) (on_broken_in text)
+value_in kind.Format text = or_bad_format (format_in text)

@@ -1,5 +1,5 @@
 -- What a list of words asks for. The first word is the tool's name, and words are counted from there, from 0.
-use Rattle.std.specs.Prelude.{ℕ, ◌-◌, ◌^◌, ◌≤◌, Bool, true, false, List, [], ◌∷◌, Option, Some, None, option_map, Result, Ok, Err}
+use Rattle.std.specs.Prelude.{ℕ, ◌-◌, ◌^◌, Bool, true, false, List, [], ◌∷◌, Option, Some, None, option_map, Result, Ok, Err}
 use Rattle.ports_core.specs.declared.tool.Tool.{Tool}
 use Rattle.ports_core.specs.declared.tool.Tool.TheVariants as tool
 use Rattle.ports_core.specs.declared.fault.Fault.{Fault}
@@ -117,6 +117,6 @@ abbrev pub CanRun : Settings → Type 0
 CanRun (Head asked) = Unit {0}
 CanRun (Tail asked) = Unit {0}
 CanRun (Split asked) = CanSplit asked
-CanRun (Csplit asked) = asked.style.digits ≤ 255
+CanRun (Csplit asked) = Unit {0}
 CanRun (Tee asked) = Unit {0}
 CanRun (About tool topic) = Unit {0}

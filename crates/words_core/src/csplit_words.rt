@@ -1,17 +1,18 @@
-//! What `csplit` is asked for: POSIX.1-2017, XCU csplit; `-z` and `--suppress-matched` are GNU's.
+//! What `csplit` is asked for: POSIX.1-2017, XCU csplit; `-b`, `-z` and `--suppress-matched` are GNU's.
 ghost use Rattle.std.specs.Prelude.{◌≡◌, map, IfOk, IfErr};
-ghost use Rattle.operand_core.specs.Style.{Style as Asked};
-ghost use Rattle.words_core.specs.CsplitWords.{HasBadOperand, HasRead, csplit_by, csplit_asked, plain, style_of};
+ghost use Rattle.words_core.specs.CsplitWords.{HasBadOperand, HasRead, chosen_by, csplit_by, csplit_asked, format_or, plain, style_of};
+ghost use Rattle.words_core.specs.Format.{format_seen};
 ghost use Rattle.words_core.specs.Given.{option_seen};
 ghost use Rattle.words_core.specs.Spelling.{IsRefused};
 ghost use Rattle.words_core.specs.Value.{seen};
 
 use crate::csplit_settings::{CsplitSettings, read_settings};
+use crate::format::{Format, push_plain};
 use crate::spelled::{Chosen, Spelled};
 use crate::table::Choice;
 use crate::value::Value;
 use operand_core::Style;
-use ports_core::{Fault, UsageKind};
+use ports_core::{Base, Fault, Filling, Form, UsageKind};
 use std::alloc::Global;
 use std::marker::Model;
 
@@ -22,6 +23,8 @@ struct CsplitOptions<'a> {
     prefix: &'a str,
     /// How many digits names have at least.
     digits: u8,
+    /// The format of names, which has digits of its own.
+    format: Option<Format<'a>>,
     /// Whether files are kept after a fault.
     keep: bool,
     /// Whether no sizes are written.
@@ -33,9 +36,13 @@ struct CsplitOptions<'a> {
 }
 
 impl<'a> Model for CsplitOptions<'a> {
-    ghost Value = { Asked };
+    ghost use Rattle.std.specs.Prelude.{option_map};
+    ghost use Rattle.words_core.specs.CsplitWords.{CsplitOptions};
+    ghost use Rattle.words_core.specs.Format.{format_seen};
 
-    ghost view = { λ s. record { prefix = s.prefix.now; digits = s.digits; keep = s.keep; quiet = s.quiet; elide = s.elide; suppress = s.suppress } };
+    ghost Value = { CsplitOptions };
+
+    ghost view = { λ s. record { prefix = s.prefix.now; digits = s.digits; format = option_map format_seen s.format; keep = s.keep; quiet = s.quiet; elide = s.elide; suppress = s.suppress } };
 }
 
 /// What is asked for without options.
@@ -45,6 +52,7 @@ fn plain<'a>() -> CsplitOptions<'a>
     CsplitOptions {
         prefix: "xx",
         digits: 2,
+        format: None,
         keep: false,
         quiet: false,
         elide: false,
@@ -66,6 +74,13 @@ impl<'a> CsplitOptions<'a> {
                 Value::Width(digits) => CsplitOptions { digits, ..self },
                 _ => self,
             },
+            Choice::SuffixFormat => match option.value {
+                Value::Format(format) => CsplitOptions {
+                    format: Some(format),
+                    ..self
+                },
+                _ => self,
+            },
             Choice::KeepFiles => CsplitOptions { keep: true, ..self },
             Choice::Quiet => CsplitOptions {
                 quiet: true,
@@ -82,9 +97,30 @@ impl<'a> CsplitOptions<'a> {
             _ => self,
         }
     }
+
+    /// The format of names: without one a number in decimal, filled with zeros to its digits.
+    fn names(&self) -> Format<'a>
+        ensures { format_seen result ≡ format_or self.now.digits self.now.format }
+    {
+        if let Some(format) = self.format {
+            return format;
+        }
+        let form = Form {
+            base: Base::Decimal,
+            is_marked: false,
+            width: 0,
+            filling: Filling::BlanksBefore,
+            precision: self.digits.max(1),
+        };
+        Format {
+            before: "",
+            form,
+            after: "",
+        }
+    }
 }
 
-/// What words ask of `csplit`. It takes memory for the prefix, and for the operands.
+/// What words ask of `csplit`. It takes memory for what names have before and after their numbers, and for the operands.
 ///
 /// # Errors
 ///
@@ -108,15 +144,21 @@ pub fn settle_csplit<'a>(alloc: Global, spelled: &Spelled<'a>) -> Result<CsplitS
 ///
 /// # Errors
 ///
-/// `Memory` where there is no room for the prefix.
+/// `Memory` where there is no room for what names have before and after their numbers.
 fn choose_style(alloc: Global, options: &[Chosen<'_>]) -> Result<Style, Fault>
     ensures ok { IfOk result (λ style. style ≡ style_of (map option_seen options.now)) }
     ensures err { IfErr result (λ fault. fault ≡ Fault.Memory) }
 {
     let asked = choose_csplit(options);
+    let format = asked.names();
+    let mut prefix = String::from_str(alloc, asked.prefix)?;
+    push_plain(&mut prefix, format.before)?;
+    let mut ending = String::new(alloc);
+    push_plain(&mut ending, format.after)?;
     Ok(Style {
-        prefix: String::from_str(alloc, asked.prefix)?,
-        digits: u32::from(asked.digits),
+        prefix,
+        form: format.form,
+        ending,
         keep: asked.keep,
         quiet: asked.quiet,
         elide: asked.elide,
@@ -126,7 +168,7 @@ fn choose_style(alloc: Global, options: &[Chosen<'_>]) -> Result<Style, Fault>
 
 /// What all options ask for.
 fn choose_csplit<'a>(options: &[Chosen<'a>]) -> CsplitOptions<'a>
-    ensures { result ≡ style_of (map option_seen options.now) }
+    ensures { result ≡ chosen_by (map option_seen options.now) }
 {
     let mut asked = plain();
     for option in options {

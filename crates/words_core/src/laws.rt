@@ -7,8 +7,9 @@ ghost use Rattle.words_core.specs.declared.spelling.State.TheVariants.{Reading};
 ghost use Rattle.seg_core.specs.Count.{count_of, digits_of, is_number, sized, value_of};
 ghost use Rattle.std.specs.Char.{is_ascii_digit};
 ghost use Rattle.words_core.specs.Given.{Given, GivenOperand, GivenOption, bare, joined, one_operand, one_option};
-ghost use Rattle.words_core.specs.CsplitWords.{style_of};
-ghost use Rattle.words_core.specs.Laws.{AreAmong, Gives, IsLast, IsLetter, IsName, IsSwitch, LastDecides, LeaveTheRest, amount_of, appends, as_operands, counts, counts_digits, counts_looks, counts_pause, csplit_as, drops_sizes, elides_files, tells_of_files, ends_as, ends_of, ends_with_zero, follow_of, following_as, gives_ending, has, heads, is_plain, keeps_files, leaves_lines_out, names_prefix, names_process, on_broken_of, plain_style, retries, says_followed, says_on_broken, separates, spells, split_as, split_of, tail_as, widens};
+ghost use Rattle.words_core.specs.CsplitWords.{chosen_by, decimal_form, style_of};
+ghost use Rattle.words_core.specs.Format.{Format, format_in};
+ghost use Rattle.words_core.specs.Laws.{AreAmong, Gives, IsLast, IsLetter, IsName, IsSwitch, LastDecides, LeaveTheRest, amount_of, appends, as_operands, counts, counts_digits, counts_looks, counts_pause, csplit_as, drops_sizes, elides_files, tells_of_files, ends_as, ends_of, ends_with_zero, follow_of, following_as, gives_ending, gives_format, has, heads, is_plain, keeps_files, leaves_lines_out, names_prefix, names_process, on_broken_of, plain_style, retries, says_followed, says_on_broken, separates, spells, split_as, split_of, tail_as, widens};
 ghost use Rattle.words_core.specs.Lettered.{is_lettered, letter_named, unit_of, with_letters};
 ghost use Rattle.words_core.specs.SplitAsked.{SplitAsked};
 ghost use Rattle.words_core.specs.Spelling.{given_before, mixed, spelled};
@@ -57,11 +58,15 @@ pub fn last_of_split_decides()
     ensures ending { LastDecides gives_ending (λ options. (split_of options).ending) [] }
 {}
 
-/// Of several prefixes for `csplit` the last decides, as if it stood alone, whatever options stand before it; and so does
-/// the last number of digits. Without one the prefix is `xx`, and there are two digits.
+/// Of several prefixes for `csplit` the last decides, as if it stood alone, whatever options stand before it; and so do
+/// the last number of digits and the last format, with which the digits have no effect. Without one the prefix is `xx`,
+/// and there are two digits.
 pub fn last_of_csplit_decides()
-    ensures prefix { LastDecides names_prefix (λ options. (style_of options).prefix) (codes "xx") }
-    ensures digits { LastDecides counts_digits (λ options. (style_of options).digits) 2 }
+    ensures prefix { LastDecides names_prefix (λ options. (chosen_by options).prefix) (codes "xx") }
+    ensures digits { LastDecides counts_digits (λ options. (chosen_by options).digits) 2 }
+    ensures format { LastDecides gives_format (λ options. (chosen_by options).format) None }
+    ensures plain { (options : List GivenOption) → (chosen_by options).format ≡ None → ((style_of options).prefix ≡ (chosen_by options).prefix) × ((style_of options).form ≡ decimal_form (chosen_by options).digits) × ((style_of options).ending ≡ []) }
+    ensures formatted { (options : List GivenOption) (format : Format) → (chosen_by options).format ≡ Some format → ((style_of options).prefix ≡ (chosen_by options).prefix ++ format.before) × ((style_of options).form ≡ format.form) × ((style_of options).ending ≡ format.after) }
 {}
 
 /// Of several options of `tee` that say what is done once an output is broken the last decides, as if it stood alone, whatever
@@ -283,7 +288,9 @@ pub fn csplit_options_ask()
     ensures nothing { settings_of (codes "csplit" ∷ codes "-" ∷ codes "1" ∷ []) ≡ Ok (Settings.Csplit (csplit_as plain_style 2)) }
     ensures prefix { (text : List ℕ) → settings_of (codes "csplit" ∷ codes "-f" ∷ text ∷ codes "-" ∷ codes "1" ∷ []) ≡ Ok (Settings.Csplit (csplit_as (record plain_style { prefix = text }) 4)) }
     ensures digits { (value : List ℕ) (digits : ℕ) → up_to 255 (digits_of value) ≡ Ok digits
-        → settings_of (codes "csplit" ∷ codes "-n" ∷ value ∷ codes "-" ∷ codes "1" ∷ []) ≡ Ok (Settings.Csplit (csplit_as (record plain_style { digits = digits }) 4)) }
+        → settings_of (codes "csplit" ∷ codes "-n" ∷ value ∷ codes "-" ∷ codes "1" ∷ []) ≡ Ok (Settings.Csplit (csplit_as (record plain_style { form = decimal_form digits }) 4)) }
+    ensures format { (value : List ℕ) (format : Format) → format_in value ≡ Some format
+        → settings_of (codes "csplit" ∷ codes "-b" ∷ value ∷ codes "-" ∷ codes "1" ∷ []) ≡ Ok (Settings.Csplit (csplit_as (record plain_style { prefix = codes "xx" ++ format.before; form = format.form; ending = format.after }) 4)) }
     ensures keep { settings_of (codes "csplit" ∷ codes "-k" ∷ codes "-" ∷ codes "1" ∷ []) ≡ Ok (Settings.Csplit (csplit_as (record plain_style { keep = true }) 3)) }
     ensures quiet { settings_of (codes "csplit" ∷ codes "-s" ∷ codes "-" ∷ codes "1" ∷ []) ≡ Ok (Settings.Csplit (csplit_as (record plain_style { quiet = true }) 3)) }
     ensures also_quiet { settings_of (codes "csplit" ∷ codes "-q" ∷ codes "-" ∷ codes "1" ∷ []) ≡ Ok (Settings.Csplit (csplit_as (record plain_style { quiet = true }) 3)) }

@@ -5,6 +5,7 @@ mod args;
 mod csplit_settings;
 mod csplit_words;
 mod ends_words;
+mod format;
 mod help;
 mod laws;
 mod lettered;
@@ -20,6 +21,7 @@ mod words;
 
 pub use args::{ArgsFault, read_args};
 pub use csplit_settings::CsplitSettings;
+pub use format::{Format, read_format};
 pub use help::text_about;
 pub use laws::{
     beginnings_are_of_one_option, csplit_options_ask, ends_options_ask, last_of_csplit_decides,

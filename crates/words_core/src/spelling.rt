@@ -129,7 +129,7 @@ fn is_number(text: &[u8]) -> bool
 }
 
 /// The first character of a text and what follows it, where it is ASCII.
-fn first_letter(text: &str) -> Option<(u8, &str)>
+pub(crate) fn first_letter(text: &str) -> Option<(u8, &str)>
     ensures value { option_map (λ parts. (parts.0, parts.1.now)) result ≡ first_letter text.now }
     ensures whole { IfSome result (λ parts. text.now ≡ parts.0 ∷ parts.1.now) }
 {

@@ -269,13 +269,13 @@ fn fixed(width: u32) -> Suffix
 }
 
 /// The width that writes all numbers that files can have.
-const ENOUGH: u32 = 20;
+const ENOUGH: u32 = 23;
 
 /// The least width, from 2 on, that writes as many numbers, from 0 on.
 fn least_width(alphabet: Alphabet, count: u128) -> u32
     ensures value { result ≡ least_width alphabet count }
     ensures some { 2 ≤ result }
-    ensures few { result ≤ 20 }
+    ensures few { result ≤ 23 }
     ensures enough { count ≤ 10 ^ 20 → count ≤ name_count alphabet result }
     ensures least { (width : ℕ) → 2 ≤ width → width < result → name_count alphabet width < count }
 {

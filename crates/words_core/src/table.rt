@@ -1,6 +1,6 @@
 //! The tools and their options, as their manuals list them: POSIX.1-2017, XCU head, tail, split, csplit and tee; `-q`, `-v`,
 //! `-z`, the `-c` of `head`, the `-C`, `-n`, `-d`, `-x`, `-e`, `-t` and `--additional-suffix` of `split`, the
-//! `--suppress-matched` of `csplit`, the `-F`, `--follow`, `--retry`, `-s`, `--pid` and `--max-unchanged-stats` of `tail`, the `-u` of `split`,
+//! `-b` and `--suppress-matched` of `csplit`, the `-F`, `--follow`, `--retry`, `-s`, `--pid` and `--max-unchanged-stats` of `tail`, the `-u` of `split`,
 //! the `-p` and `--output-error` of `tee` and the long names are GNU's; `--looks` is of these tools alone.
 ghost use Rattle.std.specs.Prelude.{◌≡◌, [], ◌∷◌, map, option_map, IfNone, IfSome};
 ghost use Rattle.words_core.specs.Table.{beginning, begins_one, is_among, only_one, option_called, option_named, program_table, row_named, row_seen, tool_seen, tools};
@@ -40,6 +40,8 @@ pub enum Choice {
     Prefix,
     /// How many digits names have at least.
     Digits,
+    /// The format of names.
+    SuffixFormat,
     /// Files stay after a fault.
     KeepFiles,
     /// The line at a cut is left out.
@@ -99,6 +101,8 @@ pub enum Kind {
     Seconds,
     /// `warn`, `warn-nopipe`, `exit` or `exit-nopipe`.
     OnBroken,
+    /// A text with one conversion of C's `printf`, which writes a number.
+    Format,
 }
 
 /// Whether an option takes a value.
@@ -405,6 +409,13 @@ const CSPLIT: &[OptionRow] = &[
         takes: Takes::Value(Kind::Width),
         value: "DIGITS",
         does: "numbers in names have this many digits, not 2",
+    },
+    OptionRow {
+        names: &["-b", "--suffix-format"],
+        choice: Choice::SuffixFormat,
+        takes: Takes::Value(Kind::Format),
+        value: "FORMAT",
+        does: "write numbers as printf does, as in %03d.txt",
     },
     OptionRow {
         names: &["-k", "--keep-files"],

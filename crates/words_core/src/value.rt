@@ -7,6 +7,7 @@ ghost use Rattle.seg_core.specs.Count.{count_of, digits_of};
 ghost use Rattle.words_core.specs.Value.{byte_in, counted, ending_in, followed_in, fraction_in, fraction_of, hex_in, is_zero, milliseconds, not_zero, number_fault, on_broken_in, process_in, pause_in, round_in, size_in, up_to, value_in};
 ghost use Rattle.words_core.specs.inner.Value.{seen_in};
 
+use crate::format::{Format, read_format};
 use crate::table::Kind;
 use ports_core::{OnBroken, UsageKind};
 use seg_core::count::{Count, CountFault, read_count};
@@ -41,6 +42,8 @@ pub enum Value<'a> {
     Process(u32),
     /// What a run does once an output is broken.
     OnBroken(OnBroken),
+    /// A format of names.
+    Format(Format<'a>),
 }
 
 /// What `tail` follows.
@@ -69,7 +72,7 @@ const LAST_PROCESS: u64 = 0x7fff_ffff;
 /// # Errors
 ///
 /// What is wrong with the value: it isn't of its kind's form, or else its number is too large, or else it is 0. A byte,
-/// an ending, what is followed or what is done once an output is broken has a fault of its own where it isn't of its form.
+/// an ending, a format, what is followed or what is done once an output is broken has a fault of its own where it isn't of its form.
 pub fn read_value(kind: Kind, text: &str) -> Result<Value<'_>, UsageKind>
     ensures { seen_in result ≡ value_in kind text.now }
 {
@@ -89,6 +92,7 @@ pub fn read_value(kind: Kind, text: &str) -> Result<Value<'_>, UsageKind>
         Kind::Process => Ok(Value::Process(read_process(bytes)?)),
         Kind::Seconds => Ok(Value::Pause(read_pause(bytes)?)),
         Kind::OnBroken => Ok(Value::OnBroken(read_on_broken(text)?)),
+        Kind::Format => Ok(Value::Format(read_format(text).ok_or(UsageKind::BadFormat)?)),
     }
 }
 

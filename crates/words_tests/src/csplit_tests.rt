@@ -1,6 +1,6 @@
 //! What the words after `csplit` ask for: rows that no clause shows to be read, since there may be no memory for them.
 use crate::refused::{Refused, refuse};
-use ports_core::UsageKind;
+use ports_core::{Base, Filling, Form, UsageKind};
 use std::alloc::Global;
 use std::process::Abort;
 use words_core::{CsplitSettings, Settings, read_words};
@@ -8,8 +8,8 @@ use words_core::{CsplitSettings, Settings, read_words};
 /// What words are to ask of `csplit`.
 #[derive(Clone, Copy)]
 enum Wanted<'a> {
-    /// What names begin with, and how many digits they have.
-    Names(&'a str, u32),
+    /// What names have before their number, how it is written, and what they have after it.
+    Names(&'a str, Form, &'a str),
     /// Whether files are kept, no sizes written, empty files left out, and lines at cuts left out.
     Made(bool, bool, bool, bool),
     /// The input's name, the words of the first operands, and how many operands were read.
@@ -18,7 +18,9 @@ enum Wanted<'a> {
 
 fn has(found: &CsplitSettings<'_>, wanted: Wanted<'_>) -> bool {
     match wanted {
-        Wanted::Names(prefix, digits) => has_prefix(found, prefix) && found.style.digits == digits,
+        Wanted::Names(prefix, form, ending) => {
+            has_ends(found, prefix, ending) && found.style.form == form
+        }
         Wanted::Made(keep, quiet, elide, suppress) => {
             let is_told = found.style.keep == keep && found.style.quiet == quiet;
             is_told && found.style.elide == elide && found.style.suppress == suppress
@@ -30,8 +32,8 @@ fn has(found: &CsplitSettings<'_>, wanted: Wanted<'_>) -> bool {
     }
 }
 
-fn has_prefix(found: &CsplitSettings<'_>, prefix: &str) -> bool {
-    found.style.prefix.as_str() == prefix
+fn has_ends(found: &CsplitSettings<'_>, prefix: &str, ending: &str) -> bool {
+    found.style.prefix.as_str() == prefix && found.style.ending.as_str() == ending
 }
 
 /// Whether the first operands have these words, empty ones where there are no more.
@@ -58,12 +60,13 @@ fn check_settings(rt: &impl Abort, words: &[&str], settings: &Settings<'_>, want
     }
 }
 
-type NameRow<'a> = (&'a [&'a str], &'a str, u32);
+type NameRow<'a> = (&'a [&'a str], &'a str, u8);
 
 #[test]
 fn reads_what_names_are_made_of(rt: HostRuntime) {
     for row in NAMES {
-        check(&rt, rt.alloc(), row.0, Wanted::Names(row.1, row.2));
+        let wanted = Wanted::Names(row.1, decimal(row.2), "");
+        check(&rt, rt.alloc(), row.0, wanted);
     }
 }
 
@@ -78,12 +81,193 @@ const NAMES: &[NameRow<'static>] = &[
         1,
     ),
     (&["csplit", "-f", "a", "f", "3", "-fb"], "b", 2),
-    (&["csplit", "-n", "3", "f", "3", "-n", "0"], "xx", 0),
+    (&["csplit", "-n", "3", "f", "3", "-n", "0"], "xx", 1),
     (&["csplit", "-n255", "f", "3"], "xx", 255),
     (&["csplit", "-n007", "f", "3"], "xx", 7),
     (&["csplit", "--prefix=", "f", "3"], "", 2),
     (&["csplit", "-f", "-k", "f", "3"], "-k", 2),
     (&["csplit", "-ksfd/x", "f", "3"], "d/x", 2),
+];
+
+/// A number in decimal with at least this many digits.
+fn decimal(digits: u8) -> Form {
+    form((Base::Decimal, false, 0, Filling::BlanksBefore, digits))
+}
+
+/// A base, whether numbers are marked, a width, what fills it, and a precision.
+type Written = (Base, bool, u8, Filling, u8);
+
+fn form(written: Written) -> Form {
+    let (base, is_marked, width, filling, precision) = written;
+    Form {
+        base,
+        is_marked,
+        width,
+        filling,
+        precision,
+    }
+}
+
+type FormatRow<'a> = (&'a str, &'a str, Written, &'a str);
+
+#[test]
+fn reads_formats(rt: HostRuntime) {
+    for row in FORMATS {
+        let wanted = Wanted::Names(row.1, form(row.2), row.3);
+        check(
+            &rt,
+            rt.alloc(),
+            &["csplit", "-f", "p", "-b", row.0, "f", "3"],
+            wanted,
+        );
+    }
+}
+
+/// A format, and what names have before their number, how it is written, and what they have after it.
+const FORMATS: &[FormatRow<'static>] = &[
+    (
+        "%d",
+        "p",
+        (Base::Decimal, false, 0, Filling::BlanksBefore, 1),
+        "",
+    ),
+    (
+        "%i",
+        "p",
+        (Base::Decimal, false, 0, Filling::BlanksBefore, 1),
+        "",
+    ),
+    (
+        "%u.txt",
+        "p",
+        (Base::Decimal, false, 0, Filling::BlanksBefore, 1),
+        ".txt",
+    ),
+    (
+        "100%%-%i%%%%",
+        "p100%-",
+        (Base::Decimal, false, 0, Filling::BlanksBefore, 1),
+        "%%",
+    ),
+    (
+        "%%%d",
+        "p%",
+        (Base::Decimal, false, 0, Filling::BlanksBefore, 1),
+        "",
+    ),
+    (
+        "\u{e9}%d\u{fc}",
+        "p\u{e9}",
+        (Base::Decimal, false, 0, Filling::BlanksBefore, 1),
+        "\u{fc}",
+    ),
+    (
+        "%\'d",
+        "p",
+        (Base::Decimal, false, 0, Filling::BlanksBefore, 1),
+        "",
+    ),
+    (
+        "%.d",
+        "p",
+        (Base::Decimal, false, 0, Filling::BlanksBefore, 0),
+        "",
+    ),
+    (
+        "%.3d",
+        "p",
+        (Base::Decimal, false, 0, Filling::BlanksBefore, 3),
+        "",
+    ),
+    (
+        "%.255d",
+        "p",
+        (Base::Decimal, false, 0, Filling::BlanksBefore, 255),
+        "",
+    ),
+    (
+        "%.0003d",
+        "p",
+        (Base::Decimal, false, 0, Filling::BlanksBefore, 3),
+        "",
+    ),
+    (
+        "%5d",
+        "p",
+        (Base::Decimal, false, 5, Filling::BlanksBefore, 1),
+        "",
+    ),
+    (
+        "%-5d|",
+        "p",
+        (Base::Decimal, false, 5, Filling::BlanksAfter, 1),
+        "|",
+    ),
+    (
+        "%-05d",
+        "p",
+        (Base::Decimal, false, 5, Filling::BlanksAfter, 1),
+        "",
+    ),
+    (
+        "%03d.txt",
+        "p",
+        (Base::Decimal, false, 3, Filling::Zeros, 1),
+        ".txt",
+    ),
+    (
+        "%0255d",
+        "p",
+        (Base::Decimal, false, 255, Filling::Zeros, 1),
+        "",
+    ),
+    (
+        "%05.3d",
+        "p",
+        (Base::Decimal, false, 5, Filling::BlanksBefore, 3),
+        "",
+    ),
+    (
+        "%o",
+        "p",
+        (Base::Octal, false, 0, Filling::BlanksBefore, 1),
+        "",
+    ),
+    (
+        "%#o",
+        "p",
+        (Base::Octal, true, 0, Filling::BlanksBefore, 1),
+        "",
+    ),
+    ("%##00x", "p", (Base::Hex, true, 0, Filling::Zeros, 1), ""),
+    (
+        "%X",
+        "p",
+        (Base::Capitals, false, 0, Filling::BlanksBefore, 1),
+        "",
+    ),
+    (
+        "%#08Xd",
+        "p",
+        (Base::Capitals, true, 8, Filling::Zeros, 1),
+        "d",
+    ),
+];
+
+/// The last format decides, and the digits have no effect with one.
+#[test]
+fn a_format_has_its_own_digits(rt: HostRuntime) {
+    for words in BESIDE {
+        let zeros = form((Base::Decimal, false, 4, Filling::Zeros, 1));
+        check(&rt, rt.alloc(), words, Wanted::Names("xx", zeros, "~"));
+    }
+}
+
+const BESIDE: &[&[&str]] = &[
+    &["csplit", "-b", "%04d~", "-n", "7", "f", "3"],
+    &["csplit", "-n", "7", "-b%04d~", "f", "3"],
+    &["csplit", "-b", "%x", "f", "--suffix-format=%04d~", "3"],
+    &["csplit", "--suffix", "%04d~", "f", "3", "-n9"],
 ];
 
 fn made_so(rt: &impl Abort, alloc: Global, row: &MadeRow<'_>) {
@@ -185,6 +369,57 @@ const OPERANDS: &[OperandRow<'static>] = &[
 ];
 
 #[test]
+fn refuses_what_is_no_format(rt: HostRuntime) {
+    for format in NO_FORMATS {
+        let words: &[&str] = &["csplit", "-b", format, "f", "3"];
+        refuse(&rt, rt.alloc(), &[(words, UsageKind::BadFormat, 2)]);
+    }
+}
+
+const NO_FORMATS: &[&str] = &[
+    "",
+    "abc",
+    "%",
+    "a%",
+    "%%",
+    "%%%",
+    "%s",
+    "%c",
+    "%e",
+    "%n",
+    "%D",
+    "%d%d",
+    "%d%",
+    "%d%%%x",
+    "%ld",
+    "%hd",
+    "%#d",
+    "%#i",
+    "%#u",
+    "%'x",
+    "%'o",
+    "%'X",
+    "%*d",
+    "%.*d",
+    "%256d",
+    "%0256d",
+    "%.256d",
+    "%99999999999999999999d",
+    "%.18446744073709551617d",
+    "%+d",
+    "% d",
+    "%1$d",
+    "%5-d",
+    "%.-1d",
+    "%..d",
+    "%5",
+    "%.",
+    "%-",
+    "%\u{e9}",
+    "%\0d",
+];
+
+#[test]
 fn refuses_options_of_csplit(rt: HostRuntime) {
     refuse(&rt, rt.alloc(), BAD_OPTIONS);
 }
@@ -192,7 +427,13 @@ fn refuses_options_of_csplit(rt: HostRuntime) {
 const BAD_OPTIONS: &[Refused<'static>] = &[
     (&["csplit", "-3", "f", "3"], UsageKind::UnknownOption, 1),
     (&["csplit", "f", "-3"], UsageKind::UnknownOption, 2),
-    (&["csplit", "-b", "f", "3"], UsageKind::UnknownOption, 1),
+    (&["csplit", "-b", "f", "3"], UsageKind::BadFormat, 2),
+    (
+        &["csplit", "-by%dn", "-b", "%s", "f"],
+        UsageKind::BadFormat,
+        3,
+    ),
+    (&["csplit", "f", "3", "-b"], UsageKind::MissingValue, 3),
     (&["csplit", "-kx", "f", "3"], UsageKind::UnknownOption, 1),
     (
         &["csplit", "--keeps", "f", "3"],

@@ -51,9 +51,10 @@ const SHORT: &[Same<'static>] = &[
     ),
     (
         "csplit",
-        &["f", "1", "--k", "--si", "--e", "--su"],
+        &["f", "1", "--k", "--si", "--e", "--sup"],
         &["f", "1", "-ksz", "--suppress-matched"],
     ),
+    ("csplit", &["--suf=%x", "f", "1"], &["-b", "%x", "f", "1"]),
     ("tee", &["--app", "f"], &["-a", "f"]),
     ("tee", &["--", "--app"], &["--", "--app"]),
 ];
@@ -154,6 +155,7 @@ const REFUSED: &[Refused<'static>] = &[
     (&["split", "--nu", "r/3"], UsageKind::AmbiguousOption, 1),
     (&["split", "--li=3"], UsageKind::AmbiguousOption, 1),
     (&["csplit", "f", "1", "--s"], UsageKind::AmbiguousOption, 3),
+    (&["csplit", "f", "1", "--su"], UsageKind::AmbiguousOption, 3),
     (&["head", "--=3"], UsageKind::AmbiguousOption, 1),
     (&["head", "--x"], UsageKind::UnknownOption, 1),
     (&["head", "--linesx=3"], UsageKind::UnknownOption, 1),

@@ -10,10 +10,10 @@ use Rattle.words_core.proofs.laws.options_stand_anywhere.Goals as goal
 
 pub returns : goal.returns
 returns c = record {
-  keep = so_where_given csplit_by (λ asked. asked.keep) keeps_files (λ a c v. (csplit-sets a a c v).2) plain refl;
-  quiet = so_where_given csplit_by (λ asked. asked.quiet) drops_sizes (λ a c v. (csplit-sets a a c v).3) plain refl;
-  elide = so_where_given csplit_by (λ asked. asked.elide) elides_files (λ a c v. (csplit-sets a a c v).4) plain refl;
-  suppress = so_where_given csplit_by (λ asked. asked.suppress) leaves_lines_out (λ a c v. (csplit-sets a a c v).5) plain refl;
+  keep = so_where_given csplit_by (λ asked. asked.keep) keeps_files (λ a c v. (csplit-sets a a c v).3) plain refl;
+  quiet = so_where_given csplit_by (λ asked. asked.quiet) drops_sizes (λ a c v. (csplit-sets a a c v).4) plain refl;
+  elide = so_where_given csplit_by (λ asked. asked.elide) elides_files (λ a c v. (csplit-sets a a c v).5) plain refl;
+  suppress = so_where_given csplit_by (λ asked. asked.suppress) leaves_lines_out (λ a c v. (csplit-sets a a c v).6) plain refl;
   leave_out = so_where_given split_by (λ asked. asked.elide) elides_files (λ a c v. (split-sets a a c v).3) no_options refl;
   tell = so_where_given split_by (λ asked. asked.verbose) tells_of_files (λ a c v. (split-sets a a c v).4) no_options refl;
   zero = given_anywhere ends_by (λ asked. asked.delim) ends_with_zero 0 (λ a c v. (ends-sets a a c v).2) ten_lines;

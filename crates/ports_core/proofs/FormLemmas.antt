@@ -1,0 +1,158 @@
+-- How many digits a number has, and what is read of one in a form.
+use Rattle.std.proofs.Common.{◌≡◌, ℕ, ◌+◌, ◌-◌, ◌*◌, ◌/◌, ◌%◌, ◌^◌, ◌<◌, ◌≤◌, ◌==◌, ◌||◌, ◌&&◌, zero, suc, not, nat_lt, Bool, true, false, cond, List, [], ◌∷◌, ◌++◌, length, filter, replicate, inl, inr, refl, sym, ◌∙◌, ap, arith, add-mul, mul_assoc, append-nil, append_assoc, length-append, mul-le-mul, pow-suc, div-add-mod', mod-lt}
+use Rattle.std.proofs.Math.Nat.{pow-le-pow_right, pow-succ', pow-zero}
+use Rattle.std.proofs.lemmas.List.Elements.{filter-append}
+use Rattle.std.proofs.lemmas.Bool.{cases_lt, cond_both, ltb-false, ltb-true}
+use Rattle.std.proofs.lemmas.Bool.Decides.{nat_tests}
+use Rattle.std.specs.Str.Parse.{digits_value, digits_value_after}
+use Rattle.std.specs.Char.{digit_value}
+use Rattle.ports_core.specs.declared.alphabet.Alphabet.{Alphabet}
+use Rattle.ports_core.specs.declared.form.Base.{Base}
+use Rattle.ports_core.specs.declared.form.Base.TheVariants as base
+use Rattle.ports_core.specs.declared.form.Filling.{Filling}
+use Rattle.ports_core.specs.declared.form.Filling.TheVariants.{Zeros, BlanksBefore, BlanksAfter}
+use Rattle.ports_core.specs.declared.form.Form.{Form}
+use Rattle.ports_core.specs.Name.{radix, character, written, alphabet_of, digits_up_to, digit_count, digits_written, filled, formatted, hex_mark, mark_of, marked}
+use Rattle.ports_core.proofs.CounterLemmas.{first_digit_small, many_characters, power_positive}
+
+-- how many digits a number has
+
+-- so many are enough
+enough_up_to : (alphabet : Alphabet) (number bound : ℕ) → number < radix alphabet ^ bound → number < radix alphabet ^ digits_up_to alphabet number bound
+enough_up_to alphabet number zero small = small
+enough_up_to alphabet number (suc bound) small =
+    cond_both (nat_lt number (radix alphabet ^ bound)) (digits_up_to alphabet number bound) (suc bound) (λ count. number < radix alphabet ^ count)
+    (λ less. enough_up_to alphabet number bound (ltb-true _ _ less)) (λ more. small)
+
+-- and none of them can be left out
+least_up_to : (alphabet : Alphabet) (number bound count : ℕ) → number < radix alphabet ^ count → digits_up_to alphabet number bound ≤ count
+least_up_to alphabet number zero count small = omega arith
+least_up_to alphabet number (suc bound) count small =
+    cond_both (nat_lt number (radix alphabet ^ bound)) (digits_up_to alphabet number bound) (suc bound) (λ digits. digits ≤ count)
+    (λ less. least_up_to alphabet number bound count small)
+    (λ more. elim (cases_lt bound count) [
+      | inl less ↦ less
+      | inr reached ↦
+          let some : 0 < radix alphabet = omega (arith, many_characters alphabet) in
+          absurd (omega (arith, small, ltb-false _ _ more, pow-le-pow_right some reached))
+    ])
+
+-- a number is below the power of its own
+below_power : (alphabet : Alphabet) (number : ℕ) → number < radix alphabet ^ number
+below_power alphabet zero = power_positive alphabet 0
+below_power alphabet (suc number) =
+    let half : suc number * 2 ≤ radix alphabet ^ number * radix alphabet = mul-le-mul (below_power alphabet number) (omega (arith, many_characters alphabet)) in
+    rw pow-suc (omega (arith, half))
+
+pub digits_enough : (alphabet : Alphabet) (number : ℕ) → number < radix alphabet ^ digit_count alphabet number
+digits_enough alphabet number = enough_up_to alphabet number number (below_power alphabet number)
+
+pub digits_needed : (alphabet : Alphabet) (number count : ℕ) → number < radix alphabet ^ count → digit_count alphabet number ≤ count
+digits_needed alphabet number count small = least_up_to alphabet number number count small
+
+pub counted : (alphabet : Alphabet) {number log count : ℕ} → radix alphabet ^ log ≤ number → number < radix alphabet * radix alphabet ^ log → count ≡ suc log → count ≡ digit_count alphabet number
+counted alphabet {number} {log} least most is =
+    let some : 0 < radix alphabet = omega (arith, many_characters alphabet) in
+    let few : digit_count alphabet number ≤ suc log = digits_needed alphabet number (suc log) (rw (pow-succ' (radix alphabet) log) most) in
+    elim (cases_lt log (digit_count alphabet number)) [
+      | inl less ↦ omega (arith, few, less, is)
+      | inr reached ↦ absurd (omega (arith, least, digits_enough alphabet number, pow-le-pow_right some reached))
+    ]
+
+-- more digits are enough too
+pub below_more : (alphabet : Alphabet) {number few count : ℕ} → number < radix alphabet ^ few → few ≤ count → number < radix alphabet ^ count
+below_more alphabet {number} {few} {count} small more =
+    let some : 0 < radix alphabet = omega (arith, many_characters alphabet) in
+    omega (arith, small, pow-le-pow_right some more)
+
+-- what is written of a number
+
+pub length_written : (alphabet : Alphabet) (width number : ℕ) → length (written alphabet width number) ≡ width
+length_written alphabet zero number = refl
+length_written alphabet (suc width) number = ap suc (length_written alphabet width (number % radix alphabet ^ width))
+
+length_marked : (form : Form) (number : ℕ) → length (marked form number) ≡ length (mark_of form number) + digits_written form number
+length_marked form number = length-append (mark_of form number) _ ∙ ap (λ n. length (mark_of form number) + n) (length_written (alphabet_of form.base) (digits_written form number) number)
+
+-- what blanks make of a text
+before : {filling : Filling} (width : ℕ) (text : List ℕ) {blanks : ℕ} → filling ≡ BlanksBefore → blanks ≡ width - length text → filled filling width text ≡ replicate blanks 32 ++ text
+before width text filling blanks = rw (filling, blanks) refl
+
+after : {filling : Filling} (width : ℕ) (text : List ℕ) {blanks : ℕ} → filling ≡ BlanksAfter → blanks ≡ width - length text → filled filling width text ≡ text ++ replicate blanks 32
+after width text filling blanks = rw (filling, blanks) refl
+
+pub blanks_before : (form : Form) (number : ℕ) {size blanks : ℕ} (old : List ℕ) {middle new : List ℕ} → form.filling ≡ BlanksBefore → size ≡ length (mark_of form number) + digits_written form number
+    → blanks ≡ form.width - size → middle ≡ old ++ replicate blanks 32 → new ≡ middle ++ marked form number → new ≡ old ++ formatted form number
+blanks_before form number old filling size blanks front all =
+    all ∙ ap (λ text. text ++ marked form number) front ∙ append_assoc old _ (marked form number)
+    ∙ ap (λ text. old ++ text) (sym (before form.width (marked form number) filling (omega (arith, blanks, size, length_marked form number))))
+
+pub blanks_after : (form : Form) (number : ℕ) {size blank : ℕ} (old : List ℕ) {middle new : List ℕ} → form.filling ≡ BlanksAfter → size ≡ length (mark_of form number) + digits_written form number
+    → blank ≡ form.width - size → middle ≡ old ++ marked form number → new ≡ middle ++ replicate blank 32 → new ≡ old ++ formatted form number
+blanks_after form number {blank} old filling size blanks front all =
+    let count : blank ≡ form.width - length (marked form number) = omega (arith, blanks, size, length_marked form number) in
+    all ∙ ap (λ text. text ++ replicate blank 32) front ∙ append_assoc old (marked form number) _
+    ∙ ap (λ text. old ++ text) (sym (after form.width (marked form number) filling count))
+
+-- what is read of it
+
+-- neither blanks nor the letters of a mark are digits
+abbrev is_shown : ℕ → Bool
+is_shown byte = not (byte == 32 || byte == 88 || byte == 120)
+
+abbrev value_in : Base → List ℕ → ℕ
+value_in base text = digits_value (radix (alphabet_of base)) (filter is_shown text)
+
+-- each digit is shown, and has its value
+abbrev IsDigit : Alphabet → Type 0
+IsDigit alphabet = (digit : ℕ) → digit < radix alphabet → (is_shown (character alphabet digit) ≡ true) × (digit_value (character alphabet digit) ≡ digit)
+
+are_digits : (base : Base) → IsDigit (alphabet_of base)
+are_digits base.Decimal digit small = (grind (arith, nat_tests), grind (arith, nat_tests))
+are_digits base.Octal digit small = (grind (arith, nat_tests), grind (arith, nat_tests))
+are_digits base.Hex digit small = (grind (arith, nat_tests), grind (arith, nat_tests))
+are_digits base.Capitals digit small = (grind (arith, nat_tests), grind (arith, nat_tests))
+
+-- so the digits are shown, and have the value of the number that they write after others
+written_value : (alphabet : Alphabet) → IsDigit alphabet → (width number front : ℕ) → number < radix alphabet ^ width
+    → digits_value_after (radix alphabet) front (filter is_shown (written alphabet width number)) ≡ front * radix alphabet ^ width + number
+written_value alphabet digits zero number front small =
+    let none : number ≡ 0 = omega (arith, small, pow-zero (radix alphabet)) in
+    rw (none, pow-zero (radix alphabet)) (omega arith)
+written_value alphabet digits (suc width) number front small =
+    let r : ℕ = radix alphabet in let p : ℕ = r ^ width in let top : ℕ = number / p in
+    let digit = digits top (first_digit_small alphabet width number small) in
+    let rest = written_value alphabet digits width (number % p) (front * r + digit_value (character alphabet top)) (mod-lt number (power_positive alphabet width)) in
+    ap (λ shown. digits_value_after r front (cond shown (character alphabet top ∷ filter is_shown (written alphabet width (number % p))) (filter is_shown (written alphabet width (number % p))))) digit.0
+    ∙ rest ∙ ap (λ value. (front * r + value) * p + number % p) digit.1
+    ∙ omega (arith, add-mul (front * r) top p, mul_assoc front r p, ap (λ n. front * n) (pow-succ' r width), div-add-mod' number p)
+
+mark_value : (base : Base) (is_marked : Bool) (text : List ℕ) → value_in base (cond is_marked (hex_mark base) [] ++ text) ≡ value_in base text
+mark_value base false text = refl
+mark_value base.Decimal true text = refl
+mark_value base.Octal true text = refl
+mark_value base.Hex true text = refl
+mark_value base.Capitals true text = refl
+
+blanks_hidden : (count : ℕ) → filter is_shown (replicate count 32) ≡ []
+blanks_hidden zero = refl
+blanks_hidden (suc count) = blanks_hidden count
+
+filled_value : (base : Base) (filling : Filling) (width : ℕ) (text : List ℕ) → value_in base (filled filling width text) ≡ value_in base text
+filled_value base Zeros width text = refl
+filled_value base BlanksBefore width text =
+    ap (digits_value (radix (alphabet_of base))) (filter-append is_shown (replicate (width - length text) 32) text ∙ ap (λ front. front ++ filter is_shown text) (blanks_hidden (width - length text)))
+filled_value base BlanksAfter width text =
+    ap (digits_value (radix (alphabet_of base))) (filter-append is_shown text (replicate (width - length text) 32) ∙ ap (λ rest. filter is_shown text ++ rest) (blanks_hidden (width - length text)) ∙ append-nil _)
+
+pub formatted_value : (form : Form) (number : ℕ) → value_in form.base (formatted form number) ≡ number
+formatted_value form number =
+    let alphabet = alphabet_of form.base in
+    let enough : number < radix alphabet ^ digits_written form number = below_more alphabet (digits_enough alphabet number) (omega arith) in
+    filled_value form.base form.filling form.width (marked form number)
+    ∙ mark_value form.base (form.is_marked && nat_lt 0 number) (written alphabet (digits_written form number) number)
+    ∙ written_value alphabet (are_digits form.base) (digits_written form number) number 0 enough ∙ omega arith
+
+-- so no two numbers are written alike
+pub no_two_alike : (form : Form) {one other : ℕ} → formatted form one ≡ formatted form other → one ≡ other
+no_two_alike form {one} {other} same = sym (formatted_value form one) ∙ ap (value_in form.base) same ∙ formatted_value form other
