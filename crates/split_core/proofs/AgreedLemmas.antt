@@ -20,7 +20,8 @@ use Rattle.seg_core.specs.declared.cut.Limit.{Limit}
 use Rattle.seg_core.specs.declared.cut.Limit.TheVariants.{Lines, Bytes, LineBytes}
 use Rattle.seg_core.specs.Cut.{most}
 use Rattle.split_core.specs.Parts.{whole_lines, after_first, cut_up, unless_empty, parts, settled_rest, waiting_rest}
-use Rattle.split_core.specs.Split.{Filing, Plan, Share, share, are_named, output_by, named, settled_parts, settled_by, split_work, dealt_files, bytes_in}
+use Rattle.split_core.specs.inner.CutLaws.{named}
+use Rattle.split_core.specs.Split.{Filing, Plan, Share, share, are_named, output_by, settled_parts, settled_by, split_work, dealt_files, bytes_in}
 use Rattle.seg_core.specs.Cut.{IsPositive}
 use Rattle.split_core.specs.PartsState.{parts_work}
 use Rattle.split_core.specs.Round.{round_plan, round_work}

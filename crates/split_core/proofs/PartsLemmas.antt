@@ -28,12 +28,12 @@ use Rattle.seg_core.specs.Cut.{most}
 use Rattle.seg_core.specs.declared.cut.Limit.{Limit}
 use Rattle.split_core.specs.Parts.{cut_up, parts, settled_rest, unless_empty, waiting_rest}
 use Rattle.split_core.specs.PartsState.{PartsState, IsReady, Lacks, Stands, filing_of, work}
-use Rattle.split_core.specs.Split.{Filing, TellsNoSizes, are_named, is_verbose, tells_by, draft_of, manner_of, named, output_by, settled_parts, split_means}
+use Rattle.split_core.specs.Split.{Filing, TellsNoSizes, are_named, is_verbose, tells_by, draft_of, manner_of, output_by, settled_parts, split_means}
 use Rattle.split_core.specs.Ways as ways
 use Rattle.split_core.specs.declared.splitter.Splitter.TheVariants as way
 use Rattle.split_core.specs.declared.step.Step.{Step}
 use Rattle.split_core.specs.declared.step.Step.TheVariants.{Goes as GoesOn, Ends, Begins, Waits}
-use Rattle.split_core.specs.inner.CutLaws.{cut_so}
+use Rattle.split_core.specs.inner.CutLaws.{cut_so, named}
 use Rattle.split_core.specs.inner.Sharing.{CannotClose, always_named}
 use Rattle.split_core.specs.inner.Step.{IsTurned, Leads}
 use Rattle.split_core.specs.inner.Takes.{Emptying, Extends, Finishes, LacksNames, Moves, Steps, Takes, Turns, numbers, settled_part, turns, whole_part}

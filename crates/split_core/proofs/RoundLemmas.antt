@@ -23,7 +23,8 @@ use Rattle.ports_core.proofs.PartLemmas.{outputs_count}
 use Rattle.ports_core.proofs.ShareLemmas.{nothing_part}
 use Rattle.split_core.specs.Parts.{dealt, round_robin}
 use Rattle.split_core.specs.Parts as cut
-use Rattle.split_core.specs.Split.{Filing, share, manner_of, named, are_named, is_verbose, output_by, dealt_files, settled_by, is_short, is_some, split_work, bytes_in}
+use Rattle.split_core.specs.inner.CutLaws.{named}
+use Rattle.split_core.specs.Split.{Filing, share, manner_of, are_named, is_verbose, output_by, dealt_files, settled_by, is_short, is_some, split_work, bytes_in}
 use Rattle.split_core.specs.inner.Dealt.{dealt_piece, dealt_first, reached_by, share_of}
 use Rattle.ports_core.specs.Draft.{part_of, part_with}
 use Rattle.ports_core.specs.declared.file_writer.Tells.{Tells}

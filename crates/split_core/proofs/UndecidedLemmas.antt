@@ -14,7 +14,8 @@ use Rattle.seg_core.specs.declared.cut.Limit.{Limit}
 use Rattle.seg_core.specs.Cut.{most}
 use Rattle.split_core.specs.Parts.{parts, whole_lines, cut_up, unless_empty, settled_rest, waiting_rest, dealt}
 use Rattle.ports_core.proofs.ShareLemmas.{one_on}
-use Rattle.split_core.specs.Split.{Filing, output_by, share, are_named, named, settled_by, is_short, split_work, dealt_files, bytes_in, whole_by}
+use Rattle.split_core.specs.inner.CutLaws.{named}
+use Rattle.split_core.specs.Split.{Filing, output_by, share, are_named, settled_by, is_short, split_work, dealt_files, bytes_in, whole_by}
 use Rattle.split_core.specs.PartsState.{parts_work}
 use Rattle.split_core.proofs.SectionLemmas.{joined_parts, settled_list}
 use Rattle.split_core.proofs.AgreedLemmas.{named_bytes, came_in, settled_bytes_in, settled_in, shared_bytes, waiting_is, named_more, each_named, list_count, decides_lines, one_of, delimiters_some, plan_by}

@@ -25,7 +25,8 @@ use Rattle.seg_core.specs.declared.unit.Unit.{Unit as Counted}
 use Rattle.ends_core.specs.Head.{head_work}
 use Rattle.ends_core.specs.Tail.{tail_work}
 use Rattle.seg_core.specs.declared.cut.Limit.{Limit}
-use Rattle.split_core.specs.Split.{Filing, Plan, Share, dealt_files, named, settled_parts, settled_shares, share, split_work}
+use Rattle.split_core.specs.inner.CutLaws.{named}
+use Rattle.split_core.specs.Split.{Filing, Plan, Share, dealt_files, settled_parts, settled_shares, share, split_work}
 use Rattle.split_core.specs.inner.Sharing.{file_at}
 use Rattle.operand_core.specs.Style.{Style}
 use Rattle.operand_core.specs.declared.operand.Operand.{Operand}

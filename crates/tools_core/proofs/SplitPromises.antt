@@ -30,7 +30,8 @@ use Rattle.seg_core.specs.declared.cut.Limit.TheVariants as limit
 use Rattle.split_core.specs.Parts.{parts, round_robin, whole_lines}
 use Rattle.split_core.specs.Sections.{AreLineByteParts}
 use Rattle.split_core.specs.Sections as piece
-use Rattle.split_core.specs.Split.{Filing, output_by, Share, share, named, are_named, is_some, dealt_files, pieces_of}
+use Rattle.split_core.specs.inner.CutLaws.{named}
+use Rattle.split_core.specs.Split.{Filing, output_by, Share, share, are_named, is_some, dealt_files, pieces_of}
 use Rattle.split_core.specs.inner.Sharing.{file_at}
 use Rattle.split_core.specs.inner.Dealt.{share_of}
 use Rattle.split_core.specs.laws.CutLaws.{whole_of_lines, whole_of_none}

@@ -17,10 +17,10 @@ use Rattle.seg_core.specs.declared.cut.Limit.{Limit}
 use Rattle.seg_core.specs.declared.cut.Limit.TheVariants.{Lines, Bytes, LineBytes}
 use Rattle.seg_core.specs.Cut.{most}
 use Rattle.split_core.specs.Parts.{whole_lines, measure, is_full, first_part, after_first, cut_up, unless_empty, parts, settled_rest}
-use Rattle.split_core.specs.Split.{Filing, Share, share, manner_of, named, are_named, output_by, settled_parts}
+use Rattle.split_core.specs.Split.{Filing, Share, share, manner_of, are_named, output_by, settled_parts}
 use Rattle.split_core.specs.inner.Sharing.{file_at}
 use Rattle.split_core.specs.laws.CutLaws.{short_some, full_some, whole_of_lines, whole_of_none, settled_then_waiting, settled_some, cut_on, cut_none, cut_once, cuts_up, rest_short}
-use Rattle.split_core.specs.inner.CutLaws.{goes, cut_so, whole_parts}
+use Rattle.split_core.specs.inner.CutLaws.{goes, cut_so, whole_parts, named}
 
 -- the files of shares that begin others begin the files of those
 

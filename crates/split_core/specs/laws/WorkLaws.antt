@@ -10,7 +10,8 @@ use Rattle.ports_core.specs.declared.slot.State.{State}
 use Rattle.ports_core.specs.declared.slot.State.TheVariants.{Open, Closed}
 use Rattle.ports_core.proofs.PartLemmas.{begins_itself}
 use Rattle.ports_core.specs.Draft.{part_of}
-use Rattle.split_core.specs.Split.{Filing, share, manner_of, named, dealt_files, are_named, settled_parts}
+use Rattle.split_core.specs.inner.CutLaws.{named}
+use Rattle.split_core.specs.Split.{Filing, share, manner_of, dealt_files, are_named, settled_parts}
 use Rattle.split_core.specs.inner.Sharing.{file_at}
 use Rattle.split_core.specs.Round.{round_plan, round_work, opened_by}
 use Rattle.split_core.specs.inner.Dealt.{share_of}
