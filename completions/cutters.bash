@@ -22,7 +22,7 @@ _cutters_options() {
         ;;
     split)
         valued='-l --lines -b --bytes -C --line-bytes -n --number -a --suffix-length -t --separator --additional-suffix'
-        plain='-d --numeric-suffixes --numeric-suffixes= -x --hex-suffixes --hex-suffixes= -e --elide-empty-files -u --unbuffered --help --version'
+        plain='-d --numeric-suffixes --numeric-suffixes= -x --hex-suffixes --hex-suffixes= -e --elide-empty-files -u --unbuffered --verbose --help --version'
         ;;
     csplit)
         valued='-f --prefix -n --digits -b --suffix-format'

@@ -51,6 +51,7 @@ complete -c cutters -n '__cutters_tool split' -s e -l elide-empty-files -d 'With
 complete -c cutters -n '__cutters_tool split' -s t -l separator -x -d 'Lines end with BYTE, not with a newline'
 complete -c cutters -n '__cutters_tool split' -l additional-suffix -x -d 'Names end with TEXT'
 complete -c cutters -n '__cutters_tool split' -s u -l unbuffered -d 'Taken without effect'
+complete -c cutters -n '__cutters_tool split' -l verbose -d 'Write each name before its file is opened'
 complete -c cutters -n '__cutters_tool split' -l help -d 'Write help, and do nothing else'
 complete -c cutters -n '__cutters_tool split' -l version -d 'Write the version, and do nothing else'
 

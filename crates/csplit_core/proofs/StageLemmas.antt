@@ -181,7 +181,7 @@ opened_not told {style} operands {opening = opening} {old} {new} {writer = write
     subst (λ part. BegunNot told style part old new fault) (ap (λ those. draft_part (manner_of style) (with_next those nothing_yet)) (opening_is ∙ ap (λ o. opening_of style (kept_next o)) next_is) ∙ first_part style operands)
     (begun_not two (subst (λ w. Goes told (paused w) (with_next opening) old new writer (Some fault)) made begun) (same ∙ ap (λ (w : WriterState). w.files) made))
 
-none_told : (style : Style) → LinesTo (sizes_wanted style) nothing 0 Memory
+none_told : (style : Style) → LinesTo (sizes_wanted style) nothing nothing 0 Memory
 none_told style = grind (arith, common_steps)
 
 -- where there is no memory, nothing was done

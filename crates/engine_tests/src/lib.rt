@@ -37,3 +37,5 @@ mod round_tests;
 mod tee_tests;
 #[cfg(test)]
 mod test_texts;
+#[cfg(test)]
+mod told_tests;

@@ -9,7 +9,7 @@ ghost use Rattle.split_core.specs.Ways.{Ready};
 use crate::ends_plain::{Asked, Side};
 use ends_core::{Ends, Head, Tail};
 use mem_core::MemOut;
-use ports_core::{Fault, Guarded, Names, Outs, Stage};
+use ports_core::{Fault, Guarded, Names, Outs, Stage, Tells};
 use split_core::{Cut, Splitter};
 use std::alloc::Global;
 use std::process::Abort;
@@ -104,7 +104,7 @@ pub(crate) fn open_splitter(
     requires streams { 2 ≤ length outs.old }
     ensures { IfOk result (λ splitter. Ready splitter.stage outs.new) }
 {
-    Splitter::open(alloc, cut, names, elide, outs)
+    Splitter::open(alloc, cut, names, elide, Tells::Nothing, outs)
 }
 
 /// Feeds an engine a piece, also one that is over.

@@ -1,23 +1,23 @@
 -- What the writer of files does: what it writes, whose the outputs are, and which faults come.
 use Rattle.std.proofs.lemmas.Grind.{common_steps}
-use Rattle.std.proofs.Common.{◌≡◌, ℕ, ◌+◌, ◌<◌, ◌≤◌, ◌^◌, zero, suc, eqb, eq-eqb, ne_eqb, Bool, true, false, ◌||◌, IsTrue, List, [], ◌∷◌, ◌++◌, length, map, take, drop, replicate, decimal, Option, Some, None, IfNone, IfSome, Result, Ok, Err, OnOk, IfErr, IsErrAnd, inl, inr, refl, sym, ◌∙◌, ap, subst, arith, rules, append-nil, length-append}
+use Rattle.std.proofs.Common.{◌≡◌, ℕ, ◌+◌, ◌<◌, ◌≤◌, ◌^◌, zero, suc, eqb, eq-eqb, ne_eqb, Bool, true, false, ◌||◌, IsTrue, List, [], ◌∷◌, ◌++◌, length, map, take, drop, replicate, decimal, Option, Some, None, IfNone, IfSome, Result, Ok, Err, OnOk, IfErr, IsErrAnd, inl, inr, refl, sym, ◌∙◌, ap, subst, arith, rules, append-nil, append_assoc, length-append}
 use Rattle.std.proofs.lemmas.Bool.{false≢true, cases_lt}
-use Rattle.std.proofs.lemmas.List.{length-map, take-append-drop, take_all}
+use Rattle.std.proofs.lemmas.List.{length-map, take-append-drop}
 use Rattle.std.proofs.lemmas.List.Recursion.{or_push}
 use Rattle.std.proofs.Math.Bool.{or-false}
 use Rattle.std.proofs.Math.Seq.{take-append-add, take-append_seam, drop-append_seam}
-use Rattle.ports_core.specs.Draft.{Manner, AreNamed, Draft, share, files_from, told_of_files, part_with, part_of, size_of_file, output_of, made_of, shares_of, draft_part, with_bytes, with_next, manner_by}
+use Rattle.ports_core.specs.Draft.{Manner, AreNamed, Draft, share, files_from, told_before, told_of_files, part_with, part_of, opening_line, size_of_file, output_of, made_of, shares_of, draft_part, with_bytes, with_next, manner_by}
 use Rattle.ports_core.specs.FileWriter.{WriterState, Writes, CanCount, IsCounted, IsCurrent, IsLast, IsOpenAt, IsReady, IsManner, IsWrite, CanTell, Breaks, RunsShort, manner_in}
 use Rattle.ports_core.specs.Name.{Naming}
-use Rattle.ports_core.specs.Names.{next_name, has_next, OpensNone, no_memory, no_file, no_name}
-use Rattle.ports_core.specs.Part.{File as PartFile, Part, OutputsAt, Begins, FilesBegin, IsNext, IsBeginning, Output, gets_lines, lines_for, writes}
-use Rattle.ports_core.specs.Slot.{Slot, with_written, told_of, has_file, slot_at, changed_at, opened, closes, with_broken, is_writable}
+use Rattle.ports_core.specs.Names.{next_name, has_next, line_next, told_next, OpensNone, no_memory, no_line, no_file, no_number, no_name}
+use Rattle.ports_core.specs.Part.{File as PartFile, Part, OutputsAt, Begins, IsBeginning, Output, gets_none, gets_bytes, gets_lines, gets_openings, lines_for, writes}
+use Rattle.ports_core.specs.Slot.{Slot, with_written, told_of, Rose, has_file, slot_at, changed_at, opened, unopened, closes, with_broken, is_writable}
 use Rattle.ports_core.specs.Swept.{AreThere, is_among}
 use Rattle.ports_core.specs.FileWriter.{At, KeepsFiles, KeepsOrBreaks, Leaves, Reaches, Goes, paused}
 use Rattle.ports_core.specs.inner.FileWriter.{MakesNone, Made, Appends, TellsSize, CountsOn, files_with}
 use Rattle.ports_core.specs.Turn.{AllClosed, InTurn, IsThere, LinesTo, fault_in}
-use Rattle.ports_core.specs.inner.Part.{HasLines}
 use Rattle.ports_core.specs.Slot.{KeepsBroken}
+use Rattle.ports_core.specs.Write.{BrokeAfter}
 use Rattle.ports_core.specs.inner.Write as short
 use Rattle.ports_core.specs.inner.Write.{Wrote, WritesShort}
 use Rattle.ports_core.specs.declared.fault.Fault.{Fault}
@@ -30,48 +30,27 @@ use Rattle.ports_core.specs.declared.file_writer.Keeps.TheVariants.{Open as Open
 use Rattle.ports_core.specs.declared.file_writer.Opening.{Opening}
 use Rattle.ports_core.specs.declared.file_writer.Opening.TheVariants.{Never, AtOnce}
 use Rattle.ports_core.specs.declared.file_writer.Tells.{Tells}
-use Rattle.ports_core.specs.declared.file_writer.Tells.TheVariants.{Nothing, Sizes}
+use Rattle.ports_core.specs.declared.file_writer.Tells.TheVariants.{Nothing, Sizes, Openings}
 use Rattle.ports_core.specs.declared.names.Names.{Names}
 use Rattle.ports_core.specs.declared.slot.Mode.TheVariants.{Fresh}
 use Rattle.ports_core.specs.declared.slot.State.TheVariants as state
 use Rattle.ports_core.proofs.HandedOn.{handed_on}
-use Rattle.ports_core.proofs.PartLemmas.{begins_itself, begins_more, take_begins_after, files_begin_themselves, part_begins_itself, out_more, turn_between, turn_next, turn_last, lines_before}
-use Rattle.ports_core.proofs.PartSteps.{Becomes, becomes_again, with_last, halts_here, there_from, file_of, writes_to, opens, falls_wider, close_begins, closes_last, closes_not, lines_of_front}
-use Rattle.ports_core.proofs.OpenLemmas.{opens_marks, opens_at}
-use Rattle.ports_core.proofs.ShareLemmas.{stopped_part, part_grows, has_told, closed_files, ended_files, ended_out, name_after, open_part, closed_part, none_part, still_made, made_or}
+use Rattle.ports_core.proofs.PartLemmas.{begins_itself, nothing_begins, take_begins_after, files_begin_themselves, part_begins_itself, part_trans, turn_between, turn_next, turn_last}
+use Rattle.ports_core.proofs.PartSteps.{Becomes, becomes_again, with_last, halts_here, there_from, begun_out, file_begins, file_of, line_begins, lines_all, lines_of_last, out_added, writes_to, opens, falls_wider, close_begins, closes_last, closes_not}
+use Rattle.ports_core.proofs.OpenLemmas.{IsNextName, opens_not, stops_opening}
+use Rattle.ports_core.proofs.ShareLemmas.{stopped_part, part_grows, closed_files, ended_files, name_after, open_part, closed_part, none_part, still_made, made_or}
 use Rattle.ports_core.proofs.SlotLemmas.{length-changed_at}
-use Rattle.ports_core.proofs.SlotSteps.{KeepsMade, none_past, file_before, at_end, opened_last, writable_within, write_rose, close_rose, keeps_write, made_write, written_writable, made_short, keeps_open, writable_before, made_again, open_rose, opened_writable, made_close, made_break, keeps_close, writable_elsewhere, keeps_again}
+use Rattle.ports_core.proofs.SlotSteps.{KeepsFiled, KeepsMade, filed_more, filed_same, none_past, file_before, at_end, opened_last, writable_within, write_rose, close_rose, keeps_write, made_write, written_writable, made_short, keeps_open, writable_before, made_again, open_rose, rose_later, opened_writable, made_close, made_break, keeps_close, writable_elsewhere, keeps_again}
 use Rattle.ports_core.proofs.WriteLemmas.{none_written}
 use Rattle.ports_core.proofs.SweepLemmas.{by_place}
 
 -- Outputs that have a part have another, as a file is opened or standard output gets a line; or a fault stops them in between.
 
-pub line_begins : {out : List ℕ} (line : List ℕ) {files : List PartFile} → Begins (record { out = out; files = files }) (record { out = out ++ line; files = files })
-line_begins {out} line {files} = record { out = begins_more out line; files = files_begin_themselves files }
-
-more_files : (front more : List PartFile) → FilesBegin front (front ++ more)
-more_files [] more = tt
-more_files (file ∷ front) more = (refl, refl, refl, inr refl, begins_itself file.bytes, more_files front more)
-
-pub file_begins : {out : List ℕ} (front : List PartFile) (file : PartFile) → Begins (record { out = out; files = front }) (with_last out front file)
-file_begins {out} front file = record { out = begins_itself out; files = more_files front (file ∷ []) }
-
-module _ (output : Output) (told : Bool) (front : List PartFile) where
-  pub lines_all : (fault : Fault) → LinesTo output (part_with output front) (length front) fault
-  lines_all fault = lines_before output (part_with output front) (length front) fault (subst (HasLines output (told_of_files output front)) (sym (take_all (length front) front (omega arith))) (has_told output front))
-
-  pub opens_not : {names next : Names} {high : Part} {old new : List Slot} {fault : Fault} → AllClosed front → Begins (part_with output front) high → (names.drawn < 2 ^ 64 → IsTrue (has_next names) → IsNext (part_with output front) high (next_name names)) → OpensNone names next old new fault
-      → Becomes output told (part_with output front) high old new (Some fault)
-  opens_not closed begins is_next none = halts_here begins (turn_next front closed) (lines_all _) (opens_marks _ is_next none) (λ before at. opens_at (length before) refl none)
-
 -- standard output gets the line for the last file, which is closed
 module _ (line : PartFile → List ℕ) (told : Bool) (front : List PartFile) (file : PartFile) (shut : file.state ≡ state.Closed) where
-  line_added : (text : List ℕ) (old : List Slot) {new : List Slot} → new ≡ with_written 0 (told_of told text) old → Becomes (gets_lines line) told (with_last (lines_for line front) front file) (with_last (lines_for line front ++ text) front file) old new None
-  line_added text old {new} wrote = record { gets = λ before at. out_more told before (with_last (lines_for line front) front file) old new text at wrote }
-
   -- the line of the last file alone is cut short
-  cut_short : (n : ℕ) → LinesTo (gets_lines line) (with_last (lines_for line front ++ take n (line file)) front file) (length front) (fault.Write 0)
-  cut_short n = record {
+  cut_short : (n : ℕ) (high : Part) → LinesTo (gets_lines line) (with_last (lines_for line front ++ take n (line file)) front file) high (length front) (fault.Write 0)
+  cut_short n high = record {
     next = take n (line file);
     all = ap (λ files. lines_for line files ++ take n (line file)) (sym (take-append_seam front (file ∷ [])));
     cut = inr (
@@ -84,10 +63,10 @@ module _ (line : PartFile → List ℕ) (told : Bool) (front : List PartFile) (f
 
   pub tells_line : (old : List Slot) {new : List Slot} (fault : Option Fault) → AllClosed front → 0 < length old → Wrote told 0 (line file) old new fault
       → Becomes (gets_lines line) told (with_last (lines_for line front) front file) (with_last (lines_for line front ++ line file) front file) old new fault
-  tells_line old None closed some wrote = line_added (line file) old wrote
+  tells_line old None closed some wrote = out_added told (line file) old wrote
   tells_line old (Some _) closed some (short.broke n cut) =
-      becomes_again (line_begins (take n (line file))) (line_added (take n (line file)) old refl) (halts_here (record { out = take_begins_after n (lines_for line front) (line file); files = files_begin_themselves (front ++ file ∷ []) })
-      (turn_last front file (length front) refl closed) (cut_short n) (let size : length (with_written 0 (told_of told (take n (line file))) old) ≡ length old = length-changed_at 0 _ old in omega (arith, some), cut.slots) (λ before at. inl refl))
+      becomes_again (line_begins (take n (line file))) (out_added told (take n (line file)) old refl) (halts_here (record { out = take_begins_after n (lines_for line front) (line file); files = files_begin_themselves (front ++ file ∷ []) })
+      (turn_last front file (length front) refl closed) (cut_short n (with_last (lines_for line front ++ line file) front file)) (let size : length (with_written 0 (told_of told (take n (line file))) old) ≡ length old = length-changed_at 0 _ old in omega (arith, some), cut.slots) (λ before at. inl refl))
 
 -- a `?` handed a fault on
 pub stop_is : {T : Type 0} (P : Option Fault → Type 0) (result : Result T Fault) (fault : Fault) → IsErrAnd result (λ given. given ≡ fault) → P (Some fault) → P (fault_in result)
@@ -121,7 +100,7 @@ reaches_still {told = told} {slots = slots} {next = next} keeps is = record { th
 
 -- want of memory leaves the outputs as they are
 
-pub in_turn : {output : Output} {told : Bool} {part : Part} (place : ℕ) {slots : List Slot} {writer next : WriterState} → InTurn part.files place → LinesTo output part place Memory → Reaches output told writer next part part slots slots (Some Memory)
+pub in_turn : {output : Output} {told : Bool} {part : Part} (place : ℕ) {slots : List Slot} {writer next : WriterState} → InTurn part.files place → LinesTo output part part place Memory → Reaches output told writer next part part slots slots (Some Memory)
 in_turn {part = part} place {slots} turn lines = search (rules, part_begins_itself)
 
 made_count : (draft : Draft) → made_of draft.opening draft.bytes ≡ draft.bytes ∷ [] → length (shares_of draft) ≡ length draft.ended + 1
@@ -135,10 +114,10 @@ pub lacks_memory : {told : Bool} (manner : Manner) (draft : Draft) {slots : List
 lacks_memory {told} manner draft named = elim (made_or draft.opening draft.bytes) [
   | inl none ↦
       let is = none_part manner draft none in
-      reaches_as is is (in_turn (length (ended_files manner draft)) (turn_next (ended_files manner draft) (closed_files manner 0 draft.ended)) (lines_all manner.output told (ended_files manner draft) Memory))
+      reaches_as is is (in_turn (length (ended_files manner draft)) (turn_next (ended_files manner draft) (closed_files manner 0 draft.ended)) (lines_all manner.output (ended_files manner draft) _ Memory tt))
   | inr makes ↦
       let is = open_part manner draft (named_last manner draft named makes) makes in
-      reaches_as is is (in_turn (length (ended_files manner draft)) (turn_last (ended_files manner draft) _ _ refl (closed_files manner 0 draft.ended)) (lines_of_front manner.output _ (ended_files manner draft) _ Memory (has_told manner.output (ended_files manner draft))))
+      reaches_as is is (in_turn (length (ended_files manner draft)) (turn_last (ended_files manner draft) _ _ refl (closed_files manner 0 draft.ended)) (lines_of_last manner.output (ended_files manner draft) _ _ Memory tt))
 ]
 
 -- Outputs that were broken stay broken, and files stay the writer's own.
@@ -209,9 +188,10 @@ pub last_file : (writer : WriterState) {slot size first : ℕ} (slots : List Slo
 last_file writer {first = first} slots is last = subst (λ current. IsLast current first slots) is last
 
 -- what can be told stays so, where standard output can still be written
-can_tell : (tells : Tells) (old new : List Slot) → (IsTrue (is_writable old 0) → IsTrue (is_writable new 0)) → CanTell tells old → CanTell tells new
+pub can_tell : (tells : Tells) (old new : List Slot) → (IsTrue (is_writable old 0) → IsTrue (is_writable new 0)) → CanTell tells old → CanTell tells new
 can_tell Nothing old new stays can = tt
 can_tell Sizes old new stays can = stays can
+can_tell Openings old new stays can = stays can
 
 -- The files are there, and stay the writer's own.
 
@@ -265,18 +245,17 @@ opened_by All {writer} {slot} {old} {new} name two is at added = grind (arith, c
 pub owned_opened : {writer next : WriterState} {slot : ℕ} {old new : List Slot} → 2 ≤ length old → Made writer old new next slot → KeepsFiles writer next old new
 owned_opened {writer} {old = old} {new} two made = rw made.same (opened_by writer.keeps (next_name writer.names) two refl made.place made.added)
 
-unmade_keeps : {names next : Names} {old new : List Slot} {f : Fault} → OpensNone names next old new f → (place : ℕ) → has_file (slot_at new place).state ≡ has_file (slot_at old place).state
-unmade_keeps (no_memory same) place = grind (arith, common_steps)
-unmade_keeps {old = old} (no_file slot kept number few has drew is added) place = grind (arith, common_steps)
-unmade_keeps (no_name few none same) place = grind (arith, common_steps)
+unmade_keeps : {told : Bool} {tells : Tells} {names next : Names} {old new : List Slot} {f : Fault} → OpensNone told tells names next old new f → KeepsFiled old new
+unmade_keeps (no_memory same) = rw same (record { same = λ place. refl; within = omega arith })
+unmade_keeps {told} {old = old} (no_line n few has cut) = filed_same (made_short told 0 _ old _ _ (short.broke n cut))
+unmade_keeps {told} {tells} {names} {old = old} (no_file slot kept number few has drew is added) = filed_more kept (made_write 0 (told_of told (line_next tells names)) old _ refl) added
+unmade_keeps {told} {tells} {names} {old = old} (no_number few has same) = filed_same (made_write 0 (told_of told (line_next tells names)) old _ same)
+unmade_keeps (no_name few none same) = rw same (record { same = λ place. refl; within = omega arith })
 
-unmade_within : {names next : Names} {old new : List Slot} {f : Fault} → OpensNone names next old new f → length old ≤ length new
-unmade_within (no_memory same) = grind (arith, common_steps)
-unmade_within {old = old} (no_file slot kept number few has drew is added) = grind (arith, common_steps, length-append)
-unmade_within (no_name few none same) = grind (arith, common_steps)
-
-pub owned_unopened : {writer : WriterState} {names next : Names} {old new : List Slot} {f : Fault} → OpensNone names next old new f → KeepsFiles writer (record writer { names = next; current = Unopened }) old new
-owned_unopened {writer} {old = old} {new} none = grind (arith, common_steps, unmade_keeps, unmade_within, there_still)
+pub owned_unopened : {told : Bool} {writer : WriterState} {names next : Names} {old new : List Slot} {f : Fault} → OpensNone told writer.tells names next old new f → KeepsFiles writer (record writer { names = next; current = Unopened }) old new
+owned_unopened {writer = writer} {next = next} {old = old} {new} none = let kept = unmade_keeps none in by kept.same kept.within where
+  by : ((place : ℕ) → has_file (slot_at new place).state ≡ has_file (slot_at old place).state) → length old ≤ length new → KeepsFiles writer (record writer { names = next; current = Unopened }) old new
+  by same within = grind (arith, common_steps, there_still)
 
 -- Which faults come
 
@@ -286,10 +265,20 @@ breaks_as old new (fault.Write slot) same (out, rose) = (λ none. subst (λ outp
 breaks_as old new Suffixes same (place, few, none) = (place, few, sym (same.has place few) ∙ none)
 breaks_as old new fault same breaks = breaks
 
-pub make_breaks : (output : Output) {names next : Names} {old new : List Slot} {f : Fault} → OpensNone names next old new f → Breaks (manner_by names.naming output) old new f
-make_breaks output (no_memory same) = tt
-make_breaks output {old = old} {new} (no_file slot kept number few has drew is added) = open_rose slot kept old new number added
-make_breaks output {names} (no_name few none same) = (names.drawn, few, none)
+-- standard output breaks where it is told anything alone
+line_rose : (told : Bool) (tells : Tells) (names : Names) (n : ℕ) {old new : List Slot} → CanTell tells old → BrokeAfter told old new 0 (line_next tells names) n → (writes (output_of tells) ≡ true) × Rose 0 old new
+line_rose told Nothing names n can cut = absurd (omega (arith, cut.within))
+line_rose told Sizes names n can cut = absurd (omega (arith, cut.within))
+line_rose told Openings names n {old} {new} can cut = (refl, write_rose told 0 (line_next Openings names) n old new can cut)
+
+pub make_breaks : (told : Bool) (tells : Tells) {names next : Names} {old new : List Slot} {f : Fault} → CanTell tells old → OpensNone told tells names next old new f → Breaks (manner_by names.naming (output_of tells)) old new f
+make_breaks told tells can (no_memory same) = tt
+make_breaks told tells {names} can (no_line n few has cut) = let (out, rose) = line_rose told tells names n can cut in (λ none. out, rose)
+make_breaks told tells {names} {old = old} {new} can (no_file slot kept number few has drew is added) =
+    let size : length (told_next told tells names old) ≡ length old = length-changed_at 0 _ old in
+    rose_later slot old (told_next told tells names old) new (keeps_write 0 _ old _ refl) (open_rose slot kept _ new (number ∙ sym size) added)
+make_breaks told tells can (no_number few has same) = tt
+make_breaks told tells {names} can (no_name few none same) = (names.drawn, few, none)
 
 pub line_breaks : (told : Bool) (naming : Naming) (line : List ℕ) {old new : List Slot} {f : Fault} → IsTrue (is_writable old 0) → WritesShort told 0 line old new f → Breaks (manner_by naming (output_of Sizes)) old new f
 line_breaks told naming line {old} {new} can (short.broke n cut) = grind (arith, common_steps)
@@ -406,15 +395,18 @@ appends_leaves {told} {writer} {next} {slot} {bytes = bytes} {old} {new} {fault}
 pub can_count : (tells : Tells) (size : ℕ) (bytes : List ℕ) → size + length bytes < 2 ^ 64 → CanCount tells size bytes
 can_count Nothing size bytes few = tt
 can_count Sizes size bytes few = few
+can_count Openings size bytes few = tt
 
 -- the bytes that are counted
 counted_on : (tells : Tells) (had bytes : List ℕ) (size more : ℕ) → IsCounted tells had size → CountsOn tells size bytes more → IsCounted tells (had ++ bytes) more
 counted_on Nothing had bytes size more is on = tt
+counted_on Openings had bytes size more is on = tt
 counted_on Sizes had bytes size more is on = on ∙ ap (λ n. n + length bytes) is ∙ sym (length-append had bytes)
 
 none_counted : (tells : Tells) → IsCounted tells [] 0
 none_counted Nothing = tt
 none_counted Sizes = refl
+none_counted Openings = tt
 
 pub put_file : {told : Bool} {writer next : WriterState} {slot size : ℕ} (bytes : List ℕ) {old new : List Slot} {fault : Option Fault} → writer.current ≡ File slot size → IsReady writer old → Appends told writer slot size bytes old new next fault
     → Goes told writer (with_bytes bytes) old new next fault
@@ -422,8 +414,8 @@ put_file {told} {writer} {next} {slot} {size} bytes {old} {new} {fault} is ready
   leaves = appends_leaves is ready appends;
   reaches = λ manner draft writes. let now = now_is is writes in let named = file_named now.0 writes in
       reaches_as (open_part manner draft named now.0) (open_part manner (with_bytes bytes draft) named (still_made draft.opening draft.bytes bytes now.0))
-      (reaches_by (appends_leaves is ready appends).owns (λ first last. writes_to manner.output told (ended_out manner draft) (ended_files manner draft) (name_after manner draft)
-      draft.bytes bytes old fault (has_told manner.output (ended_files manner draft)) (closed_files manner 0 draft.ended) (last_file writer old is last).1 appends.wrote));
+      (reaches_by (appends_leaves is ready appends).owns (λ first last. writes_to manner.output told (ended_files manner draft) (name_after manner draft)
+      draft.bytes bytes old fault (closed_files manner 0 draft.ended) (last_file writer old is last).1 appends.wrote));
   short = never_short _ told slot bytes old new fault appends.wrote;
   writes = where_well fault appends.current (λ current manner draft writes. let now = now_is is writes in let grown = still_made draft.opening draft.bytes bytes now.0 in
       let count : length (shares_of draft) ≡ length (shares_of (with_bytes bytes draft)) = made_count draft now.0 ∙ sym (made_count (with_bytes bytes draft) grown) in record {
@@ -498,46 +490,69 @@ made_leaves {writer} {next} {slot} {old} {new} ready made = record {
   ready = made_ready ready made;
 }
 
-unmade_leaves : {writer next : WriterState} {old new : List Slot} {f : Fault} → MakesNone writer old new next f → Leaves writer next old new (Some f)
-unmade_leaves {writer} {next} {old} {new} {f} makes = rw makes.same (record {
+unmade_leaves : {told : Bool} {writer next : WriterState} {old new : List Slot} {f : Fault} → CanTell writer.tells old → MakesNone told writer old new next f → Leaves writer next old new (Some f)
+unmade_leaves {told} {writer} {next} {old} {new} {f} can makes = rw makes.same (record {
   naming = makes.naming;
   tells = refl;
   keeps = refl;
   open_alone = λ alone. refl;
   owns = owned_unopened makes.none;
-  slots = make_breaks (output_of writer.tells) makes.none;
+  slots = make_breaks told writer.tells can makes.none;
   output = tt;
   ready = tt;
 })
 
+-- standard output is told of it before that
+
+last_same : (current : Current) (first : ℕ) (old new : List Slot) → length new ≡ length old → IsLast current first old → IsLast current first new
+last_same (File slot size) first old new same last = (last.0, last.1 ∙ sym same)
+last_same Skipped first old new same last = tt
+last_same Due first old new same last = tt
+last_same Unopened first old new same last = tt
+
+open_same : (current : Current) (bytes : List ℕ) (slots : List Slot) → IsOpenAt current slots → IsOpenAt current (with_written 0 bytes slots)
+open_same (File slot size) bytes slots at = (at.0, written_writable slots _ slot 0 bytes at.1 refl)
+open_same Skipped bytes slots at = tt
+open_same Due bytes slots at = tt
+open_same Unopened bytes slots at = at
+
+line_leaves : (told : Bool) {writer : WriterState} {old : List Slot} → IsReady writer old → Leaves writer writer old (told_next told writer.tells writer.names old) None
+line_leaves told {writer} {old} ready = wrote_leaves told 0 (line_next writer.tells writer.names) None refl
+    (λ first last. last_same writer.current first old _ (length-changed_at 0 _ old) last) (keeps_write 0 _ old _ refl) (open_same writer.current _ old ready.current) ready refl
+
+line_told : {manner : Manner} {writer : WriterState} {draft : Draft} → made_of draft.opening draft.bytes ≡ [] → Writes manner writer draft → line_next writer.tells writer.names ≡ told_before manner.output (name_after manner draft)
+line_told {manner} {writer} none writes = ap (λ output. told_before output (next_name writer.names)) writes.same.output ∙ ap (told_before manner.output) (due_name none writes)
+
+-- the part with the file that is due
+due_part : {manner : Manner} {writer : WriterState} {draft : Draft} (next : Draft) → writer.names.drawn < 2 ^ 64 → Unwritten draft next → Writes manner writer draft → IsTrue (has_next writer.names)
+    → draft_part manner next ≡ with_last (begun_out manner.output (ended_files manner draft) (name_after manner draft)) (ended_files manner draft) (file_of (name_after manner draft) next.bytes state.Open)
+due_part {manner} {writer} {draft} next few so writes has = open_part manner next (due_named next few so writes has) so.makes
+    ∙ ap (λ ended. with_last (begun_out manner.output (files_from manner 0 (map (share state.Closed) ended)) (manner.name (length ended))) (files_from manner 0 (map (share state.Closed) ended)) (file_of (manner.name (length ended)) next.bytes state.Open)) so.same
+
 -- it was made
-made_becomes : {told : Bool} (manner : Manner) {writer made : WriterState} (draft : Draft) {slot : ℕ} {old new : List Slot} → next_name writer.names ≡ name_after manner draft → Made writer old new made slot
-    → Becomes manner.output told (part_with manner.output (ended_files manner draft)) (with_last (ended_out manner draft) (ended_files manner draft) (file_of (name_after manner draft) [] state.Open)) old new None
-made_becomes {told} manner draft {old = old} {new} name made = opens manner.output told (ended_out manner draft) (ended_files manner draft) (name_after manner draft) (made.added ∙ ap (λ those. old ++ opened those Fresh ∷ []) name)
+made_becomes : {told : Bool} (manner : Manner) {writer made : WriterState} (draft : Draft) {slot : ℕ} {old mid new : List Slot} → next_name writer.names ≡ name_after manner draft → mid ≡ with_written 0 (told_of told (told_before manner.output (name_after manner draft))) old → Made writer mid new made slot
+    → Becomes manner.output told (part_with manner.output (ended_files manner draft)) (with_last (begun_out manner.output (ended_files manner draft) (name_after manner draft)) (ended_files manner draft) (file_of (name_after manner draft) [] state.Open)) old new None
+made_becomes {told} manner draft {old = old} {mid} {new} name line made = becomes_again (line_begins (told_before manner.output (name_after manner draft))) (out_added told (told_before manner.output (name_after manner draft)) old line)
+    (opens manner.output told (begun_out manner.output (ended_files manner draft) (name_after manner draft)) (ended_files manner draft) (name_after manner draft) (made.added ∙ ap (λ those. mid ++ opened those Fresh ∷ []) name))
 
 -- it could not be made
-module _ {writer next : WriterState} {change : Draft → Draft} {old new : List Slot} {f : Fault} (of : (draft : Draft) → IsCurrent writer.tells draft.opening draft.bytes writer.current → Unwritten draft (change draft)) (makes : MakesNone writer old new next f) where
+module _ {told : Bool} {writer next : WriterState} {change : Draft → Draft} {old new : List Slot} {f : Fault} (ready : IsReady writer old) (of : (draft : Draft) → IsCurrent writer.tells draft.opening draft.bytes writer.current → Unwritten draft (change draft)) (makes : MakesNone told writer old new next f) where
   unmade_begins : (manner : Manner) (draft : Draft) → Unwritten draft (change draft) → Begins (part_with manner.output (ended_files manner draft)) (draft_part manner (change draft))
   unmade_begins manner draft so = subst (λ part. Begins part (draft_part manner (change draft))) (ap (λ ended. part_of manner (map (share state.Closed) ended ++ [])) so.same ∙ ap (part_of manner) (append-nil (map (share state.Closed) draft.ended)))
       (part_grows manner (map (share state.Closed) (change draft).ended) [] _ tt)
 
-  unmade_next : (manner : Manner) (draft : Draft) → Unwritten draft (change draft) → Writes manner writer draft → writer.names.drawn < 2 ^ 64 → IsTrue (has_next writer.names) → IsNext (part_with manner.output (ended_files manner draft)) (draft_part manner (change draft)) (next_name writer.names)
-  unmade_next manner draft so writes few has = record {
-    front = ended_files manner draft;
-    file = file_of (name_after manner draft) (change draft).bytes state.Open;
-    rest = [];
-    files = ap (λ (part : Part). part.files) (open_part manner (change draft) (due_named (change draft) few so writes has) so.makes) ∙ ap (λ ended. files_from manner 0 (map (share state.Closed) ended) ++ file_of (manner.name (length ended)) (change draft).bytes state.Open ∷ []) so.same;
-    place = refl;
-    name_is = sym (due_name so.none writes);
-  }
+  -- the file that is due
+  unmade_due : (manner : Manner) (draft : Draft) → Unwritten draft (change draft) → Writes manner writer draft → IsNextName writer.names (next_name writer.names)
+      → (bytes : List ℕ) × (draft_part manner (change draft) ≡ with_last (begun_out manner.output (ended_files manner draft) (next_name writer.names)) (ended_files manner draft) (file_of (next_name writer.names) bytes state.Open))
+  unmade_due manner draft so writes (few, has, same) = ((change draft).bytes, rw (due_name so.none writes) (due_part (change draft) few so writes has))
 
   -- names ran out: the part after the change has no file more
-  unmade_short : (told : Bool) → f ≡ Suffixes → (manner : Manner) (draft : Draft) → Writes manner writer draft → RunsShort told writer change manner draft old new
-  unmade_short told is manner draft writes = ran (subst (OpensNone writer.names next.names old new) is makes.none) where
+  unmade_short : f ≡ Suffixes → (manner : Manner) (draft : Draft) → Writes manner writer draft → RunsShort told writer change manner draft old new
+  unmade_short is manner draft writes = ran (subst (OpensNone told writer.tells writer.names next.names old new) is makes.none) where
     so : Unwritten draft (change draft)
     so = of draft writes.current
 
-    ran : OpensNone writer.names next.names old new Suffixes → RunsShort told writer change manner draft old new
+    ran : OpensNone told writer.tells writer.names next.names old new Suffixes → RunsShort told writer change manner draft old new
     ran (no_name few none same) =
         let lacks : manner.has_name (length (change draft).ended) ≡ false = ap (λ ended. manner.has_name (length ended)) so.same ∙ sym (due_has few so.none writes) ∙ none in record {
           none = lacks;
@@ -545,29 +560,29 @@ module _ {writer next : WriterState} {change : Draft → Draft} {old new : List 
           all = λ before at. rw (same, stopped_part manner (change draft) lacks, so.same, ← append-nil (map (share state.Closed) draft.ended)) (subst (λ made. OutputsAt told before (part_of manner (map (share state.Closed) draft.ended ++ map (share state.Open) made)) old) so.none at.outputs);
         }
 
-  pub goes_unmade : {told : Bool} → Goes told writer change old new next (Some f)
-  goes_unmade {told} = record {
-    leaves = unmade_leaves makes;
+  pub goes_unmade : Goes told writer change old new next (Some f)
+  goes_unmade = record {
+    leaves = unmade_leaves ready.output makes;
     reaches = λ manner draft writes. let so = of draft writes.current in
-        reaches_as (none_part manner draft so.none) refl (reaches_by (unmade_leaves makes).owns (λ first last. opens_not manner.output told (ended_files manner draft) (closed_files manner 0 draft.ended)
-        (unmade_begins manner draft so) (unmade_next manner draft so writes) makes.none));
-    short = unmade_short told;
+        reaches_as (none_part manner draft so.none) refl (reaches_by (unmade_leaves ready.output makes).owns (λ first last. opens_not (ended_files manner draft)
+        (ap (λ output. told_before output (next_name writer.names)) writes.same.output) (closed_files manner 0 draft.ended) (unmade_begins manner draft so) (unmade_due manner draft so writes)
+        (stops_opening (let two = ready.streams in omega (arith, two)) makes.none)));
+    short = unmade_short;
     writes = tt;
   }
 
 -- and gets its first bytes, if there are any
 pub goes_made : {told : Bool} {writer made next : WriterState} {change : Draft → Draft} {slot : ℕ} (bytes : List ℕ) {old mid new : List Slot} {fault : Option Fault}
-    → ((draft : Draft) → IsCurrent writer.tells draft.opening draft.bytes writer.current → Unwritten draft (change draft) × ((change draft).bytes ≡ bytes)) → IsReady writer old → Made writer old mid made slot
+    → ((draft : Draft) → IsCurrent writer.tells draft.opening draft.bytes writer.current → Unwritten draft (change draft) × ((change draft).bytes ≡ bytes)) → IsReady writer old → Made writer (told_next told writer.tells writer.names old) mid made slot
     → Appends told made slot 0 bytes mid new next fault → Goes told writer change old new next fault
 goes_made {told} {writer} {made} {next} {change} {slot} bytes {old} {mid} {new} {fault} of ready makes appends = record {
   leaves = leaves;
   reaches = λ manner draft writes. let (so, are) = of draft writes.current in
       reaches_as (none_part manner draft so.none)
-      (open_part manner (change draft) (due_named (change draft) makes.few so writes makes.named) so.makes ∙ ap (λ ended. with_last (told_of_files manner.output (files_from manner 0 (map (share state.Closed) ended))) (files_from manner 0 (map (share state.Closed) ended)) (file_of (manner.name (length ended)) (change draft).bytes state.Open)) so.same
-      ∙ ap (λ those. with_last (ended_out manner draft) (ended_files manner draft) (file_of (name_after manner draft) those state.Open)) are)
-      (reaches_by leaves.owns (λ first last. becomes_again (file_begins (ended_files manner draft) (file_of (name_after manner draft) [] state.Open)) (made_becomes manner draft (due_name so.none writes) makes)
-      (writes_to manner.output told (ended_out manner draft) (ended_files manner draft) (name_after manner draft) [] bytes mid fault
-      (has_told manner.output (ended_files manner draft)) (closed_files manner 0 draft.ended) (opened_last old mid slot (next_name writer.names) Fresh makes.place makes.added) appends.wrote)));
+      (due_part (change draft) makes.few so writes makes.named ∙ ap (λ those. with_last (begun_out manner.output (ended_files manner draft) (name_after manner draft)) (ended_files manner draft) (file_of (name_after manner draft) those state.Open)) are)
+      (reaches_by leaves.owns (λ first last. becomes_again (part_trans _ _ _ (line_begins (told_before manner.output (name_after manner draft))) (file_begins (ended_files manner draft) (file_of (name_after manner draft) [] state.Open)))
+      (made_becomes manner draft (due_name so.none writes) (ap (λ line. with_written 0 (told_of told line) old) (line_told so.none writes)) makes)
+      (writes_to manner.output told (ended_files manner draft) (name_after manner draft) [] bytes mid fault (closed_files manner 0 draft.ended) (opened_last _ mid slot (next_name writer.names) Fresh makes.place makes.added) appends.wrote)));
   short = never_short _ told slot bytes mid new fault appends.wrote;
   writes = where_well fault appends.current (λ current manner draft writes. let (so, are) = of draft writes.current in
       let count : length (shares_of (change draft)) ≡ length draft.ended + 1 = made_count (change draft) so.makes ∙ ap (λ ended. length ended + 1) so.same in record {
@@ -581,11 +596,14 @@ goes_made {told} {writer} {made} {next} {change} {slot} bytes {old} {mid} {new} 
         current = rw current.1 (so.makes, subst (λ tells. IsCounted tells (change draft).bytes current.0) (sym (ap (λ (w : WriterState). w.tells) appends.same)) (rw are (counted_on made.tells [] bytes 0 current.0 (none_counted made.tells) current.2)));
       });
 } where
+  line_ready : IsReady writer (told_next told writer.tells writer.names old)
+  line_ready = (line_leaves told ready).ready
+
   is_file : made.current ≡ File slot 0
   is_file = ap (λ (w : WriterState). w.current) makes.same
 
   leaves : Leaves writer next old new fault
-  leaves = leaves_again (made_leaves ready makes) (appends_leaves is_file (made_ready ready makes) appends)
+  leaves = leaves_again (line_leaves told ready) (leaves_again (made_leaves line_ready makes) (appends_leaves is_file (made_ready line_ready makes) appends))
 
 -- The first bytes of what gets its file with them
 pub first_bytes : (tells : Tells) {current : Current} (bytes : List ℕ) → current ≡ Due → false ≡ eqb (length bytes) 0 → (draft : Draft) → IsCurrent tells draft.opening draft.bytes current → Unwritten draft (with_bytes bytes draft) × (draft.bytes ++ bytes ≡ bytes)
@@ -622,14 +640,15 @@ at_once {opening} is draft never = record {
 }
 
 -- it could not be made
-pub begin_unmade : {told : Bool} {writer next : WriterState} {opening : Opening} {old new : List Slot} {f : Fault} → opening ≡ AtOnce → MakesNone writer old new next f → Goes told (paused writer) (with_next opening) old new next (Some f)
-begin_unmade is makes = goes_unmade (at_once is) (record { same = makes.same; naming = makes.naming; none = makes.none })
+pub begin_unmade : {told : Bool} {writer next : WriterState} {opening : Opening} {old new : List Slot} {f : Fault} → opening ≡ AtOnce → IsReady writer old → MakesNone told writer old new next f → Goes told (paused writer) (with_next opening) old new next (Some f)
+begin_unmade is ready makes = goes_unmade (paused_ready ready) (at_once is) (record { same = makes.same; naming = makes.naming; none = makes.none })
 
 counts_none : (tells : Tells) → CountsOn tells 0 [] 0
 counts_none Nothing = omega arith
 counts_none Sizes = refl
+counts_none Openings = omega arith
 
-pub begin_made : {told : Bool} {writer next : WriterState} {opening : Opening} {slot : ℕ} {old new : List Slot} → opening ≡ AtOnce → IsReady writer old → Made writer old new next slot → Goes told (paused writer) (with_next opening) old new next None
+pub begin_made : {told : Bool} {writer next : WriterState} {opening : Opening} {slot : ℕ} {old new : List Slot} → opening ≡ AtOnce → IsReady writer old → Made writer (told_next told writer.tells writer.names old) new next slot → Goes told (paused writer) (with_next opening) old new next None
 begin_made {told} {writer} {next} {opening} {slot} {old} {new} is ready made =
     goes_made [] (λ draft never. (at_once is draft never, refl)) (paused_ready ready) (record { few = made.few; named = made.named; place = made.place; added = made.added; same = made.same })
     (record { same = refl; current = (0, ap (λ (w : WriterState). w.current) made.same, counts_none next.tells); still = tt; wrote = none_written told slot })
@@ -681,14 +700,28 @@ closed_leaves {writer} slot size {old} {new} is ready closed =
     }
 
 -- the file breaks as it is closed
+-- what standard output is told as a file is opened begins what it is told of it in all
+closed_told : (output : Output) (name bytes : List ℕ) → IsBeginning (told_before output name) (told_of_files output (file_of name bytes state.Closed ∷ []))
+closed_told gets_none name bytes = begins_itself []
+closed_told gets_bytes name bytes = begins_itself []
+closed_told (gets_lines line) name bytes = nothing_begins _
+closed_told (gets_openings line) name bytes = ([], refl)
+
+closed_begins : (output : Output) (front : List PartFile) (name bytes : List ℕ)
+    → Begins (with_last (begun_out output front name) front (file_of name bytes state.Closed)) (with_last (told_of_files output front ++ told_of_files output (file_of name bytes state.Closed ∷ [])) front (file_of name bytes state.Closed))
+closed_begins output front name bytes = let (rest, is) = closed_told output name bytes in record {
+  out = (rest, ap (λ more. told_of_files output front ++ more) is ∙ sym (append_assoc (told_of_files output front) (told_before output name) rest));
+  files = files_begin_themselves _;
+}
+
 pub close_not : {told : Bool} {writer : WriterState} (slot size : ℕ) {old new : List Slot} {f : Fault} → writer.current ≡ File slot size → IsReady writer old → f ≡ fault.Write slot → new ≡ with_broken slot (changed_at slot closes old)
     → Goes told writer (with_next Never) old new (paused writer) (Some f)
 close_not {told} {writer} slot size {old} {new} is ready which broken = subst (λ f. Goes told writer (with_next Never) old new (paused writer) (Some f)) (sym which) (record {
   leaves = record { naming = refl; tells = refl; keeps = refl; open_alone = λ alone. refl; owns = owns; slots = (let at = at_file is ready in (λ none. absurd (omega (arith, at.0, none)), close_rose slot old new at.1 (writable_within slot old at.1) broken)); output = tt; ready = tt };
   reaches = λ manner draft writes. let now = now_is is writes in let named = file_named now.0 writes in
       reaches_as (open_part manner draft named now.0) (closed_part manner draft named now.0)
-      (reaches_by owns (λ first last. falls_wider (closes_not manner.output told (ended_out manner draft) (ended_files manner draft) (name_after manner draft) draft.bytes old
-      (has_told manner.output (ended_files manner draft)) (closed_files manner 0 draft.ended) (last_file writer old is last).1 broken) (line_begins _)));
+      (reaches_by owns (λ first last. falls_wider (closes_not manner.output told (ended_files manner draft) (name_after manner draft) draft.bytes old
+      (closed_files manner 0 draft.ended) (last_file writer old is last).1 broken) (closed_begins manner.output (ended_files manner draft) (name_after manner draft) draft.bytes)));
   short = λ short_is. absurd (cc);
   writes = tt;
 }) where
@@ -698,14 +731,16 @@ close_not {told} {writer} slot size {old} {new} is ready which broken = subst (�
 -- it is told of, or standard output breaks
 tells_file : (tells : Tells) (output : Output) (told : Bool) (size : ℕ) (front : List PartFile) (file : PartFile) (old : List Slot) {new : List Slot} (fault : Option Fault) → output_of tells ≡ output → file.state ≡ state.Closed → size ≡ length file.bytes
     → AllClosed front → 0 < length old → TellsSize told tells size old new fault
-    → Becomes output told (with_last (told_of_files output front) front file) (with_last (told_of_files output front ++ told_of_files output (file ∷ [])) front file) old new fault
-tells_file Nothing output told size front file old fault is shut size_is closed some (well, same) = grind (arith, common_steps, append-nil)
-tells_file Sizes output told size front file old {new} fault is shut size_is closed some wrote = rw (← is) (rw line_told (tells_line size_of_file told front file shut old fault closed some (subst (λ n. Wrote told 0 (decimal n ++ 10 ∷ []) old new fault) size_is wrote))) where
+    → Becomes output told (with_last (begun_out output front file.name) front file) (with_last (told_of_files output front ++ told_of_files output (file ∷ [])) front file) old new fault
+tells_file Nothing output told size front file old fault is shut size_is closed some (well, same) = rw (well, same, ← is) (record { gets = λ before at. at })
+tells_file Openings output told size front file old fault is shut size_is closed some (well, same) = rw (well, same, ← is, append-nil (opening_line file.name)) (record { gets = λ before at. at })
+tells_file Sizes output told size front file old {new} fault is shut size_is closed some wrote = rw (← is) (rw (append-nil (lines_for size_of_file front), line_told) (tells_line size_of_file told front file shut old fault closed some (subst (λ n. Wrote told 0 (decimal n ++ 10 ∷ []) old new fault) size_is wrote))) where
   line_told : lines_for size_of_file (file ∷ []) ≡ size_of_file file
   line_told = grind (arith, common_steps)
 
 told_leaves : (told : Bool) (writer : WriterState) (size : ℕ) {old new : List Slot} (fault : Option Fault) (tells : Tells) → writer.tells ≡ tells → IsReady (paused writer) old → TellsSize told tells size old new fault → Leaves (paused writer) (paused writer) old new fault
 told_leaves told writer size fault Nothing is ready (well, same) = rw (well, same) (leaves_still ready)
+told_leaves told writer size fault Openings is ready (well, same) = rw (well, same) (leaves_still ready)
 told_leaves told writer size {old} {new} fault Sizes is ready wrote =
     let can : IsTrue (is_writable old 0) = subst (λ tells. CanTell tells old) is ready.output in
     wrote_leaves told 0 (decimal size ++ 10 ∷ []) fault refl (λ first last. tt) (rw is (slots fault can wrote)) (in_any fault tt) ready wrote where
@@ -718,15 +753,18 @@ pub tells_write : (told : Bool) (tells : Tells) (size : ℕ) (old new : List Slo
 tells_write told tells size old new (Ok done) tells_it = tt
 tells_write told Nothing size old new (Err f) (well, same) = absurd (cc)
 tells_write told Sizes size old new (Err _) (short.broke n cut) = (0, refl)
+tells_write told Openings size old new (Err f) (well, same) = absurd (cc)
 
 -- where sizes are told, what is told is that of the file
 is_size : (tells : Tells) (bytes : List ℕ) (size : ℕ) → IsCounted tells bytes size → (told : Bool) (old new : List Slot) (fault : Option Fault) → TellsSize told tells size old new fault → TellsSize told tells (length bytes) old new fault
 is_size Nothing bytes size is told old new fault tells = tells
+is_size Openings bytes size is told old new fault tells = tells
 is_size Sizes bytes size is told old new fault tells = subst (λ n. Wrote told 0 (decimal n ++ 10 ∷ []) old new fault) is tells
 
 -- telling a size wants no names
 told_short : (P : Type 0) (told : Bool) (tells : Tells) (size : ℕ) (old new : List Slot) (fault : Option Fault) → TellsSize told tells size old new fault → IfSome fault (λ fault. fault ≡ Suffixes → P)
 told_short P told Nothing size old new fault (well, same) = rw well tt
+told_short P told Openings size old new fault (well, same) = rw well tt
 told_short P told Sizes size old new fault wrote = never_short P told 0 (decimal size ++ 10 ∷ []) old new fault wrote
 
 pub end_told : {told : Bool} {writer : WriterState} (slot size : ℕ) {old mid new : List Slot} {fault : Option Fault} → writer.current ≡ File slot size → IsReady writer old → mid ≡ changed_at slot closes old → TellsSize told writer.tells size mid new fault
@@ -735,8 +773,8 @@ end_told {told} {writer} slot size {old} {mid} {new} {fault} is ready closed tel
   leaves = leaves;
   reaches = λ manner draft writes. let now = now_is is writes in let named = file_named now.0 writes in
       reaches_as (open_part manner draft named now.0) (closed_part manner draft named now.0) (reaches_by leaves.owns (λ first last. becomes_again
-      (close_begins (ended_out manner draft) (ended_files manner draft) (name_after manner draft) draft.bytes)
-      (closes_last manner.output told (ended_out manner draft) (ended_files manner draft) (name_after manner draft) draft.bytes old (last_file writer old is last).1 closed)
+      (close_begins _ (ended_files manner draft) (name_after manner draft) draft.bytes)
+      (closes_last manner.output told _ (ended_files manner draft) (name_after manner draft) draft.bytes old (last_file writer old is last).1 closed)
       (tells_file writer.tells manner.output told (length draft.bytes) (ended_files manner draft) (file_of (name_after manner draft) draft.bytes state.Closed) mid fault writes.same.output refl refl (closed_files manner 0 draft.ended)
       (let two = paused_now.streams in omega (arith, two)) (is_size writer.tells draft.bytes size now.1 told mid new fault tells))));
   short = told_short _ told writer.tells size mid new fault tells;

@@ -12,13 +12,13 @@ use Rattle.ports_core.proofs.PartLemmas.{stopped_here}
 -- an engine that refuses a call changes nothing
 module _ {S : Type 0} (Holds : S → List ℕ → Type 0) (Owns : S → ℕ → List Slot → Type 0) (work : S → Work) (told : Bool) (stage : S) (slots : List Slot) (lawful : IsLawful (work stage)) where
   pub too_long : (piece : List ℕ) → CutsOff Holds Owns work stage piece told slots slots fault.TooLong
-  too_long piece before x at = cut refl (stopped_here _ told before _ _ fault.TooLong slots slots at.outputs (lawful.grows x piece) refl tt)
+  too_long piece before x at = cut refl (stopped_here _ told before _ _ fault.TooLong slots slots at.outputs (lawful.grows x piece) refl tt tt)
 
   pub has_failed : (piece : List ℕ) → CutsOff Holds Owns work stage piece told slots slots fault.Failed
-  has_failed piece before x at = cut refl (stopped_here _ told before _ _ fault.Failed slots slots at.outputs (lawful.grows x piece) refl tt)
+  has_failed piece before x at = cut refl (stopped_here _ told before _ _ fault.Failed slots slots at.outputs (lawful.grows x piece) refl tt tt)
 
   pub has_ended : EndsShort Holds Owns work stage told slots slots fault.Failed
-  has_ended before x at = cut refl (stopped_here _ told before _ _ fault.Failed slots slots at.outputs (lawful.ends x) refl tt)
+  has_ended before x at = cut refl (stopped_here _ told before _ _ fault.Failed slots slots at.outputs (lawful.ends x) refl tt tt)
 
 -- why its stage stopped is why an engine did
 module _ {S : Type 0} (Met : S → Fault → Type 0) (state guard : GuardState S) (size : ℕ) (old new : List Slot) (is : state ≡ guard) (going : state.is_over ≡ false) where

@@ -1,22 +1,122 @@
--- A file with the next name that wasn't opened: why, where that is, and what it leaves.
-use Rattle.std.proofs.Common.{◌≡◌, ℕ, ◌<◌, ◌^◌, List, [], ◌⊎◌, subst, IsTrue, rules}
-use Rattle.ports_core.specs.Names.{next_name, has_next, with_one_drawn, OpensNone, no_memory, no_file, no_name}
-use Rattle.ports_core.specs.Part.{Marks, IsAt}
-use Rattle.ports_core.specs.Slot.{Slot, FailsToOpen, broke, numberless}
+-- A file with the next name that wasn't opened: why, and what that leaves.
+use Rattle.std.proofs.Common.{◌≡◌, ℕ, ◌<◌, ◌^◌, Bool, List, [], ◌∷◌, ◌++◌, ◌⊎◌, length, take, drop, None, Some, inl, inr, refl, sym, subst, ap, ◌∙◌, IsTrue, arith, append_assoc}
+use Rattle.std.proofs.lemmas.List.{append-nil, take-append-drop}
+use Rattle.ports_core.specs.Names.{next_name, has_next, with_one_drawn, told_next, line_next, OpensNone, no_memory, no_line, no_file, no_number, no_name}
+use Rattle.ports_core.specs.Slot.{Slot, FailsToOpen, broke, numberless, unopened, adds, told_of, with_written}
+use Rattle.ports_core.specs.Part.{File, Part, Begins, IsAt, IsBeginning, IsDueLine, IsNext, Marks, Output}
+use Rattle.ports_core.specs.Turn.{AllClosed}
+use Rattle.ports_core.specs.Draft.{output_of, part_with, told_before, told_of_files}
+use Rattle.ports_core.specs.Write.{BrokeAfter}
+use Rattle.ports_core.specs.inner.Names.{TellsOpening}
+use Rattle.ports_core.specs.inner.Write as short
 use Rattle.ports_core.specs.declared.fault.Fault.{Fault}
+use Rattle.ports_core.specs.declared.file_writer.Tells.{Tells}
 use Rattle.ports_core.specs.declared.names.Names.{Names}
+use Rattle.ports_core.specs.declared.slot.State.TheVariants as state
+use Rattle.ports_core.proofs.PartLemmas.{begins_itself, due_by, marks_by, turn_next}
+use Rattle.ports_core.proofs.PartSteps.{Becomes, becomes_again, begun_out, file_of, halts_here, line_begins, lines_due, more_files, out_added, with_last}
+use Rattle.ports_core.proofs.SlotLemmas.{length-changed_at}
+use Rattle.ports_core.proofs.WriteLemmas.{none_written}
 
-pub opens_none : (names : Names) {next : Names} {name : List ℕ} {old new : List Slot} → name ≡ next_name names → names.drawn < 2 ^ 64 → IsTrue (has_next names) → next ≡ with_one_drawn names
-    → {fault : Fault} → FailsToOpen old name new fault → OpensNone names next old new fault
-opens_none names named few has drew (broke slot kept at is made) = no_file slot kept at few has drew (subst (λ those. (kept ≡ those) ⊎ (kept ≡ [])) named is) made
-opens_none names named few has drew (numberless full same) = no_memory same
+-- after standard output was told of the file
+pub opens_none : (told : Bool) (tells : Tells) (names : Names) {next : Names} {name : List ℕ} (old : List Slot) {mid new : List Slot} → name ≡ next_name names → names.drawn < 2 ^ 64 → IsTrue (has_next names) → next ≡ with_one_drawn names
+    → mid ≡ told_next told tells names old → {fault : Fault} → FailsToOpen mid name new fault → OpensNone told tells names next old new fault
+opens_none told tells names old named few has drew line (broke slot kept at is made) =
+    no_file slot kept (at ∙ ap length line ∙ length-changed_at 0 _ old) few has drew (subst (λ those. (kept ≡ those) ⊎ (kept ≡ [])) named is) (made ∙ ap (λ slots. slots ++ unopened kept ∷ []) line)
+opens_none told tells names old named few has drew line (numberless full same) = no_number few has (same ∙ line)
 
-pub opens_marks : (IsName : List ℕ → Type 0) {names next : Names} {old new : List Slot} {fault : Fault} → (names.drawn < 2 ^ 64 → IsTrue (has_next names) → IsName (next_name names)) → OpensNone names next old new fault → Marks IsName fault old new
-opens_marks IsName named (no_memory same) = same
-opens_marks IsName {names} named (no_file slot kept at few has drew is made) = search rules
-opens_marks IsName named (no_name few none same) = same
+-- or of which it could not be told
+pub untold : (told : Bool) (tells : Tells) (names : Names) {next : Names} {name : List ℕ} (old new : List Slot) {fault : Fault} → name ≡ next_name names → names.drawn < 2 ^ 64 → IsTrue (has_next names)
+    → TellsOpening told (told_before (output_of tells) name) old new (Some fault) → OpensNone told tells names next old new fault
+untold told tells names {next} old new named few has (inl (is, same)) = subst (OpensNone told tells names next old new) (sym is) (no_memory same)
+untold told tells names old new named few has (inr (short.broke n cut)) = no_line n few has (subst (λ name. BrokeAfter told old new 0 (told_before (output_of tells) name) n) named cut)
 
-pub opens_at : {names next : Names} {old new : List Slot} {fault : Fault} (first : ℕ) {place count : ℕ} → place ≡ count → OpensNone names next old new fault → IsAt fault first place count
-opens_at first here (no_memory same) = tt
-opens_at first here (no_file slot kept at few has drew is made) = here
-opens_at first here (no_name few none same) = tt
+pub told_so : (told : Bool) (tells : Tells) (names : Names) {name : List ℕ} (old mid : List Slot) → name ≡ next_name names → TellsOpening told (told_before (output_of tells) name) old mid None → mid ≡ told_next told tells names old
+told_so told tells names old mid named tells_it = tells_it ∙ ap (λ name. with_written 0 (told_of told (told_before (output_of tells) name)) old) named
+
+-- the name that is due
+abbrev pub IsNextName : Names → List ℕ → Type 0
+IsNextName names name = (names.drawn < 2 ^ 64) × IsTrue (has_next names) × (name ≡ next_name names)
+
+-- Standard output got these bytes of the line for the file, and then the fault left its mark.
+pub record StopsOpening (told : Bool) (tells : Tells) (names : Names) (old new : List Slot) (fault : Fault) : Type 0 where
+  pub bytes : List ℕ
+  pub reached : List Slot
+  pub wrote : reached ≡ with_written 0 (told_of told bytes) old
+  pub begins : (bytes ≡ []) ⊎ (IsNextName names (next_name names) × IsBeginning bytes (line_next tells names))
+  pub due : (line : List ℕ → List ℕ) → line_next tells names ≡ line (next_name names) → IsDueLine (IsNextName names) line bytes fault
+  pub marks : Marks (IsNextName names) fault reached new
+  pub at : (first place : ℕ) → IsAt fault first place place
+
+pub stops_opening : {told : Bool} {tells : Tells} {names next : Names} {old new : List Slot} {fault : Fault} → 0 < length old → OpensNone told tells names next old new fault → StopsOpening told tells names old new fault
+stops_opening {told} {old = old} some (no_memory same) = record { bytes = []; reached = old; wrote = none_written told 0; begins = inl refl; due = λ line is. inl refl; marks = same; at = λ first place. tt }
+stops_opening {told} {old = old} some (no_name few none same) = record { bytes = []; reached = old; wrote = none_written told 0; begins = inl refl; due = λ line is. refl; marks = same; at = λ first place. tt }
+stops_opening {told} {tells} {names} {old = old} some (no_line n few has cut) = record {
+  bytes = take n (line_next tells names);
+  reached = with_written 0 (told_of told (take n (line_next tells names))) old;
+  wrote = refl;
+  begins = inr ((few, has, refl), begins);
+  due = λ line is. inr (refl, (next_name names, (few, has, refl), subst (IsBeginning (take n (line_next tells names))) is begins));
+  marks = (omega (arith, some, length-changed_at 0 (adds (told_of told (take n (line_next tells names)))) old), cut.slots);
+  at = λ first place. inl refl;
+} where
+  begins : IsBeginning (take n (line_next tells names)) (line_next tells names)
+  begins = (drop n (line_next tells names), sym (take-append-drop n (line_next tells names)))
+stops_opening {told} {tells} {names} {old = old} some (no_file slot kept at few has drew is made) = record {
+  bytes = line_next tells names;
+  reached = told_next told tells names old;
+  wrote = refl;
+  begins = inr ((few, has, refl), begins_itself (line_next tells names));
+  due = λ line is. (next_name names, (few, has, refl), is);
+  marks = (at ∙ sym (length-changed_at 0 _ old), (next_name names, kept, (few, has, refl), is, made));
+  at = λ first place. refl;
+}
+stops_opening {told} {tells} {names} {old = old} some (no_number few has same) = record {
+  bytes = line_next tells names;
+  reached = told_next told tells names old;
+  wrote = refl;
+  begins = inr ((few, has, refl), begins_itself (line_next tells names));
+  due = λ line is. inr (next_name names, (few, has, refl), is);
+  marks = same;
+  at = λ first place. tt;
+}
+
+nothing_in : (front rest : List ℕ) → front ++ rest ≡ [] → front ≡ []
+nothing_in [] rest none = refl
+nothing_in (byte ∷ front) rest none = absurd (cc)
+
+-- closed files, and these bytes of the line for the next one
+abbrev begun_with : Output → List File → List ℕ → Part
+begun_with output front bytes = record { out = told_of_files output front ++ bytes; files = front }
+
+-- a file with the next name could not be opened, of which standard output is told so
+pub opens_not : {output : Output} {told : Bool} (front : List File) {tells : Tells} {names : Names} {high : Part} {old new : List Slot} {fault : Fault} → line_next tells names ≡ told_before output (next_name names) → AllClosed front → Begins (part_with output front) high
+    → (IsNextName names (next_name names) → (bytes : List ℕ) × (high ≡ with_last (begun_out output front (next_name names)) front (file_of (next_name names) bytes state.Open)))
+    → StopsOpening told tells names old new fault → Becomes output told (part_with output front) high old new (Some fault)
+opens_not {output} {told} front {tells} {names} {high} {old} {new} {fault} told_so closed begins is stops =
+    becomes_again (line_begins stops.bytes) (out_added told stops.bytes old stops.wrote) (halts_here (elim stops.begins [
+      | inl none ↦ subst (λ bytes. Begins (begun_with output front bytes) high) (sym none) (subst (λ out. Begins (record { out = out; files = front }) high) (sym (append-nil (told_of_files output front))) begins)
+      | inr some ↦ begun some.0 some.1
+    ]) (turn_next front closed) (lines_due output front (next_name names) stops.bytes high fault none (λ line same. due_by _ _ line stops.bytes fault next (stops.due line (told_so ∙ same))))
+    (marks_by _ _ fault stops.reached new next stops.marks) (λ before at. stops.at (length before) (length front))) where
+      next : (name : List ℕ) → IsNextName names name → IsNext (begun_with output front stops.bytes) high name
+      next name (few, has, named) = let (bytes, so) = is (few, has, refl) in record {
+        front = front;
+        file = file_of (next_name names) bytes state.Open;
+        rest = [];
+        files = ap (λ (part : Part). part.files) so;
+        place = refl;
+        name_is = sym named;
+      }
+
+      begun : IsNextName names (next_name names) → IsBeginning stops.bytes (line_next tells names) → Begins (begun_with output front stops.bytes) high
+      begun due (rest, line) = let (bytes, so) = is due in subst (λ part. Begins (begun_with output front stops.bytes) part) (sym so) (record {
+        out = (rest, ap (λ text. told_of_files output front ++ text) (sym told_so ∙ line) ∙ sym (append_assoc (told_of_files output front) stops.bytes rest));
+        files = more_files front (file_of (next_name names) bytes state.Open ∷ []);
+      })
+
+      none : told_before output (next_name names) ≡ [] → stops.bytes ≡ []
+      none nothing = elim stops.begins [
+        | inl are ↦ are
+        | inr some ↦ nothing_in stops.bytes some.1.0 (sym some.1.1 ∙ told_so ∙ nothing)
+      ]

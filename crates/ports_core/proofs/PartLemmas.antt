@@ -5,13 +5,13 @@ use Rattle.std.proofs.lemmas.List.{append-nil, take-append-drop, drop_all, lengt
 use Rattle.std.proofs.lemmas.Bool.{false≢true, and_parts, not-true}
 use Rattle.ports_core.specs.Slot.{Slot, is_open, slot_at, is_writable, with_written, with_broken, told_of}
 use Rattle.ports_core.specs.Write.{BrokeAfter}
-use Rattle.ports_core.specs.Part.{File, Part, nothing, only_out, OutputsAt, IsBeginning, FilesBegin, Begins, IsNext, Marks, IsAt, InOrder, StoppedBetween, Output, gets_none, gets_bytes, gets_lines, LinesInOrder}
+use Rattle.ports_core.specs.Part.{File, Part, nothing, only_out, OutputsAt, IsBeginning, FilesBegin, Begins, IsNext, Marks, IsAt, InOrder, StoppedBetween, Output, gets_none, gets_bytes, gets_lines, gets_openings, openings_for, IsDueLine, LinesInOrder}
 use Rattle.ports_core.specs.Turn.{AllClosed, InTurn, StoppedInTurn, LinesTo}
 use Rattle.ports_core.specs.inner.Part.{HasLines}
 use Rattle.ports_core.specs.declared.slot.State.{State}
 use Rattle.ports_core.specs.declared.slot.State.TheVariants as state
 use Rattle.ports_core.specs.declared.fault.Fault.{Fault}
-use Rattle.ports_core.specs.declared.fault.Fault.TheVariants.{Write, Open}
+use Rattle.ports_core.specs.declared.fault.Fault.TheVariants.{Memory, Write, Open}
 use Rattle.ports_core.proofs.SlotLemmas.{changed_at-append, length-changed_at, with_written-nil}
 use Rattle.ports_core.proofs.WriteLemmas.{told_of-append, told_of-nil, with_written-append}
 
@@ -76,11 +76,28 @@ outputs_count told before part now at = grind (arith, common_steps, length-chang
 pub still_in_order : (files : List File) → InOrder files files files 0
 still_in_order files = grind (arith, common_steps)
 
+-- it isn't that a file could not be opened
+abbrev pub IsNoOpen : Fault → Type 0
+IsNoOpen (Open slot) = ⊥
+IsNoOpen fault = Unit {0}
+
+-- then there need be no line for the file that is due
+pub none_due : (IsDue : List ℕ → Type 0) (line : List ℕ → List ℕ) (fault : Fault) → IsNoOpen fault → IsDueLine IsDue line [] fault
+none_due IsDue line (Open slot) other = absurd other
+none_due IsDue line (Write slot) other = inl refl
+none_due IsDue line Memory other = inl refl
+none_due IsDue line fault other = refl
+
 -- nothing was written
-pub lines_still : (output : Output) (part : Part) (place : ℕ) (fault : Fault) → LinesInOrder output part part place fault
-lines_still gets_none part place fault = tt
-lines_still gets_bytes part place fault = tt
-lines_still (gets_lines line) part place fault = inl refl
+pub lines_still : (output : Output) (part high : Part) (place : ℕ) (fault : Fault) → IsNoOpen fault → LinesInOrder output part part high place fault
+lines_still gets_none part high place fault other = tt
+lines_still gets_bytes part high place fault other = tt
+lines_still (gets_lines line) part high place fault other = inl refl
+lines_still (gets_openings line) part high place fault other = record {
+  next = [];
+  all = sym (ap (λ files. part.out ++ (openings_for line files ++ [])) (drop_all (length part.files) part.files (omega arith)) ∙ append-nil part.out);
+  due = none_due _ line fault other;
+}
 
 -- a write of which the beginning was written before the output broke
 pub out_cut : (told : Bool) (before : List Slot) (part : Part) (old new : List Slot) (more : List ℕ) (n : ℕ) → OutputsAt told before part old → BrokeAfter told old new 0 more n → StoppedBetween gets_bytes told before part (record part { out = part.out ++ more }) (Write 0) new
@@ -100,8 +117,8 @@ out_cut told before part old new more n at broke = record {
   there = rw (length-changed_at 0 _ old) (omega (arith, at.standard, outputs_count told before part old at))
 
 -- a fault that came before anything was written, and from no output
-pub stopped_here : (output : Output) (told : Bool) (before : List Slot) (low high : Part) (fault : Fault) (old new : List Slot) → OutputsAt told before low old → Begins low high → Marks (IsNext low high) fault old new → IsAt fault (length before) 0 (length low.files) → StoppedBetween output told before low high fault new
-stopped_here output told before low high fault old new at begins marks from = grind (arith, common_steps, part_begins_itself, lines_still)
+pub stopped_here : (output : Output) (told : Bool) (before : List Slot) (low high : Part) (fault : Fault) (old new : List Slot) → OutputsAt told before low old → Begins low high → Marks (IsNext low high) fault old new → IsAt fault (length before) 0 (length low.files) → IsNoOpen fault → StoppedBetween output told before low high fault new
+stopped_here output told before low high fault old new at begins marks from other = grind (arith, common_steps, part_begins_itself, lines_still)
 
 -- an output that could be written broke
 pub broken_at : (place : ℕ) (slots : List Slot) → IsTrue (is_writable slots place) → (slot_at (with_broken place slots) place).is_broken ≡ true
@@ -134,9 +151,24 @@ next_wider {part} more begins name next =
     let found = next_in part next.front next.file next.rest more.files (rw next.files at begins.files) next.place next.name_is in
     record { front = found.0; file = found.1; rest = found.2; files = found.3; place = found.4; name_is = found.5 }
 
+-- the line for the file that is due, where that is known by another sentence
+pub due_by : (IsDue IsOther : List ℕ → Type 0) (line : List ℕ → List ℕ) (bytes : List ℕ) (fault : Fault) → ((name : List ℕ) → IsDue name → IsOther name) → IsDueLine IsDue line bytes fault → IsDueLine IsOther line bytes fault
+due_by IsDue IsOther line bytes (Write slot) also (inl none) = inl none
+due_by IsDue IsOther line bytes (Write slot) also (inr (out, (name, due, begins))) = inr (out, (name, also name due, begins))
+due_by IsDue IsOther line bytes (Open slot) also (name, due, whole) = (name, also name due, whole)
+due_by IsDue IsOther line bytes Memory also (inl none) = inl none
+due_by IsDue IsOther line bytes Memory also (inr (name, due, whole)) = inr (name, also name due, whole)
+due_by IsDue IsOther line bytes fault also due = due
+
+lines_wider : (output : Output) (part high more : Part) (place : ℕ) (fault : Fault) → Begins high more → LinesTo output part high place fault → LinesTo output part more place fault
+lines_wider gets_none part high more place fault begins lines = tt
+lines_wider gets_bytes part high more place fault begins lines = tt
+lines_wider (gets_lines line) part high more place fault begins lines = lines
+lines_wider (gets_openings line) part high more place fault begins lines = record { next = lines.next; all = lines.all; due = due_by _ _ line lines.next fault (next_wider more begins) lines.due }
+
 -- what stopped in turn between two parts stopped between one that begins the lower and one that the higher begins
 pub turn_between : (output : Output) (told : Bool) (before : List Slot) (less low high more : Part) (fault : Fault) (now : List Slot) → Begins less low → StoppedInTurn output told before low high fault now → Begins high more → StoppedInTurn output told before less more fault now
-turn_between output told before less low high more fault now lower stop wider = search (rules, part_trans, marks_by, next_wider)
+turn_between output told before less low high more fault now lower stop wider = search (rules, part_trans, marks_by, next_wider, lines_wider)
 
 closed_stays : {file : File} (whole : File) → file.state ≡ state.Closed → (file.state ≡ state.Open) ⊎ (file ≡ whole) → file ≡ whole
 closed_stays whole closed (inl is) = cc
@@ -158,20 +190,32 @@ no_fewer (file ∷ low) (whole ∷ part) begins = omega (arith, no_fewer low par
 pub in_order : {low part high : List File} {place : ℕ} → FilesBegin low part → FilesBegin part high → InTurn part place → InOrder low part high place
 in_order {low} {part} {high} {place} above below turn = grind (arith, common_steps, done_by, drop_all, no_fewer)
 
+pub openings-append : (line : List ℕ → List ℕ) (some more : List File) → openings_for line (some ++ more) ≡ openings_for line some ++ openings_for line more
+openings-append line [] more = refl
+openings-append line (file ∷ some) more = ap (λ rest. line file.name ++ rest) (openings-append line some more) ∙ sym (append_assoc (line file.name) (openings_for line some) (openings_for line more))
+
+-- the lines for files that are there, and for those that were opened since
+pub openings_since : (line : List ℕ → List ℕ) (low part : List File) → FilesBegin low part → openings_for line part ≡ openings_for line low ++ openings_for line (drop (length low) part)
+openings_since line [] part begins = refl
+openings_since line (file ∷ low) [] begins = absurd begins
+openings_since line (file ∷ low) (whole ∷ part) begins =
+    ap (λ name. line name ++ openings_for line part) (sym begins.0) ∙ ap (λ rest. line file.name ++ rest) (openings_since line low part begins.5)
+    ∙ sym (append_assoc (line file.name) (openings_for line low) _)
+
 -- the lines that standard output had in the lower part, and those that it got since
-lines_in_order : (output : Output) (low part : Part) (place : ℕ) (fault : Fault) → IsBeginning low.out part.out → HasLines output low.out low.files → LinesTo output part place fault → LinesInOrder output low part place fault
-lines_in_order gets_none low part place fault above has lines = tt
-lines_in_order gets_bytes low part place fault above has lines = tt
-lines_in_order (gets_lines line) low part place fault (since, is) has lines = inr (since, is, record { next = lines.next; all = ap (λ had. had ++ since) (sym has) ∙ sym is ∙ lines.all; cut = lines.cut })
+lines_in_order : (output : Output) (low part high : Part) (place : ℕ) (fault : Fault) → Begins low part → HasLines output low.out low.files → LinesTo output part high place fault → LinesInOrder output low part high place fault
+lines_in_order gets_none low part high place fault above has lines = tt
+lines_in_order gets_bytes low part high place fault above has lines = tt
+lines_in_order (gets_openings line) low part high place fault above has lines = record {
+  next = lines.next;
+  all = lines.all ∙ ap (λ had. had ++ lines.next) (openings_since line low.files part.files above.files ∙ ap (λ had. had ++ openings_for line (drop (length low.files) part.files)) (sym has))
+      ∙ append_assoc low.out (openings_for line (drop (length low.files) part.files)) lines.next;
+  due = lines.due;
+}
+lines_in_order (gets_lines line) low part high place fault above has lines = let (since, is) = above.out in inr (since, is, record { next = lines.next; all = ap (λ had. had ++ since) (sym has) ∙ sym is ∙ lines.all; cut = lines.cut })
 
 pub stopped_in_turn : (output : Output) (told : Bool) (before : List Slot) (low high : Part) (fault : Fault) (now : List Slot) → HasLines output low.out low.files → StoppedInTurn output told before low high fault now → StoppedBetween output told before low high fault now
 stopped_in_turn output told before low high fault now has stop = search (rules, in_order, lines_in_order)
-
--- where no more is known of a part with these files than that it has their lines
-pub lines_before : (output : Output) (part : Part) (place : ℕ) (fault : Fault) → HasLines output part.out (take place part.files) → LinesTo output part place fault
-lines_before gets_none part place fault has = tt
-lines_before gets_bytes part place fault has = tt
-lines_before (gets_lines line) part place fault has = record { next = []; all = has ∙ sym (append-nil _); cut = inl refl }
 
 -- closed files, and one more
 pub turn_last : (files : List File) (file : File) (place : ℕ) → length files ≡ place → AllClosed files → InTurn (files ++ file ∷ []) place

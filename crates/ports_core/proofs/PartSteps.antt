@@ -1,10 +1,11 @@
 -- Outputs that have a part have another, as their last file is opened, written and closed; or a fault stops them in between.
-use Rattle.std.proofs.Common.{◌≡◌, ℕ, ◌+◌, suc, Bool, false, List, [], ◌∷◌, ◌++◌, length, take, Option, Some, None, inl, inr, refl, sym, ◌∙◌, arith, subst, length-append}
+use Rattle.std.proofs.Common.{◌≡◌, ℕ, ◌+◌, suc, Bool, false, List, [], ◌∷◌, ◌++◌, length, take, Option, Some, None, inl, inr, refl, sym, ◌∙◌, ap, arith, length-append}
+use Rattle.std.proofs.lemmas.List.{append-nil, take_all}
 use Rattle.std.proofs.Math.Seq.{take-append_seam}
+use Rattle.ports_core.specs.Draft.{told_before, told_of_files}
 use Rattle.ports_core.specs.Slot.{Slot, opened, changed_at, adds, closes, with_written, with_broken, told_of}
-use Rattle.ports_core.specs.Part.{File, Part, OutputsAt, Begins, FilesBegin, IsNext, Marks, IsAt, Output}
+use Rattle.ports_core.specs.Part.{File, Part, OutputsAt, Begins, FilesBegin, IsNext, Marks, IsAt, IsDueLine, Output, gets_none, gets_bytes, gets_lines, gets_openings, lines_for, openings_for}
 use Rattle.ports_core.specs.Turn.{AllClosed, InTurn, IsThere, LinesTo}
-use Rattle.ports_core.specs.inner.Part.{HasLines}
 use Rattle.ports_core.specs.inner.Write as short
 use Rattle.ports_core.specs.inner.Write.{Wrote}
 use Rattle.ports_core.specs.declared.fault.Fault.{Fault}
@@ -14,7 +15,7 @@ use Rattle.ports_core.specs.declared.slot.State.{State}
 use Rattle.ports_core.specs.declared.slot.State.TheVariants as state
 use Rattle.ports_core.proofs.SlotLemmas.{length-changed_at}
 use Rattle.ports_core.proofs.FileLemmas.{gets, ended, file_more, last_changes, write_makes, close_makes}
-use Rattle.ports_core.proofs.PartLemmas.{begins_itself, begins_more, take_begins_after, part_begins_itself, outputs_count, turn_between, turn_last, lines_before}
+use Rattle.ports_core.proofs.PartLemmas.{begins_itself, begins_more, take_begins_after, files_begin_themselves, part_begins_itself, IsNoOpen, none_due, openings-append, out_more, outputs_count, turn_between, turn_last}
 
 pub record Becomes (output : Output) (told : Bool) (low high : Part) (old new : List Slot) (fault : Option Fault) : Type 0 where
   pub gets : (before : List Slot) → OutputsAt told before low old → IsThere output told (OutputsAt told before high new) before low high new fault
@@ -38,7 +39,21 @@ file_of name bytes state = record { name = name; mode = Fresh; bytes = bytes; st
 abbrev pub with_last : List ℕ → List File → File → Part
 with_last out front file = record { out = out; files = front ++ file ∷ [] }
 
+-- what standard output is told of files, and of one with this name that is to be opened
+abbrev pub begun_out : Output → List File → List ℕ → List ℕ
+begun_out output front name = told_of_files output front ++ told_before output name
+
 -- What begins what
+
+pub line_begins : {out : List ℕ} (line : List ℕ) {files : List File} → Begins (record { out = out; files = files }) (record { out = out ++ line; files = files })
+line_begins {out} line {files} = record { out = begins_more out line; files = files_begin_themselves files }
+
+pub more_files : (front more : List File) → FilesBegin front (front ++ more)
+more_files [] more = tt
+more_files (file ∷ front) more = (refl, refl, refl, inr refl, begins_itself file.bytes, more_files front more)
+
+pub file_begins : {out : List ℕ} (front : List File) (file : File) → Begins (record { out = out; files = front }) (with_last out front file)
+file_begins {out} front file = record { out = begins_itself out; files = more_files front (file ∷ []) }
 
 pub front_begins : (front low high : List File) → FilesBegin low high → FilesBegin (front ++ low) (front ++ high)
 front_begins [] low high begins = begins
@@ -56,7 +71,7 @@ close_begins out front name bytes = record { out = begins_itself out; files = fr
 -- Steps
 
 -- a fault that comes while the outputs have the lower part still
-pub halts_here : {output : Output} {told : Bool} {low high : Part} {old new : List Slot} {fault : Fault} {place : ℕ} → Begins low high → InTurn low.files place → LinesTo output low place fault → Marks (IsNext low high) fault old new
+pub halts_here : {output : Output} {told : Bool} {low high : Part} {old new : List Slot} {fault : Fault} {place : ℕ} → Begins low high → InTurn low.files place → LinesTo output low high place fault → Marks (IsNext low high) fault old new
     → ((before : List Slot) → OutputsAt told before low old → IsAt fault (length before) place (length low.files)) → Becomes output told low high old new (Some fault)
 halts_here {low = low} {old = old} {place = place} begins turn lines marks from = record {
   gets = λ before at. record {
@@ -73,9 +88,36 @@ halts_here {low = low} {old = old} {place = place} begins turn lines marks from 
   };
 }
 
--- the lines for the files before the last one
-pub lines_of_front : (output : Output) (out : List ℕ) (front : List File) (file : File) (fault : Fault) → HasLines output out front → LinesTo output (with_last out front file) (length front) fault
-lines_of_front output out front file fault has = lines_before output (with_last out front file) (length front) fault (subst (HasLines output out) (sym (take-append_seam front (file ∷ []))) has)
+-- the lines for files of which the last one isn't closed, or wasn't when they were written
+pub lines_of_last : (output : Output) (front : List File) (file : File) (high : Part) (fault : Fault) → IsNoOpen fault → LinesTo output (with_last (begun_out output front file.name) front file) high (length front) fault
+lines_of_last gets_none front file high fault other = tt
+lines_of_last gets_bytes front file high fault other = tt
+lines_of_last (gets_lines line) front file high fault other = record { next = []; all = ap (λ files. lines_for line files ++ []) (sym (take-append_seam front (file ∷ []))); cut = inl refl }
+lines_of_last (gets_openings line) front file high fault other = record {
+  next = [];
+  all = sym (append-nil (openings_for line (front ++ file ∷ [])) ∙ openings-append line front (file ∷ []) ∙ ap (λ rest. openings_for line front ++ rest) (append-nil (line file.name)));
+  due = none_due _ line fault other;
+}
+
+-- the lines for closed files, and of that for the next one these bytes
+pub lines_due : (output : Output) (front : List File) (name bytes : List ℕ) (high : Part) (fault : Fault) → (told_before output name ≡ [] → bytes ≡ [])
+    → ((line : List ℕ → List ℕ) → told_before output name ≡ line name → IsDueLine (IsNext (record { out = told_of_files output front ++ bytes; files = front }) high) line bytes fault)
+    → LinesTo output (record { out = told_of_files output front ++ bytes; files = front }) high (length front) fault
+lines_due gets_none front name bytes high fault none due = tt
+lines_due gets_bytes front name bytes high fault none due = tt
+lines_due (gets_lines line) front name bytes high fault none due = record { next = []; all = cc (none refl, take_all (length front) front (omega arith)); cut = inl refl }
+lines_due (gets_openings line) front name bytes high fault none due = record { next = bytes; all = refl; due = due line refl }
+
+-- the lines for closed files alone
+pub lines_all : (output : Output) (front : List File) (high : Part) (fault : Fault) → IsNoOpen fault → LinesTo output (record { out = told_of_files output front; files = front }) high (length front) fault
+lines_all gets_none front high fault other = tt
+lines_all gets_bytes front high fault other = tt
+lines_all (gets_lines line) front high fault other = record { next = []; all = cc (append-nil (lines_for line front), take_all (length front) front (omega arith)); cut = inl refl }
+lines_all (gets_openings line) front high fault other = record { next = []; all = sym (append-nil (openings_for line front)); due = none_due _ line fault other }
+
+-- standard output gets more
+pub out_added : (told : Bool) {part : Part} (more : List ℕ) (old : List Slot) {new : List Slot} {output : Output} → new ≡ with_written 0 (told_of told more) old → Becomes output told part (record part { out = part.out ++ more }) old new None
+out_added told {part} more old {new} wrote = record { gets = λ before at. out_more told before part old new more at wrote }
 
 module _ (output : Output) (told : Bool) (out : List ℕ) (front : List File) where
   -- the last slot is that of the last file
@@ -96,16 +138,7 @@ module _ (output : Output) (told : Bool) (out : List ℕ) (front : List File) wh
         last_changes told (adds (told_of told more)) (gets more) (write_makes told more) before (with_last out front (file_of name bytes state.Open)) front (file_of name bytes state.Open) old new slot refl last at wrote;
   }
 
-  pub writes_to : (name bytes more : List ℕ) {slot : ℕ} (old : List Slot) {new : List Slot} (fault : Option Fault) → HasLines output out front → AllClosed front → suc slot ≡ length old → Wrote told slot more old new fault
-      → Becomes output told (with_last out front (file_of name bytes state.Open)) (with_last out front (file_of name (bytes ++ more) state.Open)) old new fault
-  writes_to name bytes more old None lines closed last wrote = bytes_added name bytes more old last wrote
-  writes_to name bytes more {slot} old (Some _) lines closed last (short.broke n cut) =
-      becomes_again (bytes_more out front name bytes (take n more)) (bytes_added name bytes (take n more) old last refl) (halts_here (taken_more out front name bytes more n)
-      (turn_last front (file_of name (bytes ++ take n more) state.Open) (length front) refl closed) (lines_of_front output out front _ _ lines)
-      (let size : length (with_written slot (told_of told (take n more)) old) ≡ length old = length-changed_at slot _ old in omega (arith, last), cut.slots)
-      (λ before at. inr (last_place (file_of name (bytes ++ take n more) state.Open) (last ∙ sym (length-changed_at slot _ old)) at)))
-
-  -- it is closed, or breaks as it is
+  -- it is closed
   pub closes_last : (name bytes : List ℕ) {slot : ℕ} (old : List Slot) {new : List Slot} → suc slot ≡ length old → new ≡ changed_at slot closes old
       → Becomes output told (with_last out front (file_of name bytes state.Open)) (with_last out front (file_of name bytes state.Closed)) old new None
   closes_last name bytes {slot} old {new} last closed = record {
@@ -113,9 +146,20 @@ module _ (output : Output) (told : Bool) (out : List ℕ) (front : List File) wh
         last_changes told closes ended (close_makes told) before (with_last out front (file_of name bytes state.Open)) front (file_of name bytes state.Open) old new slot refl last at closed;
   }
 
-  pub closes_not : (name bytes : List ℕ) {slot : ℕ} (old : List Slot) {new : List Slot} → HasLines output out front → AllClosed front → suc slot ≡ length old → new ≡ with_broken slot (changed_at slot closes old)
-      → Becomes output told (with_last out front (file_of name bytes state.Open)) (with_last out front (file_of name bytes state.Closed)) old new (Some (fault.Write slot))
-  closes_not name bytes {slot} old lines closed last is =
-      becomes_again (close_begins out front name bytes) (closes_last name bytes old last refl) (halts_here (part_begins_itself _)
-      (turn_last front (file_of name bytes state.Closed) (length front) refl closed) (lines_of_front output out front _ _ lines) (omega (arith, last, length-changed_at slot closes old), is)
-      (λ before at. inr (last_place (file_of name bytes state.Closed) (last ∙ sym (length-changed_at slot closes old)) at)))
+-- it gets bytes or is closed, or breaks as it does, where standard output has what it is told of these files
+module _ (output : Output) (told : Bool) (front : List File) (name bytes : List ℕ) where
+  pub writes_to : (more : List ℕ) {slot : ℕ} (old : List Slot) {new : List Slot} (fault : Option Fault) → AllClosed front → suc slot ≡ length old → Wrote told slot more old new fault
+      → Becomes output told (with_last (begun_out output front name) front (file_of name bytes state.Open)) (with_last (begun_out output front name) front (file_of name (bytes ++ more) state.Open)) old new fault
+  writes_to more old None closed last wrote = bytes_added output told _ front name bytes more old last wrote
+  writes_to more {slot} old (Some _) closed last (short.broke n cut) =
+      becomes_again (bytes_more _ front name bytes (take n more)) (bytes_added output told _ front name bytes (take n more) old last refl) (halts_here (taken_more _ front name bytes more n)
+      (turn_last front (file_of name (bytes ++ take n more) state.Open) (length front) refl closed) (lines_of_last output front (file_of name (bytes ++ take n more) state.Open) _ (fault.Write slot) tt)
+      (let size : length (with_written slot (told_of told (take n more)) old) ≡ length old = length-changed_at slot _ old in omega (arith, last), cut.slots)
+      (λ before at. inr (last_place output told _ front (file_of name (bytes ++ take n more) state.Open) (last ∙ sym (length-changed_at slot _ old)) at)))
+
+  pub closes_not : {slot : ℕ} (old : List Slot) {new : List Slot} → AllClosed front → suc slot ≡ length old → new ≡ with_broken slot (changed_at slot closes old)
+      → Becomes output told (with_last (begun_out output front name) front (file_of name bytes state.Open)) (with_last (begun_out output front name) front (file_of name bytes state.Closed)) old new (Some (fault.Write slot))
+  closes_not {slot} old closed last is =
+      becomes_again (close_begins _ front name bytes) (closes_last output told _ front name bytes old last refl) (halts_here (part_begins_itself _)
+      (turn_last front (file_of name bytes state.Closed) (length front) refl closed) (lines_of_last output front (file_of name bytes state.Closed) _ (fault.Write slot) tt) (omega (arith, last, length-changed_at slot closes old), is)
+      (λ before at. inr (last_place output told _ front (file_of name bytes state.Closed) (last ∙ sym (length-changed_at slot closes old)) at)))

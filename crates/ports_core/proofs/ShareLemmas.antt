@@ -1,10 +1,10 @@
 -- The files of shares, and what standard output is told of them: what begins what, and the last file.
 use Rattle.std.proofs.lemmas.Grind.{common_steps}
-use Rattle.std.proofs.Common.{◌≡◌, ℕ, ◌+◌, suc, Bool, true, false, cond, List, [], ◌∷◌, ◌++◌, ◌⊎◌, length, map, inl, inr, refl, sym, ◌∙◌, ap, subst, arith, append_assoc, rules}
+use Rattle.std.proofs.Common.{◌≡◌, ℕ, ◌+◌, suc, Bool, true, false, cond, List, [], ◌∷◌, ◌++◌, ◌⊎◌, length, map, inl, inr, refl, sym, ◌∙◌, ap, subst, arith, append_assoc, append-nil, rules}
 use Rattle.std.proofs.lemmas.Bool.{cond_both}
 use Rattle.std.proofs.lemmas.List.{length-map}
-use Rattle.ports_core.specs.Draft.{Manner, AreNamed, Share, share, file_at, files_from, told_of_files, part_with, part_of, made_of, Draft, shares_of, draft_part, with_bytes, with_next}
-use Rattle.ports_core.specs.Part.{File, nothing, Begins, FilesBegin, IsBeginning, Output, gets_none, gets_bytes, gets_lines, lines_for}
+use Rattle.ports_core.specs.Draft.{Manner, AreNamed, Share, share, file_at, files_from, told_of_files, told_before, part_with, part_of, made_of, Draft, shares_of, draft_part, with_bytes, with_next}
+use Rattle.ports_core.specs.Part.{File, nothing, Begins, FilesBegin, IsBeginning, Output, gets_none, gets_bytes, gets_lines, gets_openings, lines_for, openings_for}
 use Rattle.ports_core.specs.Slot.{is_open}
 use Rattle.ports_core.specs.Turn.{AllClosed}
 use Rattle.ports_core.specs.inner.Part.{HasLines}
@@ -13,8 +13,8 @@ use Rattle.ports_core.specs.declared.file_writer.Opening.{Opening}
 use Rattle.ports_core.specs.declared.file_writer.Opening.TheVariants.{Never, Late, AtOnce}
 use Rattle.ports_core.specs.declared.slot.State.{State}
 use Rattle.ports_core.specs.declared.slot.State.TheVariants.{Open, Closed}
-use Rattle.ports_core.proofs.PartLemmas.{begins_itself, begins_more}
-use Rattle.ports_core.proofs.PartSteps.{with_last, file_of}
+use Rattle.ports_core.proofs.PartLemmas.{begins_itself, begins_more, openings-append, openings_since}
+use Rattle.ports_core.proofs.PartSteps.{begun_out, with_last, file_of}
 
 -- Shares that begin others
 
@@ -56,42 +56,49 @@ told-append gets_bytes a b = refl
 told-append (gets_lines line) [] b = refl
 told-append (gets_lines line) (file ∷ a) b =
     ap (λ rest. cond (is_open file.state) [] (line file) ++ rest) (told-append (gets_lines line) a b) ∙ sym (append_assoc (cond (is_open file.state) [] (line file)) (lines_for line a) (lines_for line b))
+told-append (gets_openings line) a b = openings-append line a b
 
 pub has_told : (output : Output) (files : List File) → HasLines output (told_of_files output files) files
 has_told gets_none files = tt
 has_told gets_bytes files = tt
 has_told (gets_lines line) files = refl
+has_told (gets_openings line) files = refl
 
 -- where there are none
 pub nothing_part : (output : Output) → part_with output [] ≡ nothing
 nothing_part gets_none = refl
 nothing_part gets_bytes = refl
 nothing_part (gets_lines line) = refl
+nothing_part (gets_openings line) = refl
 
 pub nothing_told : (output : Output) → HasLines output [] []
 nothing_told gets_none = tt
 nothing_told gets_bytes = tt
 nothing_told (gets_lines line) = refl
+nothing_told (gets_openings line) = refl
 
--- nothing of open files
-pub open_untold : (output : Output) (manner : Manner) (place : ℕ) (bytes : List (List ℕ)) → told_of_files output (files_from manner place (map (share Open) bytes)) ≡ []
-open_untold gets_none manner place bytes = refl
-open_untold gets_bytes manner place bytes = refl
-open_untold (gets_lines line) manner place [] = refl
-open_untold (gets_lines line) manner place (one ∷ bytes) = cond_both (manner.has_name place) _ _ (λ files. lines_for line files ≡ []) (λ is. open_untold (gets_lines line) manner (place + 1) bytes) (λ is. refl)
+-- open files have no lines, where those are for closed ones
+open_untold : (line : File → List ℕ) (manner : Manner) (place : ℕ) (bytes : List (List ℕ)) → lines_for line (files_from manner place (map (share Open) bytes)) ≡ []
+open_untold line manner place [] = refl
+open_untold line manner place (one ∷ bytes) = cond_both (manner.has_name place) _ _ (λ files. lines_for line files ≡ []) (λ is. open_untold line manner (place + 1) bytes) (λ is. refl)
 
 told_by : (line : File → List ℕ) (has : Bool) (file : File) (low high : List File) → IsBeginning (lines_for line low) (lines_for line high) → IsBeginning (lines_for line (cond has (file ∷ low) [])) (lines_for line (cond has (file ∷ high) []))
 told_by line true file low high begins = grind (arith, common_steps)
 told_by line false file low high begins = begins_itself []
 
+-- the files that begin others have a beginning of their lines by their names
+pub openings_begin : (line : List ℕ → List ℕ) (low high : List File) → FilesBegin low high → IsBeginning (openings_for line low) (openings_for line high)
+openings_begin line low high begins = (_, openings_since line low high begins)
+
 -- nor does it lose what it was told, as the last shares grow
-told_grows : (output : Output) (manner : Manner) (place : ℕ) (front : List Share) (low : List (List ℕ)) (high : List Share)
+told_grows : (output : Output) (manner : Manner) (place : ℕ) (front : List Share) (low : List (List ℕ)) (high : List Share) → SharesBegin (map (share Open) low) high
     → IsBeginning (told_of_files output (files_from manner place (front ++ map (share Open) low))) (told_of_files output (files_from manner place (front ++ high)))
-told_grows gets_none manner place front low high = begins_itself []
-told_grows gets_bytes manner place front low high = begins_itself []
-told_grows (gets_lines line) manner place [] low high = rw (open_untold (gets_lines line) manner place low) (_, refl)
-told_grows (gets_lines line) manner place (one ∷ front) low high =
-    told_by line (manner.has_name place) (file_at manner place one) (files_from manner (place + 1) (front ++ map (share Open) low)) (files_from manner (place + 1) (front ++ high)) (told_grows (gets_lines line) manner (place + 1) front low high)
+told_grows gets_none manner place front low high begins = begins_itself []
+told_grows gets_bytes manner place front low high begins = begins_itself []
+told_grows (gets_lines line) manner place [] low high begins = rw (open_untold line manner place low) (_, refl)
+told_grows (gets_lines line) manner place (one ∷ front) low high begins =
+    told_by line (manner.has_name place) (file_at manner place one) (files_from manner (place + 1) (front ++ map (share Open) low)) (files_from manner (place + 1) (front ++ high)) (told_grows (gets_lines line) manner (place + 1) front low high begins)
+told_grows (gets_openings line) manner place front low high begins = openings_begin line _ _ (files_begin manner place _ _ (shares_after front _ _ begins))
 
 -- what is written of shares whose last ones are open, and go on
 pub part_grows : (manner : Manner) (front : List Share) (low : List (List ℕ)) (high : List Share) → SharesBegin (map (share Open) low) high → Begins (part_of manner (front ++ map (share Open) low)) (part_of manner (front ++ high))
@@ -158,15 +165,16 @@ part_last : (manner : Manner) (draft : Draft) (state : State) (bytes : List ℕ)
     → part_of manner (map (share Closed) draft.ended ++ share state bytes ∷ []) ≡ with_last (ended_out manner draft ++ told_of_files manner.output (file_of (name_after manner draft) bytes state ∷ [])) (ended_files manner draft) (file_of (name_after manner draft) bytes state)
 part_last manner draft state bytes named = grind (arith, common_steps, files_with, with_last, file_of, told-append)
 
-last_untold : (output : Output) (name bytes : List ℕ) → told_of_files output (file_of name bytes Open ∷ []) ≡ []
-last_untold gets_none name bytes = refl
-last_untold gets_bytes name bytes = refl
-last_untold (gets_lines line) name bytes = refl
+last_told : (output : Output) (name bytes : List ℕ) → told_of_files output (file_of name bytes Open ∷ []) ≡ told_before output name
+last_told gets_none name bytes = refl
+last_told gets_bytes name bytes = refl
+last_told (gets_lines line) name bytes = refl
+last_told (gets_openings line) name bytes = append-nil (line name)
 
 -- the last one is open
 pub open_part : (manner : Manner) (draft : Draft) → AreNamed manner (suc (length draft.ended)) → made_of draft.opening draft.bytes ≡ draft.bytes ∷ []
-    → draft_part manner draft ≡ with_last (ended_out manner draft) (ended_files manner draft) (file_of (name_after manner draft) draft.bytes Open)
-open_part manner draft named makes = grind (arith, common_steps, part_last, with_last, file_of, last_untold)
+    → draft_part manner draft ≡ with_last (begun_out manner.output (ended_files manner draft) (name_after manner draft)) (ended_files manner draft) (file_of (name_after manner draft) draft.bytes Open)
+open_part manner draft named makes = grind (arith, common_steps, part_last, with_last, file_of, last_told)
 
 -- it is closed, and nothing is begun
 pub closed_part : (manner : Manner) (draft : Draft) → AreNamed manner (suc (length draft.ended)) → made_of draft.opening draft.bytes ≡ draft.bytes ∷ []

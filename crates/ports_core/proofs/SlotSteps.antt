@@ -1,6 +1,6 @@
 -- Slots as they are opened, written and closed, and as they break.
 use Rattle.std.proofs.lemmas.Grind.{common_steps}
-use Rattle.std.proofs.Common.{◌≡◌, ℕ, ◌<◌, ◌≤◌, zero, suc, not, ◌&&◌, List, [], ◌∷◌, ◌++◌, length, take, Bool, true, false, IsTrue, refl, sym, ◌∙◌, ap, arith, rules}
+use Rattle.std.proofs.Common.{◌≡◌, ℕ, ◌<◌, ◌≤◌, zero, suc, not, ◌&&◌, List, [], ◌∷◌, ◌++◌, length, take, Bool, true, false, IsTrue, refl, sym, ◌∙◌, ap, arith, rules, length-append}
 use Rattle.std.proofs.lemmas.Bool.{false≢true}
 use Rattle.std.proofs.Math.Seq.{get_or-append_seam}
 use Rattle.ports_core.specs.Slot.{Slot, Rose, is_open, has_file, can_write, no_slot, slot_at, changed_at, opened, unopened, adds, closes, breaks, with_written, with_broken, told_of, is_writable}
@@ -139,3 +139,19 @@ made_short told slot bytes old new _ (broke n cut) = made_again old (with_writte
 
 pub made_close : (slot : ℕ) (old new : List Slot) → IsTrue (is_writable old slot) → new ≡ changed_at slot closes old → KeepsMade old new
 made_close slot old new can is = made_change closes slot (sym (open_has_file (slot_at old slot).state (slot_at old slot).is_broken can)) is
+
+-- no more files are there, and no fewer outputs
+pub record KeepsFiled (old new : List Slot) : Type 0 where
+  pub same : (place : ℕ) → has_file (slot_at new place).state ≡ has_file (slot_at old place).state
+  pub within : length old ≤ length new
+
+pub filed_same : {old new : List Slot} → KeepsMade old new → KeepsFiled old new
+filed_same made = record { same = made.same; within = omega (arith, made.size) }
+
+pub filed_more : {old mid new : List Slot} (kept : List ℕ) → KeepsMade old mid → new ≡ mid ++ unopened kept ∷ [] → KeepsFiled old new
+filed_more {old} {mid} {new} kept made added = record {
+  same = λ place. ap (λ slots. has_file (slot_at slots place).state) added ∙ still place ∙ made.same place;
+  within = omega (arith, made.size, ap length added, length-append mid (unopened kept ∷ []));
+} where
+  still : (place : ℕ) → has_file (slot_at (mid ++ unopened kept ∷ []) place).state ≡ has_file (slot_at mid place).state
+  still place = grind (arith, common_steps)

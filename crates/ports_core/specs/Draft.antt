@@ -1,11 +1,12 @@
 -- What a tool has written that writes one file after another: the files that ended, and the one that is open.
-use Rattle.std.specs.Prelude.{◌≡◌, ℕ, ◌+◌, ◌<◌, Bool, true, false, List, [], ◌∷◌, ◌++◌, length, map, decimal, if◌then◌else◌}
+use Rattle.std.specs.Prelude.{◌≡◌, ℕ, ◌+◌, ◌<◌, Bool, true, false, List, [], ◌∷◌, ◌++◌, length, map, codes, decimal, if◌then◌else◌}
 use Rattle.ports_core.specs.Name.{Naming, has_name, name_at}
-use Rattle.ports_core.specs.Part.{File, Part, Output, gets_none, gets_bytes, gets_lines, lines_for}
+use Rattle.ports_core.specs.Part.{File, Part, Output, gets_none, gets_bytes, gets_lines, gets_openings, lines_for, openings_for}
+use Rattle.ports_core.specs.Text.{in_quotes}
 use Rattle.ports_core.specs.declared.file_writer.Opening.{Opening}
 use Rattle.ports_core.specs.declared.file_writer.Opening.TheVariants.{Never, Late, AtOnce}
 use Rattle.ports_core.specs.declared.file_writer.Tells.{Tells}
-use Rattle.ports_core.specs.declared.file_writer.Tells.TheVariants.{Nothing, Sizes}
+use Rattle.ports_core.specs.declared.file_writer.Tells.TheVariants.{Nothing, Sizes, Openings}
 use Rattle.ports_core.specs.declared.slot.Mode.TheVariants.{Fresh}
 use Rattle.ports_core.specs.declared.slot.State.{State}
 use Rattle.ports_core.specs.declared.slot.State.TheVariants.{Open, Closed}
@@ -54,6 +55,14 @@ abbrev pub told_of_files : Output → List File → List ℕ
 told_of_files gets_none files = []
 told_of_files gets_bytes files = []
 told_of_files (gets_lines line) files = lines_for line files
+told_of_files (gets_openings line) files = openings_for line files
+
+-- and before a file with this name is opened
+abbrev pub told_before : Output → List ℕ → List ℕ
+told_before gets_none name = []
+told_before gets_bytes name = []
+told_before (gets_lines line) name = []
+told_before (gets_openings line) name = line name
 
 abbrev pub part_with : Output → List File → Part
 part_with output files = record { out = told_of_files output files; files = files }
@@ -66,9 +75,14 @@ part_of manner shares = part_with manner.output (files_from manner 0 shares)
 abbrev pub size_of_file : File → List ℕ
 size_of_file file = decimal (length file.bytes) ++ 10 ∷ []
 
+-- the line for a file that is to be opened
+abbrev pub opening_line : List ℕ → List ℕ
+opening_line name = codes "creating file " ++ in_quotes name ++ 10 ∷ []
+
 abbrev pub output_of : Tells → Output
 output_of Nothing = gets_none
 output_of Sizes = gets_lines size_of_file
+output_of Openings = gets_openings opening_line
 
 -- the file that these bytes make, if they make one
 abbrev pub made_of : Opening → List ℕ → List (List ℕ)

@@ -2,6 +2,7 @@
 use Rattle.std.specs.Prelude.{◌≡◌, ℕ, ◌+◌, ◌<◌, ◌≤◌, ◌^◌, suc, Bool, true, false, List, [], ◌∷◌, length, Option, Some, None, IfNone, IfSome, IsTrue}
 use Rattle.ports_core.specs.Draft.{Manner, Draft, AreNamed, output_of, made_of, shares_of, draft_part, manner_by}
 use Rattle.ports_core.specs.Name.{Naming}
+pub use Rattle.ports_core.specs.Names.{CanTell}
 use Rattle.ports_core.specs.Part.{Part, Output, OutputsAt, writes}
 use Rattle.ports_core.specs.Slot.{Slot, Rose, KeepsBroken, has_file, is_writable, slot_at}
 use Rattle.ports_core.specs.Swept.{AreThere, is_among}
@@ -16,7 +17,7 @@ use Rattle.ports_core.specs.declared.file_writer.Keeps.TheVariants.{All, Open as
 use Rattle.ports_core.specs.declared.file_writer.Opening.{Opening}
 use Rattle.ports_core.specs.declared.file_writer.Opening.TheVariants.{Never, Late}
 use Rattle.ports_core.specs.declared.file_writer.Tells.{Tells}
-use Rattle.ports_core.specs.declared.file_writer.Tells.TheVariants.{Nothing, Sizes}
+use Rattle.ports_core.specs.declared.file_writer.Tells.TheVariants.{Nothing, Sizes, Openings}
 use Rattle.ports_core.specs.declared.names.Names.{Names}
 
 pub record WriterState : Type 0 where
@@ -61,11 +62,13 @@ size_of Unopened = 0
 abbrev pub IsCounted : Tells → List ℕ → ℕ → Type 0
 IsCounted Nothing bytes size = Unit {0}
 IsCounted Sizes bytes size = size ≡ length bytes
+IsCounted Openings bytes size = Unit {0}
 
 -- and they can be, after as many as there are
 abbrev pub CanCount : Tells → ℕ → List ℕ → Type 0
 CanCount Nothing size bytes = Unit {0}
 CanCount Sizes size bytes = size + length bytes < 2 ^ 64
+CanCount Openings size bytes = Unit {0}
 
 -- what is begun gets its file so, and has these bytes so far
 abbrev pub IsCurrent : Tells → Opening → List ℕ → Current → Type 0
@@ -112,11 +115,6 @@ IsOpenAt Skipped slots = Unit {0}
 IsOpenAt Due slots = Unit {0}
 IsOpenAt (File slot size) slots = (2 ≤ slot) × IsTrue (is_writable slots slot)
 IsOpenAt Unopened slots = ⊥
-
--- standard output can be written, where it is told anything
-abbrev pub CanTell : Tells → List Slot → Type 0
-CanTell Nothing slots = Unit {0}
-CanTell Sizes slots = IsTrue (is_writable slots 0)
 
 -- the outputs that it goes on with can be written, and its files are there. Others may have opened outputs too.
 pub record IsReady (writer : WriterState) (slots : List Slot) : Type 0 where

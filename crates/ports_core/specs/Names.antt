@@ -1,10 +1,14 @@
--- Names that are drawn one after another.
+-- Names that are drawn one after another, and the files with them.
 use Rattle.std.specs.Prelude.{◌≡◌, ℕ, ◌+◌, ◌<◌, ◌^◌, List, [], ◌∷◌, ◌++◌, ◌⊎◌, length, Bool, false, IsTrue}
 use Rattle.ports_core.specs.declared.fault.Fault.{Fault}
-use Rattle.ports_core.specs.declared.fault.Fault.TheVariants.{Memory, Open, Suffixes}
+use Rattle.ports_core.specs.declared.fault.Fault.TheVariants.{Memory, Write, Open, Suffixes}
 use Rattle.ports_core.specs.declared.names.Names.{Names}
+use Rattle.ports_core.specs.declared.file_writer.Tells.{Tells}
+use Rattle.ports_core.specs.declared.file_writer.Tells.TheVariants.{Nothing, Sizes, Openings}
+use Rattle.ports_core.specs.Draft.{output_of, told_before}
 use Rattle.ports_core.specs.Name.{name_at, has_name}
-use Rattle.ports_core.specs.Slot.{Slot, unopened}
+use Rattle.ports_core.specs.Slot.{Slot, is_writable, told_of, unopened, with_written}
+use Rattle.ports_core.specs.Write.{BrokeAfter}
 
 -- the next one, where there is one, and what drawing it changes
 abbrev pub next_name : Names → List ℕ
@@ -16,11 +20,32 @@ has_next names = has_name names.naming names.drawn
 abbrev pub with_one_drawn : Names → Names
 with_one_drawn names = record names { drawn = names.drawn + 1 }
 
--- Why a file with the next name wasn't opened: there was no memory; one was drawn for a file that can't be opened; or no
--- name is left. 64 bits count those that were drawn.
-pub data OpensNone (names next : Names) (old new : List Slot) : Fault → Type 0 where
-  no_memory : new ≡ old → OpensNone names next old new Memory
+-- standard output can be written, where it is told anything
+abbrev pub CanTell : Tells → List Slot → Type 0
+CanTell Nothing slots = Unit {0}
+CanTell Sizes slots = IsTrue (is_writable slots 0)
+CanTell Openings slots = IsTrue (is_writable slots 0)
+
+-- what standard output is told of the next file, before that is opened
+abbrev pub line_next : Tells → Names → List ℕ
+line_next tells names = told_before (output_of tells) (next_name names)
+
+-- it was told of it
+abbrev pub told_next : Bool → Tells → Names → List Slot → List Slot
+told_next told tells names slots = with_written 0 (told_of told (line_next tells names)) slots
+
+-- Why a file with the next name wasn't opened: there was no memory; standard output broke as it was told of the file;
+-- after that the file can't be opened, or no number is left for it; or no name is left. 64 bits count the names that
+-- were drawn.
+pub data OpensNone (told : Bool) (tells : Tells) (names next : Names) (old new : List Slot) : Fault → Type 0 where
+  no_memory : new ≡ old → OpensNone told tells names next old new Memory
+  no_line : (n : ℕ) → names.drawn < 2 ^ 64 → IsTrue (has_next names)
+      → BrokeAfter told old new 0 (line_next tells names) n → OpensNone told tells names next old new (Write 0)
   no_file : (slot : ℕ) (kept : List ℕ) → slot ≡ length old → names.drawn < 2 ^ 64 → IsTrue (has_next names)
-      → next ≡ with_one_drawn names → (kept ≡ next_name names) ⊎ (kept ≡ []) → new ≡ old ++ unopened kept ∷ []
-      → OpensNone names next old new (Open slot)
-  no_name : names.drawn < 2 ^ 64 → has_next names ≡ false → new ≡ old → OpensNone names next old new Suffixes
+      → next ≡ with_one_drawn names → (kept ≡ next_name names) ⊎ (kept ≡ [])
+      → new ≡ told_next told tells names old ++ unopened kept ∷ []
+      → OpensNone told tells names next old new (Open slot)
+  no_number : names.drawn < 2 ^ 64 → IsTrue (has_next names) → new ≡ told_next told tells names old
+      → OpensNone told tells names next old new Memory
+  no_name : names.drawn < 2 ^ 64 → has_next names ≡ false → new ≡ old
+      → OpensNone told tells names next old new Suffixes

@@ -107,18 +107,20 @@ pub record InOrder (low part high : List File) (place : ℕ) : Type 0 where
   pub done : take place part ≡ take place high
   pub untouched : drop (suc place) part ≡ drop (suc place) low
 
--- What a tool writes to standard output: nothing, bytes of its own, or a line for each of its files, which comes once
--- the file is closed and before the next is opened.
+-- What a tool writes to standard output: nothing; bytes of its own; a line for each of its files, which comes once the
+-- file is closed and before the next is opened; or a line for each by its name, which comes before it is opened.
 pub data Output : Type 0 where
   gets_none : Output
   gets_bytes : Output
   gets_lines : (File → List ℕ) → Output
+  gets_openings : (List ℕ → List ℕ) → Output
 
 -- it writes any
 abbrev pub writes : Output → Bool
 writes gets_none = false
 writes gets_bytes = true
 writes (gets_lines line) = true
+writes (gets_openings line) = true
 
 -- the lines for these files, but for those that are open
 abbrev pub lines_for : (File → List ℕ) → List File → List ℕ
@@ -134,16 +136,42 @@ pub record AreLines (line : File → List ℕ) (bytes : List ℕ) (files : List 
   pub cut : (next ≡ [])
       ⊎ ((fault ≡ Write 0) × IsBeginning next (lines_for line (take 1 (drop place files))))
 
--- Where files have lines, which stand for closed files alone: nothing was written since the lower part; or standard
--- output had the lines for its files, and with what it got since it has those for the files before this place.
-abbrev pub LinesInOrder : Output → Part → Part → ℕ → Fault → Type 0
-LinesInOrder gets_none low part place fault = Unit {0}
-LinesInOrder gets_bytes low part place fault = Unit {0}
-LinesInOrder (gets_lines line) low part place fault = (part ≡ low) ⊎ ((since : List ℕ) × (part.out ≡ low.out ++ since)
+-- the lines for these files, by their names
+abbrev pub openings_for : (List ℕ → List ℕ) → List File → List ℕ
+openings_for line [] = []
+openings_for line (file ∷ files) = line file.name ++ openings_for line files
+
+-- What there is of the line for a file that is due: nothing; a beginning of it, perhaps all, where standard output broke
+-- in it; or all of it, where the file could not be opened after it.
+abbrev pub IsDueLine : (List ℕ → Type 0) → (List ℕ → List ℕ) → List ℕ → Fault → Type 0
+IsDueLine IsDue line bytes (Write slot) = (bytes ≡ [])
+    ⊎ ((slot ≡ 0) × ((name : List ℕ) × IsDue name × IsBeginning bytes (line name)))
+IsDueLine IsDue line bytes (Open slot) = (name : List ℕ) × IsDue name × (bytes ≡ line name)
+IsDueLine IsDue line bytes Memory = (bytes ≡ []) ⊎ ((name : List ℕ) × IsDue name × (bytes ≡ line name))
+IsDueLine IsDue line bytes fault = bytes ≡ []
+
+-- Since the lower part standard output got the lines for the files that were opened since, and then at most that for the
+-- next file.
+pub record AreOpenings (line : List ℕ → List ℕ) (low part : Part) (IsDue : List ℕ → Type 0) (fault : Fault)
+    : Type 0 where
+  pub next : List ℕ
+  pub all : part.out ≡ low.out ++ (openings_for line (drop (length low.files) part.files) ++ next)
+  pub due : IsDueLine IsDue line next fault
+
+-- Where closed files have lines: nothing was written since the lower part; or standard output had the lines for its
+-- files, and with what it got since it has those for the files before this place. Where files have lines before they are
+-- opened, it got those for the files since.
+abbrev pub LinesInOrder : Output → Part → Part → Part → ℕ → Fault → Type 0
+LinesInOrder gets_none low part high place fault = Unit {0}
+LinesInOrder gets_bytes low part high place fault = Unit {0}
+LinesInOrder (gets_lines line) low part high place fault = (part ≡ low)
+    ⊎ ((since : List ℕ) × (part.out ≡ low.out ++ since)
     × AreLines line (lines_for line low.files ++ since) part.files place fault)
+LinesInOrder (gets_openings line) low part high place fault = AreOpenings line low part (IsNext part high) fault
 
 -- A fault stopped the outputs at some part between two, at one of its files, and left its mark. So a file is closed
--- before the next is opened, its line comes between the two, and nothing is written after an output that broke.
+-- before the next is opened, the line for a closed one comes between the two, and nothing is written after an output that
+-- broke.
 pub record StoppedBetween (output : Output) (told : Bool) (before : List Slot) (low high : Part) (fault : Fault)
     (now : List Slot) : Type 0 where
   pub part : Part
@@ -151,7 +179,7 @@ pub record StoppedBetween (output : Output) (told : Bool) (before : List Slot) (
   pub below : Begins part high
   pub place : ℕ
   pub order : InOrder low.files part.files high.files place
-  pub lines : LinesInOrder output low part place fault
+  pub lines : LinesInOrder output low part high place fault
   pub reached : List Slot
   pub outputs : OutputsAt told before part reached
   pub marks : Marks (IsNext part high) fault reached now

@@ -3,7 +3,7 @@ use Rattle.std.specs.Prelude.{◌≡◌, ℕ, ◌≤◌, suc, Bool, List, [], �
 use Rattle.ports_core.specs.Slot.{Slot}
 use Rattle.ports_core.specs.declared.slot.State.TheVariants as state
 use Rattle.ports_core.specs.declared.fault.Fault.{Fault}
-use Rattle.ports_core.specs.Part.{File, Part, OutputsAt, Begins, IsNext, Marks, IsAt, Output, gets_none, gets_bytes, gets_lines, AreLines}
+use Rattle.ports_core.specs.Part.{File, Part, OutputsAt, Begins, IsNext, Marks, IsAt, Output, gets_none, gets_bytes, gets_lines, gets_openings, AreLines, AreOpenings, nothing}
 
 abbrev pub AllClosed : List File → Type 0
 AllClosed [] = Unit {0}
@@ -15,11 +15,12 @@ pub record InTurn (part : List File) (place : ℕ) : Type 0 where
   pub within : place ≤ length part
   pub last : length part ≤ suc place
 
--- where files have lines, standard output has those for the files before a place
-abbrev pub LinesTo : Output → Part → ℕ → Fault → Type 0
-LinesTo gets_none part place fault = Unit {0}
-LinesTo gets_bytes part place fault = Unit {0}
-LinesTo (gets_lines line) part place fault = AreLines line part.out part.files place fault
+-- where files have lines, standard output has those for the files before a place, or for all that were opened
+abbrev pub LinesTo : Output → Part → Part → ℕ → Fault → Type 0
+LinesTo gets_none part high place fault = Unit {0}
+LinesTo gets_bytes part high place fault = Unit {0}
+LinesTo (gets_lines line) part high place fault = AreLines line part.out part.files place fault
+LinesTo (gets_openings line) part high place fault = AreOpenings line nothing part (IsNext part high) fault
 
 -- The same of a tool that closes each file before it opens the next. It says no more of the two parts than that they
 -- begin one another, so that steps compose.
@@ -30,7 +31,7 @@ pub record StoppedInTurn (output : Output) (told : Bool) (before : List Slot) (l
   pub below : Begins part high
   pub place : ℕ
   pub turn : InTurn part.files place
-  pub lines : LinesTo output part place fault
+  pub lines : LinesTo output part high place fault
   pub reached : List Slot
   pub outputs : OutputsAt told before part reached
   pub marks : Marks (IsNext part high) fault reached now

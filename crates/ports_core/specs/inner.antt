@@ -1,6 +1,7 @@
 pub mod Engine
 pub mod FileWriter
 pub mod Name
+pub mod Names
 pub mod Part
 pub mod Shares
 pub mod Text

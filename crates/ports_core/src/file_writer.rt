@@ -32,6 +32,8 @@ pub enum Tells {
     Nothing,
     /// The size of each in bytes, as a line, once it is closed.
     Sizes,
+    /// The name of each, as a line, before it is opened.
+    Openings,
 }
 
 /// Whose outputs are kept.
@@ -98,8 +100,9 @@ impl FileWriter {
     ///
     /// # Errors
     ///
-    /// `Write` where the file broke; `Memory`, `Open` and `Suffixes` where it is opened now, and there is no room for its
-    /// name or its output's number, it can't be opened, or no name is left.
+    /// `Write` where the file broke; where it is opened now, `Memory`, `Open` and `Suffixes` where there is no room for its
+    /// name, its line or its output's number, it can't be opened, or no name is left, and `Write` where standard output
+    /// broke before it was opened.
     pub fn put<O: Outs>(&mut self, bytes: &[u8], outs: &mut O) -> Result<(), Fault>
         requires ready { IsReady (seen_writer self.old) (O.slots outs.old) }
         requires fits { CanCount (seen_writer self.old).tells (size_of (seen_writer self.old).current) bytes.now }
@@ -126,8 +129,8 @@ impl FileWriter {
     ///
     /// # Errors
     ///
-    /// `Memory` where there is no room for a name or for an output's number, `Open` where the file can't be opened,
-    /// `Suffixes` where no name is left.
+    /// `Memory` where there is no room for a name, its line or an output's number, `Open` where the file can't be opened,
+    /// `Suffixes` where no name is left, `Write` where standard output is told of the file and broke.
     pub fn begin<O: Outs>(&mut self, opening: Opening, outs: &mut O) -> Result<(), Fault>
         requires { IsReady (seen_writer self.old) (O.slots outs.old) }
         ensures goes { Goes O.told (paused (seen_writer self.old)) (with_next opening) (O.slots outs.old) (O.slots outs.new) (seen_writer self.new) (fault_in result) }
@@ -198,11 +201,11 @@ impl FileWriter {
     /// Makes the next file, to which bytes go then, and returns its output.
     fn make_file<O: Outs>(&mut self, outs: &mut O) -> Result<usize, Fault>
         requires { IsReady (seen_writer self.old) (O.slots outs.old) }
-        ensures { Makes (seen_writer self.old) (O.slots outs.old) (O.slots outs.new) (seen_writer self.new) result }
+        ensures { Makes O.told (seen_writer self.old) (O.slots outs.old) (O.slots outs.new) (seen_writer self.new) result }
     {
         self.current = Current::Unopened;
         make_room(&mut self.files, self.keeps)?;
-        let slot = self.names.open_next(outs)?;
+        let slot = self.names.open_next(self.tells, outs)?;
         keep(&mut self.files, self.keeps, slot);
         self.current = Current::File { slot, size: 0 };
         Ok(slot)
@@ -270,6 +273,7 @@ fn tell_size<O: Outs>(tells: Tells, size: u64, outs: &mut O) -> Result<(), Fault
     match tells {
         Tells::Nothing => Ok(()),
         Tells::Sizes => write_size(size, outs),
+        Tells::Openings => Ok(()),
     }
 }
 

@@ -49,6 +49,11 @@ impl Naming {
         })
     }
 
+    /// Where names take their memory.
+    pub(crate) fn alloc(&self) -> Global {
+        self.alloc
+    }
+
     /// The name of the file at a place, from 0 on. None where a fixed width has no further one.
     ///
     /// # Errors

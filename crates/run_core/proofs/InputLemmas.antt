@@ -191,7 +191,7 @@ pub stopped_in_header : {told_in told : Bool} {task : Task} {most : ℕ} (is_fir
     → TookInput told_in told task most (input_from name source content) outcome is_first failed was_read so_far error (length old) sources new (Err fault)
 stopped_in_header {told} {task} is_first name {content} {so_far} {error} {old} {new} due unread at (no_room is) =
     cut_off Memory _ new (unheaded content due (unread _ refl refl)) refl
-    (stopped_here _ told (streams_with error) so_far so_far Memory old new at (part_begins_itself so_far) is tt)
+    (stopped_here _ told (streams_with error) so_far so_far Memory old new at (part_begins_itself so_far) is tt tt)
     (none_to_sweep task.work.clears new (omega (arith, ap length is)))
 stopped_in_header {told} {task} is_first name {content} {so_far} {error} {old} {new} due unread at (broke n after) =
     let text = header_text task.with_header is_first name in
@@ -358,7 +358,7 @@ of_no_room was_read differs (from.broke slot number lies are) other at = search 
 of_no_room {told} {task} was_read {laid} {name} {sources} {so_far} {error} {old} differs (from.no_room are) other at =
     of_file (world_of laid sources) was_read _ differs (λ t. refl)
     (cut_off Memory _ old (unopened (laid (length sources) name) (length sources) refl (omega (arith, ap length are))) refl
-    (stopped_here _ told (streams_with error) so_far so_far Memory old old at (part_begins_itself so_far) refl tt) (none_to_sweep task.work.clears old (omega arith)))
+    (stopped_here _ told (streams_with error) so_far so_far Memory old old at (part_begins_itself so_far) refl tt tt) (none_to_sweep task.work.clears old (omega arith)))
 
 -- the loop over names
 

@@ -4,11 +4,11 @@ use Rattle.std.proofs.Common.{◌≡◌, ℕ, ◌+◌, ◌<◌, ◌≤◌, suc, 
 use Rattle.std.proofs.lemmas.List.{map-append, append-nil}
 use Rattle.std.proofs.Math.Seq.{take-append-add, drop-append-add}
 use Rattle.ports_core.specs.Slot.{Slot, with_written, told_of, is_open, slot_at, adds, breaks, unopened, with_broken}
-use Rattle.ports_core.specs.Part.{nothing, Part, File, only_out, OutputsAt, IsBeginning, FilesBegin, Begins, IsNext, IsAt, StoppedBetween, file_of, told_file, Marks, Output, gets_none, gets_bytes, gets_lines, lines_for, LinesInOrder, AreLines}
+use Rattle.ports_core.specs.Part.{nothing, Part, File, only_out, OutputsAt, IsBeginning, FilesBegin, Begins, IsNext, IsAt, StoppedBetween, file_of, told_file, Marks, Output, gets_none, gets_bytes, gets_lines, gets_openings, lines_for, openings_for, LinesInOrder, AreLines}
 use Rattle.ports_core.specs.Swept.{Swept, SweptFrom, Cleared}
 use Rattle.ports_core.specs.declared.fault.Fault.{Fault}
 use Rattle.ports_core.specs.declared.fault.Fault.TheVariants.{Write, Open}
-use Rattle.ports_core.proofs.PartLemmas.{begins_itself, marks_by, outputs_count}
+use Rattle.ports_core.proofs.PartLemmas.{begins_itself, due_by, marks_by, outputs_count}
 use Rattle.ports_core.proofs.SlotSteps.{none_past, swept_none}
 use Rattle.ports_core.proofs.SlotLemmas.{length-changed_at, changed_at-append}
 use Rattle.ports_core.proofs.WriteLemmas.{told_of-append, with_written-append}
@@ -63,11 +63,28 @@ lines_for-append : (line : File → List ℕ) (some more : List File) → lines_
 lines_for-append line [] more = refl
 lines_for-append line (file ∷ some) more = grind (arith, common_steps, (lines_for-append line some more))
 
-lines_after : (output : Output) (first low part : Part) (place : ℕ) (fault : Fault) → LinesInOrder output low part place fault → LinesInOrder output (after_part first low) (after_part first part) (length first.files + place) fault
-lines_after gets_none first low part place fault lines = tt
-lines_after gets_bytes first low part place fault lines = tt
-lines_after (gets_lines line) first low part place fault (inl same) = inl (ap (after_part first) same)
-lines_after (gets_lines line) first low part place fault (inr (since, is, are)) = inr (
+-- the next file after more files
+next_after : (first : Part) {part high : Part} (name : List ℕ) → IsNext part high name → IsNext (after_part first part) (after_part first high) name
+next_after first {part} name next = record {
+  front = first.files ++ next.front;
+  file = next.file;
+  rest = next.rest;
+  files = rw (next.files, append_assoc first.files next.front (next.file ∷ next.rest));
+  place = rw (length-append first.files next.front, next.place, length-append first.files part.files);
+  name_is = next.name_is;
+}
+
+lines_after : (output : Output) (first low part high : Part) (place : ℕ) (fault : Fault) → LinesInOrder output low part high place fault → LinesInOrder output (after_part first low) (after_part first part) (after_part first high) (length first.files + place) fault
+lines_after gets_none first low part high place fault lines = tt
+lines_after gets_bytes first low part high place fault lines = tt
+lines_after (gets_openings line) first low part high place fault are = record {
+  next = are.next;
+  all = ap (λ bytes. first.out ++ bytes) are.all ∙ sym (append_assoc first.out low.out _)
+      ∙ ap (λ files. (first.out ++ low.out) ++ (openings_for line files ++ are.next)) (sym (ap (λ n. drop n (first.files ++ part.files)) (length-append first.files low.files) ∙ drop-append-add first.files part.files (length low.files)));
+  due = due_by _ _ line are.next fault (next_after first) are.due;
+}
+lines_after (gets_lines line) first low part high place fault (inl same) = inl (ap (after_part first) same)
+lines_after (gets_lines line) first low part high place fault (inr (since, is, are)) = inr (
   since,
   ap (λ bytes. first.out ++ bytes) is ∙ sym (append_assoc first.out low.out since),
   record {
@@ -95,17 +112,10 @@ stop_after {output} {told} {base} {first} {low} {high} {fault} {mid} {now} at st
         done = rw (take-append-add first.files stop.part.files stop.place, stop.order.done, take-append-add first.files high.files stop.place);
         untouched = cc (past, drop-append-add first.files stop.part.files (suc stop.place), stop.order.untouched, drop-append-add first.files low.files (suc stop.place));
       };
-  lines = lines_after output first low stop.part stop.place fault stop.lines;
+  lines = lines_after output first low stop.part high stop.place fault stop.lines;
   reached = stop.reached;
   outputs = at_after at stop.outputs;
-  marks = marks_by (IsNext stop.part high) (IsNext (after_part first stop.part) (after_part first high)) fault stop.reached now (λ name next. record {
-    front = first.files ++ next.front;
-    file = next.file;
-    rest = next.rest;
-    files = rw (next.files, append_assoc first.files next.front (next.file ∷ next.rest));
-    place = rw (length-append first.files next.front, next.place, length-append first.files stop.part.files);
-    name_is = next.name_is;
-  }) stop.marks;
+  marks = marks_by (IsNext stop.part high) (IsNext (after_part first stop.part) (after_part first high)) fault stop.reached now (next_after first) stop.marks;
   from = rw (length-append first.files stop.part.files) (from_after fault (length base) stop.place (length stop.part.files) (length first.files) (outputs_count told base first mid at) stop.from);
 }
 

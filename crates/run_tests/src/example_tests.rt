@@ -104,6 +104,16 @@ const SPLIT: &[Run<'static>] = &[
         },
         ..RUN
     },
+    Run {
+        words: &["split", "--verbose", "-l", "1", "-", "p-"],
+        input: b"a\nb\n",
+        left: Left {
+            output: b"creating file 'p-aa'\ncreating file 'p-ab'\n",
+            files: &[("p-aa", b"a\n"), ("p-ab", b"b\n")],
+            ..NOTHING
+        },
+        ..RUN
+    },
 ];
 
 /// Words that are refused, and the message.
@@ -242,6 +252,30 @@ const BROKEN: &[Run<'static>] = &[
         left: Left {
             files: &[("xaa", b"a")],
             messages: b"split: cannot write 'xaa'\n",
+            ..FAILED
+        },
+        ..RUN
+    },
+    Run {
+        words: &["split", "--verbose", "-l", "1"],
+        input: b"ab\ncd\n",
+        plans: &[Plan::Limit(0, 23)],
+        left: Left {
+            output: b"creating file 'xaa'\ncre",
+            files: &[("xaa", b"ab\n")],
+            messages: b"split: cannot write 'standard output'\n",
+            ..FAILED
+        },
+        ..RUN
+    },
+    Run {
+        words: &["split", "--verbose", "-n", "r/2"],
+        input: b"ab\ncd\n",
+        plans: &[Plan::Limit(0, 23)],
+        left: Left {
+            output: b"creating file 'xaa'\ncre",
+            files: &[("xaa", b"")],
+            messages: b"split: cannot write 'standard output'\n",
             ..FAILED
         },
         ..RUN

@@ -1,24 +1,27 @@
 -- What all continuations agree on, of files.
 use Rattle.std.proofs.lemmas.Grind.{common_steps}
 use Rattle.std.proofs.lemmas.Bool.Decides.{nat_tests}
-use Rattle.std.proofs.Common.{◌≡◌, ℕ, ◌+◌, ◌-◌, ◌<◌, zero, suc, List, [], ◌∷◌, ◌++◌, length, map, drop, replicate, Bool, true, false, cond, refl, sym, ◌∙◌, ap, subst, arith, append_assoc, length-append, zero-add, rules}
+use Rattle.std.proofs.Common.{◌≡◌, ℕ, ◌+◌, ◌-◌, ◌<◌, ◌≤◌, zero, suc, List, [], ◌∷◌, ◌++◌, get_or, length, map, drop, replicate, Bool, true, false, cond, refl, sym, ◌∙◌, ap, subst, arith, append_assoc, length-append, zero-add, rules}
 use Rattle.std.proofs.Math.Seq.{drop-append_seam}
 use Rattle.std.proofs.lemmas.Bool.{cases_lt, ne_eqb}
-use Rattle.std.proofs.lemmas.List.{append-nil, take_all, length-map, length-replicate}
+use Rattle.std.proofs.lemmas.List.{append-nil, get_or_append_left, take_all, length-map, length-replicate}
 use Rattle.seg_core.specs.Line.{delimiters, joined}
+use Rattle.ports_core.specs.Draft.{opening_line, told_of_files}
 use Rattle.ports_core.specs.Name.{Naming, has_name}
-use Rattle.ports_core.specs.Part.{File}
-use Rattle.ports_core.specs.Agreed.{CanCome, IsAgreed, file_bytes, outputs_of}
+use Rattle.ports_core.specs.Part.{Begins, File, IsBeginning, openings_for}
+use Rattle.ports_core.specs.Work.{Work}
+use Rattle.ports_core.specs.Agreed.{CanCome, IsAgreed, file_bytes, output_at, outputs_of}
 use Rattle.ports_core.specs.declared.slot.State.{State}
 use Rattle.ports_core.specs.declared.slot.State.TheVariants.{Open, Closed}
-use Rattle.ports_core.proofs.AgreedLemmas.{none_comes, copies_come, other, other_differs, other_comes, agreed_by, agreed_now, common}
+use Rattle.ports_core.proofs.AgreedLemmas.{none_comes, copies_come, other, other_differs, other_comes, agreed_now, beginning_short, common}
 use Rattle.seg_core.specs.declared.cut.Cut.{Cut}
 use Rattle.seg_core.specs.declared.cut.Cut.TheVariants as cut
 use Rattle.seg_core.specs.declared.cut.Limit.{Limit}
 use Rattle.seg_core.specs.declared.cut.Limit.TheVariants.{Lines, Bytes, LineBytes}
 use Rattle.seg_core.specs.Cut.{most}
 use Rattle.split_core.specs.Parts.{whole_lines, after_first, cut_up, unless_empty, parts, settled_rest, waiting_rest}
-use Rattle.split_core.specs.Split.{Plan, Share, share, are_named, named, settled_parts, settled_by, split_work, dealt_files, bytes_in}
+use Rattle.split_core.specs.inner.CutLaws.{named}
+use Rattle.split_core.specs.Split.{Filing, Plan, Share, share, are_named, output_by, settled_parts, settled_by, split_work, dealt_files, bytes_in}
 use Rattle.seg_core.specs.Cut.{IsPositive}
 use Rattle.split_core.specs.PartsState.{parts_work}
 use Rattle.split_core.specs.Round.{round_plan, round_work}
@@ -36,9 +39,9 @@ abbrev pub named_bytes : Naming → ℕ → List (List ℕ) → List (List ℕ)
 named_bytes names place [] = []
 named_bytes names place (one ∷ those) = cond (has_name names place) (one ∷ named_bytes names (place + 1) those) []
 
-pub bytes_named : (names : Naming) (place : ℕ) (shares : List Share) → map (λ (file : File). file.bytes) (named names place shares) ≡ named_bytes names place (map (λ (file : Share). file.bytes) shares)
-bytes_named names place [] = refl
-bytes_named names place (one ∷ shares) = grind (arith, nat_tests, bytes_named names (place + 1) shares)
+pub bytes_named : (filing : Filing) (place : ℕ) (shares : List Share) → map (λ (file : File). file.bytes) (named filing place shares) ≡ named_bytes filing.names place (map (λ (file : Share). file.bytes) shares)
+bytes_named filing place [] = refl
+bytes_named filing place (one ∷ shares) = grind (arith, nat_tests, bytes_named filing (place + 1) shares)
 
 more_step : (is : Bool) (one : List ℕ) (all front : List (List ℕ)) → (more : List (List ℕ)) × (all ≡ front ++ more) → (more : List (List ℕ)) × (cond is (one ∷ all) [] ≡ cond is (one ∷ front) [] ++ more)
 more_step true one all front (more, are) = (more, ap (λ rest. one ∷ rest) are)
@@ -64,34 +67,34 @@ pub each_named : (names : Naming) (those : List (List ℕ)) → are_named names 
 each_named names [] are = refl
 each_named names (one ∷ those) are = named_each names 0 one those (subst (λ n. has_name names n ≡ true) (sym (zero-add (length those))) are)
 
-pub shared_bytes : (names : Naming) (state : State) (those : List (List ℕ))
-    → map (λ (file : File). file.bytes) (named names 0 (map (share state) those)) ≡ named_bytes names 0 those
-shared_bytes names state those = bytes_named names 0 (map (share state) those) ∙ ap (named_bytes names 0) (bytes_of_shares state those)
+pub shared_bytes : (filing : Filing) (state : State) (those : List (List ℕ))
+    → map (λ (file : File). file.bytes) (named filing 0 (map (share state) those)) ≡ named_bytes filing.names 0 those
+shared_bytes filing state those = bytes_named filing 0 (map (share state) those) ∙ ap (named_bytes filing.names 0) (bytes_of_shares state those)
 
 -- Parts that follow one another
 
-pub settled_files : (limit : Limit) (names : Naming) (x : List ℕ) → file_bytes ((parts_work limit names).settled x) ≡ named_bytes names 0 (settled_list limit x)
-settled_files limit names x = bytes_named names 0 (settled_parts limit x) ∙ ap (named_bytes names 0) (settled_bytes limit x)
+pub settled_files : (limit : Limit) (filing : Filing) (x : List ℕ) → file_bytes ((parts_work limit filing).settled x) ≡ named_bytes filing.names 0 (settled_list limit x)
+settled_files limit filing x = bytes_named filing 0 (settled_parts limit x) ∙ ap (named_bytes filing.names 0) (settled_bytes limit x)
 
 pub list_count : (limit : Limit) (x : List ℕ) → length (settled_list limit x) ≡ length (parts limit x)
 list_count limit x = ap length (sym (settled_bytes limit x)) ∙ length-map (settled_parts limit x) (λ (file : Share). file.bytes) ∙ settled_count limit x
 
 -- where all files have names, what is written and what waits are all that came in
 
-abbrev pub settled_in : Limit → Naming → List ℕ → List ℕ
-settled_in limit names x = bytes_in ((parts_work limit names).settled x)
+abbrev pub settled_in : Limit → Filing → List ℕ → List ℕ
+settled_in limit filing x = bytes_in ((parts_work limit filing).settled x)
 
-pub settled_bytes_in : (limit : Limit) (names : Naming) (x : List ℕ) → are_named names (length (parts limit x)) ≡ true
-    → settled_in limit names x ≡ joined (settled_list limit x)
-settled_bytes_in limit names x are = grind (arith, common_steps, settled_files, each_named, settled_list, list_count)
+pub settled_bytes_in : (limit : Limit) (filing : Filing) (x : List ℕ) → are_named filing.names (length (parts limit x)) ≡ true
+    → settled_in limit filing x ≡ joined (settled_list limit x)
+settled_bytes_in limit filing x are = grind (arith, common_steps, settled_files, each_named, settled_list, list_count)
 
-pub came_in : (limit : Limit) (names : Naming) {x : List ℕ} → are_named names (length (parts limit x)) ≡ true
-    → settled_in limit names x ++ waiting_rest limit (cut_up limit x).rest ≡ x
-came_in limit names {x} are = grind (arith, common_steps, settled_bytes_in, list_all)
+pub came_in : (limit : Limit) (filing : Filing) {x : List ℕ} → are_named filing.names (length (parts limit x)) ≡ true
+    → settled_in limit filing x ++ waiting_rest limit (cut_up limit x).rest ≡ x
+came_in limit filing {x} are = grind (arith, common_steps, settled_bytes_in, list_all)
 
-pub waiting_is : (limit : Limit) (names : Naming) (x : List ℕ) → are_named names (length (parts limit x)) ≡ true
-    → (parts_work limit names).waiting x ≡ waiting_rest limit (cut_up limit x).rest
-waiting_is limit names x are = ap (drop (length (settled_in limit names x))) (sym (came_in limit names are)) ∙ drop-append_seam (settled_in limit names x) _
+pub waiting_is : (limit : Limit) (filing : Filing) (x : List ℕ) → are_named filing.names (length (parts limit x)) ≡ true
+    → (parts_work limit filing).waiting x ≡ waiting_rest limit (cut_up limit x).rest
+waiting_is limit filing x are = ap (drop (length (settled_in limit filing x))) (sym (came_in limit filing are)) ∙ drop-append_seam (settled_in limit filing x) _
 
 -- a continuation of which what is settled are parts, and perhaps others follow
 pub record Decides (limit : Limit) (x : List ℕ) : Type 0 where
@@ -148,36 +151,74 @@ decides (Lines n delim) some = decides_now refl
 decides (Bytes n) some = decides_now refl
 decides (LineBytes n delim) some {x} = grind (arith, common_steps, cases_lt, decides_lines, decides_now, whole_of_none)
 
-parts_agreed_by : {limit : Limit} (names : Naming) {x : List ℕ} → Decides limit x → IsAgreed (parts_work limit names) x ((parts_work limit names).settled x)
-parts_agreed_by {limit} names {x} decides =
-    let further = named_more names 0 (settled_list limit x) decides.more in
-    agreed_by (parts_work limit names) x [] decides.y further.0 (common (parts_work limit names) (parts_lawful limit names) x) none_comes decides.comes count
-    (ap (λ files. [] ∷ files) (shared_bytes names Closed (parts limit (x ++ decides.y)) ∙ ap (named_bytes names 0) decides.are ∙ further.1 ∙ ap
-    (λ files. files ++ further.0) (sym (settled_files limit names x)))) where
-      count : length (outputs_of ((parts_work limit names).whole (x ++ []))) ≡ length (outputs_of ((parts_work limit names).settled x))
+-- One continuation shows what is agreed of files, if they are those of what is settled and perhaps further ones; another, which
+-- has no further ones and on standard output what is settled, shows the rest.
+agreed_files : (work : Work) (x few y : List ℕ) (more : List (List ℕ)) → ((z : List ℕ) → Begins (work.settled x) (work.whole (x ++ z))) → CanCome few → CanCome y → length (file_bytes (work.whole (x ++ few))) ≡ length (file_bytes (work.settled x))
+    → (work.whole (x ++ few)).out ≡ (work.settled x).out → file_bytes (work.whole (x ++ y)) ≡ file_bytes (work.settled x) ++ more → IsAgreed work x (work.settled x)
+agreed_files work x few y more begin few_come come count out same = record {
+  common = λ z can. begin z;
+  fewest = (few, few_come, ap suc count);
+  longest = longest;
+} where
+  longest : (place : ℕ) → place < length (outputs_of (work.settled x)) → (a : List ℕ) × (b : List ℕ) × CanCome a × CanCome b
+      × ((front : List ℕ) → IsBeginning front (output_at (work.whole (x ++ a)) place) → IsBeginning front (output_at (work.whole (x ++ b)) place) → length front ≤ length (output_at (work.settled x) place))
+  longest zero less = (few, few, few_come, few_come, λ front is also. let short = beginning_short front _ is in omega (arith, short, ap length out))
+  longest (suc place) less = (
+    y,
+    y,
+    come,
+    come,
+    λ front is also. let short = beginning_short front _ is in
+        let here : get_or (file_bytes (work.whole (x ++ y))) place [] ≡ get_or (file_bytes (work.settled x)) place [] = ap (λ files. get_or files place []) same ∙ get_or_append_left (file_bytes (work.settled x)) more [] place (omega (arith, less)) in
+        omega (arith, short, ap length here),
+  )
+
+-- as many files have as many lines
+told_alike : (filing : Filing) (place : ℕ) (these those : List Share) → length these ≡ length those → told_of_files (output_by filing.verbose) (named filing place these) ≡ told_of_files (output_by filing.verbose) (named filing place those)
+told_alike filing place these those same = by filing.verbose refl where
+  lines : (line : List ℕ → List ℕ) (place : ℕ) (these those : List Share) → length these ≡ length those → openings_for line (named filing place these) ≡ openings_for line (named filing place those)
+  lines line place [] [] same = refl
+  lines line place (one ∷ these) (two ∷ those) same = grind (arith, nat_tests, lines line (place + 1) these those (omega (arith, same)))
+  lines line place these those same = cc
+
+  by : (verbose : Bool) → filing.verbose ≡ verbose → told_of_files (output_by filing.verbose) (named filing place these) ≡ told_of_files (output_by filing.verbose) (named filing place those)
+  by false is = ap (λ verbose. told_of_files (output_by verbose) (named filing place these)) is ∙ sym (ap (λ verbose. told_of_files (output_by verbose) (named filing place those)) is)
+  by true is = ap (λ verbose. told_of_files (output_by verbose) (named filing place these)) is ∙ lines opening_line place these those same ∙ sym (ap (λ verbose. told_of_files (output_by verbose) (named filing place those)) is)
+
+parts_agreed_by : {limit : Limit} (filing : Filing) {x : List ℕ} → Decides limit x → IsAgreed (parts_work limit filing) x ((parts_work limit filing).settled x)
+parts_agreed_by {limit} filing {x} decides =
+    let further = named_more filing.names 0 (settled_list limit x) decides.more in
+    agreed_files (parts_work limit filing) x [] decides.y further.0 (common (parts_work limit filing) (parts_lawful limit filing) x) none_comes decides.comes count
+    (told_alike filing 0 (map (share Closed) (parts limit (x ++ []))) (settled_parts limit x) (length-map (parts limit (x ++ [])) (share Closed) ∙ ap (λ all. length (parts limit all)) (append-nil x) ∙ sym (settled_count limit x)))
+    (shared_bytes filing Closed (parts limit (x ++ decides.y)) ∙ ap (named_bytes filing.names 0) decides.are ∙ further.1 ∙ ap
+    (λ files. files ++ further.0) (sym (settled_files limit filing x))) where
+      count : length (file_bytes ((parts_work limit filing).whole (x ++ []))) ≡ length (file_bytes ((parts_work limit filing).settled x))
       count = cc (
-        shared_bytes names Closed (parts limit (x ++ [])),
-        count_named names 0 (parts limit (x ++ [])) (settled_list limit x)
+        shared_bytes filing Closed (parts limit (x ++ [])),
+        count_named filing.names 0 (parts limit (x ++ [])) (settled_list limit x)
             (ap (λ all. length (parts limit all)) (append-nil x) ∙ sym (list_count limit x)),
-        settled_files limit names x,
+        settled_files limit filing x,
       )
 
-pub parts_agreed : (limit : Limit) (names : Naming) → 0 < most limit → {x : List ℕ} → IsAgreed (parts_work limit names) x ((parts_work limit names).settled x)
-parts_agreed limit names some = parts_agreed_by names (decides limit some)
+pub parts_agreed : (limit : Limit) (filing : Filing) → 0 < most limit → {x : List ℕ} → IsAgreed (parts_work limit filing) x ((parts_work limit filing).settled x)
+parts_agreed limit filing some = parts_agreed_by filing (decides limit some)
 
 -- Lines that are dealt
 
-round_agreed : (delim n : ℕ) (elide : Bool) (names : Naming) {x : List ℕ} → IsAgreed (split_work (round_plan delim n elide names)) x (settled_by (round_plan delim n elide names) x)
-round_agreed delim n elide names {x} = agreed_now (split_work (round_plan delim n elide names)) x
-    (common (round_work (round_plan delim n elide names)) (round_lawful delim n elide names) x)
-    (ap (λ files. [] ∷ files) (shared_bytes names Closed (dealt_files delim elide n x) ∙ sym (shared_bytes names Open (dealt_files delim elide n x))))
+round_agreed : (delim n : ℕ) (elide : Bool) (filing : Filing) {x : List ℕ} → IsAgreed (split_work (round_plan delim n elide filing)) x (settled_by (round_plan delim n elide filing) x)
+round_agreed delim n elide filing {x} = agreed_now (split_work (round_plan delim n elide filing)) x
+    (common (round_work (round_plan delim n elide filing)) (round_lawful delim n elide filing) x)
+    (cc (
+      told_alike filing 0 (map (share Closed) (dealt_files delim elide n x)) (map (share Open) (dealt_files delim elide n x)) (length-map (dealt_files delim elide n x) (share Closed) ∙ sym (length-map (dealt_files delim elide n x) (share Open))),
+      shared_bytes filing Closed (dealt_files delim elide n x) ∙ sym (shared_bytes filing Open (dealt_files delim elide n x)),
+    ))
 
 -- All ways to cut
 
-abbrev pub plan_by : Cut → Bool → Naming → Plan
-plan_by cut elide names = record { cut = cut; elide = elide; names = names }
+abbrev pub plan_by : Cut → Bool → Filing → Plan
+plan_by cut elide filing = record { cut = cut; elide = elide; filing = filing }
 
-pub agreed_at : (cut : Cut) (elide : Bool) (names : Naming) → IsPositive cut → {x : List ℕ}
-    → IsAgreed (split_work (plan_by cut elide names)) x ((split_work (plan_by cut elide names)).settled x)
-agreed_at (cut.Parts limit) elide names some = parts_agreed limit names some
-agreed_at (cut.Round n delim) elide names some = round_agreed delim n elide names
+pub agreed_at : (cut : Cut) (elide : Bool) (filing : Filing) → IsPositive cut → {x : List ℕ}
+    → IsAgreed (split_work (plan_by cut elide filing)) x ((split_work (plan_by cut elide filing)).settled x)
+agreed_at (cut.Parts limit) elide filing some = parts_agreed limit filing some
+agreed_at (cut.Round n delim) elide filing some = round_agreed delim n elide filing

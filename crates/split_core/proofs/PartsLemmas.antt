@@ -1,15 +1,15 @@
 -- What each call on parts leaves: a step of a piece, a piece that is taken in step by step, the end of the input, and what the stage owes.
 use Rattle.std.proofs.lemmas.Grind.{common_steps}
-use Rattle.std.proofs.Common.{◌≡◌, ℕ, ◌+◌, ◌-◌, ◌<◌, ◌≤◌, suc, List, [], ◌∷◌, ◌++◌, ◌⊎◌, length, map, Bool, true, false, Option, Some, None, IfSome, Result, Ok, Err, OnOk, IfErr, IfOk, inl, inr, refl, sym, ◌∙◌, ap, subst, arith, length-append, take, drop, append_assoc, not, cond, rules}
+use Rattle.std.proofs.Common.{◌≡◌, ℕ, ◌+◌, ◌-◌, ◌<◌, ◌≤◌, suc, List, [], ◌∷◌, ◌++◌, ◌⊎◌, length, map, Bool, true, false, Option, Some, None, IfSome, IsTrue, Result, Ok, Err, OnOk, IfErr, IfOk, inl, inr, refl, sym, ◌∙◌, ap, subst, arith, length-append, take, drop, append_assoc, not, cond, rules}
 use Rattle.std.proofs.lemmas.List.{append-nil, drop-take, take-append-drop, length-map, map-append}
 use Rattle.std.proofs.Math.Seq.{take-length, drop-append_seam}
-use Rattle.ports_core.specs.Draft.{Manner, Draft, share, Share, made_of, shares_of, draft_part, output_of, with_bytes, with_next}
+use Rattle.ports_core.specs.Draft.{Manner, Draft, share, Share, made_of, shares_of, draft_part, output_of, part_with, with_bytes, with_next}
 use Rattle.ports_core.specs.Engine.{CutsOff, EndsWith, EndsThere, IsMet, StandsAt, is_verdict}
 use Rattle.ports_core.specs.Engine as engine
-use Rattle.ports_core.specs.FileWriter.{WriterState, Writes, At, Breaks, Goes, IsCurrent, IsReady as CanWrite, IsWrite, is_file, manner_in}
+use Rattle.ports_core.specs.FileWriter.{Leaves, Reaches, WriterState, Writes, At, Breaks, CanCount, CanTell, Goes, IsCurrent, IsReady as CanWrite, IsWrite, is_file, manner_in}
 use Rattle.ports_core.specs.Name.{Naming, has_name}
-use Rattle.ports_core.specs.Part.{Begins as PartBegins, OutputsAt, gets_none, writes}
-use Rattle.ports_core.specs.Slot.{Slot}
+use Rattle.ports_core.specs.Part.{Begins as PartBegins, OutputsAt, writes}
+use Rattle.ports_core.specs.Slot.{Slot, is_writable}
 use Rattle.ports_core.specs.Turn.{fault_in}
 use Rattle.ports_core.specs.inner.Shares.{SharesBegin}
 use Rattle.ports_core.specs.declared.fault.Fault.{Fault}
@@ -18,22 +18,22 @@ use Rattle.ports_core.specs.declared.file_writer.Current.{Current}
 use Rattle.ports_core.specs.declared.file_writer.Current.TheVariants.{Skipped, Due, File, Unopened}
 use Rattle.ports_core.specs.declared.file_writer.Opening.TheVariants.{Never, Late}
 use Rattle.ports_core.specs.declared.file_writer.Tells.{Tells}
-use Rattle.ports_core.specs.declared.file_writer.Tells.TheVariants.{Nothing}
+use Rattle.ports_core.specs.declared.file_writer.Tells.TheVariants.{Nothing, Sizes, Openings}
 use Rattle.ports_core.specs.declared.slot.State.TheVariants as file_state
 use Rattle.ports_core.proofs.FileWriterLemmas.{goes_still, in_any, keeps_files, leaves_again, leaves_still, put_nothing, reaches_again, reaches_as, reaches_still, stops_wider, where_short, where_well}
 use Rattle.ports_core.proofs.WriterSteps.{goes_again, goes_as, goes_lacking, goes_more, goes_wider, stops_among}
 use Rattle.ports_core.proofs.PartLemmas.{begins_itself, begins_trans, kept_trans, stopped_in_turn}
-use Rattle.ports_core.proofs.ShareLemmas.{bytes_begin, made_begin, next_begins, shares_after, shares_wider, still_made}
+use Rattle.ports_core.proofs.ShareLemmas.{has_told, bytes_begin, made_begin, next_begins, shares_after, shares_wider, still_made}
 use Rattle.seg_core.specs.Cut.{most}
 use Rattle.seg_core.specs.declared.cut.Limit.{Limit}
 use Rattle.split_core.specs.Parts.{cut_up, parts, settled_rest, unless_empty, waiting_rest}
-use Rattle.split_core.specs.PartsState.{PartsState, IsReady, Lacks, Stands, names_of, work}
-use Rattle.split_core.specs.Split.{are_named, draft_of, manner_of, named, only_files, settled_parts, split_means}
+use Rattle.split_core.specs.PartsState.{PartsState, IsReady, Lacks, Stands, filing_of, work}
+use Rattle.split_core.specs.Split.{Filing, TellsNoSizes, are_named, is_verbose, tells_by, draft_of, manner_of, output_by, settled_parts, split_means}
 use Rattle.split_core.specs.Ways as ways
 use Rattle.split_core.specs.declared.splitter.Splitter.TheVariants as way
 use Rattle.split_core.specs.declared.step.Step.{Step}
 use Rattle.split_core.specs.declared.step.Step.TheVariants.{Goes as GoesOn, Ends, Begins, Waits}
-use Rattle.split_core.specs.inner.CutLaws.{cut_so}
+use Rattle.split_core.specs.inner.CutLaws.{cut_so, named}
 use Rattle.split_core.specs.inner.Sharing.{CannotClose, always_named}
 use Rattle.split_core.specs.inner.Step.{IsTurned, Leads}
 use Rattle.split_core.specs.inner.Takes.{Emptying, Extends, Finishes, LacksNames, Moves, Steps, Takes, Turns, numbers, settled_part, turns, whole_part}
@@ -57,18 +57,31 @@ unjudged manner old new Suffixes breaks named = absurd (named refl)
 unjudged manner old new fault breaks named = absurd breaks
 
 -- where all places have names, they don't run out
-pub none_lacks : (old new : List Slot) {fault : Fault} → Breaks always_named old new fault → fault ≡ Suffixes → ⊥
-none_lacks old new breaks is = search rules
+pub none_lacks : (verbose : Bool) (old new : List Slot) {fault : Fault} → Breaks (always_named verbose) old new fault → fault ≡ Suffixes → ⊥
+none_lacks verbose old new breaks is = search rules
 
-pub met_files : (Why : Fault → Type 0) (manner : Manner) (old new : List Slot) (fault : Fault) → manner.output ≡ gets_none → Breaks manner old new fault → (fault ≡ Suffixes → Why fault) → IsMet split_means split_means.feeding (true ≡ true) Why old new fault
-met_files Why manner old new Memory same breaks ends = (refl, refl)
-met_files Why manner old new (Write slot) same breaks ends = search rules
-met_files Why manner old new (Open slot) same breaks ends = (refl, refl, breaks)
-met_files Why manner old new Suffixes same breaks ends = ends refl
-met_files Why manner old new fault same breaks ends = absurd breaks
+pub met_files : (Why : Fault → Type 0) (manner : Manner) (verbose : Bool) (old new : List Slot) (fault : Fault) → manner.output ≡ output_by verbose → Breaks manner old new fault → (fault ≡ Suffixes → Why fault) → IsMet (split_means verbose) (split_means verbose).feeding (true ≡ true) Why old new fault
+met_files Why manner verbose old new Memory same breaks ends = (refl, refl)
+met_files Why manner verbose old new (Write slot) same (out, rose) ends = (λ none. subst (λ output. writes output ≡ true) same (out none), (λ none. absurd (cc)), rose)
+met_files Why manner verbose old new (Open slot) same breaks ends = (refl, refl, breaks)
+met_files Why manner verbose old new Suffixes same breaks ends = ends refl
+met_files Why manner verbose old new fault same breaks ends = absurd breaks
 
-pub met_closing : (Why : Fault → Type 0) (old new : List Slot) {fault : Fault} → CannotClose old new fault → IsMet split_means split_means.closing (Unit {0}) Why old new fault
-met_closing Why old new why = search rules
+pub met_closing : (verbose : Bool) (Why : Fault → Type 0) (old new : List Slot) {fault : Fault} → CannotClose old new fault → IsMet (split_means verbose) (split_means verbose).closing (Unit {0}) Why old new fault
+met_closing verbose Why old new (slot, is, two, rose) = subst (IsMet (split_means verbose) (split_means verbose).closing (Unit {0}) Why old new) (sym is) (λ none. absurd (omega (arith, none, two)), (λ none. absurd (cc)), rose)
+
+-- sizes aren't counted
+pub always_counts : {tells : Tells} (size : ℕ) (bytes : List ℕ) → TellsNoSizes tells → CanCount tells size bytes
+always_counts {tells} size bytes is = subst (λ tells. CanCount tells size bytes) (sym is) (by (is_verbose tells)) where
+  by : (verbose : Bool) → CanCount (tells_by verbose) size bytes
+  by false = tt
+  by true = tt
+
+-- where standard output is told anything, it can be written
+pub told_writable : (tells : Tells) (slots : List Slot) → CanTell tells slots → writes (output_by (is_verbose tells)) ≡ true → IsTrue (is_writable slots 0)
+told_writable Nothing slots can is_told = absurd (cc)
+told_writable Sizes slots can is_told = absurd (cc)
+told_writable Openings slots can is_told = can
 
 -- What waits goes to what is begun.
 
@@ -151,15 +164,19 @@ begins_closed (one ∷ ended) more (whole ∷ high) begins = let on = begins_clo
 ended_nameless : (names : Naming) (ended : List (List ℕ)) → has_name names (length ended) ≡ false → has_name names (0 + length (map (share file_state.Closed) ended)) ≡ false
 ended_nameless names ended none = grind (arith, common_steps)
 
-module _ (names : Naming) (draft : Draft) (high : List Share) (none : has_name names (length draft.ended) ≡ false) (begins : SharesBegin (shares_of draft) high) where
+module _ (filing : Filing) (draft : Draft) (high : List Share) (none : has_name filing.names (length draft.ended) ≡ false) (begins : SharesBegin (shares_of draft) high) where
   closed_are : (rest : List Share) × (high ≡ map (share file_state.Closed) draft.ended ++ rest) × (length (map (share file_state.Open) (made_of draft.opening draft.bytes)) ≤ length rest)
   closed_are = begins_closed draft.ended _ high begins
 
-  short_count : made_of draft.opening draft.bytes ≡ draft.bytes ∷ [] → are_named names (length high) ≡ false
-  short_count makes = are_named_more names (suc (length draft.ended)) (length high) none (omega (arith, ap length closed_are.1, length-append (map (share file_state.Closed) draft.ended) closed_are.0, length-map draft.ended (share file_state.Closed), closed_are.2, ap (λ made. length (map (share file_state.Open) made)) makes))
+  short_count : made_of draft.opening draft.bytes ≡ draft.bytes ∷ [] → are_named filing.names (length high) ≡ false
+  short_count makes = are_named_more filing.names (suc (length draft.ended)) (length high) none (omega (arith, ap length closed_are.1, length-append (map (share file_state.Closed) draft.ended) closed_are.0, length-map draft.ended (share file_state.Closed), closed_are.2, ap (λ made. length (map (share file_state.Open) made)) makes))
 
-  short_files : named names 0 (shares_of draft) ≡ named names 0 high
-  short_files = named_short names 0 (map (share file_state.Closed) draft.ended) _ (ended_nameless names draft.ended none) ∙ sym (ap (named names 0) closed_are.1 ∙ named_short names 0 (map (share file_state.Closed) draft.ended) closed_are.0 (ended_nameless names draft.ended none))
+  short_files : named filing 0 (shares_of draft) ≡ named filing 0 high
+  short_files = named_short filing 0 (map (share file_state.Closed) draft.ended) _ (ended_nameless filing.names draft.ended none) ∙ sym (ap (named filing 0) closed_are.1 ∙ named_short filing 0 (map (share file_state.Closed) draft.ended) closed_are.0 (ended_nameless filing.names draft.ended none))
+
+-- files are made as they were
+filing_same : (state next : PartsState) {old new : List Slot} {fault : Option Fault} → Leaves state.writer next.writer old new fault → filing_of next ≡ filing_of state
+filing_same state next leaves = cc (leaves.naming, leaves.tells)
 
 -- What a step makes of what came in
 
@@ -201,11 +218,11 @@ module _ {state : PartsState} {x taken : List ℕ} {after : Draft} {are : ℕ ×
   draft_so = ap (λ cut. late cut.full (settled_rest state.limit cut.rest)) cut_is ∙ sym comes.is
 
   -- it can be what came in
-  stands_so : (next : PartsState) → next.limit ≡ state.limit → names_of next ≡ names_of state → numbers next ≡ are → Writes (manner_of (names_of state)) next.writer after → Stands next (x ++ taken)
+  stands_so : (next : PartsState) → next.limit ≡ state.limit → filing_of next ≡ filing_of state → numbers next ≡ are → Writes (manner_of (filing_of state)) next.writer after → Stands next (x ++ taken)
   stands_so next limit naming same writes = record {
     lacks = rw (limit, cut_is, ap (λ (those : ℕ × Bool × List ℕ). those.0) same, ap (λ (those : ℕ × Bool × List ℕ). those.1) same) comes.lacks;
     waits = rw (limit, cut_is) (ap (λ (those : ℕ × Bool × List ℕ). those.2) same ∙ comes.waits);
-    writes = subst (λ names. Writes (manner_of names) next.writer (draft_of next.limit (x ++ taken))) (sym naming) (subst (λ limit. Writes (manner_of (names_of state)) next.writer (draft_of limit (x ++ taken))) (sym limit) (subst (Writes (manner_of (names_of state)) next.writer) (sym draft_so) writes));
+    writes = subst (λ names. Writes (manner_of names) next.writer (draft_of next.limit (x ++ taken))) (sym naming) (subst (λ limit. Writes (manner_of (filing_of state)) next.writer (draft_of limit (x ++ taken))) (sym limit) (subst (Writes (manner_of (filing_of state)) next.writer) (sym draft_so) writes));
   }
 
 -- so far that is a beginning of what the whole piece leads to
@@ -222,8 +239,8 @@ takes_so : {told : Bool} {state next : PartsState} {taken : List ℕ} {change : 
 takes_so {state = state} {next} {taken} comes moves = record {
   limit = moves.limit;
   leaves = moves.goes.leaves;
-  stands = λ x stands. stands_so (comes x stands) next moves.limit moves.goes.leaves.naming moves.same (moves.goes.writes (manner_of (names_of state)) (draft_of state.limit x) stands.writes);
-  reaches = λ x stands. reaches_as refl (ap (draft_part (manner_of (names_of state))) (draft_so (comes x stands))) (moves.goes.reaches (manner_of (names_of state)) (draft_of state.limit x) stands.writes);
+  stands = λ x stands. stands_so (comes x stands) next moves.limit (filing_same state next moves.goes.leaves) moves.same (moves.goes.writes (manner_of (filing_of state)) (draft_of state.limit x) stands.writes);
+  reaches = λ x stands. reaches_as refl (ap (draft_part (manner_of (filing_of state))) (draft_so (comes x stands))) (moves.goes.reaches (manner_of (filing_of state)) (draft_of state.limit x) stands.writes);
   short = tt;
 }
 
@@ -235,11 +252,11 @@ takes_not {told} {state} {taken = taken} {change} {new = new} begins moves = rec
   limit = moves.limit;
   leaves = moves.goes.leaves;
   stands = tt;
-  reaches = λ x stands. stops_wider (moves.goes.reaches (manner_of (names_of state)) (draft_of state.limit x) stands.writes) (part_begins (names_of state) _ _ (begins x stands));
+  reaches = λ x stands. stops_wider (moves.goes.reaches (manner_of (filing_of state)) (draft_of state.limit x) stands.writes) (part_begins (filing_of state) _ _ (begins x stands));
   short = λ is x stands.
-      let ran = moves.goes.short is (manner_of (names_of state)) (draft_of state.limit x) stands.writes in record {
-        none = short_count (names_of state) (change (draft_of state.limit x)) (settled_parts state.limit (x ++ taken)) ran.none (begins x stands) ran.begun;
-        all = λ before at. subst (λ files. OutputsAt told before (only_files files) new) (short_files (names_of state) (change (draft_of state.limit x)) (settled_parts state.limit (x ++ taken)) ran.none (begins x stands)) (ran.all before at);
+      let ran = moves.goes.short is (manner_of (filing_of state)) (draft_of state.limit x) stands.writes in record {
+        none = short_count (filing_of state) (change (draft_of state.limit x)) (settled_parts state.limit (x ++ taken)) ran.none (begins x stands) ran.begun;
+        all = λ before at. subst (λ files. OutputsAt told before (part_with (output_by (filing_of state).verbose) files) new) (short_files (filing_of state) (change (draft_of state.limit x)) (settled_parts state.limit (x ++ taken)) ran.none (begins x stands)) (ran.all before at);
       };
 }
 
@@ -352,15 +369,15 @@ pub takes_none : (told : Bool) (state : PartsState) {slots : List Slot} → IsRe
 takes_none told state ready = search rules
 
 -- of one that is named and cut alike
-settled_as : (state mid : PartsState) → mid.limit ≡ state.limit → names_of mid ≡ names_of state → (x : List ℕ) → settled_part mid x ≡ settled_part state x
+settled_as : (state mid : PartsState) → mid.limit ≡ state.limit → filing_of mid ≡ filing_of state → (x : List ℕ) → settled_part mid x ≡ settled_part state x
 settled_as state mid limit names x = cc
 
 module _ {told : Bool} {state mid : PartsState} {first : List ℕ} {old wet : List Slot} (one : Takes told state first old wet mid None) (x more : List ℕ) where
   low_as : settled_part mid (x ++ first) ≡ settled_part state (x ++ first)
-  low_as = settled_as state mid one.limit one.leaves.naming (x ++ first)
+  low_as = settled_as state mid one.limit (filing_same state mid one.leaves) (x ++ first)
 
   high_as : settled_part mid ((x ++ first) ++ more) ≡ settled_part state (x ++ (first ++ more))
-  high_as = settled_as state mid one.limit one.leaves.naming ((x ++ first) ++ more) ∙ ap (settled_part state) (append_assoc x first more)
+  high_as = settled_as state mid one.limit (filing_same state mid one.leaves) ((x ++ first) ++ more) ∙ ap (settled_part state) (append_assoc x first more)
 
   lacks_as : {new : List Slot} → Stands state x → LacksNames told mid (x ++ first) more wet new → LacksNames told state x (first ++ more) old new
   lacks_as {new} stands ran = record {
@@ -374,13 +391,13 @@ takes_again {told} {state} {mid} {next} first more {wet = wet} {new} fault one o
   limit = other.limit ∙ one.limit;
   leaves = leaves_again one.leaves other.leaves;
   stands = where_well fault other.stands (λ stays x stands. subst (Stands next) (append_assoc x first more) (stays (x ++ first) (one.stands x stands)));
-  reaches = λ x stands. reaches_again (part_begins (names_of state) _ _ (settled_grow state.limit x first)) (one.reaches x stands)
-      (reaches_as (sym (low_as one x more)) (sym (high_as one x more)) (other.reaches (x ++ first) (one.stands x stands)));
+  reaches = λ x stands. reaches_again (part_begins (filing_of state) _ _ (settled_grow state.limit x first)) (one.reaches x stands)
+      (reaches_as (sym (low_as one x more)) (sym (high_as one x more)) (subst (λ (filing : Filing). Reaches (output_by filing.verbose) told mid.writer next.writer (settled_part mid (x ++ first)) (settled_part mid ((x ++ first) ++ more)) wet new fault) (filing_same state mid one.leaves) (other.reaches (x ++ first) (one.stands x stands))));
   short = where_short fault other.short (λ short x stands. lacks_as one x more stands (short (x ++ first) (one.stands x stands)));
 }
 
 still_ready : {told : Bool} {state next : PartsState} {bytes : List ℕ} {old new : List Slot} → IsReady state old → Takes told state bytes old new next None → IsReady next new
-still_ready ready takes = search rules
+still_ready ready takes = record { writer = takes.leaves.ready; tells = subst TellsNoSizes (sym takes.leaves.tells) ready.tells }
 
 -- the piece is what was taken of it and what is left
 
@@ -425,7 +442,7 @@ finishes_none told state ready none = grind (arith, common_steps, leaves_still, 
 abbrev closes : PartsState → Draft → Draft
 closes state draft = with_next Never (with_bytes state.waiting draft)
 
-whole_so : (state : PartsState) {x : List ℕ} → Stands state x → draft_part (manner_of (names_of state)) (closes state (draft_of state.limit x)) ≡ whole_part state x
+whole_so : (state : PartsState) {x : List ℕ} → Stands state x → draft_part (manner_of (filing_of state)) (closes state (draft_of state.limit x)) ≡ whole_part state x
 whole_so state {x} stands = grind (arith, common_steps, append-nil, settled_then_waiting)
 
 pub held_stops : {told : Bool} {state next : PartsState} {old new : List Slot} {f : Fault} → next.limit ≡ state.limit → Goes told state.writer (with_bytes state.waiting) old new next.writer (Some f) → IsWrite f → Finishes told state old new next (Some f)
@@ -433,7 +450,7 @@ held_stops {state = state} limit stopped broke = record {
   limit = limit;
   leaves = stopped.leaves;
   broke = broke;
-  reaches = λ x stands. let manner = manner_of (names_of state) in stops_wider (stopped.reaches manner (draft_of state.limit x) stands.writes)
+  reaches = λ x stands. let manner = manner_of (filing_of state) in stops_wider (stopped.reaches manner (draft_of state.limit x) stands.writes)
       (subst (λ part. PartBegins (draft_part manner (with_bytes state.waiting (draft_of state.limit x))) part) (whole_so state stands) (next_begins manner Never (with_bytes state.waiting (draft_of state.limit x))));
 }
 
@@ -447,26 +464,26 @@ held_ends {state = state} fault limit first second broke =
       limit = limit;
       leaves = both.leaves;
       broke = broke;
-      reaches = λ x stands. reaches_as refl (sym (whole_so state stands)) (both.reaches (manner_of (names_of state)) (draft_of state.limit x) stands.writes);
+      reaches = λ x stands. reaches_as refl (sym (whole_so state stands)) (both.reaches (manner_of (filing_of state)) (draft_of state.limit x) stands.writes);
     }
 
 -- What the stage owes
 
-have_names : (state : PartsState) (x : List ℕ) {have : Bool} → are_named (names_of state) (length (settled_parts state.limit x)) ≡ have
-    → are_named (names_of state) (length (map (share file_state.Closed) (parts state.limit x))) ≡ have
+have_names : (state : PartsState) (x : List ℕ) {have : Bool} → are_named (filing_of state).names (length (settled_parts state.limit x)) ≡ have
+    → are_named (filing_of state).names (length (map (share file_state.Closed) (parts state.limit x))) ≡ have
 have_names state x is = grind (arith, common_steps, length-map, settled_count)
 
-stands_named : {state : PartsState} {x : List ℕ} → Stands state x → are_named (names_of state) (length (settled_parts state.limit x)) ≡ true
+stands_named : {state : PartsState} {x : List ℕ} → Stands state x → are_named (filing_of state).names (length (settled_parts state.limit x)) ≡ true
 stands_named {state} {x} stands = search rules
 
-pub all_have_names : {state : PartsState} {x : List ℕ} → Stands state x → are_named (names_of state) (length (map (share file_state.Closed) (parts state.limit x))) ≡ true
+pub all_have_names : {state : PartsState} {x : List ℕ} → Stands state x → are_named (filing_of state).names (length (map (share file_state.Closed) (parts state.limit x))) ≡ true
 all_have_names {state} {x} stands = have_names state x (stands_named stands)
 
 -- as long as all parts have names, more can come
 pub never_done : {state : PartsState} {x : List ℕ} → Stands state x → false ≡ (work state).is_complete x
 never_done stands = sym (ap not (all_have_names stands))
 
-work_by : (state next : PartsState) → next.limit ≡ state.limit → names_of next ≡ names_of state → work next ≡ work state
+work_by : (state next : PartsState) → next.limit ≡ state.limit → filing_of next ≡ filing_of state → work next ≡ work state
 work_by state next limit names = cc
 
 at_writer : {told : Bool} {before : List Slot} {state : PartsState} {x : List ℕ} {now : List Slot} → StandsAt ways.Holds ways.Owns (way.Parts state) told before x ((work state).settled x) now → At told state.writer before (settled_part state x) now
@@ -480,7 +497,7 @@ module _ (told : Bool) (state next : PartsState) (piece : List ℕ) (old new : L
       (ap not none, ap (λ (have : Bool). cond (not have) (Some Suffixes) None) none ∙ ap Some (sym is))
 
   cut_by : {f : Fault} → is_verdict f ≡ false → Takes told state piece old new next (Some f) → CutsOff ways.Holds ways.Owns ways.work (way.Parts state) piece told old new f
-  cut_by {f} kind stop before x at = engine.cut kind (stopped_in_turn gets_none told before _ _ f new tt ((stop.reaches x at.holds).there before (at_writer at)))
+  cut_by {f} kind stop before x at = engine.cut kind (stopped_in_turn (output_by (filing_of state).verbose) told before _ _ f new (has_told _ _) ((stop.reaches x at.holds).there before (at_writer at)))
 
   cut_off : (f : Fault) → Takes told state piece old new next (Some f) → CutsOff ways.Holds ways.Owns ways.work (way.Parts state) piece told old new f
   cut_off Suffixes stop = λ before x at. engine.judged refl new ((stop.short refl x at.holds).all before (at_writer at)) refl
@@ -491,7 +508,7 @@ module _ (told : Bool) (state next : PartsState) (piece : List ℕ) (old new : L
 
   pub passes_by : (result : Result (Unit {0}) Fault) → IsReady state old → Takes told state piece old new next (fault_in result) → PassesBy told piece old new result (way.Parts state) (way.Parts next)
   passes_by (Ok done) ready takes = record {
-    same = work_by state next takes.limit takes.leaves.naming;
+    same = work_by state next takes.limit (filing_same state next takes.leaves);
     holds = takes.stands;
     outputs = λ before x at. ((takes.reaches x at.holds).there before (at_writer at)).outputs;
     ready = still_ready ready takes;
@@ -500,21 +517,35 @@ module _ (told : Bool) (state next : PartsState) (piece : List ℕ) (old new : L
     met = tt;
   }
   passes_by (Err f) ready takes = record {
-    same = work_by state next takes.limit takes.leaves.naming;
+    same = work_by state next takes.limit (filing_same state next takes.leaves);
     holds = tt;
     outputs = tt;
     ready = tt;
     owns = takes.leaves.owns.owns;
     cut = cut_off f takes;
-    met = met_files (EndsWith ways.Holds ways.work (way.Parts state) piece) (manner_in state.writer) old new f (ap output_of ready.tells) takes.leaves.slots (λ is. settles f is takes);
+    met = met_files (EndsWith ways.Holds ways.work (way.Parts state) piece) (manner_in state.writer) (filing_of state).verbose old new f (ap output_of ready.tells) takes.leaves.slots (λ is. settles f is takes);
   }
 
 -- the end
 
-end_met : (state : PartsState) (old new : List Slot) (f : Fault) → IsWrite f → state.writer.tells ≡ Nothing → Breaks (manner_in state.writer) old new f → IsMet split_means split_means.closing (Unit {0}) (EndsThere ways.Holds ways.work (way.Parts state)) old new f
-end_met state old new f (slot, is) tells breaks = search rules
+end_met : (state : PartsState) (old new : List Slot) (f : Fault) → IsWrite f → TellsNoSizes state.writer.tells → Breaks (manner_in state.writer) old new f → IsMet (work state).means (work state).means.closing (Unit {0}) (EndsThere ways.Holds ways.work (way.Parts state)) old new f
+end_met state old new f (slot, is) tells breaks = rw is (let (out, rose) = rw is at breaks in (λ none. subst (λ output. writes output ≡ true) (ap output_of tells) (out none), (λ none. absurd (cc)), rose))
 
 pub finishes_by : (told : Bool) (state next : PartsState) (old new : List Slot) (result : Result (Unit {0}) Fault) → IsReady state old → Finishes told state old new next (fault_in result)
     → FinishesBy told old new result (way.Parts state) (way.Parts next)
-finishes_by told state next old new (Ok done) ready ends = grind (arith, common_steps, work_by, all_have_names, at_writer)
-finishes_by told state next old new (Err f) ready ends = grind (arith, common_steps, work_by, stopped_in_turn, at_writer, end_met)
+finishes_by told state next old new (Ok done) ready ends = record {
+  same = work_by state next ends.limit (filing_same state next ends.leaves);
+  outputs = λ before x at. (grind (arith, common_steps, all_have_names), ((ends.reaches x at.holds).there before (at_writer at)).outputs);
+  writable = λ told_is. (ends.leaves.output (told_writable state.writer.tells old ready.writer.output told_is));
+  owns = ends.leaves.owns.owns;
+  cut = tt;
+  met = tt;
+}
+finishes_by told state next old new (Err f) ready ends = record {
+  same = work_by state next ends.limit (filing_same state next ends.leaves);
+  outputs = tt;
+  writable = tt;
+  owns = ends.leaves.owns.owns;
+  cut = λ before x at. engine.cut (rw ends.broke.1 refl) (stopped_in_turn (output_by (filing_of state).verbose) told before _ _ f new (has_told _ _) ((ends.reaches x at.holds).there before (at_writer at)));
+  met = end_met state old new f ends.broke ready.tells ends.leaves.slots;
+}

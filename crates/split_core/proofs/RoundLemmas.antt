@@ -1,5 +1,5 @@
 -- Lemmas on dealing lines in turn, as a stage, and on what waits in the engine in each of its two ways to cut.
-use Rattle.std.proofs.Common.{◌≡◌, ℕ, ◌+◌, ◌%◌, ◌<◌, ◌≤◌, zero, suc, min, max, Bool, true, false, not, cond, List, [], ◌∷◌, ◌++◌, length, map, take, get_or, Some, None, refl, sym, ◌∙◌, ap, subst, arith, Ok, Err, OnOk, IfErr, Result, rules}
+use Rattle.std.proofs.Common.{◌≡◌, ℕ, ◌+◌, ◌%◌, ◌<◌, ◌≤◌, zero, suc, min, max, Bool, true, false, not, cond, List, [], ◌∷◌, ◌++◌, length, map, take, drop, get_or, Some, None, refl, sym, ◌∙◌, ap, subst, arith, Ok, Err, OnOk, IfErr, Result, rules}
 use Rattle.std.proofs.Math.Nat.{mod-add-mod, mod-eq_of_lt, mod-mod, mod-le}
 use Rattle.std.proofs.Math.Path.{fun_ext}
 use Rattle.std.proofs.Math.Seq.{drop-length}
@@ -12,7 +12,7 @@ use Rattle.seg_core.proofs.Delimiters.{delimiters-append}
 use Rattle.seg_core.proofs.LineCounts.{line_count_near, line_count-front}
 use Rattle.ports_core.specs.Name.{Naming, has_name}
 use Rattle.ports_core.specs.Slot.{Slot}
-use Rattle.ports_core.specs.Part.{Part, OutputsAt, StoppedBetween, nothing, gets_none}
+use Rattle.ports_core.specs.Part.{Part, OutputsAt, StoppedBetween, nothing}
 use Rattle.ports_core.specs.Work.{Work}
 use Rattle.ports_core.specs.Engine.{TakesIn, EndsWith, EndsThere, StandsAt, is_verdict, cut}
 use Rattle.ports_core.specs.declared.fault.Fault.{Fault}
@@ -20,17 +20,21 @@ use Rattle.ports_core.specs.declared.fault.Fault.TheVariants as fault
 use Rattle.ports_core.specs.declared.slot.State.{State}
 use Rattle.ports_core.specs.declared.slot.State.TheVariants.{Open, Closed}
 use Rattle.ports_core.proofs.PartLemmas.{outputs_count}
+use Rattle.ports_core.proofs.ShareLemmas.{nothing_part}
 use Rattle.split_core.specs.Parts.{dealt, round_robin}
 use Rattle.split_core.specs.Parts as cut
-use Rattle.split_core.specs.Split.{share, named, are_named, only_files, dealt_files, settled_by, is_short, is_some, split_work, bytes_in}
+use Rattle.split_core.specs.inner.CutLaws.{named}
+use Rattle.split_core.specs.Split.{Filing, share, manner_of, are_named, is_verbose, output_by, dealt_files, settled_by, is_short, is_some, split_work, bytes_in}
 use Rattle.split_core.specs.inner.Dealt.{dealt_piece, dealt_first, reached_by, share_of}
-use Rattle.split_core.specs.FilesState.{FilesState}
+use Rattle.ports_core.specs.Draft.{part_of, part_with}
+use Rattle.ports_core.specs.declared.file_writer.Tells.{Tells}
+use Rattle.split_core.specs.FilesState.{FilesState, filing_in}
 use Rattle.split_core.specs.RoundState.{RoundState}
 use Rattle.split_core.specs.Round.{round_plan, round_work, work, opened_by, Holds, OwnsFiles}
 use Rattle.split_core.specs.Ways as ways
 use Rattle.split_core.specs.declared.splitter.Splitter.TheVariants as way
 use Rattle.split_core.specs.inner.Ways.{Deals, PassesBy, FinishesBy, held}
-use Rattle.split_core.specs.inner.Sharing.{file_at, always_named, part_by, all_open, closed_first, StandAt, Adds, Opens, Leaves, ClosesAll}
+use Rattle.split_core.specs.inner.Sharing.{file_at, files_by, always_named, part_by, all_open, closed_first, StandAt, Adds, Opens, Leaves, ClosesAll}
 use Rattle.split_core.specs.laws.DealLaws.{dealt_append, dealt_none, dealt_files_are, share_none}
 use Rattle.split_core.proofs.AgreedLemmas.{each_named, shared_bytes, waiting_is}
 use Rattle.split_core.proofs.CutLaws.{dealt_same, dealt_past}
@@ -54,24 +58,26 @@ pub named_fewer : (names : Naming) (few count : ℕ) → are_named names count �
 named_fewer names zero count are within = refl
 named_fewer names (suc last) count are within = named_at names count last are (omega arith)
 
-all_by : (names : Naming) (n start count : ℕ) (state : State) (f : ℕ → List ℕ) → are_named names n ≡ true → start + count ≤ n
-    → named names start (map (share state) (map f (range_with_len start count))) ≡ map (λ i. file_at names i (share state (f i))) (range_with_len start count)
-all_by names n start zero state f are few = refl
-all_by names n start (suc count) state f are few = cc (named_at names n start are (omega arith), all_by names n (start + 1) count state f are (omega arith))
+all_by : (filing : Filing) (n start count : ℕ) (state : State) (f : ℕ → List ℕ) → are_named filing.names n ≡ true → start + count ≤ n
+    → named filing start (map (share state) (map f (range_with_len start count))) ≡ map (λ i. file_at filing i (share state (f i))) (range_with_len start count)
+all_by filing n start zero state f are few = refl
+all_by filing n start (suc count) state f are few = cc (named_at filing.names n start are (omega arith), all_by filing n (start + 1) count state f are (omega arith))
 
 -- The files of a text
 
-filed_are : (delim : ℕ) (state : State) (names : Naming) (elide : Bool) (n : ℕ) (x : List ℕ) → are_named names n ≡ true
-    → only_files (named names 0 (map (share state) (dealt_files delim elide n x))) ≡ part_by names (λ i. share state (share_of delim n x i)) (opened_by delim elide n x)
-filed_are delim state names elide n x are = grind (arith, common_steps, dealt_files_are, all_by)
+filed_are : (delim : ℕ) (state : State) (filing : Filing) (elide : Bool) (n : ℕ) (x : List ℕ) → are_named filing.names n ≡ true
+    → part_of (manner_of filing) (map (share state) (dealt_files delim elide n x)) ≡ part_by filing (λ i. share state (share_of delim n x i)) (opened_by delim elide n x)
+filed_are delim state filing elide n x are = ap (part_with (output_by filing.verbose)) files where
+  files : named filing 0 (map (share state) (dealt_files delim elide n x)) ≡ files_by filing (λ i. share state (share_of delim n x i)) (opened_by delim elide n x)
+  files = grind (arith, common_steps, dealt_files_are, all_by)
 
-all_have : (delim : ℕ) (names : Naming) (elide : Bool) (n : ℕ) (x : List ℕ) → are_named names n ≡ true → are_named names (length (dealt_files delim elide n x)) ≡ true
-all_have delim names elide n x are = grind (arith, common_steps, named_fewer, dealt_files_are, length-map-range_with_len)
+all_have : (delim : ℕ) (filing : Filing) (elide : Bool) (n : ℕ) (x : List ℕ) → are_named filing.names n ≡ true → are_named filing.names (length (dealt_files delim elide n x)) ≡ true
+all_have delim filing elide n x are = grind (arith, common_steps, named_fewer, dealt_files_are, length-map-range_with_len)
 
 -- where all files have names, no text needs more
-pub not_short : (delim : ℕ) (names : Naming) (elide : Bool) (n : ℕ) (x : List ℕ) → are_named names n ≡ true → false ≡ is_short (round_plan delim n elide names) x
-not_short delim names elide n x are = sym (ap not (ap (are_named names) (length-map (dealt_files delim elide n x) (share Closed))
-    ∙ all_have delim names elide n x are))
+pub not_short : (delim : ℕ) (filing : Filing) (elide : Bool) (n : ℕ) (x : List ℕ) → are_named filing.names n ≡ true → false ≡ is_short (round_plan delim n elide filing) x
+not_short delim filing elide n x are = sym (ap not (ap (are_named filing.names) (length-map (dealt_files delim elide n x) (share Closed))
+    ∙ all_have delim filing elide n x are))
 
 -- One more piece
 
@@ -99,13 +105,13 @@ first_gathered delim n start {reached} piece is reached_is = search (rules, take
 
 -- What a piece leaves
 
-pub same_work : (old new : RoundState) → new.delim ≡ old.delim → new.count ≡ old.count → new.elide ≡ old.elide → new.files.names.naming ≡ old.files.names.naming → work new ≡ work old
-same_work old new delim count elide names = cc
+pub same_work : (old new : RoundState) → new.delim ≡ old.delim → new.count ≡ old.count → new.elide ≡ old.elide → filing_in new.files ≡ filing_in old.files → work new ≡ work old
+same_work old new delim count elide filing = cc
 
 -- what the stage has written, where it can have been fed x
 stands_is : {round : RoundState} {x : List ℕ} → Holds round x
-    → part_by round.files.names.naming (all_open (share_of round.delim round.count x)) (length round.files.outputs) ≡ (work round).settled x
-stands_is {round} {x} holds = search (rules, filed_are)
+    → part_by (filing_in round.files) (all_open (share_of round.delim round.count x)) (length round.files.outputs) ≡ (work round).settled x
+stands_is {round} {x} holds = ap (part_by (filing_in round.files) (all_open (share_of round.delim round.count x))) holds.opened ∙ sym (filed_are round.delim Open (filing_in round.files) round.elide round.count x holds.named)
 
 stand_at : (told : Bool) (round : RoundState) {before : List Slot} {x : List ℕ} {now : List Slot} → StandsAt ways.Holds ways.Owns (way.Round round) told before x ((work round).settled x) now
     → StandAt told round.files before (share_of round.delim round.count x) now
@@ -117,12 +123,12 @@ count_is {round} {x} piece holds = search (rules, length-map-range_with_len, ope
 
 module _ (told : Bool) (round : RoundState) (piece : List ℕ) {old before : List Slot} {x : List ℕ}
     (at : StandsAt ways.Holds ways.Owns (way.Round round) told before x ((work round).settled x) old) where
-  made_is : part_by round.files.names.naming (all_open (share_of round.delim round.count (x ++ piece)))
+  made_is : part_by (filing_in round.files) (all_open (share_of round.delim round.count (x ++ piece)))
       (max (length round.files.outputs) (length (dealt_first round.delim round.count round.next piece))) ≡ (work round).settled (x ++ piece)
-  made_is = search (rules, count_is, filed_are)
+  made_is = ap (part_by (filing_in round.files) (all_open (share_of round.delim round.count (x ++ piece)))) (count_is piece at.holds) ∙ sym (filed_are round.delim Open (filing_in round.files) round.elide round.count (x ++ piece) at.holds.named)
 
   left_by : {next : FilesState} {new : List Slot} (result : Result (Unit {0}) Fault) → Adds told round.files (λ i. get_or (dealt_first round.delim round.count round.next piece) i []) 0 (length (dealt_first round.delim round.count round.next piece)) old next new result
-      → Leaves told before round.files.names.naming (all_open (share_of round.delim round.count x)) (length round.files.outputs) (all_open (share_of round.delim round.count (x ++ piece)))
+      → Leaves told before (filing_in round.files) (all_open (share_of round.delim round.count x)) (length round.files.outputs) (all_open (share_of round.delim round.count (x ++ piece)))
       (max (length round.files.outputs) (length (dealt_first round.delim round.count round.next piece))) 0 (length (dealt_first round.delim round.count round.next piece)) new result
   left_by result adds = search (rules, stand_at, share_after)
 
@@ -132,7 +138,7 @@ takes_in told {old} {new} {piece} deals x holds = grind (arith, common_steps, mo
 pub passes_by : (told : Bool) (old new : RoundState) (piece : List ℕ) (before after : List Slot) (result : Result (Unit {0}) Fault)
     → Deals told old piece before after new result → PassesBy told piece before after result (way.Round old) (way.Round new)
 passes_by told old new piece before after (Ok u) deals = record {
-  same = same_work old new deals.delim deals.count deals.elide deals.adds.names;
+  same = same_work old new deals.delim deals.count deals.elide deals.adds.filing;
   holds = takes_in told deals;
   outputs = λ start x at. subst (λ part. OutputsAt told start part after) (made_is told old piece at) (left_by told old piece at (Ok u) deals.adds);
   ready = deals.adds.ready;
@@ -141,31 +147,42 @@ passes_by told old new piece before after (Ok u) deals = record {
   met = tt;
 }
 passes_by told old new piece before after (Err why) deals = record {
-  same = same_work old new deals.delim deals.count deals.elide deals.adds.names;
+  same = same_work old new deals.delim deals.count deals.elide deals.adds.filing;
   holds = tt;
   outputs = tt;
   ready = tt;
   owns = deals.adds.owned;
-  cut = λ start x at. cut (part.unjudged always_named before after why deals.adds.caused (part.none_lacks before after deals.adds.caused))
-      (stopped_as told (stands_is at.holds) (made_is told old piece at) (stops_in_order (left_by told old piece at (Err why) deals.adds)));
-  met = part.met_files (EndsWith ways.Holds ways.work (way.Round old) piece) always_named before after why refl deals.adds.caused (λ is. absurd (part.none_lacks before after deals.adds.caused is));
+  cut = λ start x at. cut (part.unjudged (always_named (is_verbose old.files.tells)) before after why deals.adds.caused (part.none_lacks (is_verbose old.files.tells) before after deals.adds.caused))
+      (stopped_as (output_by (is_verbose old.files.tells)) told (stands_is at.holds) (made_is told old piece at) (stops_in_order (left_by told old piece at (Err why) deals.adds)));
+  met = part.met_files (EndsWith ways.Holds ways.work (way.Round old) piece) (always_named (is_verbose old.files.tells)) (is_verbose old.files.tells) before after why refl deals.adds.caused (λ is. absurd (part.none_lacks (is_verbose old.files.tells) before after deals.adds.caused is));
 }
 
 -- The end
 
 closed_part : {round : RoundState} {x : List ℕ} → Holds round x
-    → part_by round.files.names.naming (closed_first (length round.files.outputs) (share_of round.delim round.count x)) (length round.files.outputs) ≡ (work round).whole x
-closed_part {round} {x} holds = search (rules, same_by, shut_now, filed_are)
+    → part_by (filing_in round.files) (closed_first (length round.files.outputs) (share_of round.delim round.count x)) (length round.files.outputs) ≡ (work round).whole x
+closed_part {round} {x} holds =
+    let n = length round.files.outputs in let has = share_of round.delim round.count x in let filing = filing_in round.files in
+    ap (part_with (output_by filing.verbose)) (same_by (λ i. file_at filing i (closed_first n has i)) (λ i. file_at filing i (share Closed (has i))) 0 n (λ i low high. ap (λ state. file_at filing i (share state (has i))) (shut_now i n (omega (arith, high)))))
+    ∙ ap (part_by filing (λ i. share Closed (has i))) holds.opened ∙ sym (filed_are round.delim Closed filing round.elide round.count x holds.named)
 
 pub finishes_by : (told : Bool) (round : RoundState) (old new : List Slot) (result : Result (Unit {0}) Fault)
     → ClosesAll told round.files old new result → FinishesBy told old new result (way.Round round) (way.Round round)
-finishes_by told round old new (Ok u) closes = search (rules, closed_part, stand_at)
+finishes_by told round old new (Ok u) closes = record {
+  same = refl;
+  outputs = λ before x at. (refl, subst (λ part. OutputsAt told before part new) (closed_part at.holds) (closes.closed before _ (stand_at told round at)));
+  writable = part.told_writable round.files.tells new closes.output;
+  owns = closes.owned;
+  cut = tt;
+  met = tt;
+}
 finishes_by told round old new (Err why) closes = record {
   same = refl;
   outputs = tt;
+  writable = tt;
   owns = closes.owned;
-  cut = λ before x at. cut (ap is_verdict closes.caused.1) (stopped_as told (stands_is at.holds) (closed_part at.holds) (closes.cut before _ (stand_at told round at)));
-  met = part.met_closing (EndsThere ways.Holds ways.work (way.Round round)) old new closes.caused;
+  cut = λ before x at. cut (ap is_verdict closes.caused.1) (stopped_as (output_by (is_verbose round.files.tells)) told (stands_is at.holds) (closed_part at.holds) (closes.cut before _ (stand_at told round at)));
+  met = part.met_closing (is_verbose round.files.tells) (EndsThere ways.Holds ways.work (way.Round round)) old new closes.caused;
 }
 
 -- The start
@@ -176,40 +193,40 @@ starts_with delim true n = omega arith
 starts_with delim false n = refl
 
 -- no file is open yet, and the next will be the next output
-abbrev pub no_files : Naming → FilesState
-no_files names = record { names = record { naming = names; drawn = 0 }; outputs = [] }
+abbrev pub no_files : Naming → Tells → FilesState
+no_files names tells = record { names = record { naming = names; drawn = 0 }; tells = tells; outputs = [] }
 
-none_owned : (names : Naming) {slots : List Slot} → OwnsFiles (no_files names) (length slots) slots
-none_owned names = record { stand = λ place within. absurd (omega (arith, within)); last = λ same. omega arith }
+none_owned : (names : Naming) (tells : Tells) {slots : List Slot} → OwnsFiles (no_files names tells) (length slots) slots
+none_owned names tells = record { stand = λ place within. absurd (omega (arith, within)); last = λ same. omega arith }
 
-pub at_start : (delim : ℕ) (elide : Bool) (names : Naming) (n : ℕ) {count : ℕ} → are_named names n ≡ true → count ≡ opened_by delim elide n []
-    → part_by names (all_open (λ i. [])) (max 0 count) ≡ settled_by (round_plan delim n elide names) []
-at_start delim elide names n {count} are counted = ap (part_by names (all_open (λ i. []))) (let all : max 0 count ≡ count = omega arith in all ∙ counted)
-    ∙ sym (filed_are delim Open names elide n [] are)
+pub at_start : (delim : ℕ) (elide : Bool) (filing : Filing) (n : ℕ) {count : ℕ} → are_named filing.names n ≡ true → count ≡ opened_by delim elide n []
+    → part_by filing (all_open (λ i. [])) (max 0 count) ≡ settled_by (round_plan delim n elide filing) []
+at_start delim elide filing n {count} are counted = ap (part_by filing (all_open (λ i. []))) (let all : max 0 count ≡ count = omega arith in all ∙ counted)
+    ∙ sym (filed_are delim Open filing elide n [] are)
 
-module _ (told : Bool) (names : Naming) {count : ℕ} {files next : FilesState} {old new : List Slot} {result : Result (Unit {0}) Fault} (is : files ≡ no_files names)
+module _ (told : Bool) (names : Naming) (tells : Tells) {count : ℕ} {files next : FilesState} {old new : List Slot} {result : Result (Unit {0}) Fault} (is : files ≡ no_files names tells)
     (opens : Opens told files 0 count old next new result) where
   -- what is there then is all that must be written of no input
-  pub opens_all : {part : Part} → part_by names (all_open (λ i. [])) (max 0 count) ≡ part → (before : List Slot) → OutputsAt told before nothing old
-      → (OnOk result (OutputsAt told before part new)) × (IfErr result (λ why. StoppedBetween gets_none told before nothing part why new))
+  pub opens_all : {part : Part} → part_by (filing_in (no_files names tells)) (all_open (λ i. [])) (max 0 count) ≡ part → (before : List Slot) → OutputsAt told before nothing old
+      → (OnOk result (OutputsAt told before part new)) × (IfErr result (λ why. StoppedBetween (output_by (is_verbose tells)) told before nothing part why new))
   opens_all {part} made before at = by result ((subst (λ (those : FilesState). Opens told those 0 count old next new result) is opens).adds.leaves before (λ i. []) (λ i. []) (record {
-    owns = subst (λ place. OwnsFiles (no_files names) place old) (omega (arith, outputs_count told before nothing old at)) (none_owned names);
-    outputs = at;
+    owns = subst (λ place. OwnsFiles (no_files names tells) place old) (omega (arith, outputs_count told before nothing old at)) (none_owned names tells);
+    outputs = subst (λ part. OutputsAt told before part old) (sym (nothing_part (output_by (is_verbose tells)))) at;
     none = λ i past. refl;
   }) (λ i. refl)) where
-    by : (result : Result (Unit {0}) Fault) → Leaves told before names (all_open (λ i. [])) 0 (all_open (λ i. [])) (max 0 count) 0 count new result
-        → (OnOk result (OutputsAt told before part new)) × (IfErr result (λ why. StoppedBetween gets_none told before nothing part why new))
+    by : (result : Result (Unit {0}) Fault) → Leaves told before (filing_in (no_files names tells)) (all_open (λ i. [])) 0 (all_open (λ i. [])) (max 0 count) 0 count new result
+        → (OnOk result (OutputsAt told before part new)) × (IfErr result (λ why. StoppedBetween (output_by (is_verbose tells)) told before nothing part why new))
     by (Ok done) leaves = (subst (λ those. OutputsAt told before those new) made leaves, tt)
-    by (Err why) leaves = (tt, stopped_as told refl made (stops_in_order leaves))
+    by (Err why) leaves = (tt, stopped_as (output_by (is_verbose tells)) told (nothing_part (output_by (is_verbose tells))) made (stops_in_order leaves))
 
 -- where all files have names, the work is what was asked for
-pub does_all : (delim : ℕ) (names others : Naming) (elide : Bool) (n : ℕ) → are_named names n ≡ true → others ≡ names → round_work (round_plan delim n elide others) ≡ split_work (round_plan delim n elide names)
-does_all delim names others elide n are same = ap (λ those. round_work (round_plan delim n elide those)) same ∙ ap work_by never where
-  never : ◌≡◌ {A = List ℕ → Bool} (λ x. false) (is_short (round_plan delim n elide names))
-  never = fun_ext (λ x. not_short delim names elide n x are)
+pub does_all : (delim : ℕ) (filing others : Filing) (elide : Bool) (n : ℕ) → are_named filing.names n ≡ true → others ≡ filing → round_work (round_plan delim n elide others) ≡ split_work (round_plan delim n elide filing)
+does_all delim filing others elide n are same = ap (λ those. round_work (round_plan delim n elide those)) same ∙ ap work_by never where
+  never : ◌≡◌ {A = List ℕ → Bool} (λ x. false) (is_short (round_plan delim n elide filing))
+  never = fun_ext (λ x. not_short delim filing elide n x are)
 
   work_by : (List ℕ → Bool) → Work
-  work_by short = record (split_work (round_plan delim n elide names)) { is_complete = short; verdict = λ x. cond (short x) (Some fault.Suffixes) None }
+  work_by short = record (split_work (round_plan delim n elide filing)) { is_complete = short; verdict = λ x. cond (short x) (Some fault.Suffixes) None }
 
 -- nothing waits
 
@@ -223,19 +240,19 @@ joined_files delim true n x = joined_some (round_robin delim n x)
 joined_files delim false n x = refl
 
 -- all bytes are with the files
-pub dealt_all : (delim n : ℕ) (elide : Bool) (names : Naming) (x : List ℕ) → 0 < n → are_named names (length (dealt_files delim elide n x)) ≡ true
-    → length (bytes_in (settled_by (round_plan delim n elide names) x)) ≡ length x
-dealt_all delim n elide names x some are = search (rules, shared_bytes, each_named, joined_files, all_dealt)
+pub dealt_all : (delim n : ℕ) (elide : Bool) (filing : Filing) (x : List ℕ) → 0 < n → are_named filing.names (length (dealt_files delim elide n x)) ≡ true
+    → length (bytes_in (settled_by (round_plan delim n elide filing) x)) ≡ length x
+dealt_all delim n elide filing x some are = search (rules, shared_bytes, each_named, joined_files, all_dealt)
 
 pub none_waits : {round : RoundState} {x : List ℕ} → Holds round x → 0 ≡ length ((work round).waiting x)
-none_waits {round} {x} holds = search (rules, dealt_all, all_have, drop-length)
+none_waits {round} {x} holds = sym (ap (λ n. length (drop n x)) (dealt_all round.delim round.count round.elide (filing_in round.files) x holds.some (all_have round.delim (filing_in round.files) round.elide round.count x holds.named)) ∙ ap length (drop-length x))
 
 -- Both ways to cut
 
 -- what waits in a stage that cuts off parts
 pub parts_wait : {parts : PartsState} {x : List ℕ} → Stands parts x → length parts.waiting ≡ length ((parts_state.work parts).waiting x)
-parts_wait {parts} {x} stands = ap length (stands.waits ∙ sym (waiting_is parts.limit (parts_state.names_of parts) x
-    (ap (are_named (parts_state.names_of parts)) (sym (length-map (cut.parts parts.limit x) (share Closed))) ∙ part.all_have_names stands)))
+parts_wait {parts} {x} stands = ap length (stands.waits ∙ sym (waiting_is parts.limit (parts_state.filing_of parts) x
+    (ap (are_named (parts_state.filing_of parts).names) (sym (length-map (cut.parts parts.limit x) (share Closed))) ∙ part.all_have_names stands)))
 
 -- as long as the engine goes on, all files have names
 pub all_named : (splitter : Splitter) (x : List ℕ) → ways.Holds splitter x → (ways.work splitter).is_complete x ≡ false

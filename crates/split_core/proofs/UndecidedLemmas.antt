@@ -6,13 +6,16 @@ use Rattle.std.proofs.Math.Seq.{drop-cons, get_or-append_seam}
 use Rattle.seg_core.specs.Line.{joined, delimiters, lines_of}
 use Rattle.seg_core.proofs.FirstLines.{joined-append}
 use Rattle.ports_core.specs.Name.{Naming, has_name}
+use Rattle.ports_core.specs.Draft.{told_of_files}
+use Rattle.ports_core.specs.Work.{Work}
 use Rattle.ports_core.specs.Agreed.{Spot, spot, spots_from, GoesTo, file_bytes, ArePlaced, CanCome, IsUndecided}
 use Rattle.ports_core.proofs.AgreedLemmas.{spot_in, spot_past, none_comes, beginning_short, common, none_before, nothing_waits, AreFront, stretch_placed}
 use Rattle.seg_core.specs.declared.cut.Limit.{Limit}
 use Rattle.seg_core.specs.Cut.{most}
 use Rattle.split_core.specs.Parts.{parts, whole_lines, cut_up, unless_empty, settled_rest, waiting_rest, dealt}
 use Rattle.ports_core.proofs.ShareLemmas.{one_on}
-use Rattle.split_core.specs.Split.{share, are_named, named, settled_by, is_short, split_work, dealt_files, bytes_in, whole_by}
+use Rattle.split_core.specs.inner.CutLaws.{named}
+use Rattle.split_core.specs.Split.{Filing, output_by, share, are_named, settled_by, is_short, split_work, dealt_files, bytes_in, whole_by}
 use Rattle.split_core.specs.PartsState.{parts_work}
 use Rattle.split_core.proofs.SectionLemmas.{joined_parts, settled_list}
 use Rattle.split_core.proofs.AgreedLemmas.{named_bytes, came_in, settled_bytes_in, settled_in, shared_bytes, waiting_is, named_more, each_named, list_count, decides_lines, one_of, delimiters_some, plan_by}
@@ -24,7 +27,7 @@ use Rattle.seg_core.specs.declared.cut.Cut.{Cut}
 use Rattle.seg_core.specs.declared.cut.Cut.TheVariants as cut
 use Rattle.seg_core.specs.declared.cut.Limit.TheVariants.{Lines, Bytes, LineBytes}
 use Rattle.seg_core.specs.Cut.{IsPositive}
-use Rattle.split_core.specs.Place.{dealt_spots, split_spots, dealt_to}
+use Rattle.split_core.specs.Place.{beside_output, dealt_spots, split_spots, dealt_to}
 use Rattle.split_core.specs.Round.{round_plan}
 use Rattle.split_core.specs.laws.CutLaws.{whole_some}
 use Rattle.split_core.proofs.CutLaws.{open_of_none, cut_all, opened_by-most}
@@ -43,16 +46,16 @@ named_front names place [] = tt
 named_front names place (one ∷ those) =
     cond_both (has_name names place) _ _ (λ files. AreFront files (one ++ joined those)) (λ is. (joined those, refl, named_front names (place + 1) those)) (λ is. tt)
 
-pub parts_placed : (limit : Limit) (names : Naming) → ArePlaced (parts_work limit names) (λ x i. spots_from 1 (file_bytes ((parts_work limit names).whole x)) i)
-parts_placed limit names = stretch_placed (parts_work limit names) 1 (record {
+pub parts_placed : (limit : Limit) (filing : Filing) → ArePlaced (beside_output (parts_work limit filing)) (λ x i. spots_from 1 (file_bytes ((parts_work limit filing).whole x)) i)
+parts_placed limit filing = stretch_placed (beside_output (parts_work limit filing)) 1 (record {
   before = λ x. [];
   rest = λ x. x;
   parts = λ x. refl;
-  front = λ x. subst (AreFront (file_bytes ((parts_work limit names).whole x))) (joined_parts limit x)
-      (subst (λ files. AreFront files (joined (parts limit x))) (sym (shared_bytes names Closed (parts limit x))) (named_front names 0 (parts limit x)));
+  front = λ x. subst (AreFront (file_bytes ((parts_work limit filing).whole x))) (joined_parts limit x)
+      (subst (λ files. AreFront files (joined (parts limit x))) (sym (shared_bytes filing Closed (parts limit x))) (named_front filing.names 0 (parts limit x)));
   are = λ x. refl;
   nowhere = λ x i less. absurd (omega (arith, less));
-  there = λ x i past. ap (spots_from 1 (file_bytes ((parts_work limit names).whole x))) (omega arith);
+  there = λ x i past. ap (spots_from 1 (file_bytes ((parts_work limit filing).whole x))) (omega arith);
 })
 
 -- Spots in parts that follow one another
@@ -71,11 +74,11 @@ abbrev OnlyLastOpen : List File → Type 0
 OnlyLastOpen [] = Unit {0}
 OnlyLastOpen (file ∷ files) = (file.state ≡ Open → files ≡ []) × OnlyLastOpen files
 
-last_open : (names : Naming) (place : ℕ) (full : List (List ℕ)) (rest : List ℕ) → OnlyLastOpen (named names place (map (share Closed) full ++ map (share Open) (unless_empty rest)))
-last_open names place [] [] = tt
-last_open names place [] (byte ∷ rest) = search rules
-last_open names place (part ∷ full) rest =
-    cond_both (has_name names place) _ _ OnlyLastOpen (λ is. (λ opened. absurd (false≢true (ap is_open opened)), last_open names (place + 1) full rest))
+last_open : (filing : Filing) (place : ℕ) (full : List (List ℕ)) (rest : List ℕ) → OnlyLastOpen (named filing place (map (share Closed) full ++ map (share Open) (unless_empty rest)))
+last_open filing place [] [] = tt
+last_open filing place [] (byte ∷ rest) = search rules
+last_open filing place (part ∷ full) rest =
+    cond_both (has_name filing.names place) _ _ OnlyLastOpen (λ is. (λ opened. absurd (false≢true (ap is_open opened)), last_open filing (place + 1) full rest))
     (λ is. tt)
 
 -- bytes that files have stay where they are
@@ -98,18 +101,18 @@ spots_stay place i (file ∷ low) (whole ∷ high) begins last less = elim (case
       ∙ later (omega (arith, length-append file.bytes (joined (map (λ (file : File). file.bytes) low)), less, past))
       ∙ sym (spot_past place i file.bytes _ past)
 
-abbrev parts_spots : Limit → Naming → List ℕ → ℕ → List Spot
-parts_spots limit names x i = spots_from 1 (file_bytes ((parts_work limit names).whole x)) i
+abbrev parts_spots : Limit → Filing → List ℕ → ℕ → List Spot
+parts_spots limit filing x i = spots_from 1 (file_bytes ((parts_work limit filing).whole x)) i
 
-parts_decided : (limit : Limit) (names : Naming) (x : List ℕ) (i : ℕ) → i < length (settled_in limit names x) → (y : List ℕ) → parts_spots limit names (x ++ y) i ≡ spots_from 1 (file_bytes ((parts_work limit names).settled x)) i
-parts_decided limit names x i less y =
-    spots_stay 1 i _ _ (common (parts_work limit names) (parts_lawful limit names) x y).files
-    (last_open names 0 (cut_up limit x).full (settled_rest limit (cut_up limit x).rest)) less
+parts_decided : (limit : Limit) (filing : Filing) (x : List ℕ) (i : ℕ) → i < length (settled_in limit filing x) → (y : List ℕ) → parts_spots limit filing (x ++ y) i ≡ spots_from 1 (file_bytes ((parts_work limit filing).settled x)) i
+parts_decided limit filing x i less y =
+    spots_stay 1 i _ _ (common (parts_work limit filing) (parts_lawful limit filing) x y).files
+    (last_open filing 0 (cut_up limit x).full (settled_rest limit (cut_up limit x).rest)) less
 
 -- what stands after a beginning
-none_wait : (limit : Limit) (names : Naming) (x : List ℕ) (i : ℕ) → are_named names (length (parts limit x)) ≡ true → waiting_rest limit (cut_up limit x).rest ≡ [] → length (settled_in limit names x) ≤ i → i < length x → ⊥
-none_wait limit names x i are none past within =
-    omega (arith, ap length (sym (append-nil (settled_in limit names x)) ∙ ap (λ those. settled_in limit names x ++ those) (sym none) ∙ came_in limit names are), past, within)
+none_wait : (limit : Limit) (filing : Filing) (x : List ℕ) (i : ℕ) → are_named filing.names (length (parts limit x)) ≡ true → waiting_rest limit (cut_up limit x).rest ≡ [] → length (settled_in limit filing x) ≤ i → i < length x → ⊥
+none_wait limit filing x i are none past within =
+    omega (arith, ap length (sym (append-nil (settled_in limit filing x)) ∙ ap (λ those. settled_in limit filing x ++ those) (sym none) ∙ came_in limit filing are), past, within)
 
 -- two continuations that put byte i to different spots
 pub record Differs (spots_of : List ℕ → ℕ → List Spot) (x : List ℕ) (i : ℕ) : Type 0 where
@@ -122,42 +125,42 @@ pub record Differs (spots_of : List ℕ → ℕ → List Spot) (x : List ℕ) (i
 -- A byte of an open line after whole ones: the end puts it into their part, and bytes that fill the part put it into a later one, or
 -- nowhere.
 
-lines_here : (delim n : ℕ) (names : Naming) (x : List ℕ) → are_named names (length (parts (LineBytes n delim) x)) ≡ true → 0 < delimiters delim (cut_up (LineBytes n delim) x).rest
+lines_here : (delim n : ℕ) (filing : Filing) (x : List ℕ) → are_named filing.names (length (parts (LineBytes n delim) x)) ≡ true → 0 < delimiters delim (cut_up (LineBytes n delim) x).rest
     → (i : ℕ) → length (joined (cut_up (LineBytes n delim) x).full) ≤ i → i < length x
-    → parts_spots (LineBytes n delim) names (x ++ []) i ≡ spot (1 + length (cut_up (LineBytes n delim) x).full) (i - length (joined (cut_up (LineBytes n delim) x).full)) ∷ []
-lines_here delim n names x are lines i past within =
+    → parts_spots (LineBytes n delim) filing (x ++ []) i ≡ spot (1 + length (cut_up (LineBytes n delim) x).full) (i - length (joined (cut_up (LineBytes n delim) x).full)) ∷ []
+lines_here delim n filing x are lines i past within =
     let full = (cut_up (LineBytes n delim) x).full in let rest = (cut_up (LineBytes n delim) x).rest in
     cc (
       append-nil x,
-      shared_bytes names Closed (parts (LineBytes n delim) x),
-      each_named names (parts (LineBytes n delim) x) are,
+      shared_bytes filing Closed (parts (LineBytes n delim) x),
+      each_named filing.names (parts (LineBytes n delim) x) are,
       one_of rest (delimiters_some delim rest lines),
       spots_after 1 i full (rest ∷ []) past,
       spot_in (1 + length full) (i - length (joined full)) rest []
           (omega (arith, ap length (sym (cut_all (LineBytes n delim))) ∙ length-append (joined full) rest, past, within)),
     )
 
-lines_there : (limit : Limit) (names : Naming) (x y : List ℕ) (next : List (List ℕ)) → are_named names (length (parts limit x)) ≡ true → parts limit (x ++ y) ≡ settled_list limit x ++ next
-    → (i : ℕ) → length (joined (settled_list limit x)) ≤ i → (more : List (List ℕ)) × (parts_spots limit names (x ++ y) i ≡ spots_from (1 + length (settled_list limit x)) more (i - length (joined (settled_list limit x))))
-lines_there limit names x y next are is i past =
-    let further = named_more names 0 (settled_list limit x) next in (
+lines_there : (limit : Limit) (filing : Filing) (x y : List ℕ) (next : List (List ℕ)) → are_named filing.names (length (parts limit x)) ≡ true → parts limit (x ++ y) ≡ settled_list limit x ++ next
+    → (i : ℕ) → length (joined (settled_list limit x)) ≤ i → (more : List (List ℕ)) × (parts_spots limit filing (x ++ y) i ≡ spots_from (1 + length (settled_list limit x)) more (i - length (joined (settled_list limit x))))
+lines_there limit filing x y next are is i past =
+    let further = named_more filing.names 0 (settled_list limit x) next in (
       further.0,
-      ap (λ files. spots_from 1 files i) (shared_bytes names Closed (parts limit (x ++ y)) ∙ ap (named_bytes names 0) is ∙ further.1
-          ∙ ap (λ files. files ++ further.0) (each_named names (settled_list limit x) (ap (are_named names) (list_count limit x) ∙ are)))
+      ap (λ files. spots_from 1 files i) (shared_bytes filing Closed (parts limit (x ++ y)) ∙ ap (named_bytes filing.names 0) is ∙ further.1
+          ∙ ap (λ files. files ++ further.0) (each_named filing.names (settled_list limit x) (ap (are_named filing.names) (list_count limit x) ∙ are)))
           ∙ spots_after 1 i (settled_list limit x) further.0 past,
     )
 
-lines_differ : (delim n : ℕ) (names : Naming) {x : List ℕ} → 0 < n → are_named names (length (parts (LineBytes n delim) x)) ≡ true → 0 < delimiters delim (cut_up (LineBytes n delim) x).rest
-    → {i : ℕ} → length (settled_in (LineBytes n delim) names x) ≤ i → i < length x → Differs (parts_spots (LineBytes n delim) names) x i
-lines_differ delim n names {x} some are lines {i} past within =
+lines_differ : (delim n : ℕ) (filing : Filing) {x : List ℕ} → 0 < n → are_named filing.names (length (parts (LineBytes n delim) x)) ≡ true → 0 < delimiters delim (cut_up (LineBytes n delim) x).rest
+    → {i : ℕ} → length (settled_in (LineBytes n delim) filing x) ≤ i → i < length x → Differs (parts_spots (LineBytes n delim) filing) x i
+lines_differ delim n filing {x} some are lines {i} past within =
     let full = (cut_up (LineBytes n delim) x).full in let begun = whole_lines delim (cut_up (LineBytes n delim) x).rest in
     let decides = decides_lines delim n some lines in
     let one : settled_list (LineBytes n delim) x ≡ full ++ begun ∷ [] = ap (λ those. full ++ those) (one_of begun (whole_some delim (cut_up (LineBytes n delim) x).rest (delimiters_some delim (cut_up (LineBytes n delim) x).rest lines))) in
     let count : length (settled_list (LineBytes n delim) x) ≡ length full + 1 = ap length one ∙ length-append full (begun ∷ []) in
     let bytes : length (joined (settled_list (LineBytes n delim) x)) ≡ length (joined full) + length (joined (begun ∷ [])) = ap (λ those. length (joined those)) one ∙ ap length (joined-append full (begun ∷ [])) ∙ length-append (joined full) (joined (begun ∷ [])) in
-    let had : length (settled_in (LineBytes n delim) names x) ≡ length (joined (settled_list (LineBytes n delim) x)) = ap length (settled_bytes_in (LineBytes n delim) names x are) in
-    let here = lines_here delim n names x are lines i (omega (arith, past, had, bytes)) within in
-    let there = lines_there (LineBytes n delim) names x decides.y decides.more are decides.are i (omega (arith, past, had)) in record {
+    let had : length (settled_in (LineBytes n delim) filing x) ≡ length (joined (settled_list (LineBytes n delim) x)) = ap length (settled_bytes_in (LineBytes n delim) filing x are) in
+    let here = lines_here delim n filing x are lines i (omega (arith, past, had, bytes)) within in
+    let there = lines_there (LineBytes n delim) filing x decides.y decides.more are decides.are i (omega (arith, past, had)) in record {
       y = [];
       z = decides.y;
       y_comes = none_comes;
@@ -165,20 +168,20 @@ lines_differ delim n names {x} some are lines {i} past within =
       apart = λ same. none_before (1 + length (settled_list (LineBytes n delim) x)) (i - length (joined (settled_list (LineBytes n delim) x))) (1 + length full) (i - length (joined full)) there.0 (omega (arith, count)) (sym there.1 ∙ sym same ∙ here);
     }
 
-parts_differ : (limit : Limit) (names : Naming) {x : List ℕ} → 0 < most limit → are_named names (length (parts limit x)) ≡ true → {i : ℕ} → length (settled_in limit names x) ≤ i → i < length x → Differs (parts_spots limit names) x i
-parts_differ (Lines n delim) names {x} some are {i} past within = absurd (none_wait (Lines n delim) names x i are refl past within)
-parts_differ (Bytes n) names {x} some are {i} past within = absurd (none_wait (Bytes n) names x i are refl past within)
-parts_differ (LineBytes n delim) names {x} some are {i} past within = elim (cases_lt 0 (delimiters delim (cut_up (LineBytes n delim) x).rest)) [
-  | inl lines ↦ lines_differ delim n names some are lines past within
-  | inr none ↦ absurd (none_wait (LineBytes n delim) names x i are (open_of_none delim (cut_up (LineBytes n delim) x).rest (omega (arith, none))) past within)
+parts_differ : (limit : Limit) (filing : Filing) {x : List ℕ} → 0 < most limit → are_named filing.names (length (parts limit x)) ≡ true → {i : ℕ} → length (settled_in limit filing x) ≤ i → i < length x → Differs (parts_spots limit filing) x i
+parts_differ (Lines n delim) filing {x} some are {i} past within = absurd (none_wait (Lines n delim) filing x i are refl past within)
+parts_differ (Bytes n) filing {x} some are {i} past within = absurd (none_wait (Bytes n) filing x i are refl past within)
+parts_differ (LineBytes n delim) filing {x} some are {i} past within = elim (cases_lt 0 (delimiters delim (cut_up (LineBytes n delim) x).rest)) [
+  | inl lines ↦ lines_differ delim n filing some are lines past within
+  | inr none ↦ absurd (none_wait (LineBytes n delim) filing x i are (open_of_none delim (cut_up (LineBytes n delim) x).rest (omega (arith, none))) past within)
 ]
 
-parts_undecided : (limit : Limit) (names : Naming) {x : List ℕ} → 0 < most limit → are_named names (length (parts limit x)) ≡ true → IsUndecided (parts_spots limit names) x ((parts_work limit names).waiting x)
-parts_undecided limit names {x} some are = record {
-  before = settled_in limit names x;
-  are_last = cc (came_in limit names are, waiting_is limit names x are);
-  differ = λ i past within. (let two = parts_differ limit names some are past within in (two.y, two.z, two.y_comes, two.z_comes, two.apart));
-  decided = λ i less y z can also. parts_decided limit names x i less y ∙ sym (parts_decided limit names x i less z);
+parts_undecided : (limit : Limit) (filing : Filing) {x : List ℕ} → 0 < most limit → are_named filing.names (length (parts limit x)) ≡ true → IsUndecided (parts_spots limit filing) x ((parts_work limit filing).waiting x)
+parts_undecided limit filing {x} some are = record {
+  before = settled_in limit filing x;
+  are_last = cc (came_in limit filing are, waiting_is limit filing x are);
+  differ = λ i past within. (let two = parts_differ limit filing some are past within in (two.y, two.z, two.y_comes, two.z_comes, two.apart));
+  decided = λ i less y z can also. parts_decided limit filing x i less y ∙ sym (parts_decided limit filing x i less z);
 }
 
 -- Lines that are dealt: none waits
@@ -186,22 +189,22 @@ parts_undecided limit names {x} some are = record {
 dealt_decided : (delim n : ℕ) (names : Naming) (x y : List ℕ) (i : ℕ) → i < length x → dealt_spots delim n names (x ++ y) i ≡ dealt_spots delim n names x i
 dealt_decided delim n names x y i less = grind (arith, common_steps)
 
-round_undecided : (delim n : ℕ) (elide : Bool) (names : Naming) {x : List ℕ} → 0 < n → are_named names (length (dealt_files delim elide n x)) ≡ true
-    → IsUndecided (split_spots (round_plan delim n elide names)) x ((split_work (round_plan delim n elide names)).waiting x)
-round_undecided delim n elide names {x} some are =
-    let size = dealt_all delim n elide names x some are in
-    rw (drop_all (length (bytes_in (settled_by (round_plan delim n elide names) x))) x (omega (arith, size)))
-    (nothing_waits (λ i less y z. dealt_decided delim n names x y i less ∙ sym (dealt_decided delim n names x z i less)))
+round_undecided : (delim n : ℕ) (elide : Bool) (filing : Filing) {x : List ℕ} → 0 < n → are_named filing.names (length (dealt_files delim elide n x)) ≡ true
+    → IsUndecided (split_spots (round_plan delim n elide filing)) x ((split_work (round_plan delim n elide filing)).waiting x)
+round_undecided delim n elide filing {x} some are =
+    let size = dealt_all delim n elide filing x some are in
+    rw (drop_all (length (bytes_in (settled_by (round_plan delim n elide filing) x))) x (omega (arith, size)))
+    (nothing_waits (λ i less y z. dealt_decided delim n filing.names x y i less ∙ sym (dealt_decided delim n filing.names x z i less)))
 
 -- All ways to cut
 
 counted : (names : Naming) (those : List (List ℕ)) → not (are_named names (length (map (share Closed) those))) ≡ false → are_named names (length those) ≡ true
 counted names those is = grind (arith, common_steps)
 
-pub undecided_at : (cut : Cut) (elide : Bool) (names : Naming) → IsPositive cut → {x : List ℕ} → is_short (plan_by cut elide names) x ≡ false
-    → IsUndecided (split_spots (plan_by cut elide names)) x ((split_work (plan_by cut elide names)).waiting x)
-undecided_at (cut.Parts limit) elide names some {x} enough = parts_undecided limit names some (counted names (parts limit x) enough)
-undecided_at (cut.Round n delim) elide names some {x} enough = round_undecided delim n elide names some (counted names (dealt_files delim elide n x) enough)
+pub undecided_at : (cut : Cut) (elide : Bool) (filing : Filing) → IsPositive cut → {x : List ℕ} → is_short (plan_by cut elide filing) x ≡ false
+    → IsUndecided (split_spots (plan_by cut elide filing)) x ((split_work (plan_by cut elide filing)).waiting x)
+undecided_at (cut.Parts limit) elide filing some {x} enough = parts_undecided limit filing some (counted filing.names (parts limit x) enough)
+undecided_at (cut.Round n delim) elide filing some {x} enough = round_undecided delim n elide filing some (counted filing.names (dealt_files delim elide n x) enough)
 
 -- Lines that are dealt: what a file has, byte by byte
 
@@ -306,43 +309,49 @@ pub record Goes (delim n : ℕ) (names : Naming) (x : List ℕ) (i : ℕ) (at : 
 dealt_goes : {delim n : ℕ} (names : Naming) {x : List ℕ} {i : ℕ} {at : Spot} → GoesTo at (dealt_spots delim n names x i) → Goes delim n names x i at
 dealt_goes {delim} {n} names {x} {i} {at} goes = grind (arith, common_steps)
 
-abbrev dealt_files_of : ℕ → ℕ → Bool → Naming → List ℕ → List (List ℕ)
-dealt_files_of delim n elide names x = file_bytes (whole_by (round_plan delim n elide names) x)
+abbrev dealt_files_of : ℕ → ℕ → Bool → Filing → List ℕ → List (List ℕ)
+dealt_files_of delim n elide filing x = file_bytes (whole_by (round_plan delim n elide filing) x)
 
-file_there : (delim n : ℕ) (elide : Bool) (names : Naming) (x : List ℕ) (file : ℕ) → file < n → has_name names file ≡ true
-    → get_or ([] ∷ dealt_files_of delim n elide names x) (file + 1) [] ≡ share_of delim n x file
-file_there delim n elide names x file within named = search
-    (rules, get_or, shared_bytes names Closed (dealt_files delim elide n x), named_at, zero-add, file_is)
+file_there : (delim n : ℕ) (elide : Bool) (filing : Filing) (x : List ℕ) (file : ℕ) → file < n → has_name filing.names file ≡ true
+    → get_or ([] ∷ dealt_files_of delim n elide filing x) (file + 1) [] ≡ share_of delim n x file
+file_there delim n elide filing x file within named = search
+    (rules, get_or, shared_bytes filing Closed (dealt_files delim elide n x), named_at, zero-add, file_is)
 
 goes_there : (delim n : ℕ) (names : Naming) (x : List ℕ) (i : ℕ) {file offset : ℕ} → i < length x → dealt_to delim n x i ≡ file → had delim n file x i ≡ offset → has_name names file ≡ true → GoesTo (spot (suc file) offset) (dealt_spots delim n names x i)
 goes_there delim n names x i {file} {offset} less to at named = grind (arith, common_steps)
 
-dealt_filled : (delim n : ℕ) (elide : Bool) (names : Naming) (x : List ℕ) (place offset : ℕ)
-    → offset < length (get_or ([] ∷ dealt_files_of delim n elide names x) place [])
-    → (i : ℕ) × (i < length x) × GoesTo (spot place offset) (dealt_spots delim n names x i)
-dealt_filled delim n elide names x zero offset less = absurd (omega (arith, less))
-dealt_filled delim n elide names x (suc file) offset less =
-    let there = there_by (has_name names (0 + file)) (get_or (dealt_files delim elide n x) file [])
-    (subst (λ those. offset < length those) (ap (λ files. get_or files file []) (shared_bytes names Closed (dealt_files delim elide n x))
-    ∙ named_at names 0 (dealt_files delim elide n x) file) less) in
+dealt_filled : (delim n : ℕ) (elide : Bool) (filing : Filing) (x : List ℕ) (place offset : ℕ)
+    → offset < length (get_or ([] ∷ dealt_files_of delim n elide filing x) place [])
+    → (i : ℕ) × (i < length x) × GoesTo (spot place offset) (dealt_spots delim n filing.names x i)
+dealt_filled delim n elide filing x zero offset less = absurd (omega (arith, less))
+dealt_filled delim n elide filing x (suc file) offset less =
+    let there = there_by (has_name filing.names (0 + file)) (get_or (dealt_files delim elide n x) file [])
+    (subst (λ those. offset < length those) (ap (λ files. get_or files file []) (shared_bytes filing Closed (dealt_files delim elide n x))
+    ∙ named_at filing.names 0 (dealt_files delim elide n x) file) less) in
     let within : file < n = grind (arith, common_steps, there.1, cases_lt, get_or_past, dealt_files_are, length-map-range_with_len, opened_by-most) in
     let found = find 0 x (subst (λ those. offset < length those) (file_is delim elide n x file within) there.1) in (
       found.i,
       found.within,
-      goes_there delim n names x found.i found.within
-          (ap (λ k. k % n) (sym (zero-add (delimiters delim (take found.i x)))) ∙ found.goes) found.at (ap (has_name names) (sym (zero-add file)) ∙ there.0),
+      goes_there delim n filing.names x found.i found.within
+          (ap (λ k. k % n) (sym (zero-add (delimiters delim (take found.i x)))) ∙ found.goes) found.at (ap (has_name filing.names) (sym (zero-add file)) ∙ there.0),
     )
 
 not_before : {delim n : ℕ} {names : Naming} {x : List ℕ} {i j : ℕ} {at : Spot} → Goes delim n names x i at → Goes delim n names x j at → i < j → ⊥
 not_before {delim} {n} {x} {i} {j} one two less = grind (arith, common_steps, had_grows)
 
-pub round_placed : (delim n : ℕ) (elide : Bool) (names : Naming) → 0 < n → ArePlaced (split_work (round_plan delim n elide names)) (dealt_spots delim n names)
-round_placed delim n elide names some = record {
+pub round_placed : (delim n : ℕ) (elide : Bool) (filing : Filing) → 0 < n → ArePlaced (beside_output (split_work (round_plan delim n elide filing))) (dealt_spots delim n filing.names)
+round_placed delim n elide filing some = record {
   stands = λ x i at less goes. grind (arith, common_steps, goes, dealt_goes, file_there, mod-lt, get_or, had_less, had_byte);
-  filled = λ x at less. dealt_filled delim n elide names x at.place at.offset less;
-  apart = λ x i j at goes also. grind (arith, common_steps, dealt_goes names goes, dealt_goes names also, not_before);
+  filled = λ x at less. dealt_filled delim n elide filing x at.place at.offset less;
+  apart = λ x i j at goes also. grind (arith, common_steps, dealt_goes filing.names goes, dealt_goes filing.names also, not_before);
 }
 
-pub placed_at : (cut : Cut) (elide : Bool) (names : Naming) → IsPositive cut → ArePlaced (split_work (plan_by cut elide names)) (split_spots (plan_by cut elide names))
-placed_at (cut.Parts limit) elide names some = parts_placed limit names
-placed_at (cut.Round n delim) elide names some = round_placed delim n elide names some
+pub placed_at : (cut : Cut) (elide : Bool) (filing : Filing) → IsPositive cut → ArePlaced (beside_output (split_work (plan_by cut elide filing))) (split_spots (plan_by cut elide filing))
+placed_at (cut.Parts limit) elide filing some = parts_placed limit filing
+placed_at (cut.Round n delim) elide filing some = round_placed delim n elide filing some
+
+-- where nothing is told, that is all of it
+pub placed_quiet : (cut : Cut) (elide : Bool) (filing : Filing) → IsPositive cut → filing.verbose ≡ false → ArePlaced (split_work (plan_by cut elide filing)) (split_spots (plan_by cut elide filing))
+placed_quiet cut elide filing some is = subst (λ verbose. ArePlaced (with_told verbose) (split_spots (plan_by cut elide filing))) (sym is) (placed_at cut elide filing some) where
+  with_told : Bool → Work
+  with_told verbose = record (split_work (plan_by cut elide filing)) { whole = λ x. record { out = told_of_files (output_by verbose) (whole_by (plan_by cut elide filing) x).files; files = (whole_by (plan_by cut elide filing) x).files } }

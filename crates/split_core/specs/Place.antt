@@ -2,6 +2,7 @@
 use Rattle.std.specs.Prelude.{ℕ, ◌+◌, ◌%◌, nat_lt, ◌&&◌, List, [], ◌∷◌, length, take, if◌then◌else◌}
 use Rattle.seg_core.specs.Line.{lines_of, delimiters}
 use Rattle.ports_core.specs.Name.{Naming, has_name}
+use Rattle.ports_core.specs.Work.{Work}
 use Rattle.ports_core.specs.Agreed.{Spot, spot, spots_from, file_bytes}
 use Rattle.seg_core.specs.declared.cut.Cut.{Cut}
 use Rattle.seg_core.specs.declared.cut.Cut.TheVariants.{Parts, Round}
@@ -22,7 +23,11 @@ dealt_spots delim n names x i =
 -- parts that follow one another are together the text, as far as there are names
 abbrev pub spots_by : Cut → Plan → List ℕ → ℕ → List Spot
 spots_by (Parts limit) plan x i = spots_from 1 (file_bytes (whole_by plan x)) i
-spots_by (Round n delim) plan x i = dealt_spots delim n plan.names x i
+spots_by (Round n delim) plan x i = dealt_spots delim n plan.filing.names x i
+
+-- the work without what it writes to standard output
+abbrev pub beside_output : Work → Work
+beside_output work = record work { whole = λ x. record (work.whole x) { out = [] } }
 
 abbrev pub split_spots : Plan → List ℕ → ℕ → List Spot
 split_spots plan x i = spots_by plan.cut plan x i

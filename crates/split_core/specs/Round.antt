@@ -1,20 +1,20 @@
 -- Lines dealt in turn, as a stage does it: GNU coreutils manual, split, `-n r/N`.
 use Rattle.std.specs.Prelude.{◌≡◌, ℕ, ◌+◌, ◌%◌, ◌<◌, ◌≤◌, Bool, true, false, List, length, min, slice_index_or, if◌then◌else◌}
 use Rattle.seg_core.specs.Line.{delimiters, line_count}
-use Rattle.ports_core.specs.Name.{Naming}
+use Rattle.ports_core.specs.FileWriter.{CanTell}
 use Rattle.ports_core.specs.Slot.{Slot, is_closable}
 use Rattle.ports_core.specs.Work.{Work, always_well}
-use Rattle.split_core.specs.Split.{Plan, are_named, split_work}
-use Rattle.split_core.specs.FilesState.{FilesState}
+use Rattle.split_core.specs.Split.{Filing, Plan, TellsNoSizes, are_named, split_work}
+use Rattle.split_core.specs.FilesState.{FilesState, filing_in}
 use Rattle.split_core.specs.RoundState.{RoundState}
 use Rattle.seg_core.specs.declared.cut.Cut.TheVariants.{Round}
 
-abbrev pub round_plan : (delim count : ℕ) → Bool → Naming → Plan
-round_plan delim count elide names = record { cut = Round count delim; elide = elide; names = names }
+abbrev pub round_plan : (delim count : ℕ) → Bool → Filing → Plan
+round_plan delim count elide filing = record { cut = Round count delim; elide = elide; filing = filing }
 
 -- what the stage was asked for
 abbrev pub plan_of : RoundState → Plan
-plan_of round = round_plan round.delim round.count round.elide round.files.names.naming
+plan_of round = round_plan round.delim round.count round.elide (filing_in round.files)
 
 -- what `split` makes of an input whose lines it deals, where all files have names
 abbrev pub round_work : Plan → Work
@@ -38,10 +38,12 @@ pub record Holds (round : RoundState) (x : List ℕ) : Type 0 where
 abbrev pub output_at : FilesState → ℕ → ℕ
 output_at files place = slice_index_or files.outputs place 0
 
--- the streams are there, each file that is open has an output of its own that can be written and closed, and the next
--- name is that of the next file
+-- the streams are there, standard output can be told what it is to be told, each file that is open has an output of its
+-- own that can be written and closed, and the next name is that of the next file
 pub record AreReady (files : FilesState) (slots : List Slot) : Type 0 where
   pub streams : 2 ≤ length slots
+  pub output : CanTell files.tells slots
+  pub tells : TellsNoSizes files.tells
   pub drawn : files.names.drawn ≡ length files.outputs
   pub apart : (place other : ℕ) → place < other → other < length files.outputs
       → output_at files place < output_at files other

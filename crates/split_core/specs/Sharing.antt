@@ -1,9 +1,10 @@
 -- How files in order get more bytes, and how more of them are opened.
-use Rattle.std.specs.Prelude.{◌≡◌, ℕ, List, ◌⊎◌}
+use Rattle.std.specs.Prelude.{◌≡◌, ℕ, Bool, true, List, ◌⊎◌}
 use Rattle.ports_core.specs.Slot.{Slot, Rose}
 use Rattle.ports_core.specs.declared.fault.Fault.{Fault}
-use Rattle.ports_core.specs.declared.fault.Fault.TheVariants.{Memory, Open}
+use Rattle.ports_core.specs.declared.fault.Fault.TheVariants.{Memory, Write, Open}
 
--- a file could not be opened, or there was no room for its name
-abbrev pub CannotOpen : List Slot → List Slot → Fault → Type 0
-CannotOpen old new fault = (fault ≡ Memory) ⊎ ((slot : ℕ) × (fault ≡ Open slot) × Rose slot old new)
+-- a file could not be opened, or there was no room for its name; or standard output broke as it was told of the file
+abbrev pub CannotOpen : Bool → List Slot → List Slot → Fault → Type 0
+CannotOpen verbose old new fault = (fault ≡ Memory) ⊎ ((verbose ≡ true) × (fault ≡ Write 0) × Rose 0 old new)
+    ⊎ ((slot : ℕ) × (fault ≡ Open slot) × Rose slot old new)

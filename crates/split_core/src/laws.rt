@@ -1,15 +1,17 @@
 //! Laws of the definitions, with no code: each stands on the contract of a function whose body is empty.
 ghost use Rattle.std.specs.Prelude.{◌≡◌, ◌<◌, ◌≤◌, ◌+◌, ◌*◌, ◌++◌, ℕ, List, [], true, get_or, length, map, take, drop, All, false};
 ghost use Rattle.ports_core.specs.Agreed.{ArePlaced, IsAgreed, IsUndecided};
+ghost use Rattle.ports_core.specs.Draft.{opening_line};
+ghost use Rattle.ports_core.specs.Part.{openings_for};
 ghost use Rattle.ports_core.specs.Guard.{GuardState, HoldsIn};
 ghost use Rattle.ports_core.specs.declared.slot.State.TheVariants.{Closed};
 ghost use Rattle.seg_core.specs.Line.{delimiters, joined, line_count, lines_of};
 ghost use Rattle.seg_core.specs.declared.cut.Limit.TheVariants.{Bytes, LineBytes, Lines};
 ghost use Rattle.seg_core.specs.Cut.{most};
 ghost use Rattle.split_core.specs.Parts.{cut_up, dealt, parts, round_robin, settled_rest, waiting_rest};
-ghost use Rattle.split_core.specs.Place.{split_spots};
+ghost use Rattle.split_core.specs.Place.{beside_output, split_spots};
 ghost use Rattle.split_core.specs.Sections.{AreLineByteParts, byte_parts, line_parts};
-ghost use Rattle.split_core.specs.Split.{Plan, Share, dealt_files, is_short, settled_parts, share, split_work};
+ghost use Rattle.split_core.specs.Split.{Plan, Share, dealt_files, is_short, settled_by, settled_parts, share, split_work, whole_by};
 ghost use Rattle.seg_core.specs.Cut.{IsPositive};
 ghost use Rattle.split_core.specs.Ways.{Holds, work};
 ghost use Rattle.split_core.specs.declared.splitter.Splitter.{Splitter};
@@ -69,11 +71,20 @@ pub fn lines_are_dealt()
 /// different places, or one of them nowhere. So nothing is written that could still go into another file, and nothing
 /// is kept back that can't. This holds of all four ways to cut, of any byte that lines end with, and of both values of
 /// eliding; what it says of waiting, where the input so far needs no more files than there are names. Where a byte goes
-/// is said by spots, and each file has at each spot just the one byte that goes there.
+/// is said by spots, and each file has at each spot just the one byte that goes there; standard output has none.
 pub fn agreed_is_settled()
     ensures outputs { (plan : Plan) → IsPositive plan.cut → (x : List ℕ) → IsAgreed (split_work plan) x ((split_work plan).settled x) }
     ensures waits { (plan : Plan) → IsPositive plan.cut → (x : List ℕ) → is_short plan x ≡ false → IsUndecided (split_spots plan) x ((split_work plan).waiting x) }
-    ensures placed { (plan : Plan) → IsPositive plan.cut → ArePlaced (split_work plan) (split_spots plan) }
+    ensures placed { (plan : Plan) → IsPositive plan.cut → plan.filing.verbose ≡ false → ArePlaced (split_work plan) (split_spots plan) }
+    ensures files { (plan : Plan) → IsPositive plan.cut → ArePlaced (beside_output (split_work plan)) (split_spots plan) }
+{}
+
+/// Where standard output is told of files, it has a line for each that was opened, in their order, and nothing else: once
+/// some bytes came in, and in the end. Else it has nothing.
+pub fn lines_are_of_opened_files()
+    ensures settled { (plan : Plan) → plan.filing.verbose ≡ true → (x : List ℕ) → (settled_by plan x).out ≡ openings_for opening_line (settled_by plan x).files }
+    ensures whole { (plan : Plan) → plan.filing.verbose ≡ true → (x : List ℕ) → (whole_by plan x).out ≡ openings_for opening_line (whole_by plan x).files }
+    ensures none { (plan : Plan) → plan.filing.verbose ≡ false → (x : List ℕ) → (settled_by plan x).out ++ (whole_by plan x).out ≡ [] }
 {}
 
 /// An engine that has returned no fault has named all files that its input needs: names that ran out are always told.

@@ -5,9 +5,9 @@ ghost use Rattle.std.specs.Prelude.{◌≡◌, ◌+◌, ◌-◌, ◌++◌, ◌<�
 ghost use Rattle.ports_core.specs.FileWriter.{new_writer};
 ghost use Rattle.ports_core.specs.Turn.{fault_in};
 ghost use Rattle.ports_core.specs.declared.file_writer.Keeps.TheVariants.{Open};
-ghost use Rattle.ports_core.specs.declared.file_writer.Tells.TheVariants.{Nothing};
 ghost use Rattle.seg_core.specs.Cut.{most};
 ghost use Rattle.split_core.specs.PartsState.{IsReady, Stands, parts_work, work};
+ghost use Rattle.split_core.specs.Split.{TellsNoSizes, is_verbose};
 ghost use Rattle.split_core.specs.inner.Takes.{Extends, Finishes, Steps, Takes, Turns};
 
 use crate::Limit;
@@ -49,11 +49,17 @@ impl Parts {
     /// # Errors
     ///
     /// `Memory` where there is no room for what waits.
-    pub(crate) fn open(alloc: Global, limit: Limit, naming: Naming) -> Result<Parts, Fault>
+    pub(crate) fn open(
+        alloc: Global,
+        limit: Limit,
+        naming: Naming,
+        tells: Tells,
+    ) -> Result<Parts, Fault>
         requires some { 0 < most limit }
+        requires tells { TellsNoSizes tells }
         ensures holds { IfOk result (λ parts. Stands parts []) }
-        ensures does { IfOk result (λ parts. work parts ≡ parts_work limit naming) }
-        ensures writer { IfOk result (λ parts. parts.writer ≡ new_writer naming Nothing Open) }
+        ensures does { IfOk result (λ parts. work parts ≡ parts_work limit (record { names = naming; verbose = is_verbose tells })) }
+        ensures writer { IfOk result (λ parts. parts.writer ≡ new_writer naming tells Open) }
         ensures err { IfErr result (λ fault. fault ≡ Fault.Memory) }
     {
         let Ok(waiting) = ByteWindow::new(alloc, limit.most() - 1) else {
@@ -64,7 +70,7 @@ impl Parts {
             left: limit.most(),
             has_line: false,
             waiting,
-            writer: FileWriter::new(alloc, naming, Tells::Nothing, Keeps::Open),
+            writer: FileWriter::new(alloc, naming, tells, Keeps::Open),
         })
     }
 
@@ -146,8 +152,9 @@ impl Parts {
     ///
     /// # Errors
     ///
-    /// `Write` where a file broke, `Open` where the next can't be opened, `Memory` where there is no room for what
-    /// waits or for a name, `Suffixes` where no name is left for the next file.
+    /// `Write` where a file broke, or standard output as it is told of one, `Open` where the next can't be opened,
+    /// `Memory` where there is no room for what waits, for a name or its line, `Suffixes` where no name is left for the
+    /// next file.
     pub(crate) fn pass<O: Outs>(&mut self, piece: &[u8], outs: &mut O) -> Result<(), Fault>
         requires { IsReady self.old (O.slots outs.old) }
         ensures { Takes O.told self.old piece.now (O.slots outs.old) (O.slots outs.new) self.new (fault_in result) }

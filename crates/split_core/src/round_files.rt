@@ -6,7 +6,7 @@ ghost use Rattle.split_core.specs.inner.Sharing.{Adds, ClosesAll, Opens, only_at
 
 use crate::files::write_bytes;
 use crate::gathered::Gathered;
-use ports_core::{Fault, Names, Naming, Outs};
+use ports_core::{Fault, Names, Naming, Outs, Tells};
 use std::alloc::Global;
 use std::marker::Model;
 
@@ -14,6 +14,7 @@ use std::marker::Model;
 #[derive(Drop)]
 pub(crate) struct RoundFiles {
     names: Names,
+    tells: Tells,
     /// The outputs of those that are open.
     outputs: Vec<usize>,
 }
@@ -23,16 +24,17 @@ impl Model for RoundFiles {
 
     ghost Value = { FilesState };
 
-    ghost view = { λ f. record { names = f.names; outputs = f.outputs.items } };
+    ghost view = { λ f. record { names = f.names; tells = f.tells; outputs = f.outputs.items } };
 }
 
 impl RoundFiles {
     /// No file is open yet, and no memory is taken.
-    pub(crate) fn new(alloc: Global, naming: Naming) -> RoundFiles
-        ensures { result ≡ record { names = record { naming = naming; drawn = 0 }; outputs = [] } }
+    pub(crate) fn new(alloc: Global, naming: Naming, tells: Tells) -> RoundFiles
+        ensures { result ≡ record { names = record { naming = naming; drawn = 0 }; tells = tells; outputs = [] } }
     {
         RoundFiles {
             names: Names { naming, drawn: 0 },
+            tells,
             outputs: Vec::new(alloc),
         }
     }
@@ -41,7 +43,8 @@ impl RoundFiles {
     ///
     /// # Errors
     ///
-    /// `Open` where one can't be opened, `Memory` where there is no room for a name or for one more output.
+    /// `Open` where one can't be opened, `Memory` where there is no room for a name, its line or one more output, `Write`
+    /// where standard output broke as it was told of one.
     pub(crate) fn open_first<O: Outs>(&mut self, count: usize, outs: &mut O) -> Result<(), Fault>
         requires ready { AreReady self.old (O.slots outs.old) }
         requires none { self.old.outputs ≡ [] }
@@ -58,8 +61,8 @@ impl RoundFiles {
     ///
     /// # Errors
     ///
-    /// `Write` where an output broke, `Open` where a file can't be opened, `Memory` where there is no room for a name
-    /// or for one more output.
+    /// `Write` where an output broke, `Open` where a file can't be opened, `Memory` where there is no room for a name,
+    /// its line or one more output.
     pub(crate) fn write<O: Outs>(
         &mut self,
         gathered: &[Gathered],
@@ -112,7 +115,7 @@ impl RoundFiles {
             return Ok(());
         }
         self.outputs.reserve(1)?;
-        let slot = self.names.open_next(outs)?;
+        let slot = self.names.open_next(self.tells, outs)?;
         put(&mut self.outputs, slot);
         Ok(())
     }

@@ -1,17 +1,18 @@
 ghost use Rattle.std.specs.Prelude.{◌≡◌, ℕ, ◌+◌, ◌%◌, ◌<◌, ◌≤◌, List, [], true, if◌then◌else◌, length, IfOk, IfErr, OnOk};
 ghost use Rattle.seg_core.specs.Line.{delimiters};
 ghost use Rattle.ports_core.specs.Slot.{Slot};
-ghost use Rattle.ports_core.specs.Part.{OutputsAt, StoppedBetween, nothing, gets_none};
+ghost use Rattle.ports_core.specs.Part.{OutputsAt, StoppedBetween, nothing};
+ghost use Rattle.ports_core.specs.FileWriter.{CanTell};
 ghost use Rattle.split_core.specs.inner.Dealt.{dealt_first};
 ghost use Rattle.split_core.specs.Round.{AreReady, Holds, Owns, Ready, round_plan, work};
 ghost use Rattle.split_core.specs.inner.Ways.{Deals};
 ghost use Rattle.split_core.specs.inner.Sharing.{ClosesAll};
 ghost use Rattle.split_core.specs.Sharing.{CannotOpen};
-ghost use Rattle.split_core.specs.Split.{are_named, settled_by, split_work};
+ghost use Rattle.split_core.specs.Split.{TellsNoSizes, are_named, is_verbose, output_by, settled_by, split_work};
 
 use crate::deal::Deal;
 use crate::round_files::RoundFiles;
-use ports_core::{Fault, Naming, Outs};
+use ports_core::{Fault, Naming, Outs, Tells};
 use std::alloc::Global;
 use std::marker::Model;
 
@@ -40,32 +41,36 @@ impl Model for RoundSplitter {
 
 impl RoundSplitter {
     /// Deals lines, which end with `delim`, to `count` files. All of them are opened now; with `elide` each is opened
-    /// at its first byte, so that those that would get none aren't made.
+    /// at its first byte, so that those that would get none aren't made. Standard output is told of openings, or nothing.
     ///
     /// # Errors
     ///
-    /// `Memory` where there is no room, `Open` where a file can't be opened.
+    /// `Memory` where there is no room, `Open` where a file can't be opened, `Write` where standard output broke as it was
+    /// told of one.
     pub(crate) fn open<O: Outs>(
         alloc: Global,
         count: u64,
         naming: Naming,
         elide: bool,
+        tells: Tells,
         delim: u8,
         outs: &mut O,
     ) -> Result<RoundSplitter, Fault>
         requires some { 0 < count }
         requires enough { are_named naming count ≡ true }
         requires streams { 2 ≤ length (O.slots outs.old) }
+        requires tells { TellsNoSizes tells }
+        requires output { CanTell tells (O.slots outs.old) }
         ensures holds { IfOk result (λ round. Holds round []) }
-        ensures does { IfOk result (λ round. work round ≡ split_work (round_plan delim count elide naming)) }
+        ensures does { IfOk result (λ round. work round ≡ split_work (round_plan delim count elide (record { names = naming; verbose = is_verbose tells }))) }
         ensures ready { IfOk result (λ round. Ready round (O.slots outs.new)) }
         ensures owns { IfOk result (λ round. Owns round (length (O.slots outs.old)) (O.slots outs.new)) }
-        ensures outputs { OnOk result ((before : List Slot) → OutputsAt O.told before nothing (O.slots outs.old) → OutputsAt O.told before (settled_by (round_plan delim count elide naming) []) (O.slots outs.new)) }
-        ensures cut { IfErr result (λ fault. (before : List Slot) → OutputsAt O.told before nothing (O.slots outs.old) → StoppedBetween gets_none O.told before nothing (settled_by (round_plan delim count elide naming) []) fault (O.slots outs.new)) }
-        ensures refused { IfErr result (CannotOpen (O.slots outs.old) (O.slots outs.new)) }
+        ensures outputs { OnOk result ((before : List Slot) → OutputsAt O.told before nothing (O.slots outs.old) → OutputsAt O.told before (settled_by (round_plan delim count elide (record { names = naming; verbose = is_verbose tells })) []) (O.slots outs.new)) }
+        ensures cut { IfErr result (λ fault. (before : List Slot) → OutputsAt O.told before nothing (O.slots outs.old) → StoppedBetween (output_by (is_verbose tells)) O.told before nothing (settled_by (round_plan delim count elide (record { names = naming; verbose = is_verbose tells })) []) fault (O.slots outs.new)) }
+        ensures refused { IfErr result (CannotOpen (is_verbose tells) (O.slots outs.old) (O.slots outs.new)) }
     {
         let deal = Deal::new(alloc, count, delim)?;
-        let mut files = RoundFiles::new(alloc, naming);
+        let mut files = RoundFiles::new(alloc, naming, tells);
         files.open_first(opened_at_start(count, elide), outs)?;
         Ok(RoundSplitter { deal, files, elide })
     }
@@ -74,7 +79,7 @@ impl RoundSplitter {
     ///
     /// # Errors
     ///
-    /// `Memory` where there is no room for a name, or for the piece, of which nothing is written then; `Write` where an
+    /// `Memory` where there is no room for a name or its line, or for the piece, of which nothing is written then; `Write` where an
     /// output broke, `Open` where a file can't be opened.
     pub(crate) fn pass<O: Outs>(&mut self, piece: &[u8], outs: &mut O) -> Result<(), Fault>
         requires { Ready self.old (O.slots outs.old) }

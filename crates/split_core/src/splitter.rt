@@ -1,10 +1,11 @@
 //! The stage of `split`, for all ways to cut.
 ghost use Rattle.std.specs.Prelude.{◌≡◌, ◌^◌, ◌<◌, ◌≤◌, [], List, ℕ, false, true, length, IfOk, IfErr, OnOk};
 ghost use Rattle.ports_core.specs.Guard.{HoldsIn};
-ghost use Rattle.ports_core.specs.Part.{OutputsAt, StoppedBetween, nothing, gets_none};
+ghost use Rattle.ports_core.specs.Part.{OutputsAt, StoppedBetween, nothing};
+ghost use Rattle.ports_core.specs.FileWriter.{CanTell};
 ghost use Rattle.ports_core.specs.Slot.{Slot};
 ghost use Rattle.split_core.specs.Sharing.{CannotOpen};
-ghost use Rattle.split_core.specs.Split.{settled_by, split_work};
+ghost use Rattle.split_core.specs.Split.{TellsNoSizes, is_verbose, output_by, settled_by, split_work};
 ghost use Rattle.seg_core.specs.Cut.{IsPositive};
 ghost use Rattle.split_core.specs.Split.{HasNames};
 ghost use Rattle.split_core.specs.Ways.{Holds, Owns, Ready, work};
@@ -14,7 +15,7 @@ ghost use Rattle.split_core.specs.laws.WorkLaws.{lawful};
 use crate::Cut;
 use crate::parts::Parts;
 use crate::round_splitter::RoundSplitter;
-use ports_core::{Fault, Guarded, Names, Outs, Stage};
+use ports_core::{Fault, Guarded, Names, Outs, Stage, Tells};
 use std::alloc::Global;
 
 /// Cuts its input into files (POSIX.1-2017, XCU split; `-C` and `-n r/N` are GNU's). A file is opened with its first
@@ -33,37 +34,49 @@ pub enum Splitter {
 impl Splitter {
     /// An engine that cuts in this way, into files with these names, from the first one on. The number of the cut is at
     /// least 1. Where lines are dealt, there must be a name for each file, and all files are opened now, or with `elide`
-    /// each at its first byte.
+    /// each at its first byte. Standard output is told of each file before it is opened, or nothing.
     ///
     /// # Errors
     ///
-    /// `Memory` where there is no room, `Open` where a file can't be opened.
+    /// `Memory` where there is no room, `Open` where a file can't be opened, `Write` where standard output broke as it was
+    /// told of one.
     pub fn open<O: Outs>(
         alloc: Global,
         cut: Cut,
         names: Names,
         elide: bool,
+        tells: Tells,
         outs: &mut O,
     ) -> Result<Guarded<Splitter>, Fault>
         requires some { IsPositive cut }
         requires enough { HasNames cut names.naming }
         requires streams { 2 ≤ length (O.slots outs.old) }
+        requires tells { TellsNoSizes tells }
+        requires output { CanTell tells (O.slots outs.old) }
         ensures holds { IfOk result (λ engine. HoldsIn Holds engine []) }
         ensures bound { IfOk result (λ engine. engine.fed < 2 ^ 63) }
-        ensures does { IfOk result (λ engine. work engine.stage ≡ split_work (record { cut = cut; elide = elide; names = names.naming })) }
+        ensures does { IfOk result (λ engine. work engine.stage ≡ split_work (record { cut = cut; elide = elide; filing = record { names = names.naming; verbose = is_verbose tells } })) }
         ensures ready { IfOk result (λ engine. Ready engine.stage (O.slots outs.new)) }
         ensures owns { IfOk result (λ engine. Owns engine.stage (length (O.slots outs.old)) (O.slots outs.new)) }
-        ensures outputs { OnOk result ((before : List Slot) → OutputsAt O.told before nothing (O.slots outs.old) → OutputsAt O.told before (settled_by (record { cut = cut; elide = elide; names = names.naming }) []) (O.slots outs.new)) }
-        ensures cut { IfErr result (λ fault. (before : List Slot) → OutputsAt O.told before nothing (O.slots outs.old) → StoppedBetween gets_none O.told before nothing (settled_by (record { cut = cut; elide = elide; names = names.naming }) []) fault (O.slots outs.new)) }
-        ensures refused { IfErr result (CannotOpen (O.slots outs.old) (O.slots outs.new)) }
+        ensures outputs { OnOk result ((before : List Slot) → OutputsAt O.told before nothing (O.slots outs.old) → OutputsAt O.told before (settled_by (record { cut = cut; elide = elide; filing = record { names = names.naming; verbose = is_verbose tells } }) []) (O.slots outs.new)) }
+        ensures cut { IfErr result (λ fault. (before : List Slot) → OutputsAt O.told before nothing (O.slots outs.old) → StoppedBetween (output_by (is_verbose tells)) O.told before nothing (settled_by (record { cut = cut; elide = elide; filing = record { names = names.naming; verbose = is_verbose tells } }) []) fault (O.slots outs.new)) }
+        ensures refused { IfErr result (CannotOpen (is_verbose tells) (O.slots outs.old) (O.slots outs.new)) }
     {
         match cut {
             Cut::Parts(limit) => {
-                let parts = Parts::open(alloc, limit, names.naming)?;
+                let parts = Parts::open(alloc, limit, names.naming, tells)?;
                 Ok(Guarded::new(Splitter::Parts(parts)))
             }
             Cut::Round(count, delim) => {
-                let round = RoundSplitter::open(alloc, count, names.naming, elide, delim, outs)?;
+                let round = RoundSplitter::open(
+                    alloc,
+                    count,
+                    names.naming,
+                    elide,
+                    tells,
+                    delim,
+                    outs,
+                )?;
                 Ok(Guarded::new(Splitter::Round(round)))
             }
         }

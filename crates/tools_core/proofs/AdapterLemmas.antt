@@ -11,6 +11,7 @@ use Rattle.ports_core.specs.declared.fault.Fault.{Fault}
 use Rattle.ports_core.specs.declared.fault.Fault.TheVariants.{Memory, Write, Open, Suffixes}
 use Rattle.ports_core.proofs.PartLemmas.{nothing_out, nothing_begins_part, stopped_here}
 use Rattle.ports_core.proofs.SlotSteps.{none_past, swept_none}
+use Rattle.split_core.specs.Split.{is_verbose, tells_by}
 use Rattle.seg_core.specs.declared.unit.Unit.{Unit as Counted}
 use Rattle.seg_core.specs.declared.unit.Unit.TheVariants.{Lines, Bytes}
 use Rattle.ends_core.specs.Ends.{after_of, head_of, tail_of}
@@ -58,9 +59,14 @@ no_memory {told} {work} {slots} may two is = rw is (record {
   unjudged = refl;
   reached = slots;
   why = may;
-  stop = stopped_here _ told slots nothing _ Memory slots slots (nothing_out told slots (some_there slots two)) (nothing_begins_part _) refl tt;
+  stop = stopped_here _ told slots nothing _ Memory slots slots (nothing_out told slots (some_there slots two)) (nothing_begins_part _) refl tt tt;
   swept = swept_none work.clears (length slots) slots (none_past slots);
 })
+
+-- what standard output is told of files says whether it is told of them
+pub verbose_is : (verbose : Bool) → is_verbose (tells_by verbose) ≡ verbose
+verbose_is true = refl
+verbose_is false = refl
 
 -- an engine that was opened, and left the outputs as they were
 

@@ -13,12 +13,12 @@ use Rattle.ports_core.specs.Work.{IsLawful, Needs, Work}
 use Rattle.ports_core.specs.Inputs.{largest_piece}
 use Rattle.ports_core.specs.declared.fault.Fault.{Fault}
 use Rattle.ports_core.specs.declared.fault.Fault.TheVariants.{Write, Open}
-use Rattle.ports_core.specs.Name.{Naming, has_suffix, name_count}
+use Rattle.ports_core.specs.Name.{has_suffix, name_count}
 use Rattle.ports_core.proofs.PartLemmas.{nothing_begins, nothing_begins_part, part_begins_itself, part_trans, begins_itself, begins_trans, take_begins_after}
 use Rattle.ports_core.proofs.SlotLemmas.{slot_at-changed, slot_at-elsewhere}
 use Rattle.seg_core.specs.declared.cut.Cut.{Cut}
 use Rattle.seg_core.specs.declared.cut.Cut.TheVariants.{Parts, Round}
-use Rattle.split_core.specs.Split.{are_named, split_work, whole_by}
+use Rattle.split_core.specs.Split.{Filing, are_named, split_work, whole_by}
 use Rattle.split_core.specs.Round.{round_plan}
 use Rattle.split_core.specs.Split.{HasNames}
 use Rattle.split_core.proofs.RoundLemmas.{not_short}
@@ -224,15 +224,15 @@ all_have_names asked named = by asked.cut named where
   by (Parts limit) all = tt
   by (Round n delim) all = named_up_to asked n all
 
-dealt_closed : (delim n : ℕ) (elide : Bool) (names : Naming) (content : Content) → are_named names n ≡ true
-    → (x : List ℕ) → HasAll (split_work (round_plan delim n elide names)) content x → Begins (whole_by (round_plan delim n elide names) x) (made_of (split_work (round_plan delim n elide names)) content)
-dealt_closed delim n elide names content all x (to_end ends is) = rw (ends, is) (part_begins_itself _)
-dealt_closed delim n elide names content all x (enough rest is complete) = absurd (false≢true (not_short delim names elide n x all ∙ complete))
+dealt_closed : (delim n : ℕ) (elide : Bool) (filing : Filing) (content : Content) → are_named filing.names n ≡ true
+    → (x : List ℕ) → HasAll (split_work (round_plan delim n elide filing)) content x → Begins (whole_by (round_plan delim n elide filing) x) (made_of (split_work (round_plan delim n elide filing)) content)
+dealt_closed delim n elide filing content all x (to_end ends is) = rw (ends, is) (part_begins_itself _)
+dealt_closed delim n elide filing content all x (enough rest is complete) = absurd (false≢true (not_short delim filing elide n x all ∙ complete))
 
-pub split_grows : (cut : Cut) (elide : Bool) (names : Naming) → HasNames cut names → (content : Content) → IsGrowing (split_work (plan_by cut elide names)) content
-split_grows (Parts limit) elide names all = lawful_grows (parts_lawful limit names)
-split_grows (Round n delim) elide names all = λ content.
-    let law = round_lawful delim n elide names in record { settled = settled_made (split_work (round_plan delim n elide names)) content law.grows law.ends; closed = dealt_closed delim n elide names content all }
+pub split_grows : (cut : Cut) (elide : Bool) (filing : Filing) → HasNames cut filing.names → (content : Content) → IsGrowing (split_work (plan_by cut elide filing)) content
+split_grows (Parts limit) elide filing all = lawful_grows (parts_lawful limit filing)
+split_grows (Round n delim) elide filing all = λ content.
+    let law = round_lawful delim n elide filing in record { settled = settled_made (split_work (round_plan delim n elide filing)) content law.grows law.ends; closed = dealt_closed delim n elide filing content all }
 
 -- Each line is such a line, where those are that tell of outputs that broke, each in its call, and of the input.
 

@@ -10,7 +10,7 @@ use Rattle.ports_core.specs.Streams.{standard_error, standard_output, streams_wi
 use Rattle.ports_core.specs.Inputs.{largest_piece}
 use Rattle.ports_core.specs.Draft as made
 use Rattle.ports_core.specs.Draft.{Manner}
-use Rattle.ports_core.specs.Name.{Naming, has_name}
+use Rattle.ports_core.specs.Name.{has_name}
 use Rattle.ports_core.specs.Part.{File, FilesBegin, Part, nothing, only_out, OutputsAt, file_of, told_file}
 use Rattle.ports_core.specs.Text.{message_of}
 use Rattle.ports_core.specs.Work.{Judges, Needs, Work}
@@ -25,7 +25,8 @@ use Rattle.seg_core.specs.declared.unit.Unit.{Unit as Counted}
 use Rattle.ends_core.specs.Head.{head_work}
 use Rattle.ends_core.specs.Tail.{tail_work}
 use Rattle.seg_core.specs.declared.cut.Limit.{Limit}
-use Rattle.split_core.specs.Split.{Plan, Share, dealt_files, named, settled_parts, settled_shares, share, split_work}
+use Rattle.split_core.specs.inner.CutLaws.{named}
+use Rattle.split_core.specs.Split.{Filing, Plan, Share, dealt_files, settled_parts, settled_shares, share, split_work}
 use Rattle.split_core.specs.inner.Sharing.{file_at}
 use Rattle.operand_core.specs.Style.{Style}
 use Rattle.operand_core.specs.declared.operand.Operand.{Operand}
@@ -118,11 +119,11 @@ pub step_each : (P : File → Type 0) (file : File) (made others : List File) (h
 step_each P file made others true is are without = search rules
 step_each P file made others false is are without = without
 
-pub named_each : (P : File → Type 0) (names : Naming) (place : ℕ) (shares : List Share) → All (λ share. (place : ℕ) → P (file_at names place share)) shares → All P (named names place shares)
-named_each P names place [] all = All-nil P
-named_each P names place (share ∷ shares) all =
-    let Q = λ (share : Share). (place : ℕ) → P (file_at names place share) in
-    step_each P _ _ [] (has_name names place) (All-head Q share shares all place) (named_each P names (place + 1) shares (All-tail Q share shares all)) (All-nil P)
+pub named_each : (P : File → Type 0) (filing : Filing) (place : ℕ) (shares : List Share) → All (λ share. (place : ℕ) → P (file_at filing place share)) shares → All P (named filing place shares)
+named_each P filing place [] all = All-nil P
+named_each P filing place (share ∷ shares) all =
+    let Q = λ (share : Share). (place : ℕ) → P (file_at filing place share) in
+    step_each P _ _ [] (has_name filing.names place) (All-head Q share shares all place) (named_each P filing (place + 1) shares (All-tail Q share shares all)) (All-nil P)
 
 pub each_made : (P : File → Type 0) (manner : Manner) (place : ℕ) (shares : List made.Share) → All (λ one. (place : ℕ) → P (made.file_at manner place one)) shares → All P (made.files_from manner place shares)
 each_made P manner place [] all = All-nil P
@@ -155,8 +156,8 @@ settled_there : (cut : Cut) (elide : Bool) (x : List ℕ) → All IsThere (settl
 settled_there (Parts limit) elide x = parts_there limit x
 settled_there (Round n delim) elide x = shares_there Open refl (dealt_files delim elide n x)
 
-files_there : (names : Naming) (shares : List Share) → All IsThere shares → AreLive (named names 0 shares)
-files_there names shares all = search (rules, named_each)
+files_there : (filing : Filing) (shares : List Share) → All IsThere shares → AreLive (named filing 0 shares)
+files_there filing shares all = search (rules, named_each)
 
 pub split_living : (plan : Plan) → IsLiving (split_work plan)
 split_living plan = grind (arith, common_steps, files_there, settled_there, shares_there)

@@ -6,7 +6,7 @@ use Rattle.ports_core.specs.Slot.{Slot, slot_at}
 use Rattle.run_core.specs.Input.{Input, World, input_of, inputs_at, is_dash}
 use Rattle.run_core.specs.Task.{Outcome, Task, made_by}
 use Rattle.words_core.specs.declared.settings.Settings.{Settings}
-use Rattle.tools_core.specs.Tasks.{names_of, is_minus, is_plus, naming_of}
+use Rattle.tools_core.specs.Tasks.{filing_of, names_of, is_minus, is_plus}
 use Rattle.tools_core.specs.Promises.{Completes, Does, FindAlike, HasInput, Ran, Run, IsHead, IsTail, IsBare, CountAlike, output_of, AreCopies, IsSound, files_of, BeginsAs, BeginsEach}
 use Rattle.tools_core.proofs.BeginLemmas.{all_have_names, ending, part_of, bare_begins, begins_kept, begins_whole, lawful_grows, split_grows, still_begins, tee_begins, text_begins}
 use Rattle.tools_core.proofs.LeftLemmas.{Makes, completes_left, left_whole, same_made, slots_of, copies_are, copy, tee_made, left_at, ran_over}
@@ -132,7 +132,7 @@ BeginsMade asked inputs new = (made : Outcome) × Makes asked inputs made × ((p
 begins_made : (asked : Settings) (inputs : List Input) (sources : List Source) (new : List Slot) (status : ℕ) → CanRun asked → DoesAsked true true asked inputs sources new status → BeginsMade asked inputs new
 begins_made (Head asked) inputs sources new status can does = (_, refl, λ place differs. begins_whole (lawful_grows (head_lawful _ _ _ _)) differs does)
 begins_made (Tail asked) inputs sources new status can does = (_, refl, λ place differs. begins_whole (lawful_grows (tail_lawful _ _ _ _)) differs does)
-begins_made (Split asked) inputs sources new status can does = (_, refl, λ place differs. begins_whole (split_grows asked.cut asked.elide (naming_of asked) (all_have_names asked can.named)) differs does)
+begins_made (Split asked) inputs sources new status can does = (_, refl, λ place differs. begins_whole (split_grows asked.cut asked.elide (filing_of asked) (all_have_names asked can.named)) differs does)
 begins_made (Csplit asked) inputs sources new status can does = (_, (does.operands, does.asks, refl), λ place differs. begins_whole (lawful_grows (csplit_law.lawful asked.style does.operands)) differs does.ends)
 begins_made (Tee asked) inputs sources new status can does = (_, (does.content, does.input, refl), λ place differs. tee_begins place differs does.ends)
 begins_made (About which topic) inputs sources new status can does = (_, refl, λ place differs. text_begins place differs does)

@@ -7,7 +7,7 @@ use Rattle.ports_core.specs.Name.{ordered_count, IsWide, keeps_order, Naming, ha
 use Rattle.ports_core.specs.declared.numbering.Numbering.TheVariants.{Formatted}
 use Rattle.ports_core.specs.declared.form.Form.{Form}
 use Rattle.ports_core.proofs.OrderLemmas.{in_order}
-use Rattle.tools_core.specs.Promises.{AreInOrder, text_at, Run, Does, HasInput, AreListed, ArePieces, AreLinePieces, AreUncut, AreDealt, EndsLine, IsFilled, IsSound, contents_of, files_of}
+use Rattle.tools_core.specs.Promises.{AreInOrder, text_at, Run, Does, HasInput, AreListed, ArePieces, AreLinePieces, AreUncut, AreDealt, EndsLine, IsFilled, IsSound, contents_of, files_of, lines_telling, output_of}
 use Rattle.std.proofs.lemmas.List.{length-map, length-take, length-take-le, length-drop, get_or-take, get_or_past, take-append-drop, take-append-le, take_all}
 use Rattle.std.proofs.lemmas.List.FromFn.{get_or-map-range_with_len, length-map-range_with_len}
 use Rattle.std.proofs.lemmas.Nat.{mod_below}
@@ -20,8 +20,9 @@ use Rattle.seg_core.proofs.LinesOf.{joined-lines_of}
 use Rattle.seg_core.proofs.FirstLines.{delimiters-first_lines, first_lines-append, first_lines-full, first_lines-more, first_lines-short, length-first_lines-le, lines_of-first_lines, lines_of-after_lines}
 use Rattle.seg_core.proofs.LineCounts.{line_count-open, line_count_near}
 use Rattle.seg_core.specs.declared.cut.Cut.{Cut}
+use Rattle.ports_core.specs.Draft.{opening_line, told_of_files}
 use Rattle.ports_core.specs.Part.{File}
-use Rattle.ports_core.specs.Slot.{Slot}
+use Rattle.ports_core.specs.Slot.{Slot, slot_at}
 use Rattle.ports_core.specs.declared.fault.Fault.TheVariants.{Suffixes}
 use Rattle.ports_core.specs.declared.slot.Mode.TheVariants.{Fresh}
 use Rattle.ports_core.specs.declared.slot.State.TheVariants.{Closed}
@@ -29,7 +30,8 @@ use Rattle.seg_core.specs.declared.cut.Limit.TheVariants as limit
 use Rattle.split_core.specs.Parts.{parts, round_robin, whole_lines}
 use Rattle.split_core.specs.Sections.{AreLineByteParts}
 use Rattle.split_core.specs.Sections as piece
-use Rattle.split_core.specs.Split.{Share, share, named, are_named, is_some, dealt_files, pieces_of}
+use Rattle.split_core.specs.inner.CutLaws.{named}
+use Rattle.split_core.specs.Split.{Filing, output_by, Share, share, are_named, is_some, dealt_files, pieces_of}
 use Rattle.split_core.specs.inner.Sharing.{file_at}
 use Rattle.split_core.specs.inner.Dealt.{share_of}
 use Rattle.split_core.specs.laws.CutLaws.{whole_of_lines, whole_of_none}
@@ -41,7 +43,7 @@ use Rattle.split_core.proofs.SectionLemmas.{line_at, all_dealt, first_files, joi
 use Rattle.words_core.specs.declared.settings.Settings.TheVariants.{Split}
 use Rattle.words_core.specs.SplitAsked.{SplitAsked}
 use Rattle.words_core.specs.SplitWords.{CanSplit, IsInLimits}
-use Rattle.tools_core.specs.Tasks.{naming_of, split_task}
+use Rattle.tools_core.specs.Tasks.{filing_of, naming_of, split_task}
 use Rattle.tools_core.proofs.RunLemmas.{can_run}
 use Rattle.tools_core.proofs.LeftLemmas.{named_each, slot_of}
 use Rattle.tools_core.proofs.PromiseLemmas.{did_one, one_made}
@@ -72,9 +74,9 @@ pub bytes_written : (files : List File) → map (λ (file : Slot). file.written)
 bytes_written [] = refl
 bytes_written (file ∷ files) = ap (λ those. file.bytes ∷ those) (bytes_written files)
 
-all_named : (names : Naming) {pieces : List (List ℕ)} → are_named names (length (map (share Closed) pieces)) ≡ true
-    → map (λ (file : Slot). file.written) (map slot_of (named names 0 (map (share Closed) pieces))) ≡ pieces
-all_named names {pieces} are = rw (bytes_written (named names 0 (map (share Closed) pieces)), bytes_named names 0 (map (share Closed) pieces), bytes_of_shares Closed pieces, each_named names pieces (ap (are_named names) (sym (length-map pieces (share Closed))) ∙ are))
+all_named : (filing : Filing) {pieces : List (List ℕ)} → are_named filing.names (length (map (share Closed) pieces)) ≡ true
+    → map (λ (file : Slot). file.written) (map slot_of (named filing 0 (map (share Closed) pieces))) ≡ pieces
+all_named filing {pieces} are = rw (bytes_written (named filing 0 (map (share Closed) pieces)), bytes_named filing 0 (map (share Closed) pieces), bytes_of_shares Closed pieces, each_named filing.names pieces (ap (are_named filing.names) (sym (length-map pieces (share Closed))) ∙ are))
 
 -- Their names
 
@@ -88,10 +90,10 @@ named_step name start file made others true is are without zero within = search 
 named_step name start file made others true is are without (suc k) within = are k (omega (arith, within)) ∙ ap name (omega arith)
 named_step name start file made others false is are without k within = without k within
 
-have_names : (names : Naming) (start : ℕ) (shares : List Share) → AreNamed (name_at names) start (named names start shares)
-have_names names start [] k within = search rules
-have_names names start (share ∷ shares) k within = named_step (name_at names) start (file_at names start share) (named names (start + 1) shares) []
-    (has_name names start) refl (have_names names (start + 1) shares) (λ k within. absurd (omega (arith, within))) k within
+have_names : (filing : Filing) (start : ℕ) (shares : List Share) → AreNamed (name_at filing.names) start (named filing start shares)
+have_names filing start [] k within = search rules
+have_names filing start (share ∷ shares) k within = named_step (name_at filing.names) start (file_at filing start share) (named filing (start + 1) shares) []
+    (has_name filing.names start) refl (have_names filing (start + 1) shares) (λ k within. absurd (omega (arith, within))) k within
 
 named_below : (names : Naming) (count : ℕ) → are_named names count ≡ true → (place : ℕ) → place < count → has_name names place ≡ true
 named_below names zero are place less = search rules
@@ -100,12 +102,20 @@ named_below names (suc last) are place less = grind (arith, common_steps)
 split_in_order : (asked : SplitAsked) → 0 < asked.width → (k : ℕ) → has_name (naming_of asked) (suc k) ≡ true → slice_cmp nat_cmp (name_at (naming_of asked) k) (name_at (naming_of asked) (suc k)) ≡ Less
 split_in_order asked wide k has = in_order (naming_of asked) k (suc k) (cond_both asked.auto _ _ IsWide (λ is. wide) (λ is. tt)) (omega arith) has (cond_both asked.auto _ _ (λ numbering. IsTrue (keeps_order numbering (suc k))) (λ is. refl) (λ is. refl))
 
+-- What standard output is told of them
+
+told_lines : (verbose : Bool) (files : List File) → told_of_files (output_by verbose) files ≡ cond verbose (lines_telling (map slot_of files)) []
+told_lines false files = refl
+told_lines true [] = refl
+told_lines true (file ∷ files) = ap (λ lines. opening_line file.name ++ lines) (told_lines true files)
+
 -- What a run leaves
 
 pub record IsSplit (run : Run) (asked : SplitAsked) (input : List ℕ) : Type 0 where
   pub can : CanSplit asked
   pub listed : AreListed asked (files_of run)
   pub contents : contents_of run ≡ pieces_of asked.cut asked.elide input
+  pub told : output_of run ≡ cond asked.verbose (lines_telling (files_of run)) []
 
 pub is_split : {run : Run} {asked : SplitAsked} {input : List ℕ} → Does run (Split asked) → HasInput run input → IsSplit run asked input
 is_split {run} {asked} {input} does has =
@@ -113,14 +123,15 @@ is_split {run} {asked} {input} does has =
     let made = one_made one (split_task asked) one.makes in
     let can = can_run run.words does.ran.read in
     let names = naming_of asked in
+    let filing = filing_of asked in
     let pieces = pieces_of asked.cut asked.elide input in
-    let files : files_of run ≡ map slot_of (named names 0 (map (share Closed) pieces)) = ap (drop 2) made.slots in
+    let files : files_of run ≡ map slot_of (named filing 0 (map (share Closed) pieces)) = ap (drop 2) made.slots in
     let are : are_named names (length (map (share Closed) pieces)) ≡ true = not_short _ made.unjudged in
-    let slots = map slot_of (named names 0 (map (share Closed) pieces)) in
+    let slots = map slot_of (named filing 0 (map (share Closed) pieces)) in
     let size : length (map (λ (file : Slot). file.name) slots) ≡ length slots = length-map slots (λ (file : Slot). file.name) in
-    let count : length slots ≡ length (map (share Closed) pieces) = sym (length-map slots (λ (file : Slot). file.written)) ∙ ap length (all_named names are) ∙ sym (length-map pieces (share Closed)) in
+    let count : length slots ≡ length (map (share Closed) pieces) = sym (length-map slots (λ (file : Slot). file.written)) ∙ ap length (all_named filing are) ∙ sym (length-map pieces (share Closed)) in
     let called : (place : ℕ) → place < length (map (λ (file : Slot). file.name) slots) → text_at (map (λ (file : Slot). file.name) slots) place ≡ name_at names place =
-    λ place within. have_names names 0 (map (share Closed) pieces) place (omega (arith, size, within)) ∙ ap (name_at names) (omega arith) in
+    λ place within. have_names filing 0 (map (share Closed) pieces) place (omega (arith, size, within)) ∙ ap (name_at names) (omega arith) in
     let IsMade = λ (file : File). IsSound Fresh (slot_of file) in
     record {
       can = can;
@@ -128,9 +139,10 @@ is_split {run} {asked} {input} does has =
         named = λ place within. called place (omega (arith, size, within));
         in_order = order_by (name_at names) _ called (λ k next.
             split_in_order asked can.width.0 k (named_below names _ are (suc k) (omega (arith, size, count, next))));
-        sound = All-map (IsSound Fresh) slot_of _ (named_each IsMade names 0 (map (share Closed) pieces) (All-map (λ one. (place : ℕ) → IsMade (file_at names place one)) (share Closed) pieces (λ k bytes within place. (refl, refl, refl))));
+        sound = All-map (IsSound Fresh) slot_of _ (named_each IsMade filing 0 (map (share Closed) pieces) (All-map (λ one. (place : ℕ) → IsMade (file_at filing place one)) (share Closed) pieces (λ k bytes within place. (refl, refl, refl))));
       });
-      contents = rw (files, all_named names are);
+      contents = rw (files, all_named filing are);
+      told = rw files (ap (λ slots. (slot_at slots 0).written) made.slots ∙ told_lines asked.verbose (named filing 0 (map (share Closed) pieces)));
     }
 
 -- Pieces of n lines or bytes

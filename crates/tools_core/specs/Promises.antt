@@ -6,6 +6,7 @@ use Rattle.std.specs.declared.cmp.Ordering.TheVariants.{Less}
 use Rattle.std.specs.Ordering.{nat_cmp}
 use Rattle.std.specs.Cmp.Lexicographic.{slice_cmp}
 use Rattle.seg_core.specs.Line.{delimiters, ends_with, first_lines, joined, lines_of}
+use Rattle.ports_core.specs.Draft.{opening_line}
 use Rattle.ports_core.specs.Inputs.{largest_piece}
 use Rattle.ports_core.specs.Message.{SaysAll}
 use Rattle.ports_core.specs.Name.{name_at, ordered_count}
@@ -139,6 +140,10 @@ pub record CountAlike (one other : EndsAsked) : Type 0 where
 -- The files that it opened. One that was opened twice, under the same name or another, stands here twice.
 abbrev pub files_of : Run → List Slot
 files_of run = drop 2 run.outputs
+
+-- the lines that tell of files, each of which was written before the file was opened
+abbrev pub lines_telling : List Slot → List ℕ
+lines_telling files = flat_map (λ (file : Slot). opening_line file.name) files
 
 -- The file was opened in this mode: it was empty then, or kept what it had. It was closed, and never broke.
 abbrev pub IsSound : Mode → Slot → Type 0

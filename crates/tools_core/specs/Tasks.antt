@@ -11,7 +11,7 @@ use Rattle.seg_core.specs.declared.count.Sign.{Sign}
 use Rattle.seg_core.specs.declared.count.Sign.TheVariants.{Plain, Minus, Plus}
 use Rattle.ends_core.specs.Head.{head_work}
 use Rattle.ends_core.specs.Tail.{tail_work}
-use Rattle.split_core.specs.Split.{Plan, split_work}
+use Rattle.split_core.specs.Split.{Filing, Plan, split_work}
 use Rattle.csplit_core.specs.Csplit.{csplit_work}
 use Rattle.operand_core.specs.declared.operand.Operand.{Operand}
 use Rattle.run_core.specs.Task.{Task}
@@ -72,8 +72,12 @@ naming_of asked = record {
   ending = asked.ending;
 }
 
+-- how its files are made
+abbrev pub filing_of : SplitAsked → Filing
+filing_of asked = record { names = naming_of asked; verbose = asked.verbose }
+
 abbrev pub plan_of : SplitAsked → Plan
-plan_of asked = record { cut = asked.cut; elide = asked.elide; names = naming_of asked }
+plan_of asked = record { cut = asked.cut; elide = asked.elide; filing = filing_of asked }
 
 -- `split`: the input cut into files
 abbrev pub split_task : SplitAsked → Task

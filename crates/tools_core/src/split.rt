@@ -1,10 +1,11 @@
 //! `split`: an input cut into files (POSIX.1-2017, XCU split).
 ghost use Rattle.std.specs.Prelude.{◌≡◌, IfErr, IfOk};
+ghost use Rattle.split_core.specs.Split.{tells_by};
 ghost use Rattle.tools_core.specs.laws.Props.{CanSplit-prop};
 ghost use Rattle.tools_core.specs.Tasks.{naming_of, split_task};
 ghost use Rattle.words_core.specs.SplitWords.{CanSplit, IsWidth};
 
-use ports_core::{Fault, Guarded, Names, Naming, Numbering, Outs, Tool};
+use ports_core::{Fault, Guarded, Names, Naming, Numbering, Outs, Tells, Tool};
 use run_core::Adapter;
 use split_core::Splitter;
 use std::alloc::Global;
@@ -45,8 +46,19 @@ impl<'a, 'b> Adapter for SplitAdapter<'a, 'b> {
         let _ = coming;
         let settings = self.settings;
         let names = names_for(alloc, settings)?;
-        Splitter::open(alloc, settings.cut, names, settings.elide, outs)
+        let tells = tells_for(settings.verbose);
+        Splitter::open(alloc, settings.cut, names, settings.elide, tells, outs)
     }
+}
+
+/// What standard output is told of its files.
+fn tells_for(verbose: bool) -> Tells
+    ensures { result ≡ tells_by verbose }
+{
+    if verbose {
+        return Tells::Openings;
+    }
+    Tells::Nothing
 }
 
 /// The names of its files, of which none was drawn.

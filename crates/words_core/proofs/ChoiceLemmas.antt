@@ -27,7 +27,7 @@ use Rattle.words_core.specs.SplitWords.{delim_by, is_way, no_options, only_way, 
 use Rattle.words_core.specs.TailWords.{follow_by, no_following}
 use Rattle.words_core.specs.TeeWords.{mode_by, on_broken_by}
 use Rattle.words_core.specs.Words.{about_or, or_later, settings_for, topic_in, topic_of, work_for}
-use Rattle.words_core.specs.Laws.{LastDecides, says, amount_of, appends, counts, counts_digits, counts_looks, counts_pause, names_process, drops_sizes, elides_files, ends_with_zero, gives_ending, gives_format, has, heads, keeps_files, leaves_lines_out, names_prefix, retries, says_followed, says_on_broken, separates, spells, widens}
+use Rattle.words_core.specs.Laws.{LastDecides, says, amount_of, appends, counts, counts_digits, counts_looks, counts_pause, names_process, drops_sizes, elides_files, tells_of_files, ends_with_zero, gives_ending, gives_format, has, heads, keeps_files, leaves_lines_out, names_prefix, retries, says_followed, says_on_broken, separates, spells, widens}
 
 -- a part of what is asked for that some options set, whatever was asked before them, and that the others leave
 
@@ -78,6 +78,7 @@ pub split-sets : (asked other : SplitAsked) (choice : Choice) (value : Meant)
     × ((split_by asked choice value).width ≡ (if widens choice value then (split_by other choice value).width else asked.width))
     × ((split_by asked choice value).ending ≡ (if gives_ending choice value then (split_by other choice value).ending else asked.ending))
     × ((split_by asked choice value).elide ≡ (if elides_files choice then true else asked.elide))
+    × ((split_by asked choice value).verbose ≡ (if tells_of_files choice then true else asked.verbose))
 split-sets asked other SuffixLength (Width width) = search rules
 split-sets asked other AdditionalSuffix (Text text) = search rules
 split-sets asked other choice value = search rules

@@ -143,6 +143,10 @@ abbrev pub elides_files : Choice → Bool
 elides_files ElideEmptyFiles = true
 elides_files choice = false
 
+abbrev pub tells_of_files : Choice → Bool
+tells_of_files Verbose = true
+tells_of_files choice = false
+
 abbrev pub leaves_lines_out : Choice → Bool
 leaves_lines_out SuppressMatched = true
 leaves_lines_out choice = false
@@ -276,6 +280,7 @@ split_as cut alphabet width auto elide = record {
   auto = auto;
   from = None;
   elide = elide;
+  verbose = false;
   input = codes "-";
   prefix = codes "x";
   ending = [];

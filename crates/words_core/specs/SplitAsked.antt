@@ -12,6 +12,8 @@ pub record SplitAsked : Type 0 where
   -- the number of the first file, where an option says so; suffixes don't widen then
   pub from : Option ℕ
   pub elide : Bool
+  -- standard output is told of each file before it is opened
+  pub verbose : Bool
   -- the name of the input, and what the names of the files begin with
   pub input : List ℕ
   pub prefix : List ℕ

@@ -31,6 +31,7 @@ no_options = record {
   auto = false;
   from = None;
   elide = false;
+  verbose = false;
   input = codes "-";
   prefix = codes "x";
   ending = [];
@@ -48,6 +49,7 @@ split_by asked choice.SuffixLength (Width width) = record asked { width = width 
 split_by asked choice.NumericSuffixes value = record asked { alphabet = Decimal; from = from_in value }
 split_by asked choice.HexSuffixes value = record asked { alphabet = Hexadecimal; from = from_in value }
 split_by asked choice.ElideEmptyFiles value = record asked { elide = true }
+split_by asked choice.Verbose value = record asked { verbose = true }
 split_by asked choice.AdditionalSuffix (Text text) = record asked { ending = text }
 split_by asked choice value = asked
 

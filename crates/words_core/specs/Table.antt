@@ -139,6 +139,8 @@ split_table =
     (codes "names end with TEXT")
     ∷ option (codes "-u" ∷ codes "--unbuffered" ∷ []) NoEffect Nothing []
     (codes "taken without effect")
+    ∷ option (codes "--verbose" ∷ []) Verbose Nothing []
+    (codes "write each name before its file is opened")
     ∷ help_row
     ∷ version_row
     ∷ []

@@ -9,7 +9,7 @@ ghost use Rattle.std.specs.Char.{is_ascii_digit};
 ghost use Rattle.words_core.specs.Given.{Given, GivenOperand, GivenOption, bare, joined, one_operand, one_option};
 ghost use Rattle.words_core.specs.CsplitWords.{chosen_by, decimal_form, style_of};
 ghost use Rattle.words_core.specs.Format.{Format, format_in};
-ghost use Rattle.words_core.specs.Laws.{AreAmong, Gives, IsLast, IsLetter, IsName, IsSwitch, LastDecides, LeaveTheRest, amount_of, appends, as_operands, counts, counts_digits, counts_looks, counts_pause, csplit_as, drops_sizes, elides_files, ends_as, ends_of, ends_with_zero, follow_of, following_as, gives_ending, gives_format, has, heads, is_plain, keeps_files, leaves_lines_out, names_prefix, names_process, on_broken_of, plain_style, retries, says_followed, says_on_broken, separates, spells, split_as, split_of, tail_as, widens};
+ghost use Rattle.words_core.specs.Laws.{AreAmong, Gives, IsLast, IsLetter, IsName, IsSwitch, LastDecides, LeaveTheRest, amount_of, appends, as_operands, counts, counts_digits, counts_looks, counts_pause, csplit_as, drops_sizes, elides_files, tells_of_files, ends_as, ends_of, ends_with_zero, follow_of, following_as, gives_ending, gives_format, has, heads, is_plain, keeps_files, leaves_lines_out, names_prefix, names_process, on_broken_of, plain_style, retries, says_followed, says_on_broken, separates, spells, split_as, split_of, tail_as, widens};
 ghost use Rattle.words_core.specs.Lettered.{is_lettered, letter_named, unit_of, with_letters};
 ghost use Rattle.words_core.specs.SplitAsked.{SplitAsked};
 ghost use Rattle.words_core.specs.Spelling.{given_before, mixed, spelled};
@@ -91,6 +91,7 @@ pub fn options_stand_anywhere()
     ensures elide { (options : List GivenOption) → (style_of options).elide ≡ has elides_files options }
     ensures suppress { (options : List GivenOption) → (style_of options).suppress ≡ has leaves_lines_out options }
     ensures leave_out { (options : List GivenOption) → (split_of options).elide ≡ has elides_files options }
+    ensures tell { (options : List GivenOption) → (split_of options).verbose ≡ has tells_of_files options }
     ensures zero { (options : List GivenOption) → (ends_of options).delim ≡ (if has ends_with_zero options then 0 else 10) }
     ensures append { (given : Given) → ((tee_asked given).mode ≡ Mode.Append) ↔ (has appends given.options ≡ true) }
 {}
@@ -276,6 +277,7 @@ pub fn split_options_ask()
         → settings_of (codes "split" ∷ (codes "--hex-suffixes=" ++ value) ∷ []) ≡ Ok (Settings.Split (record (split_as (thousand_lines 10) Alphabet.Hex 2 false false) { from = Some from })) }
     ensures too_short { (value : List ℕ) (from : ℕ) → up_to (2 ^ 63 - 1) (digits_of value) ≡ Ok from → 100 ≤ from
         → settings_of (codes "split" ∷ (codes "--numeric-suffixes=" ++ value) ∷ []) ≡ Err (Fault.Usage SuffixTooShort 0) }
+    ensures split_verbose { settings_of (codes "split" ∷ codes "--verbose" ∷ []) ≡ Ok (Settings.Split (record (split_as (thousand_lines 10) Alphabet.Letters 2 true false) { verbose = true })) }
     ensures elide { settings_of (codes "split" ∷ codes "-e" ∷ []) ≡ Ok (Settings.Split (split_as (thousand_lines 10) Alphabet.Letters 2 true true)) }
     ensures width { settings_of (codes "split" ∷ codes "-a3" ∷ []) ≡ Ok (Settings.Split (split_as (thousand_lines 10) Alphabet.Letters 3 false false)) }
 {}

@@ -101,6 +101,8 @@ pub struct SplitSettings<'a> {
     pub from: Option<u64>,
     /// Whether files that stay empty are left out.
     pub elide: bool,
+    /// Whether standard output is told of each file before it is opened.
+    pub verbose: bool,
     /// The input's name; `-` is standard input.
     pub input: &'a str,
     /// What the files' names begin with.
@@ -112,7 +114,7 @@ pub struct SplitSettings<'a> {
 impl<'a> Model for SplitSettings<'a> {
     ghost Value = { SplitAsked };
 
-    ghost view = { λ s. record { cut = s.cut; alphabet = s.alphabet; width = s.width; auto = s.auto; from = s.from; elide = s.elide; input = s.input.now; prefix = s.prefix.now; ending = s.ending.now } };
+    ghost view = { λ s. record { cut = s.cut; alphabet = s.alphabet; width = s.width; auto = s.auto; from = s.from; elide = s.elide; verbose = s.verbose; input = s.input.now; prefix = s.prefix.now; ending = s.ending.now } };
 }
 
 /// What `tee` is to write its input to, besides standard output.

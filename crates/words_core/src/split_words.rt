@@ -1,5 +1,5 @@
-//! What `split` is asked for: POSIX.1-2017, XCU split; `-C`, `-n`, `-d`, `-x`, `-e`, `-t` and
-//! `--additional-suffix` are GNU's.
+//! What `split` is asked for: POSIX.1-2017, XCU split; `-C`, `-n`, `-d`, `-x`, `-e`, `-t`,
+//! `--additional-suffix` and `--verbose` are GNU's.
 ghost use Rattle.std.specs.Prelude.{◌≡◌, ℕ, ◌+◌, ◌^◌, ◌<◌, ◌≤◌, filter, map, IfOk, IfErr};
 ghost use Rattle.ports_core.specs.Name.{name_count};
 ghost use Rattle.words_core.specs.Given.{asked_by, operand_seen, option_seen};
@@ -36,6 +36,7 @@ fn no_options<'a>() -> SplitSettings<'a>
         auto: false,
         from: None,
         elide: false,
+        verbose: false,
         input: STANDARD_INPUT,
         prefix: PREFIX,
         ending: "",
@@ -67,6 +68,10 @@ impl<'a> SplitSettings<'a> {
             },
             Choice::ElideEmptyFiles => SplitSettings {
                 elide: true,
+                ..self
+            },
+            Choice::Verbose => SplitSettings {
+                verbose: true,
                 ..self
             },
             Choice::AdditionalSuffix => match option.value {

@@ -383,6 +383,13 @@ const SPLIT: &[OptionRow] = &[
         value: "",
         does: "taken without effect",
     },
+    OptionRow {
+        names: &["--verbose"],
+        choice: Choice::Verbose,
+        takes: Takes::Nothing,
+        value: "",
+        does: "write each name before its file is opened",
+    },
     HELP,
     VERSION,
 ];

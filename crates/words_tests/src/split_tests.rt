@@ -20,6 +20,8 @@ enum Wanted<'a> {
     Operands(bool, &'a str, &'a str),
     /// The byte that lines end with, and what names end with.
     Ends(u8, &'a str),
+    /// Whether standard output is told of files.
+    Told(bool),
 }
 
 fn has(found: &SplitSettings<'_>, wanted: Wanted<'_>) -> bool {
@@ -40,6 +42,7 @@ fn has(found: &SplitSettings<'_>, wanted: Wanted<'_>) -> bool {
         Wanted::Ends(delim, ending) => {
             delim_of(found.cut) == Some(delim) && found.ending == ending
         }
+        Wanted::Told(verbose) => found.verbose == verbose,
     }
 }
 
@@ -435,6 +438,13 @@ const OPERANDS: &[OperandRow<'static>] = &[
     ),
     (&["split", "--", "-e", "-3"], false, "-e", "-3"),
 ];
+
+#[test]
+fn reads_whether_files_are_told_of(rt: HostRuntime) {
+    check(&rt, rt.alloc(), &["split", "-l", "2"], Wanted::Told(false));
+    check(&rt, rt.alloc(), &["split", "--verbose", "-e"], Wanted::Told(true));
+    check(&rt, rt.alloc(), &["split", "f", "--verb"], Wanted::Told(true));
+}
 
 type EndRow<'a> = (&'a [&'a str], u8, &'a str);
 

@@ -1,6 +1,6 @@
 ghost use Rattle.std.specs.Prelude.{◌<◌, ◌≤◌, length};
 
-use ports_core::{Alphabet, Fault, Names, Outs};
+use ports_core::{Alphabet, Fault, Names, Outs, Tells};
 use split_core::{Cut, Limit, Splitter};
 use std::alloc::Global;
 
@@ -16,7 +16,14 @@ pub(crate) fn write_parts<O: Outs>(
 {
     let limit = Limit::Lines(most, b'\n');
     let names = Names::new(alloc, "x", Alphabet::Letters, 2, true, "")?;
-    let mut splitter = Splitter::open(alloc, Cut::Parts(limit), names, false, outs)?;
+    let mut splitter = Splitter::open(
+        alloc,
+        Cut::Parts(limit),
+        names,
+        false,
+        Tells::Nothing,
+        outs,
+    )?;
     splitter.feed(text, outs)?;
     splitter.close(outs)
 }

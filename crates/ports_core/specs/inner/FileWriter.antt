@@ -1,7 +1,7 @@
 -- What private calls say of the writer of files.
 use Rattle.std.specs.Prelude.{◌≡◌, ℕ, ◌+◌, ◌<◌, ◌≤◌, ◌^◌, Bool, decimal, List, [], ◌∷◌, ◌++◌, length, Option, None, IfNone, IfSome, IsTrue, Result, Ok, Err}
 use Rattle.ports_core.specs.FileWriter.{WriterState}
-use Rattle.ports_core.specs.Names.{next_name, has_next, with_one_drawn, OpensNone}
+use Rattle.ports_core.specs.Names.{next_name, has_next, told_next, with_one_drawn, OpensNone}
 use Rattle.ports_core.specs.Slot.{Slot, opened}
 use Rattle.ports_core.specs.inner.Write.{Wrote}
 use Rattle.ports_core.specs.declared.fault.Fault.{Fault}
@@ -9,7 +9,7 @@ use Rattle.ports_core.specs.declared.file_writer.Current.TheVariants.{File, Unop
 use Rattle.ports_core.specs.declared.file_writer.Keeps.{Keeps}
 use Rattle.ports_core.specs.declared.file_writer.Keeps.TheVariants.{Open, All}
 use Rattle.ports_core.specs.declared.file_writer.Tells.{Tells}
-use Rattle.ports_core.specs.declared.file_writer.Tells.TheVariants.{Nothing, Sizes}
+use Rattle.ports_core.specs.declared.file_writer.Tells.TheVariants.{Nothing, Sizes, Openings}
 use Rattle.ports_core.specs.declared.slot.Mode.TheVariants.{Fresh}
 
 -- What the steps of the writer do.
@@ -18,6 +18,7 @@ use Rattle.ports_core.specs.declared.slot.Mode.TheVariants.{Fresh}
 abbrev pub CountsOn : Tells → ℕ → List ℕ → ℕ → Type 0
 CountsOn Nothing size bytes more = more ≤ size + length bytes
 CountsOn Sizes size bytes more = more ≡ size + length bytes
+CountsOn Openings size bytes more = more ≤ size + length bytes
 
 -- the open file, of which `size` bytes are counted, got these as well, or broke among them
 pub record Appends (told : Bool) (writer : WriterState) (slot size : ℕ) (bytes : List ℕ) (old new : List Slot)
@@ -27,17 +28,18 @@ pub record Appends (told : Bool) (writer : WriterState) (slot size : ℕ) (bytes
   pub still : IfSome fault (λ why. next.current ≡ writer.current)
   pub wrote : Wrote told slot bytes old new fault
 
--- the size of a file was told, or standard output broke; nothing was where nothing is told
+-- the size of a file was told, or standard output broke; nothing was where sizes aren't told
 abbrev pub TellsSize : Bool → Tells → ℕ → List Slot → List Slot → Option Fault → Type 0
 TellsSize told Nothing size old new fault = (fault ≡ None) × (new ≡ old)
 TellsSize told Sizes size old new fault = Wrote told 0 (decimal size ++ 10 ∷ []) old new fault
+TellsSize told Openings size old new fault = (fault ≡ None) × (new ≡ old)
 
 -- the outputs that are kept, with one more file
 abbrev pub files_with : Keeps → List ℕ → ℕ → List ℕ
 files_with Open files slot = files
 files_with All files slot = files ++ slot ∷ []
 
--- the next file was made
+-- the next file was made, after standard output was told of it
 pub record Made (writer : WriterState) (old new : List Slot) (next : WriterState) (slot : ℕ) : Type 0 where
   pub few : writer.names.drawn < 2 ^ 64
   pub named : IsTrue (has_next writer.names)
@@ -50,11 +52,12 @@ pub record Made (writer : WriterState) (old new : List Slot) (next : WriterState
   }
 
 -- or it couldn't be
-pub record MakesNone (writer : WriterState) (old new : List Slot) (next : WriterState) (fault : Fault) : Type 0 where
+pub record MakesNone (told : Bool) (writer : WriterState) (old new : List Slot) (next : WriterState) (fault : Fault)
+    : Type 0 where
   pub same : next ≡ record writer { names = next.names; current = Unopened }
   pub naming : next.names.naming ≡ writer.names.naming
-  pub none : OpensNone writer.names next.names old new fault
+  pub none : OpensNone told writer.tells writer.names next.names old new fault
 
-abbrev pub Makes : WriterState → List Slot → List Slot → WriterState → Result ℕ Fault → Type 0
-Makes writer old new next (Ok slot) = Made writer old new next slot
-Makes writer old new next (Err fault) = MakesNone writer old new next fault
+abbrev pub Makes : Bool → WriterState → List Slot → List Slot → WriterState → Result ℕ Fault → Type 0
+Makes told writer old new next (Ok slot) = Made writer (told_next told writer.tells writer.names old) new next slot
+Makes told writer old new next (Err fault) = MakesNone told writer old new next fault

@@ -3,7 +3,9 @@ use Rattle.std.specs.Prelude.{◌≡◌, ℕ, List, [], ◌∷◌, true, false, 
 use Rattle.seg_core.specs.declared.cut.Limit.{Limit}
 use Rattle.split_core.specs.Parts.{is_full, first_part, after_first, CutUp, parts}
 use Rattle.ports_core.specs.declared.slot.State.TheVariants.{Closed}
-use Rattle.split_core.specs.Split.{Share, share}
+use Rattle.split_core.specs.Split.{Filing, Share, manner_of, share}
+use Rattle.ports_core.specs.Draft.{files_from}
+use Rattle.ports_core.specs.Part.{File}
 
 -- the parts of a text, one after another
 
@@ -18,3 +20,7 @@ cut_so parts rest = record { full = parts; rest = rest }
 -- the shares in the end
 abbrev pub whole_parts : Limit → List ℕ → List Share
 whole_parts limit x = map (share Closed) (parts limit x)
+
+-- the files of these shares, named from a place on, as far as there are names
+abbrev pub named : Filing → ℕ → List Share → List File
+named filing place shares = files_from (manner_of filing) place shares

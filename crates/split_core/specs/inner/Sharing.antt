@@ -1,30 +1,31 @@
 -- What private calls say: how files in order get more bytes, and how more of them are opened.
 use Rattle.std.specs.Prelude.{◌≡◌, ℕ, ◌+◌, ◌-◌, ◌<◌, ◌≤◌, max, Bool, true, List, [], ◌∷◌, ◌++◌, ◌⊎◌, length, map, Result, Ok, Err, OnOk, IfErr, nat_lt, ◌==◌, if◌then◌else◌}
 use Rattle.std.specs.List.{range_with_len}
-use Rattle.ports_core.specs.Name.{Naming}
 use Rattle.ports_core.specs.Names.{with_one_drawn}
 use Rattle.ports_core.specs.Slot.{Slot}
-use Rattle.ports_core.specs.Part.{File, Part, OutputsAt, IsBeginning, StoppedBetween, gets_none}
+use Rattle.ports_core.specs.Part.{File, Part, OutputsAt, IsBeginning, StoppedBetween}
 use Rattle.ports_core.specs.declared.fault.Fault.{Fault}
 use Rattle.ports_core.specs.declared.fault.Fault.TheVariants.{Write}
 use Rattle.ports_core.specs.declared.slot.State.TheVariants as state
 use Rattle.ports_core.specs.Draft as draft
-use Rattle.split_core.specs.Split.{Share, share, manner_of, only_files}
+use Rattle.split_core.specs.Split.{Filing, Share, is_verbose, manner_of, output_by, share}
 use Rattle.ports_core.specs.Slot.{KeepsBroken, Rose}
 use Rattle.ports_core.specs.Draft.{Manner}
-use Rattle.ports_core.specs.FileWriter.{Breaks}
+use Rattle.ports_core.specs.FileWriter.{Breaks, CanTell}
 use Rattle.split_core.specs.Sharing.{CannotOpen}
-use Rattle.split_core.specs.FilesState.{FilesState}
+use Rattle.split_core.specs.FilesState.{FilesState, filing_in}
 use Rattle.split_core.specs.Round.{AreReady, OwnsFiles}
 
 -- the file of a share, by its place
-abbrev pub file_at : Naming → ℕ → Share → File
-file_at names place one = draft.file_at (manner_of names) place one
+abbrev pub file_at : Filing → ℕ → Share → File
+file_at filing place one = draft.file_at (manner_of filing) place one
 
 -- as many files with the shares at their places
-abbrev pub part_by : Naming → (ℕ → Share) → ℕ → Part
-part_by names shares count =
-    only_files (map (λ place. file_at names place (shares place)) (range_with_len 0 count))
+abbrev pub files_by : Filing → (ℕ → Share) → ℕ → List File
+files_by filing shares count = map (λ place. file_at filing place (shares place)) (range_with_len 0 count)
+
+abbrev pub part_by : Filing → (ℕ → Share) → ℕ → Part
+part_by filing shares count = draft.part_with (output_by filing.verbose) (files_by filing shares count)
 
 -- files that are open and have these bytes
 abbrev pub all_open : (ℕ → List ℕ) → ℕ → Share
@@ -42,7 +43,7 @@ only_at place bytes other = if other == place then bytes else []
 pub record StandAt (told : Bool) (files : FilesState) (before : List Slot) (had : ℕ → List ℕ) (now : List Slot)
     : Type 0 where
   pub owns : OwnsFiles files (length before) now
-  pub outputs : OutputsAt told before (part_by files.names.naming (all_open had) (length files.outputs)) now
+  pub outputs : OutputsAt told before (part_by (filing_in files) (all_open had) (length files.outputs)) now
   pub none : (place : ℕ) → length files.outputs ≤ place → had place ≡ []
 
 -- the files still stand where they stood
@@ -60,27 +61,29 @@ pub record Grow (from to : ℕ) (low : ℕ → Share) (few : ℕ) (high : ℕ �
 -- A fault stopped the files at a place from one on and before another, or at the first before any was reached, on the way from some
 -- shares to others: in order, also where files up to the first of these places had got more before, or those from the last on were
 -- to get more.
-pub record Halts (told : Bool) (before : List Slot) (names : Naming) (low : ℕ → Share) (few : ℕ) (high : ℕ → Share)
+pub record Halts (told : Bool) (before : List Slot) (filing : Filing) (low : ℕ → Share) (few : ℕ) (high : ℕ → Share)
     (many from to : ℕ) (fault : Fault) (now : List Slot) : Type 0 where
   pub stops : (first last : ℕ → Share) (fewest most end : ℕ) → Grow 0 (from + 1) first fewest low few
       → Grow (to - 1) end high many last most
-      → StoppedBetween gets_none told before (part_by names first fewest) (part_by names last most) fault now
+      → StoppedBetween (output_by filing.verbose) told before (part_by filing first fewest)
+      (part_by filing last most) fault now
   -- it was a write to none of the files before them
   pub own : (place : ℕ) → fault ≡ Write (length before + place) → from ≤ place
 
 -- they have got it all, or a fault stopped them
-abbrev pub Leaves : Bool → List Slot → Naming → (ℕ → Share) → ℕ → (ℕ → Share) → ℕ → ℕ → ℕ → List Slot
+abbrev pub Leaves : Bool → List Slot → Filing → (ℕ → Share) → ℕ → (ℕ → Share) → ℕ → ℕ → ℕ → List Slot
     → Result (Unit {0}) Fault → Type 0
-Leaves told before names low few high many from to new (Ok done) = OutputsAt told before (part_by names high many) new
-Leaves told before names low few high many from to new (Err fault) =
-    Halts told before names low few high many from to fault new
+Leaves told before filing low few high many from to new (Ok done) =
+    OutputsAt told before (part_by filing high many) new
+Leaves told before filing low few high many from to new (Err fault) =
+    Halts told before filing low few high many from to fault new
 
--- the faults of files that have names, of which standard output is told nothing
-abbrev pub always_named : Manner
-always_named = record { has_name = λ place. true; name = λ place. []; output = gets_none }
+-- the faults of files that have names
+abbrev pub always_named : Bool → Manner
+always_named verbose = record { has_name = λ place. true; name = λ place. []; output = output_by verbose }
 
-abbrev pub IsOfFiles : List Slot → List Slot → Fault → Type 0
-IsOfFiles old new fault = Breaks always_named old new fault
+abbrev pub IsOfFiles : Bool → List Slot → List Slot → Fault → Type 0
+IsOfFiles verbose old new fault = Breaks (always_named verbose) old new fault
 
 -- a file could not be closed, or what waited for it could not be written
 abbrev pub CannotClose : List Slot → List Slot → Fault → Type 0
@@ -89,39 +92,41 @@ CannotClose old new fault = (slot : ℕ) × (fault ≡ Write slot) × (2 ≤ slo
 -- More was added to files from a place on and before another, and all before that are open then; or a fault stopped that.
 pub record Adds (told : Bool) (files : FilesState) (more : ℕ → List ℕ) (from to : ℕ) (old : List Slot)
     (next : FilesState) (new : List Slot) (result : Result (Unit {0}) Fault) : Type 0 where
-  pub names : next.names.naming ≡ files.names.naming
+  pub filing : filing_in next ≡ filing_in files
   pub owned : KeepsFiles files old next new
   pub ready : OnOk result (AreReady next new)
   pub opened : OnOk result (length next.outputs ≡ max (length files.outputs) to)
   pub sound : OnOk result (KeepsBroken old new)
-  pub caused : IfErr result (IsOfFiles old new)
+  pub caused : IfErr result (IsOfFiles (is_verbose files.tells) old new)
   pub outside : (place : ℕ) → (place < from) ⊎ (to ≤ place) → more place ≡ []
   pub leaves : (before : List Slot) (had has : ℕ → List ℕ) → StandAt told files before had old
       → ((place : ℕ) → has place ≡ had place ++ more place)
-      → Leaves told before files.names.naming (all_open had) (length files.outputs) (all_open has)
+      → Leaves told before (filing_in files) (all_open had) (length files.outputs) (all_open has)
       (max (length files.outputs) to) from to new result
 
 -- files were opened, as far as they weren't open, or one couldn't be
 pub record Opens (told : Bool) (files : FilesState) (from to : ℕ) (old : List Slot) (next : FilesState) (new : List Slot)
     (result : Result (Unit {0}) Fault) : Type 0 where
   pub adds : Adds told files (λ place. []) from to old next new result
-  pub caused : IfErr result (CannotOpen old new)
+  pub caused : IfErr result (CannotOpen (is_verbose files.tells) old new)
 
 -- the first `count` of them were closed
 abbrev pub HaveClosed : Bool → FilesState → ℕ → List Slot → List Slot → Type 0
 HaveClosed told files count old new = (before : List Slot) (had : ℕ → List ℕ) → StandAt told files before had old
-    → OutputsAt told before (part_by files.names.naming (closed_first count had) (length files.outputs)) new
+    → OutputsAt told before (part_by (filing_in files) (closed_first count had) (length files.outputs)) new
 
 -- all of them were closed, or a fault came before that
 pub record ClosesAll (told : Bool) (files : FilesState) (old new : List Slot) (result : Result (Unit {0}) Fault)
     : Type 0 where
   pub closed : OnOk result (HaveClosed told files (length files.outputs) old new)
+  pub output : OnOk result (CanTell files.tells new)
   pub cut : IfErr result (λ fault. (before : List Slot) (had : ℕ → List ℕ) → StandAt told files before had old
-      → StoppedBetween gets_none told before (part_by files.names.naming (all_open had) (length files.outputs))
-      (part_by files.names.naming (closed_first (length files.outputs) had) (length files.outputs)) fault new)
+      → StoppedBetween (output_by (is_verbose files.tells)) told before
+      (part_by (filing_in files) (all_open had) (length files.outputs))
+      (part_by (filing_in files) (closed_first (length files.outputs) had) (length files.outputs)) fault new)
   pub caused : IfErr result (CannotClose old new)
   pub owned : KeepsFiles files old files new
 
 -- one more was opened, as this output
 abbrev pub with_opened : ℕ → FilesState → FilesState
-with_opened slot files = record { names = with_one_drawn files.names; outputs = files.outputs ++ slot ∷ [] }
+with_opened slot files = record files { names = with_one_drawn files.names; outputs = files.outputs ++ slot ∷ [] }

@@ -2,22 +2,22 @@
 use Rattle.std.specs.Prelude.{◌≡◌, ℕ, ◌-◌, ◌≤◌, ◌<◌, Bool, true, false, List, [], ◌++◌, length, take, Option, Some, None, IfNone, IfSome, Result, Ok, Err}
 use Rattle.ports_core.specs.Draft.{Draft, draft_part, part_of, with_bytes, with_next}
 use Rattle.ports_core.specs.FileWriter.{WriterState, Goes, Leaves, Reaches, At, IsWrite, is_file}
-use Rattle.ports_core.specs.Part.{Part, OutputsAt, gets_none}
+use Rattle.ports_core.specs.Part.{Part, OutputsAt}
 use Rattle.ports_core.specs.Slot.{Slot}
 use Rattle.ports_core.specs.declared.fault.Fault.{Fault}
 use Rattle.ports_core.specs.declared.fault.Fault.TheVariants.{Suffixes}
 use Rattle.ports_core.specs.declared.file_writer.Opening.TheVariants.{Late}
 use Rattle.seg_core.specs.Cut.{most}
-use Rattle.split_core.specs.Split.{are_named, draft_of, manner_of, settled_parts}
+use Rattle.split_core.specs.Split.{are_named, draft_of, manner_of, output_by, settled_parts}
 use Rattle.split_core.specs.inner.CutLaws.{whole_parts}
-use Rattle.split_core.specs.PartsState.{PartsState, Stands, names_of}
+use Rattle.split_core.specs.PartsState.{PartsState, Stands, filing_of}
 
 -- what is written once x came in, and in the end
 abbrev pub settled_part : PartsState → List ℕ → Part
-settled_part parts x = draft_part (manner_of (names_of parts)) (draft_of parts.limit x)
+settled_part parts x = draft_part (manner_of (filing_of parts)) (draft_of parts.limit x)
 
 abbrev pub whole_part : PartsState → List ℕ → Part
-whole_part parts x = part_of (manner_of (names_of parts)) (whole_parts parts.limit x)
+whole_part parts x = part_of (manner_of (filing_of parts)) (whole_parts parts.limit x)
 
 -- what a part still takes, whether it has a complete line, and what waits
 abbrev pub numbers : PartsState → ℕ × Bool × List ℕ
@@ -56,7 +56,7 @@ pub record Emptying (told : Bool) (writer now : WriterState) (held left : List �
 
 -- names ran out before these bytes of the input were written: the outputs have all that has a name
 pub record LacksNames (told : Bool) (parts : PartsState) (x bytes : List ℕ) (old new : List Slot) : Type 0 where
-  pub none : are_named (names_of parts) (length (settled_parts parts.limit (x ++ bytes))) ≡ false
+  pub none : are_named (filing_of parts).names (length (settled_parts parts.limit (x ++ bytes))) ≡ false
   pub all : (before : List Slot) → At told parts.writer before (settled_part parts x) old
       → OutputsAt told before (settled_part parts (x ++ bytes)) new
 
@@ -66,8 +66,8 @@ pub record Takes (told : Bool) (parts : PartsState) (bytes : List ℕ) (old new 
   pub limit : next.limit ≡ parts.limit
   pub leaves : Leaves parts.writer next.writer old new fault
   pub stands : IfNone fault ((x : List ℕ) → Stands parts x → Stands next (x ++ bytes))
-  pub reaches : (x : List ℕ) → Stands parts x → Reaches gets_none told parts.writer next.writer
-      (settled_part parts x) (settled_part parts (x ++ bytes)) old new fault
+  pub reaches : (x : List ℕ) → Stands parts x → Reaches (output_by (filing_of parts).verbose) told parts.writer
+      next.writer (settled_part parts x) (settled_part parts (x ++ bytes)) old new fault
   pub short : IfSome fault (λ why. why ≡ Suffixes → (x : List ℕ) → Stands parts x
       → LacksNames told parts x bytes old new)
 
@@ -83,5 +83,5 @@ pub record Finishes (told : Bool) (parts : PartsState) (old new : List Slot) (ne
   pub limit : next.limit ≡ parts.limit
   pub leaves : Leaves parts.writer next.writer old new fault
   pub broke : IfSome fault IsWrite
-  pub reaches : (x : List ℕ) → Stands parts x → Reaches gets_none told parts.writer next.writer
-      (settled_part parts x) (whole_part parts x) old new fault
+  pub reaches : (x : List ℕ) → Stands parts x → Reaches (output_by (filing_of parts).verbose) told parts.writer
+      next.writer (settled_part parts x) (whole_part parts x) old new fault

@@ -1,7 +1,8 @@
 -- What private calls say: the two ways to cut, as one stage.
-use Rattle.std.specs.Prelude.{◌≡◌, ℕ, ◌+◌, ◌%◌, Bool, true, List, [], length, slice_index_or, Result, OnOk, IfErr}
+use Rattle.std.specs.Prelude.{◌≡◌, ℕ, ◌+◌, ◌%◌, Bool, true, List, [], length, slice_index_or, IsTrue, Result, OnOk, IfErr}
 use Rattle.seg_core.specs.Line.{delimiters}
-use Rattle.ports_core.specs.Slot.{Slot}
+use Rattle.ports_core.specs.Part.{writes}
+use Rattle.ports_core.specs.Slot.{Slot, is_writable}
 use Rattle.ports_core.specs.declared.fault.Fault.{Fault}
 use Rattle.split_core.specs.declared.splitter.Splitter.{Splitter}
 use Rattle.split_core.specs.declared.splitter.Splitter.TheVariants.{Parts, Round}
@@ -39,6 +40,7 @@ pub record FinishesBy (told : Bool) (before after : List Slot) (result : Result 
     (old new : Splitter) : Type 0 where
   pub same : work new ≡ work old
   pub outputs : OnOk result (engine.Finishes Holds Owns work old told before after)
+  pub writable : OnOk result (writes (work old).means.output ≡ true → IsTrue (is_writable after 0))
   pub owns : KeepsOwn Owns old new before after
   pub cut : IfErr result (EndsShort Holds Owns work old told before after)
   pub met : IfErr result (IsMet (work old).means (work old).means.closing (Unit {0}) (EndsThere Holds work old)

@@ -6,9 +6,10 @@ use Rattle.seg_core.specs.Line.{joined, lines_of, delimiters, first_lines}
 use Rattle.seg_core.proofs.Delimiters.{delimiters-append}
 use Rattle.seg_core.proofs.FirstLines.{first_lines-append, first_lines-full, first_lines-short, first_lines_then_rest, lines_of-first_lines}
 use Rattle.ports_core.specs.Name.{Naming, has_name}
-use Rattle.ports_core.specs.Part.{IsBeginning, Begins}
+use Rattle.ports_core.specs.Draft.{opening_line, part_of, told_of_files}
+use Rattle.ports_core.specs.Part.{File, FilesBegin, IsBeginning, Begins}
 use Rattle.ports_core.specs.inner.Shares.{SharesBegin}
-use Rattle.ports_core.proofs.ShareLemmas.{files_begin, files_stop, made_begin, shares_after}
+use Rattle.ports_core.proofs.ShareLemmas.{files_begin, files_stop, made_begin, openings_begin, shares_after}
 use Rattle.ports_core.specs.declared.file_writer.Opening.TheVariants.{Late}
 use Rattle.ports_core.specs.declared.slot.State.TheVariants.{Open, Closed}
 use Rattle.ports_core.proofs.PartLemmas.{begins_itself, begins_more}
@@ -16,25 +17,32 @@ use Rattle.seg_core.specs.declared.cut.Limit.{Limit}
 use Rattle.seg_core.specs.declared.cut.Limit.TheVariants.{Lines, Bytes, LineBytes}
 use Rattle.seg_core.specs.Cut.{most}
 use Rattle.split_core.specs.Parts.{whole_lines, measure, is_full, first_part, after_first, cut_up, unless_empty, parts, settled_rest}
-use Rattle.split_core.specs.Split.{Share, share, manner_of, named, are_named, only_files, settled_parts}
+use Rattle.split_core.specs.Split.{Filing, Share, share, manner_of, are_named, output_by, settled_parts}
 use Rattle.split_core.specs.inner.Sharing.{file_at}
 use Rattle.split_core.specs.laws.CutLaws.{short_some, full_some, whole_of_lines, whole_of_none, settled_then_waiting, settled_some, cut_on, cut_none, cut_once, cuts_up, rest_short}
-use Rattle.split_core.specs.inner.CutLaws.{goes, cut_so, whole_parts}
+use Rattle.split_core.specs.inner.CutLaws.{goes, cut_so, whole_parts, named}
 
 -- the files of shares that begin others begin the files of those
 
-pub kept_file : (names : Naming) (place : ℕ) (one other : Share) → (one.state ≡ Open) ⊎ (one ≡ other)
-    → ((file_at names place one).state ≡ Open) ⊎ (file_at names place one ≡ file_at names place other)
-kept_file names place one other (inl is) = inl is
-kept_file names place one other (inr same) = search rules
+pub kept_file : (filing : Filing) (place : ℕ) (one other : Share) → (one.state ≡ Open) ⊎ (one ≡ other)
+    → ((file_at filing place one).state ≡ Open) ⊎ (file_at filing place one ≡ file_at filing place other)
+kept_file filing place one other (inl is) = inl is
+kept_file filing place one other (inr same) = search rules
 
-pub part_begins : (names : Naming) (low high : List Share) → SharesBegin low high → Begins (only_files (named names 0 low)) (only_files (named names 0 high))
-part_begins names low high begins = record { out = begins_itself []; files = files_begin (manner_of names) 0 low high begins }
+-- what standard output is told of them as well
+pub told_begins : (verbose : Bool) (low high : List File) → FilesBegin low high
+    → IsBeginning (told_of_files (output_by verbose) low) (told_of_files (output_by verbose) high)
+told_begins false low high begins = begins_itself []
+told_begins true low high begins = openings_begin opening_line low high begins
+
+pub part_begins : (filing : Filing) (low high : List Share) → SharesBegin low high → Begins (part_of (manner_of filing) low) (part_of (manner_of filing) high)
+part_begins filing low high begins =
+    let files = files_begin (manner_of filing) 0 low high begins in record { out = told_begins filing.verbose _ _ files; files = files }
 
 -- where a place has no name, what stands from there on makes no file
-pub named_short : (names : Naming) (place : ℕ) (front rest : List Share) → has_name names (place + length front) ≡ false
-    → named names place (front ++ rest) ≡ named names place front
-named_short names place front rest none = files_stop (manner_of names) place front rest none
+pub named_short : (filing : Filing) (place : ℕ) (front rest : List Share) → has_name filing.names (place + length front) ≡ false
+    → named filing place (front ++ rest) ≡ named filing place front
+named_short filing place front rest none = files_stop (manner_of filing) place front rest none
 
 -- the parts of whole texts
 
@@ -151,13 +159,13 @@ place_nameless : (names : Naming) (limit : Limit) (x : List ℕ) → are_named n
 place_nameless names limit x short = grind (arith, common_steps)
 
 -- the files are those of the full parts alone
-pub files_settled : (names : Naming) (limit : Limit) (x y : List ℕ) → are_named names (length (parts limit x)) ≡ false
-    → named names 0 (settled_parts limit (x ++ y)) ≡ named names 0 (map (share Closed) (cut_up limit x).full)
-files_settled names limit x y short = grind (arith, common_steps, settled_on, named_short, place_nameless)
+pub files_settled : (filing : Filing) (limit : Limit) (x y : List ℕ) → are_named filing.names (length (parts limit x)) ≡ false
+    → named filing 0 (settled_parts limit (x ++ y)) ≡ named filing 0 (map (share Closed) (cut_up limit x).full)
+files_settled filing limit x y short = grind (arith, common_steps, settled_on, named_short, place_nameless)
 
-pub files_whole : (names : Naming) (limit : Limit) (x y : List ℕ) → are_named names (length (parts limit x)) ≡ false
-    → named names 0 (whole_parts limit (x ++ y)) ≡ named names 0 (map (share Closed) (cut_up limit x).full)
-files_whole names limit x y short = grind (arith, common_steps, parts_on, map-append, named_short, place_nameless)
+pub files_whole : (filing : Filing) (limit : Limit) (x y : List ℕ) → are_named filing.names (length (parts limit x)) ≡ false
+    → named filing 0 (whole_parts limit (x ++ y)) ≡ named filing 0 (map (share Closed) (cut_up limit x).full)
+files_whole filing limit x y short = grind (arith, common_steps, parts_on, map-append, named_short, place_nameless)
 
 pub shares_fewer : (low high : List Share) → SharesBegin low high → length low ≤ length high
 shares_fewer [] high begins = omega arith

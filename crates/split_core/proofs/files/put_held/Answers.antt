@@ -2,7 +2,7 @@ use Rattle.ports_core.proofs.HandedOn.{handed_on}
 use Rattle.seg_core.specs.Window.{ByteWindowState}
 use Rattle.std.proofs.Common.{ap, arith}
 use Rattle.std.proofs.lemmas.Grind.{common_steps}
-use Rattle.split_core.proofs.PartsLemmas.{all_held, emptied, empties, empties_short}
+use Rattle.split_core.proofs.PartsLemmas.{all_held, always_counts, emptied, empties, empties_short}
 use Rattle.split_core.proofs.files.put_held.Goals as goal
 
 pub stretches-init : goal.stretches-init
@@ -12,7 +12,7 @@ pub put-requires-clause-ready : goal.put-requires-clause-ready
 put-requires-clause-ready g c = c.stretches.invariant.goes.leaves.ready
 
 pub put-requires-clause-fits : goal.put-requires-clause-fits
-put-requires-clause-fits g c = rw (c.stretches.invariant.goes.leaves.tells, c.requires.tells) tt
+put-requires-clause-fits g c = rw c.stretches.invariant.goes.leaves.tells (always_counts _ _ c.requires.tells)
 
 pub stretches-preserved : goal.stretches-preserved
 stretches-preserved g c = empties c.stretches.invariant c.front-front.result.now c.front-front.ensures.front.0 c.front-front.ensures.front.1 c.in_ok-put.ensures.goes c.in_ok-put.ensures.stays

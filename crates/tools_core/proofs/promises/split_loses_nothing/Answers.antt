@@ -7,6 +7,7 @@ use Rattle.tools_core.proofs.promises.split_loses_nothing.Goals as goal
 pub returns : goal.returns
 returns c = record {
   listed = λ split asked input does has. (is_split does has).listed;
+  told = λ split asked input does has. (is_split does has).told;
   lines = λ split asked n delim input. by_cut (ArePieces (line_count delim) n input) (line_pieces delim);
   uncut = λ split asked n delim input. by_cut (AreUncut delim) (line_ends delim input);
   bytes = λ split asked n input. by_cut (ArePieces length n input) byte_pieces;

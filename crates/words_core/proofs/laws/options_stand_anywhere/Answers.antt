@@ -3,7 +3,7 @@ use Rattle.ports_core.specs.declared.slot.Mode.TheVariants.{Append, Fresh}
 use Rattle.words_core.specs.CsplitWords.{csplit_by, plain}
 use Rattle.words_core.specs.EndsWords.{ends_by, ten_lines}
 use Rattle.words_core.specs.SplitWords.{no_options, split_by}
-use Rattle.words_core.specs.Laws.{appends, drops_sizes, elides_files, ends_with_zero, has, keeps_files, leaves_lines_out}
+use Rattle.words_core.specs.Laws.{appends, drops_sizes, elides_files, ends_with_zero, has, keeps_files, leaves_lines_out, tells_of_files}
 use Rattle.words_core.specs.TeeWords.{mode_by}
 use Rattle.words_core.proofs.ChoiceLemmas.{append-sets, append_is, csplit-sets, ends-sets, given_anywhere, so_where_given, split-sets}
 use Rattle.words_core.proofs.laws.options_stand_anywhere.Goals as goal
@@ -15,6 +15,7 @@ returns c = record {
   elide = so_where_given csplit_by (λ asked. asked.elide) elides_files (λ a c v. (csplit-sets a a c v).5) plain refl;
   suppress = so_where_given csplit_by (λ asked. asked.suppress) leaves_lines_out (λ a c v. (csplit-sets a a c v).6) plain refl;
   leave_out = so_where_given split_by (λ asked. asked.elide) elides_files (λ a c v. (split-sets a a c v).3) no_options refl;
+  tell = so_where_given split_by (λ asked. asked.verbose) tells_of_files (λ a c v. (split-sets a a c v).4) no_options refl;
   zero = given_anywhere ends_by (λ asked. asked.delim) ends_with_zero 0 (λ a c v. (ends-sets a a c v).2) ten_lines;
   append = λ given.
       rw (given_anywhere mode_by (λ mode. mode) appends Append append-sets Fresh given.options) (append_is (has appends given.options));

@@ -9,7 +9,7 @@ returns-in-Skipped-clause-goes g c = put_skipped c.args.bytes.now c.in-Skipped.i
 
 pub returns-in_err-slot-in-Due-clause-goes : goal.returns-in_err-slot-in-Due-clause-goes
 returns-in_err-slot-in-Due-clause-goes g c = rw (handed_on _ _ c.from_residual.ensures.1)
-    (goes_unmade (λ draft now. (first_bytes _ c.args.bytes.now c.in-Due.is c.if-is_empty.ensures draft now).0) c.in_err-slot-in-Due.ensures)
+    (goes_unmade c.requires.ready (λ draft now. (first_bytes _ c.args.bytes.now c.in-Due.is c.if-is_empty.ensures draft now).0) c.in_err-slot-in-Due.ensures)
 
 pub returns-in_ok-slot-in-Due-clause-goes : goal.returns-in_ok-slot-in-Due-clause-goes
 returns-in_ok-slot-in-Due-clause-goes g c =
