@@ -70,8 +70,12 @@ impl<'o> Csplitter<'o> {
         ensures ready { IfOk result (λ engine. IsReady engine.stage (O.slots outs.new)) }
         ensures owns { IfOk result (λ engine. Owns engine.stage (length (O.slots outs.old)) (O.slots outs.new)) }
         ensures there { IfOk result (λ engine. AreThere (files engine.stage) (O.slots outs.new)) }
-        ensures outputs { OnOk result ((before : List Slot) → OutputsAt O.told before nothing (O.slots outs.old) → OutputsAt O.told before (settled_by style operands.now []) (O.slots outs.new)) }
-        ensures cut { IfErr result (λ fault. (before : List Slot) → OutputsAt O.told before nothing (O.slots outs.old) → StoppedBetween (sizes_wanted style) O.told before nothing (settled_by style operands.now []) fault (O.slots outs.new)) }
+        ensures outputs { OnOk result ((before : List Slot) → OutputsAt O.told before nothing (O.slots outs.old)
+            → OutputsAt O.told before (settled_by style operands.now []) (O.slots outs.new)) }
+        ensures cut { IfErr result
+            (λ fault. (before : List Slot) → OutputsAt O.told before nothing (O.slots outs.old)
+            → StoppedBetween (sizes_wanted style) O.told before nothing (settled_by style operands.now []) fault
+            (O.slots outs.new)) }
         ensures refused { IfErr result (Breaks (manner_of style) (O.slots outs.old) (O.slots outs.new)) }
         ensures none { IfErr result (λ fault. HasNoFiles (length (O.slots outs.old)) (O.slots outs.new)) }
     {
@@ -92,7 +96,8 @@ impl<'o> Csplitter<'o> {
         requires ready { CanWrite self.old.cutter.writer (O.slots outs.old) }
         ensures taken { self.new.taken ≡ self.old.taken }
         ensures rest { OnOk result (self.new.rest ≡ []) }
-        ensures takes { Takes O.told self.old.cutter (self.old.rest ++ lines.now) (O.slots outs.old) (O.slots outs.new) self.new.cutter (fault_in result) }
+        ensures takes { Takes O.told self.old.cutter (self.old.rest ++ lines.now) (O.slots outs.old)
+            (O.slots outs.new) self.new.cutter (fault_in result) }
     {
         if self.rest.is_empty() {
             return self.cutter.take(lines, outs);
@@ -125,7 +130,8 @@ impl<'o> Csplitter<'o> {
         requires open { delimiters newline self.old.rest ≡ 0 }
         requires ready { CanWrite self.old.cutter.writer (O.slots outs.old) }
         ensures taken { self.new.taken ≡ self.old.taken }
-        ensures takes { Takes O.told self.old.cutter self.old.rest (O.slots outs.old) (O.slots outs.new) self.new.cutter (fault_in result) }
+        ensures takes { Takes O.told self.old.cutter self.old.rest (O.slots outs.old)
+            (O.slots outs.new) self.new.cutter (fault_in result) }
     {
         if self.rest.is_empty() {
             return Ok(());

@@ -25,9 +25,17 @@ pub(crate) fn hold_last<O: Outs>(
 ) -> Result<(), Fault>
     requires fits { size_of writer.old.current + length window.old.held + length text.now < 2 ^ 64 }
     requires ready { IsReady (seen_writer writer.old) (O.slots outs.old) }
-    ensures goes { Goes O.told (seen_writer writer.old) (with_bytes (but_last_lines window.old.delim window.old.most (window.old.held ++ text.now))) (O.slots outs.old) (O.slots outs.new) (seen_writer writer.new) (fault_in result) }
-    ensures window { OnOk result (window.new ≡ record { most = window.old.most; delim = window.old.delim; held = last_lines window.old.delim window.old.most (window.old.held ++ text.now) }) }
-    ensures size { OnOk result (size_of writer.new.current + length window.new.held ≤ size_of writer.old.current + length (window.old.held ++ text.now)) }
+    ensures goes { Goes O.told (seen_writer writer.old)
+        (with_bytes (but_last_lines window.old.delim window.old.most (window.old.held ++ text.now))) (O.slots outs.old)
+        (O.slots outs.new) (seen_writer writer.new) (fault_in result) }
+    ensures window { OnOk result (window.new
+        ≡ record {
+          most = window.old.most;
+          delim = window.old.delim;
+          held = last_lines window.old.delim window.old.most (window.old.held ++ text.now);
+        }) }
+    ensures size { OnOk result (size_of writer.new.current + length window.new.held
+        ≤ size_of writer.old.current + length (window.old.held ++ text.now)) }
 {
     let over = window.over(text);
     let front = over.min(window.len());
@@ -47,9 +55,11 @@ pub(crate) fn write_front<O: Outs>(
     requires held { n ≤ length window.old.held }
     requires fits { size_of writer.old.current + length window.old.held < 2 ^ 64 }
     requires ready { IsReady (seen_writer writer.old) (O.slots outs.old) }
-    ensures goes { Goes O.told (seen_writer writer.old) (with_bytes (take n window.old.held)) (O.slots outs.old) (O.slots outs.new) (seen_writer writer.new) (fault_in result) }
+    ensures goes { Goes O.told (seen_writer writer.old) (with_bytes (take n window.old.held)) (O.slots outs.old)
+        (O.slots outs.new) (seen_writer writer.new) (fault_in result) }
     ensures window { OnOk result (window.new ≡ without_first window.old n) }
-    ensures size { OnOk result (size_of writer.new.current + length window.new.held ≤ size_of writer.old.current + length window.old.held) }
+    ensures size { OnOk result (size_of writer.new.current + length window.new.held
+        ≤ size_of writer.old.current + length window.old.held) }
 {
     let mut left = n;
     while 0 < left {
@@ -65,7 +75,8 @@ pub(crate) fn write_front<O: Outs>(
 /// Puts lines after those that wait.
 fn keep(window: &mut LineWindow, text: &[u8]) -> Result<(), Fault>
     requires { but_last_lines window.old.delim window.old.most (window.old.held ++ text.now) ≡ [] }
-    ensures ok { OnOk result (window.new ≡ record { most = window.old.most; delim = window.old.delim; held = window.old.held ++ text.now }) }
+    ensures ok { OnOk result (window.new
+        ≡ record { most = window.old.most; delim = window.old.delim; held = window.old.held ++ text.now }) }
     ensures err { IfErr result (λ fault. fault ≡ Fault.Memory) }
 {
     match window.put(text) {

@@ -14,23 +14,29 @@ ghost use Rattle.ports_core.specs.Part.{Begins, lines_for};
 /// For any operands and lines there is one plan: the one that is computed is a plan, and no other is (POSIX.1-2017, XCU
 /// csplit).
 pub fn one_plan()
-    ensures is { (suppress : Bool) (operands : List Operand) (lines : List Line) → Runs suppress lines (start operands) (plan suppress operands lines).steps (plan suppress operands lines).last (plan suppress operands lines).ending }
-    ensures only { (suppress : Bool) (operands : List Operand) (lines : List Line) (steps : List Step) (last : State) (ending : Ending)
-        → Runs suppress lines (start operands) steps last ending
+    ensures is { (suppress : Bool) (operands : List Operand) (lines : List Line)
+        → Runs suppress lines (start operands) (plan suppress operands lines).steps (plan suppress operands lines).last
+        (plan suppress operands lines).ending }
+    ensures only { (suppress : Bool) (operands : List Operand) (lines : List Line) (steps : List Step) (last : State)
+        (ending : Ending) → Runs suppress lines (start operands) steps last ending
         → plan suppress operands lines ≡ record { steps = steps; last = last; ending = ending } }
 {}
 
 /// What is settled only grows as more comes in, and what is written in the end begins with it.
 pub fn settled_grows()
-    ensures grows { (style : Style) (operands : List Operand) (x y : List ℕ) → Begins (settled_by style operands x) (settled_by style operands (x ++ y)) }
-    ensures ends { (style : Style) (operands : List Operand) (x : List ℕ) → Begins (settled_by style operands x) (whole_by style operands x) }
+    ensures grows { (style : Style) (operands : List Operand) (x y : List ℕ)
+        → Begins (settled_by style operands x) (settled_by style operands (x ++ y)) }
+    ensures ends { (style : Style) (operands : List Operand) (x : List ℕ)
+        → Begins (settled_by style operands x) (whole_by style operands x) }
 {}
 
 /// Where sizes are wanted, standard output has those of just the files that are closed, in their order: of what is settled
 /// and of what is written in the end.
 pub fn sizes_are_of_closed_files()
-    ensures settled { (style : Style) (operands : List Operand) (x : List ℕ) → style.quiet ≡ false → (settled_by style operands x).out ≡ lines_for size_of_file (settled_by style operands x).files }
-    ensures whole { (style : Style) (operands : List Operand) (x : List ℕ) → style.quiet ≡ false → (whole_by style operands x).out ≡ lines_for size_of_file (whole_by style operands x).files }
+    ensures settled { (style : Style) (operands : List Operand) (x : List ℕ) → style.quiet ≡ false
+        → (settled_by style operands x).out ≡ lines_for size_of_file (settled_by style operands x).files }
+    ensures whole { (style : Style) (operands : List Operand) (x : List ℕ) → style.quiet ≡ false
+        → (whole_by style operands x).out ≡ lines_for size_of_file (whole_by style operands x).files }
 {}
 
 /// Where the line at a cut isn't left out, no line is lost: the sections, skipped ones too, and what waits are together
@@ -45,7 +51,8 @@ pub fn no_line_is_lost()
 
 /// No more complete lines wait than an offset goes back.
 pub fn few_lines_wait()
-    ensures { (suppress : Bool) (operands : List Operand) (x : List Line) → length (waiting_lines x (plan suppress operands x)) ≤ most_waiting (plan suppress operands x).ending }
+    ensures { (suppress : Bool) (operands : List Operand) (x : List Line)
+        → length (waiting_lines x (plan suppress operands x)) ≤ most_waiting (plan suppress operands x).ending }
 {}
 
 /// What is settled is what all continuations agree on, and the lines that wait are those that two continuations put into
@@ -53,7 +60,10 @@ pub fn few_lines_wait()
 /// at a cut may be left out or not. Places are right: each section, a skipped one too, has in their order the lines that
 /// go into it, and no others.
 pub fn agreed_is_settled()
-    ensures outputs { (suppress : Bool) (operands : List Operand) (x : List Line) → IsAgreed (whole_outputs suppress operands) x (settled_outputs suppress operands x) }
-    ensures waits { (suppress : Bool) (operands : List Operand) (x : List Line) → IsUndecided (place_of suppress operands) x (waiting_lines x (plan suppress operands x)) }
-    ensures placed { (suppress : Bool) (operands : List Operand) (x : List Line) → ArePlaced (place_of suppress operands x) suppress (plan suppress operands x) x }
+    ensures outputs { (suppress : Bool) (operands : List Operand) (x : List Line)
+        → IsAgreed (whole_outputs suppress operands) x (settled_outputs suppress operands x) }
+    ensures waits { (suppress : Bool) (operands : List Operand) (x : List Line)
+        → IsUndecided (place_of suppress operands) x (waiting_lines x (plan suppress operands x)) }
+    ensures placed { (suppress : Bool) (operands : List Operand) (x : List Line)
+        → ArePlaced (place_of suppress operands x) suppress (plan suppress operands x) x }
 {}

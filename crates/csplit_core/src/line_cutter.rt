@@ -127,7 +127,8 @@ impl<'o> LineCutter<'o> {
         requires fits { load (seen self.old) < 2 ^ 63 }
         requires sound { IsSound (seen self.old) }
         requires ready { IsReady (seen self.old).writer (O.slots outs.old) }
-        ensures { EndsAll O.told (seen self.old) (O.slots outs.old) (O.slots outs.new) (seen self.new) (fault_in result) }
+        ensures { EndsAll O.told (seen self.old) (O.slots outs.old) (O.slots outs.new) (seen self.new)
+            (fault_in result) }
     {
         let held = self.window.len();
         write_front(&mut self.window, held, &mut self.writer, outs)?;
@@ -136,7 +137,8 @@ impl<'o> LineCutter<'o> {
 
     /// The fault with which the work itself ends where the input ends here, if it ends with one.
     pub(crate) fn verdict(&self) -> Option<Fault>
-        ensures judges { (x : List ℕ) → IsJudged (seen self.now) x → result ≡ verdict_of (plan (suppress_in (seen self.now)) (seen self.now).operands (all_lines x)).ending }
+        ensures judges { (x : List ℕ) → IsJudged (seen self.now) x
+            → result ≡ verdict_of (plan (suppress_in (seen self.now)) (seen self.now).operands (all_lines x)).ending }
         ensures kind { IfSome result (λ fault. is_verdict fault ≡ true) }
     {
         let operand = self.operands.get(self.progress.done)?;
@@ -169,7 +171,8 @@ impl<'o> LineCutter<'o> {
         requires fits { load (seen self.old) + length text.now < 2 ^ 63 }
         requires sound { IsSound (seen self.old) }
         requires ready { IsReady (seen self.old).writer (O.slots outs.old) }
-        ensures { Takes O.told (seen self.old) text.now (O.slots outs.old) (O.slots outs.new) (seen self.new) (fault_in result) }
+        ensures { Takes O.told (seen self.old) text.now (O.slots outs.old) (O.slots outs.new) (seen self.new)
+            (fault_in result) }
     {
         let mut left = text;
         let mut found = None;
@@ -205,11 +208,13 @@ impl<'o> LineCutter<'o> {
         requires line { IsLine (take size text.now) }
         requires rest { IsWhole (drop size text.now) }
         requires complete { (drop size text.now ≡ []) ⊎ (ends_with newline (take size text.now) ≡ true) }
-        requires found { is_found ≡ true → IsFound (seen self.old) (without_newline (take size text.now)) (self.old.lines + 1) true }
+        requires found { is_found ≡ true
+            → IsFound (seen self.old) (without_newline (take size text.now)) (self.old.lines + 1) true }
         requires fits { load (seen self.old) + length text.now < 2 ^ 63 }
         requires sound { IsSound (seen self.old) }
         requires ready { IsReady (seen self.old).writer (O.slots outs.old) }
-        ensures { Stretches O.told (seen self.old) text.now size (O.slots outs.old) (O.slots outs.new) (seen self.new) result }
+        ensures { Stretches O.told (seen self.old) text.now size (O.slots outs.old) (O.slots outs.new)
+            (seen self.new) result }
     {
         if self.is_past() {
             return Ok(unfound(text.len()));
@@ -245,7 +250,8 @@ impl<'o> LineCutter<'o> {
         requires none { self.old.window.held ≡ [] }
         requires cuts { WillCut (seen self.old) cut }
         requires ready { IsReady (seen self.old).writer (O.slots outs.old) }
-        ensures { CutsOn O.told (seen self.old) cut (take size text.now) (drop size text.now) (O.slots outs.old) (O.slots outs.new) (seen self.new) result }
+        ensures { CutsOn O.told (seen self.old) cut (take size text.now) (drop size text.now) (O.slots outs.old)
+            (O.slots outs.new) (seen self.new) result }
     {
         let line = &text[..size];
         let left = self.cut_often(cut, self.lines, line, line, outs)?;
@@ -267,7 +273,8 @@ impl<'o> LineCutter<'o> {
         requires fits { size_of self.old.writer.current + length self.old.window.held + length text.now < 2 ^ 63 }
         requires sound { IsSound (seen self.old) }
         requires ready { IsReady (seen self.old).writer (O.slots outs.old) }
-        ensures { GoesOn O.told (seen self.old) (take kept text.now) (drop kept text.now) (O.slots outs.old) (O.slots outs.new) (seen self.new) result }
+        ensures { GoesOn O.told (seen self.old) (take kept text.now) (drop kept text.now) (O.slots outs.old)
+            (O.slots outs.new) (seen self.new) result }
     {
         let passed = self.pass_over(&text[kept..]);
         let size = kept + passed.size;
@@ -284,7 +291,8 @@ impl<'o> LineCutter<'o> {
         requires fits { load (seen self.old) + length line.now < 2 ^ 63 }
         requires sound { IsSound (seen self.old) }
         requires ready { IsReady (seen self.old).writer (O.slots outs.old) }
-        ensures { Takes O.told (seen self.old) line.now (O.slots outs.old) (O.slots outs.new) (seen self.new) (fault_in result) }
+        ensures { Takes O.told (seen self.old) line.now (O.slots outs.old) (O.slots outs.new) (seen self.new)
+            (fault_in result) }
     {
         self.stretch(line, line.len(), false, outs)?;
         Ok(())
@@ -370,7 +378,8 @@ impl<'o> LineCutter<'o> {
         requires whole { IsWhole text.now }
         ensures within { result ≤ length text.now }
         ensures whole { IsWhole (take result text.now) }
-        ensures clear { (pattern : Pattern) → (seen self.old).sought ≡ Some pattern → AreClear pattern (take result text.now) }
+        ensures clear { (pattern : Pattern) → (seen self.old).sought ≡ Some pattern
+            → AreClear pattern (take result text.now) }
         ensures same { seen self.new ≡ seen self.old }
     {
         match &mut self.matcher {
@@ -383,7 +392,8 @@ impl<'o> LineCutter<'o> {
     /// found in it. Returns its cut, if it makes one.
     fn try_line(&mut self, line: &[u8], is_found: bool) -> Option<Cut>
         requires line { IsLine line.now }
-        requires found { is_found ≡ true → IsFound (seen self.old) (without_newline line.now) (self.old.lines + 1) true }
+        requires found { is_found ≡ true
+            → IsFound (seen self.old) (without_newline line.now) (self.old.lines + 1) true }
         requires few { self.old.lines < 2 ^ 63 }
         requires sound { IsSound (seen self.old) }
         requires live { self.old.aim ≢ turn_is.Below }
@@ -434,7 +444,8 @@ impl<'o> LineCutter<'o> {
         ensures same { seen self.new ≡ record (seen self.old) { aim = self.new.aim } }
         ensures aim { IfNone result (AimHolds (seen self.new).operands self.new.lines self.new.progress self.new.aim) }
         ensures cuts { IfSome result (WillCut (seen self.old)) }
-        ensures tries { (line : List ℕ) → IsFound (seen self.old) (without_newline line) self.old.lines found → Tries (seen self.old) line (seen self.new) result }
+        ensures tries { (line : List ℕ) → IsFound (seen self.old) (without_newline line) self.old.lines found
+            → Tries (seen self.old) line (seen self.new) result }
     {
         let suppress = self.style().suppress;
         let turn = self
@@ -474,7 +485,9 @@ impl<'o> LineCutter<'o> {
         requires fit { IsFit (seen self.old) }
         requires cuts { WillCut (seen self.old) cut }
         requires ready { IsReady (seen self.old).writer (O.slots outs.old) }
-        ensures { CutsAll O.told (seen self.old) cut (self.old.lines - delimiters newline self.old.window.held) (self.old.window.held ++ line.now) line.now [] (O.slots outs.old) (O.slots outs.new) (seen self.new) (fault_in result) }
+        ensures { CutsAll O.told (seen self.old) cut (self.old.lines - delimiters newline self.old.window.held)
+            (self.old.window.held ++ line.now) line.now [] (O.slots outs.old) (O.slots outs.new) (seen self.new)
+            (fault_in result) }
     {
         let waiting = drain(self.alloc, &mut self.window, line)?;
         let lines = count_delimiters(&waiting[..waiting.len() - line.len()], NEWLINE);
@@ -500,8 +513,11 @@ impl<'o> LineCutter<'o> {
         requires none { self.old.window.held ≡ [] }
         requires cuts { WillCut (seen self.old) cut }
         requires ready { IsReady (seen self.old).writer (O.slots outs.old) }
-        ensures ok { IfOk result (λ left. Spread O.told (seen self.old) cut place waiting.now line.now (O.slots outs.old) (O.slots outs.new) (seen self.new) left.now) }
-        ensures err { IfErr result (λ fault. CutsAll O.told (seen self.old) cut place waiting.now line.now [] (O.slots outs.old) (O.slots outs.new) (seen self.new) (Some fault)) }
+        ensures ok { IfOk result (λ left. Spread O.told (seen self.old) cut place waiting.now line.now
+            (O.slots outs.old) (O.slots outs.new) (seen self.new) left.now) }
+        ensures err { IfErr result
+            (λ fault. CutsAll O.told (seen self.old) cut place waiting.now line.now [] (O.slots outs.old)
+            (O.slots outs.new) (seen self.new) (Some fault)) }
     {
         let mut left = self.cut_at(cut, place, waiting, outs)?;
         while let Some(cut) = self.try_last(line, false) {
@@ -525,8 +541,12 @@ impl<'o> LineCutter<'o> {
         requires none { self.old.window.held ≡ [] }
         requires cuts { WillCut (seen self.old) cut }
         requires ready { IsReady (seen self.old).writer (O.slots outs.old) }
-        ensures ok { IfOk result (λ rest. CutAt O.told (seen self.old) cut place waiting.now (O.slots outs.old) (O.slots outs.new) (seen self.new) rest.now) }
-        ensures err { IfErr result (λ fault. (line : List ℕ) → CutsAll O.told (seen self.old) cut place waiting.now line [] (O.slots outs.old) (O.slots outs.new) (seen self.new) (Some fault)) }
+        ensures ok { IfOk result (λ rest. CutAt O.told (seen self.old) cut place waiting.now (O.slots outs.old)
+            (O.slots outs.new) (seen self.new) rest.now) }
+        ensures err { IfErr result
+            (λ fault. (line : List ℕ)
+            → CutsAll O.told (seen self.old) cut place waiting.now line [] (O.slots outs.old) (O.slots outs.new)
+            (seen self.new) (Some fault)) }
     {
         let (before, rest) = split_lines(waiting, cut.line.saturating_sub(place));
         self.writer.put(before, outs)?;
@@ -559,8 +579,18 @@ impl<'o> LineCutter<'o> {
 
     /// Gets what the next operand needs.
     fn equip(&mut self) -> Result<(), Fault>
-        ensures same { OnOk result (seen self.new ≡ record (seen self.old) { window = record { most = most_by (state_in (seen self.old)).operands; delim = newline; held = [] }; sought = pattern_by (state_in (seen self.old)).operands }) }
-        ensures err { IfErr result (λ fault. (fault ≡ Fault.Memory) × ((seen self.new).writer ≡ (seen self.old).writer) × ((seen self.new).operands ≡ (seen self.old).operands) × ((seen self.new).style ≡ (seen self.old).style)) }
+        ensures same { OnOk result (seen self.new
+            ≡ record (seen self.old) {
+              window = record {
+                most = most_by (state_in (seen self.old)).operands;
+                delim = newline;
+                held = [];
+              };
+              sought = pattern_by (state_in (seen self.old)).operands;
+            }) }
+        ensures err { IfErr result
+            (λ fault. (fault ≡ Fault.Memory) × ((seen self.new).writer ≡ (seen self.old).writer)
+            × ((seen self.new).operands ≡ (seen self.old).operands) × ((seen self.new).style ≡ (seen self.old).style)) }
     {
         let next = next_operand(self.operands, self.progress.done);
         self.matcher = find_matcher(self.alloc, next)?;
@@ -573,7 +603,8 @@ impl<'o> LineCutter<'o> {
         requires fits { size_of self.old.writer.current + length self.old.window.held + length text.now < 2 ^ 63 }
         requires fit { IsFit (seen self.old) }
         requires ready { IsReady (seen self.old).writer (O.slots outs.old) }
-        ensures { Holds O.told (seen self.old) (self.old.window.held ++ text.now) (O.slots outs.old) (O.slots outs.new) (seen self.new) (fault_in result) }
+        ensures { Holds O.told (seen self.old) (self.old.window.held ++ text.now) (O.slots outs.old) (O.slots outs.new)
+            (seen self.new) (fault_in result) }
     {
         if self.is_past() {
             self.window.drop_front(self.window.len());
@@ -587,7 +618,8 @@ impl<'o> LineCutter<'o> {
 fn first_size(text: &[u8], found: Option<usize>) -> usize
     requires some { 0 < length text.now }
     requires whole { IsWhole text.now }
-    requires found { IfSome found (λ size. (0 < size) × (size ≤ length text.now) × IsLine (take size text.now) × IsWhole (take size text.now)) }
+    requires found { IfSome found
+        (λ size. (0 < size) × (size ≤ length text.now) × IsLine (take size text.now) × IsWhole (take size text.now)) }
     ensures some { 0 < result }
     ensures within { result ≤ length text.now }
     ensures line { IsLine (take result text.now) }

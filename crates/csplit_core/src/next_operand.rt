@@ -57,7 +57,8 @@ pub(crate) fn find_matcher<'o>(
 ///
 /// `Memory` where there is no room for it.
 pub(crate) fn find_window(alloc: Global, next: Option<&Operand>) -> Result<LineWindow, Fault>
-    ensures ok { IfOk result (λ window. window ≡ record { most = most_next (option_map (λ operand. operand.now) next.entry); delim = newline; held = [] }) }
+    ensures ok { IfOk result (λ window. window
+        ≡ record { most = most_next (option_map (λ operand. operand.now) next.entry); delim = newline; held = [] }) }
     ensures err { IfErr result (λ fault. fault ≡ Fault.Memory) }
 {
     match LineWindow::new(alloc, most_held(next), NEWLINE) {

@@ -73,7 +73,8 @@ impl Progress {
         requires matched { self.now.matched < 2 ^ 64 - 1 }
         requires repetition { self.now.repetition < 2 ^ 64 - 1 }
         requires few { total < 2 ^ 64 - 1 }
-        ensures says { (lines : List Line) → AreSeen suppress lines total (state_of operands.now self.now) found → Turns suppress lines (state_of operands.now self.now) result }
+        ensures says { (lines : List Line) → AreSeen suppress lines total (state_of operands.now self.now) found
+            → Turns suppress lines (state_of operands.now self.now) result }
         ensures moves { self.now.matched ≤ total → MovesOn operands.now total self.now result }
     {
         let Some(operand) = operands.get(self.done) else {
@@ -101,7 +102,8 @@ impl Progress {
         requires cut { cut < 2 ^ 64 - 1 }
         requires repetition { self.old.repetition < 2 ^ 64 - 1 }
         requires done { self.old.done < 2 ^ 64 - 1 }
-        ensures { (operands rest : List Operand) → drop self.old.done operands ≡ operand.now ∷ rest → state_of operands self.new ≡ state_after suppress operand.now rest self.old.repetition matched cut }
+        ensures { (operands rest : List Operand) → drop self.old.done operands ≡ operand.now ∷ rest
+            → state_of operands self.new ≡ state_after suppress operand.now rest self.old.repetition matched cut }
     {
         self.current = line_after(suppress, cut);
         self.matched = matched;

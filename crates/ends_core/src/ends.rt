@@ -56,7 +56,8 @@ impl Head {
         delim: u8,
     ) -> Result<Guarded<Ends>, Fault>
         ensures holds { IfOk result (λ head. HoldsIn Holds head []) }
-        ensures asked { IfOk result (λ head. IsAsked (if but_last then all_but_last else the_first) unit count delim head.stage) }
+        ensures asked { IfOk result (λ head.
+            IsAsked (if but_last then all_but_last else the_first) unit count delim head.stage) }
         ensures does { IfOk result (λ head. work head.stage ≡ head_work delim unit but_last count) }
         ensures bound { IfOk result (λ head. head.fed < 2 ^ 63) }
         ensures err { IfErr result (λ fault. (fault ≡ Fault.Memory) × (but_last ≡ true)) }
@@ -90,7 +91,8 @@ impl Tail {
         delim: u8,
     ) -> Result<Guarded<Ends>, Fault>
         ensures holds { IfOk result (λ tail. HoldsIn Holds tail []) }
-        ensures asked { IfOk result (λ tail. IsAsked (if from_nth then from_the_nth else the_last) unit count delim tail.stage) }
+        ensures asked { IfOk result (λ tail.
+            IsAsked (if from_nth then from_the_nth else the_last) unit count delim tail.stage) }
         ensures does { IfOk result (λ tail. work tail.stage ≡ tail_work delim unit from_nth count) }
         ensures bound { IfOk result (λ tail. tail.fed < 2 ^ 63) }
         ensures err { IfErr result (λ fault. (fault ≡ Fault.Memory) × (from_nth ≡ false)) }
@@ -113,7 +115,8 @@ impl Tail {
         coming: u64,
     ) -> Result<Guarded<Ends>, Fault>
         ensures holds { IfOk result (λ tail. HoldsIn Holds tail []) }
-        ensures asked { IfOk result (λ tail. IsAsked (if from_nth then from_the_nth else the_last) unit count delim tail.stage) }
+        ensures asked { IfOk result (λ tail.
+            IsAsked (if from_nth then from_the_nth else the_last) unit count delim tail.stage) }
         ensures does { IfOk result (λ tail. work tail.stage ≡ tail_work delim unit from_nth count) }
         ensures bound { IfOk result (λ tail. tail.fed < 2 ^ 63) }
         ensures err { IfErr result (λ fault. (fault ≡ Fault.Memory) × (from_nth ≡ false)) }
@@ -158,12 +161,15 @@ impl Stage for Ends {
         requires fits { length (waiting_of self.old) + past_of self.old + length piece.now < 2 ^ 64 }
         requires writable { IsTrue (is_writable (O.slots outs.old) 0) }
         ensures same { SameAsked self.old self.new }
-        ensures bound { length (waiting_of self.new) + past_of self.new ≤ length (waiting_of self.old) + past_of self.old + length piece.now }
+        ensures bound { length (waiting_of self.new) + past_of self.new
+            ≤ length (waiting_of self.old) + past_of self.old + length piece.now }
         ensures past { past_of self.new ≡ past_of self.old + length (unused_of self.old piece.now) }
-        ensures left { OnOk result (left_of self.new ≡ left_of self.old - measure (delim_of self.old) (unit_of self.old) piece.now) }
+        ensures left { OnOk result (left_of self.new
+            ≡ left_of self.old - measure (delim_of self.old) (unit_of self.old) piece.now) }
         ensures waits { OnOk result (waiting_of self.new ≡ left_waiting self.old piece.now) }
         ensures full { OnOk result (FullLacksNone self.new) }
-        ensures wrote { Writes O.told (may_lack self.old) (due self.old piece.now) (O.slots outs.old) (O.slots outs.new) result }
+        ensures wrote { Writes O.told (may_lack self.old) (due self.old piece.now) (O.slots outs.old)
+            (O.slots outs.new) result }
     {
         match self {
             Ends::First(_, front) => pass_front(front, piece, outs),
@@ -182,7 +188,9 @@ impl Stage for Ends {
         requires full { FullLacksNone self.old }
         ensures same { SameAsked self.old self.new }
         ensures past { past_of self.new ≡ past_of self.old }
-        ensures passes { Passes I.told (length buffer.old) slot result (λ x. (waiting_of self.new ≡ waiting self.old x) × IsSilent self.old self.new x) (I.sources inputs.old) (I.sources inputs.new) }
+        ensures passes { Passes I.told (length buffer.old) slot result
+            (λ x. (waiting_of self.new ≡ waiting self.old x) × IsSilent self.old self.new x) (I.sources inputs.old)
+            (I.sources inputs.new) }
         ensures full { FullLacksNone self.new }
         ensures laid { I.laid inputs.new ≡ I.laid inputs.old }
         ensures bound { result < 2 ^ 63 }
@@ -202,7 +210,8 @@ impl Stage for Ends {
     fn finish<O: Outs>(&mut self, outs: &mut O) -> Result<(), Fault>
         requires writable { IsTrue (is_writable (O.slots outs.old) 0) }
         ensures same { SameAsked self.old self.new }
-        ensures bound { length (waiting_of self.new) + past_of self.new ≤ length (waiting_of self.old) + past_of self.old }
+        ensures bound { length (waiting_of self.new) + past_of self.new
+            ≤ length (waiting_of self.old) + past_of self.old }
         ensures wrote { Writes O.told false (due_at_end self.old) (O.slots outs.old) (O.slots outs.new) result }
     {
         let Ends::Last(kept) = self else {

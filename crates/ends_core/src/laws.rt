@@ -20,9 +20,13 @@ use ports_core::Fault;
 /// what waited with y after it. So what is written never changes. What waits in a head of all but the last that was
 /// fed a text is the last of it.
 pub fn head_goes_on(unit: Unit, delim: u8)
-    ensures first { (n : ℕ) (x y : List ℕ) → first_of delim unit n (x ++ y) ≡ first_of delim unit n x ++ first_of delim unit (n - measure delim unit x) y }
-    ensures but_last { (n : ℕ) (x y : List ℕ) → but_last_of delim unit n (x ++ y) ≡ but_last_of delim unit n x ++ but_last_of delim unit n (last_of delim unit n x ++ y) }
-    ensures waits { (head : GuardState Ends) (x : List ℕ) → HoldsIn Holds head x → stretch_of head.stage ≡ all_but_last → waiting_of head.stage ≡ last_of (delim_of head.stage) (unit_of head.stage) (count_of head.stage) x }
+    ensures first { (n : ℕ) (x y : List ℕ)
+        → first_of delim unit n (x ++ y) ≡ first_of delim unit n x ++ first_of delim unit (n - measure delim unit x) y }
+    ensures but_last { (n : ℕ) (x y : List ℕ)
+        → but_last_of delim unit n (x ++ y)
+        ≡ but_last_of delim unit n x ++ but_last_of delim unit n (last_of delim unit n x ++ y) }
+    ensures waits { (head : GuardState Ends) (x : List ℕ) → HoldsIn Holds head x → stretch_of head.stage ≡ all_but_last
+        → waiting_of head.stage ≡ last_of (delim_of head.stage) (unit_of head.stage) (count_of head.stage) x }
 {
     let _ = (unit, delim);
 }
@@ -32,7 +36,8 @@ pub fn head_goes_on(unit: Unit, delim: u8)
 pub fn nothing_is_lost(unit: Unit, delim: u8)
     ensures first { (n : ℕ) (x : List ℕ) → first_of delim unit n x ++ after_of delim unit n x ≡ x }
     ensures last { (n : ℕ) (x : List ℕ) → but_last_of delim unit n x ++ last_of delim unit n x ≡ x }
-    ensures waits { (head : GuardState Ends) (x : List ℕ) → HoldsIn Holds head x → stretch_of head.stage ≡ all_but_last → ((work head.stage).settled x).out ++ waiting_of head.stage ≡ x }
+    ensures waits { (head : GuardState Ends) (x : List ℕ) → HoldsIn Holds head x → stretch_of head.stage ≡ all_but_last
+        → ((work head.stage).settled x).out ++ waiting_of head.stage ≡ x }
 {
     let _ = (unit, delim);
 }
@@ -41,8 +46,12 @@ pub fn nothing_is_lost(unit: Unit, delim: u8)
 /// and was enough, as it is after a run over an input, then that is the head of the text, and what is left is what stands
 /// after it.
 pub fn head_uses_what_it_writes(unit: Unit, delim: u8)
-    ensures used { (n : ℕ) (used rest : List ℕ) → IsNeeded (head_work delim unit false n).is_complete 1 used → (rest ≡ []) ⊎ ((head_work delim unit false n).is_complete used ≡ true) → first_of delim unit n (used ++ rest) ≡ used }
-    ensures left { (n : ℕ) (used rest : List ℕ) → IsNeeded (head_work delim unit false n).is_complete 1 used → (rest ≡ []) ⊎ ((head_work delim unit false n).is_complete used ≡ true) → after_of delim unit n (used ++ rest) ≡ rest }
+    ensures used { (n : ℕ) (used rest : List ℕ) → IsNeeded (head_work delim unit false n).is_complete 1 used
+        → (rest ≡ []) ⊎ ((head_work delim unit false n).is_complete used ≡ true)
+        → first_of delim unit n (used ++ rest) ≡ used }
+    ensures left { (n : ℕ) (used rest : List ℕ) → IsNeeded (head_work delim unit false n).is_complete 1 used
+        → (rest ≡ []) ⊎ ((head_work delim unit false n).is_complete used ≡ true)
+        → after_of delim unit n (used ++ rest) ≡ rest }
 {
     let _ = (unit, delim);
 }
@@ -51,9 +60,13 @@ pub fn head_uses_what_it_writes(unit: Unit, delim: u8)
 /// stands in y after those that are still to be passed over. The last are the last of what waited with y after it. So
 /// what waits, the last of what came in, is all that has to be kept, and it is no more than was asked for.
 pub fn tail_goes_on(unit: Unit, delim: u8)
-    ensures from_nth { (n : ℕ) (x y : List ℕ) → tail_of delim unit true n (x ++ y) ≡ tail_of delim unit true n x ++ after_of delim unit (n - 1 - measure delim unit x) y }
-    ensures last { (n : ℕ) (x y : List ℕ) → last_of delim unit n (x ++ y) ≡ last_of delim unit n (last_of delim unit n x ++ y) }
-    ensures waits { (tail : GuardState Ends) (x : List ℕ) → HoldsIn Holds tail x → stretch_of tail.stage ≡ the_last → waiting_of tail.stage ≡ last_of (delim_of tail.stage) (unit_of tail.stage) (count_of tail.stage) x }
+    ensures from_nth { (n : ℕ) (x y : List ℕ)
+        → tail_of delim unit true n (x ++ y)
+        ≡ tail_of delim unit true n x ++ after_of delim unit (n - 1 - measure delim unit x) y }
+    ensures last { (n : ℕ) (x y : List ℕ)
+        → last_of delim unit n (x ++ y) ≡ last_of delim unit n (last_of delim unit n x ++ y) }
+    ensures waits { (tail : GuardState Ends) (x : List ℕ) → HoldsIn Holds tail x → stretch_of tail.stage ≡ the_last
+        → waiting_of tail.stage ≡ last_of (delim_of tail.stage) (unit_of tail.stage) (count_of tail.stage) x }
     ensures few { (n : ℕ) (x : List ℕ) → size delim unit (last_of delim unit n x) ≤ n }
 {
     let _ = (unit, delim);
@@ -64,12 +77,18 @@ pub fn tail_goes_on(unit: Unit, delim: u8)
 /// that can't. This holds of every count, 0 too, after any bytes. Where a byte goes is said by spots, and each output has
 /// at each spot just the one byte that goes there.
 pub fn agreed_is_settled(unit: Unit, delim: u8)
-    ensures head { (but_last : Bool) (n : ℕ) (x : List ℕ) → IsAgreed (head_work delim unit but_last n) x ((head_work delim unit but_last n).settled x) }
-    ensures head_waits { (but_last : Bool) (n : ℕ) (x : List ℕ) → IsUndecided (head_spots delim unit but_last n) x (head_waiting delim unit but_last n x) }
-    ensures head_placed { (but_last : Bool) (n : ℕ) → ArePlaced (head_work delim unit but_last n) (head_spots delim unit but_last n) }
-    ensures tail { (from_nth : Bool) (n : ℕ) (x : List ℕ) → IsAgreed (tail_work delim unit from_nth n) x ((tail_work delim unit from_nth n).settled x) }
-    ensures tail_waits { (from_nth : Bool) (n : ℕ) (x : List ℕ) → IsUndecided (tail_spots delim unit from_nth n) x (tail_waiting delim unit from_nth n x) }
-    ensures tail_placed { (from_nth : Bool) (n : ℕ) → ArePlaced (tail_work delim unit from_nth n) (tail_spots delim unit from_nth n) }
+    ensures head { (but_last : Bool) (n : ℕ) (x : List ℕ)
+        → IsAgreed (head_work delim unit but_last n) x ((head_work delim unit but_last n).settled x) }
+    ensures head_waits { (but_last : Bool) (n : ℕ) (x : List ℕ)
+        → IsUndecided (head_spots delim unit but_last n) x (head_waiting delim unit but_last n x) }
+    ensures head_placed { (but_last : Bool) (n : ℕ)
+        → ArePlaced (head_work delim unit but_last n) (head_spots delim unit but_last n) }
+    ensures tail { (from_nth : Bool) (n : ℕ) (x : List ℕ)
+        → IsAgreed (tail_work delim unit from_nth n) x ((tail_work delim unit from_nth n).settled x) }
+    ensures tail_waits { (from_nth : Bool) (n : ℕ) (x : List ℕ)
+        → IsUndecided (tail_spots delim unit from_nth n) x (tail_waiting delim unit from_nth n x) }
+    ensures tail_placed { (from_nth : Bool) (n : ℕ)
+        → ArePlaced (tail_work delim unit from_nth n) (tail_spots delim unit from_nth n) }
 {
     let _ = (unit, delim);
 }
@@ -78,15 +97,20 @@ pub fn agreed_is_settled(unit: Unit, delim: u8)
 /// tail from the nth on. Nor where bytes wait, once as many came in as are to wait. Then `feed` fails only where standard
 /// output breaks, or where the input is too long.
 pub fn full_windows_lack_nothing()
-    ensures full { (engine : GuardState Ends) (x : List ℕ) → HoldsIn Holds engine x → unit_of engine.stage ≡ Unit.Bytes → count_of engine.stage ≤ length x → may_lack engine.stage ≡ false }
-    ensures none { (engine : GuardState Ends) (x : List ℕ) → HoldsIn Holds engine x → keeps (stretch_of engine.stage) ≡ false → may_lack engine.stage ≡ false }
-    ensures fails { (engine : GuardState Ends) (x piece : List ℕ) (old new : List Slot) (fault : Fault) → HoldsIn Holds engine x → may_lack engine.stage ≡ false → IsRefused engine piece old new fault → (fault ≡ Fault.Write 0) ⊎ (fault ≡ Fault.TooLong) }
+    ensures full { (engine : GuardState Ends) (x : List ℕ) → HoldsIn Holds engine x → unit_of engine.stage ≡ Unit.Bytes
+        → count_of engine.stage ≤ length x → may_lack engine.stage ≡ false }
+    ensures none { (engine : GuardState Ends) (x : List ℕ) → HoldsIn Holds engine x
+        → keeps (stretch_of engine.stage) ≡ false → may_lack engine.stage ≡ false }
+    ensures fails { (engine : GuardState Ends) (x piece : List ℕ) (old new : List Slot) (fault : Fault)
+        → HoldsIn Holds engine x → may_lack engine.stage ≡ false → IsRefused engine piece old new fault
+        → (fault ≡ Fault.Write 0) ⊎ (fault ≡ Fault.TooLong) }
 {}
 
 /// How many lines a text has: as many as delimiters, and one more if its last line is open.
 pub fn lines_are_counted(delim: u8)
     ensures ended { (x : List ℕ) → ends_with delim x ≡ true → line_count delim x ≡ delimiters delim x }
-    ensures open { (x : List ℕ) → 0 < length x → ends_with delim x ≡ false → line_count delim x ≡ delimiters delim x + 1 }
+    ensures open { (x : List ℕ) → 0 < length x → ends_with delim x ≡ false
+        → line_count delim x ≡ delimiters delim x + 1 }
 {
     let _ = delim;
 }

@@ -27,7 +27,9 @@ pub(crate) fn load_lines<I: Inputs>(
     requires none { window.old.held ≡ [] }
     ensures most { window.new.most ≡ window.old.most }
     ensures delim { window.new.delim ≡ window.old.delim }
-    ensures held { IsTrue result → HasSeen I.told (source_at (I.sources inputs.old) slot).left.bytes left (λ x. window.new.held ≡ last_lines window.old.delim window.old.most x) }
+    ensures held { IsTrue result
+        → HasSeen I.told (source_at (I.sources inputs.old) slot).left.bytes left
+        (λ x. window.new.held ≡ last_lines window.old.delim window.old.most x) }
     ensures looked { HasLooked most slot (I.sources inputs.old) (I.sources inputs.new) }
     ensures laid { I.laid inputs.new ≡ I.laid inputs.old }
 {
@@ -57,7 +59,10 @@ fn put_block<I: Inputs>(
     requires input { IsTrue (is_readable (I.sources inputs.old) slot) }
     ensures most { window.new.most ≡ window.old.most }
     ensures delim { window.new.delim ≡ window.old.delim }
-    ensures held { IsTrue result → ((block : List ℕ) × (length block ≡ size) × (I.told ≡ true → Shows (source_at (I.sources inputs.old) slot).left.bytes place block) × (window.new.held ≡ last_lines window.old.delim window.old.most (block ++ window.old.held))) }
+    ensures held { IsTrue result
+        → ((block : List ℕ) × (length block ≡ size)
+        × (I.told ≡ true → Shows (source_at (I.sources inputs.old) slot).left.bytes place block)
+        × (window.new.held ≡ last_lines window.old.delim window.old.most (block ++ window.old.held))) }
     ensures looked { HasLooked size slot (I.sources inputs.old) (I.sources inputs.new) }
     ensures laid { I.laid inputs.new ≡ I.laid inputs.old }
 {
@@ -82,7 +87,9 @@ pub(crate) fn load_bytes<I: Inputs>(
     requires full { window.old.most ≤ length window.old.held → window.old.grown ≡ true }
     ensures most { window.new.most ≡ window.old.most }
     ensures grown { window.old.grown ≡ true → window.new.grown ≡ true }
-    ensures held { IsTrue result → HasSeen I.told (source_at (I.sources inputs.old) slot).left.bytes left (λ x. window.new.held ≡ last_of 0 Bytes window.old.most x) }
+    ensures held { IsTrue result
+        → HasSeen I.told (source_at (I.sources inputs.old) slot).left.bytes left
+        (λ x. window.new.held ≡ last_of 0 Bytes window.old.most x) }
     ensures full { window.new.most ≤ length window.new.held → window.new.grown ≡ true }
     ensures looked { HasLooked (length buffer.old) slot (I.sources inputs.old) (I.sources inputs.new) }
     ensures laid { I.laid inputs.new ≡ I.laid inputs.old }

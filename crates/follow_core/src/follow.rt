@@ -47,7 +47,15 @@ pub struct Follow {
 impl Model for Follow {
     ghost Value = { FollowState };
 
-    ghost view = { λ f. record { by_name = f.by_name; start = f.start; names = f.names.items; first = f.first; printer = f.visitor; stage = f.stage; has_failed = f.has_failed } };
+    ghost view = { λ f. record {
+      by_name = f.by_name;
+      start = f.start;
+      names = f.names.items;
+      first = f.first;
+      printer = f.visitor;
+      stage = f.stage;
+      has_failed = f.has_failed;
+    } };
 
     ghost invariant = { λ f. f.first + length f.names.items ≤ 2 ^ 64 };
 }
@@ -67,7 +75,8 @@ impl Follow {
         by_name: bool,
         headers: bool,
     ) -> Result<Self, Fault>
-        ensures ok { IfOk result (λ follow. follow ≡ opened_follow by_name start headers (map (λ name. name.now) names.now)) }
+        ensures ok { IfOk result (λ follow. follow
+            ≡ opened_follow by_name start headers (map (λ name. name.now) names.now)) }
         ensures err { IfErr result (λ fault. fault ≡ Fault.Memory) }
     {
         Ok(Follow {
@@ -94,19 +103,28 @@ impl Follow {
     /// `Failed`, and does nothing.
     pub fn look<W: Watch, O: Outs>(&mut self, watch: &mut W, outs: &mut O) -> Result<(), Fault>
         requires { CanLook self.old (W.watched watch.old) (O.slots outs.old) }
-        ensures looked { OnOk result (LooksOn W.told O.told (W.shows watch.old (length (W.seen watch.old))) self.old (W.watched watch.old) (O.slots outs.old) self.new (W.watched watch.new) (O.slots outs.new)) }
-        ensures stopped { IfErr result (StopsOn W.told O.told (W.shows watch.old (length (W.seen watch.old))) self.old (W.watched watch.old) (O.slots outs.old) (W.watched watch.new) (O.slots outs.new)) }
-        ensures seen { OnOk result (W.seen watch.new ≡ W.seen watch.old ++ W.shows watch.old (length (W.seen watch.old)) ∷ []) }
-        ensures saw { IfErr result (λ _. SawOrNot (W.seen watch.old) (W.shows watch.old (length (W.seen watch.old))) (W.seen watch.new)) }
+        ensures looked { OnOk result (LooksOn W.told O.told (W.shows watch.old (length (W.seen watch.old))) self.old
+            (W.watched watch.old) (O.slots outs.old) self.new (W.watched watch.new) (O.slots outs.new)) }
+        ensures stopped { IfErr result
+            (StopsOn W.told O.told (W.shows watch.old (length (W.seen watch.old))) self.old (W.watched watch.old)
+            (O.slots outs.old) (W.watched watch.new) (O.slots outs.new)) }
+        ensures seen { OnOk result (W.seen watch.new
+            ≡ W.seen watch.old ++ W.shows watch.old (length (W.seen watch.old)) ∷ []) }
+        ensures saw { IfErr result
+            (λ _. SawOrNot (W.seen watch.old) (W.shows watch.old (length (W.seen watch.old))) (W.seen watch.new)) }
         ensures stage { OnOk result (self.new.stage ≡ Stage.Looking) }
         ensures error { HasError (O.slots outs.old) → HasError (O.slots outs.new) }
         ensures can { OnOk result (CanLook self.new (W.watched watch.new) (O.slots outs.new)) }
         ensures cause { IfErr result (IsCause self.old (O.slots outs.old) (O.slots outs.new)) }
         ensures err { IfErr result (λ _. self.new.stage ≡ Stage.Over) }
-        ensures over { self.old.stage ≡ Stage.Over → (result ≡ Err Fault.Failed) × (O.slots outs.new ≡ O.slots outs.old) × (W.watched watch.new ≡ W.watched watch.old) × (W.seen watch.new ≡ W.seen watch.old) × (self.new ≡ self.old) }
+        ensures over { self.old.stage ≡ Stage.Over
+            → (result ≡ Err Fault.Failed) × (O.slots outs.new ≡ O.slots outs.old)
+            × (W.watched watch.new ≡ W.watched watch.old) × (W.seen watch.new ≡ W.seen watch.old)
+            × (self.new ≡ self.old) }
         ensures failed { (self.old.stage ≡ Stage.Over → ⊥) → IfErr result (λ _. self.new.has_failed ≡ true) }
         ensures shows { W.shows watch.new ≡ W.shows watch.old }
-        ensures others { (number : ℕ) → IsOther self.old (W.watched watch.old) number → watched_at (W.watched watch.new) number ≡ watched_at (W.watched watch.old) number }
+        ensures others { (number : ℕ) → IsOther self.old (W.watched watch.old) number
+            → watched_at (W.watched watch.new) number ≡ watched_at (W.watched watch.old) number }
     {
         match self.stage {
             Stage::Over => Err(Fault::Failed),
@@ -126,10 +144,14 @@ impl Follow {
 
     /// Whether a further look can give something: some name was not dropped and is followed by name or has its file open.
     pub fn alive(&self) -> bool
-        ensures alive { (told : Bool) (ways : Ways) (headers : Bool) (names : List (List ℕ)) (looks : List Look) (first slots : List Slot) (watched : List Watched)
-            → Holds true told ways headers names looks first self.now watched slots → result ≡ is_alive ways names looks }
-        ensures none { (told_in told : Bool) (ways : Ways) (headers : Bool) (names : List (List ℕ)) (looks : List Look) (first slots : List Slot) (watched : List Watched)
-            → Holds told_in told ways headers names looks first self.now watched slots → 0 < length looks → result ≡ false → NoneGoesOn ways watched }
+        ensures alive { (told : Bool) (ways : Ways) (headers : Bool) (names : List (List ℕ)) (looks : List Look)
+            (first slots : List Slot) (watched : List Watched)
+            → Holds true told ways headers names looks first self.now watched slots
+            → result ≡ is_alive ways names looks }
+        ensures none { (told_in told : Bool) (ways : Ways) (headers : Bool) (names : List (List ℕ)) (looks : List Look)
+            (first slots : List Slot) (watched : List Watched)
+            → Holds told_in told ways headers names looks first self.now watched slots → 0 < length looks
+            → result ≡ false → NoneGoesOn ways watched }
     {
         any_goes_on(&self.names, self.by_name)
     }
@@ -150,7 +172,9 @@ impl Follow {
     fn make_look<W: Watch, O: Outs>(&mut self, watch: &mut W, outs: &mut O) -> Result<bool, Fault>
         requires live { self.old.stage ≡ Stage.Over → ⊥ }
         requires can { CanLook self.old (W.watched watch.old) (O.slots outs.old) }
-        ensures makes { MakesLook W.told O.told (W.shows watch.old (length (W.seen watch.old))) (W.seen watch.old) self.old (W.watched watch.old) (O.slots outs.old) (W.seen watch.new) self.new (W.watched watch.new) (O.slots outs.new) result }
+        ensures makes { MakesLook W.told O.told (W.shows watch.old (length (W.seen watch.old)))
+            (W.seen watch.old) self.old (W.watched watch.old) (O.slots outs.old) (W.seen watch.new) self.new
+            (W.watched watch.new) (O.slots outs.new) result }
         ensures shows { W.shows watch.new ≡ W.shows watch.old }
     {
         if let Err(fault) = self.begin(watch) {
@@ -178,7 +202,9 @@ impl Follow {
     fn begin<W: Watch>(&mut self, watch: &mut W) -> Result<(), Fault>
         requires { CanBegin self.old (W.watched watch.old) }
         ensures begins { OnOk result (Begins W.told self.old (W.watched watch.old) self.new (W.watched watch.new)) }
-        ensures err { IfErr result (λ fault. (fault ≡ Fault.Memory) × (self.old.stage ≡ Stage.Fresh) × AddsSome (texts self.old.names) (W.watched watch.old) (W.watched watch.new)) }
+        ensures err { IfErr result
+            (λ fault. (fault ≡ Fault.Memory) × (self.old.stage ≡ Stage.Fresh)
+            × AddsSome (texts self.old.names) (W.watched watch.old) (W.watched watch.new)) }
         ensures seen { W.seen watch.new ≡ W.seen watch.old }
         ensures shows { W.shows watch.new ≡ W.shows watch.old }
     {

@@ -15,23 +15,36 @@ ghost use Rattle.follow_core.specs.declared.notice.Notice.{Notice};
 /// What one look more gives. The text and the messages are those before and then that look's, in the order of the names; the
 /// status is 1 where it was before or a name fails in that look.
 pub fn one_look_more()
-    ensures out { (ways : Ways) (headers : Bool) (names : List (List ℕ)) (looks : List Look) (look : Look) → (followed ways headers names (looks ++ look ∷ [])).out ≡ (followed ways headers names looks).out ++ text_from headers (last_header ways headers names looks) (shares_at_look ways names looks look) }
-    ensures messages { (ways : Ways) (headers : Bool) (names : List (List ℕ)) (looks : List Look) (look : Look) → (followed ways headers names (looks ++ look ∷ [])).messages ≡ (followed ways headers names looks).messages ++ messages_of (shares_at_look ways names looks look) }
-    ensures failed { (ways : Ways) (headers : Bool) (names : List (List ℕ)) (looks : List Look) (look : Look) → (followed ways headers names (looks ++ look ∷ [])).has_failed ≡ ((followed ways headers names looks).has_failed || any_failed (shares_at_look ways names looks look)) }
+    ensures out { (ways : Ways) (headers : Bool) (names : List (List ℕ)) (looks : List Look) (look : Look)
+        → (followed ways headers names (looks ++ look ∷ [])).out
+        ≡ (followed ways headers names looks).out ++ text_from headers (last_header ways headers names looks)
+        (shares_at_look ways names looks look) }
+    ensures messages { (ways : Ways) (headers : Bool) (names : List (List ℕ)) (looks : List Look) (look : Look)
+        → (followed ways headers names (looks ++ look ∷ [])).messages
+        ≡ (followed ways headers names looks).messages ++ messages_of (shares_at_look ways names looks look) }
+    ensures failed { (ways : Ways) (headers : Bool) (names : List (List ℕ)) (looks : List Look) (look : Look)
+        → (followed ways headers names (looks ++ look ∷ [])).has_failed
+        ≡ ((followed ways headers names looks).has_failed || any_failed (shares_at_look ways names looks look)) }
 {}
 
 /// The text of a name only grows, where a file that is appended to keeps its bytes: what further entries add stands after what
 /// was there, and each adds what it has that the entry before it lacks; so does each look, and what all looks give is the text.
 pub fn text_goes_on()
-    ensures entries { (start : List ℕ → List ℕ) (before more : List Entry) → AreKept (before ++ more) → name_text start (before ++ more) ≡ name_text start before ++ gains_after start before more }
-    ensures look { (ways : Ways) (name : List ℕ) (before : List Look) (look : Look) → AreKept (entries_in ways name (before ++ look ∷ [])) → name_text ways.start (entries_in ways name (before ++ look ∷ [])) ≡ name_text ways.start (entries_in ways name before) ++ gain ways name before look }
-    ensures looks { (ways : Ways) (name : List ℕ) (looks : List Look) → AreKept (entries_in ways name looks) → gains_from ways name [] looks ≡ name_text ways.start (entries_in ways name looks) }
+    ensures entries { (start : List ℕ → List ℕ) (before more : List Entry) → AreKept (before ++ more)
+        → name_text start (before ++ more) ≡ name_text start before ++ gains_after start before more }
+    ensures look { (ways : Ways) (name : List ℕ) (before : List Look) (look : Look)
+        → AreKept (entries_in ways name (before ++ look ∷ []))
+        → name_text ways.start (entries_in ways name (before ++ look ∷ []))
+        ≡ name_text ways.start (entries_in ways name before) ++ gain ways name before look }
+    ensures looks { (ways : Ways) (name : List ℕ) (looks : List Look) → AreKept (entries_in ways name looks)
+        → gains_from ways name [] looks ≡ name_text ways.start (entries_in ways name looks) }
 {}
 
 /// Looks don't matter: two placings of looks among the same edits give the same text of each name, where the first look stands
 /// after the same edits, one look sees all that the edits before it do, and a file that is appended to keeps its bytes.
 pub fn looks_agree()
-    ensures { (start : List ℕ → List ℕ) (by_name : Bool) (name : List ℕ) (first : List Edit) (one other : List (List Edit)) → Agree start by_name name first one other }
+    ensures { (start : List ℕ → List ℕ) (by_name : Bool) (name : List ℕ) (first : List Edit)
+        (one other : List (List Edit)) → Agree start by_name name first one other }
 {}
 
 /// A line that tells what a look found is never the message of a failure: so it is told whole, or following ends before it.

@@ -90,7 +90,9 @@ impl Name {
     ) -> Result<bool, Fault>
         requires ready { CanVisit self.old (watched_at (W.watched watch.old) place) }
         requires can { CanPrint (O.slots outs.old) }
-        ensures visits { (first : ℕ) → Visits W.told O.told (ways_of first by_name start) (latest (W.seen watch.old)) place self.old.text self.old.standing (W.watched watch.old) visitor.old (O.slots outs.old) self.new.standing (W.watched watch.new) visitor.new (O.slots outs.new) result }
+        ensures visits { (first : ℕ) → Visits W.told O.told (ways_of first by_name start)
+            (latest (W.seen watch.old)) place self.old.text self.old.standing (W.watched watch.old) visitor.old
+            (O.slots outs.old) self.new.standing (W.watched watch.new) visitor.new (O.slots outs.new) result }
         ensures same { self.new.text ≡ self.old.text }
         ensures can { CanGoOn (over_in result) (O.slots outs.new) }
         ensures seen { W.seen watch.new ≡ W.seen watch.old }
@@ -135,8 +137,10 @@ pub(crate) fn new_names(alloc: Global, names: &[&str]) -> Result<Vec<Name>, Faul
 /// `Memory` where there is none: the first of them may have been added.
 pub(crate) fn add_all<W: Watch>(names: &[Name], watch: &mut W) -> Result<usize, Fault>
     ensures ok { OnOk result (W.watched watch.new ≡ W.watched watch.old ++ map added (texts names.now)) }
-    ensures first { IfOk result (λ first. (0 < length names.now → first ≡ length (W.watched watch.old)) × (first + length names.now ≤ 2 ^ 64)) }
-    ensures err { IfErr result (λ fault. (fault ≡ Fault.Memory) × AddsSome (texts names.now) (W.watched watch.old) (W.watched watch.new)) }
+    ensures first { IfOk result (λ first. (0 < length names.now → first ≡ length (W.watched watch.old))
+        × (first + length names.now ≤ 2 ^ 64)) }
+    ensures err { IfErr result
+        (λ fault. (fault ≡ Fault.Memory) × AddsSome (texts names.now) (W.watched watch.old) (W.watched watch.new)) }
     ensures seen { W.seen watch.new ≡ W.seen watch.old }
     ensures shows { W.shows watch.new ≡ W.shows watch.old }
 {
@@ -170,7 +174,9 @@ pub(crate) fn visit_all<W: Watch, O: Outs>(
     requires ready { AllReady names.old first (W.watched watch.old) }
     requires fits { first + length names.old ≤ 2 ^ 64 }
     requires can { CanPrint (O.slots outs.old) }
-    ensures visits { VisitsAll W.told O.told (latest (W.seen watch.old)) by_name start first names.old (W.watched watch.old) visitor.old (O.slots outs.old) names.new (W.watched watch.new) visitor.new (O.slots outs.new) result }
+    ensures visits { VisitsAll W.told O.told (latest (W.seen watch.old)) by_name start first names.old
+        (W.watched watch.old) visitor.old (O.slots outs.old) names.new (W.watched watch.new) visitor.new
+        (O.slots outs.new) result }
     ensures seen { W.seen watch.new ≡ W.seen watch.old }
     ensures shows { W.shows watch.new ≡ W.shows watch.old }
 {

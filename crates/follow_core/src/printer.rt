@@ -50,7 +50,8 @@ impl Printer {
         outs: &mut O,
     ) -> Result<(), Fault>
         requires { IsTrue (is_writable (O.slots outs.old) 0) }
-        ensures puts { Puts O.told opened self.old name.now bytes.now (O.slots outs.old) self.new (O.slots outs.new) (over_by (over_in result)) }
+        ensures puts { Puts O.told opened self.old name.now bytes.now (O.slots outs.old) self.new (O.slots outs.new)
+            (over_by (over_in result)) }
         ensures writable { OnOk result (IsTrue (is_writable (O.slots outs.new) 0)) }
     {
         if let Err(fault) = self.show(self.is_due(opened, name, bytes), name, outs) {
@@ -77,10 +78,15 @@ impl Printer {
     #[tactic(auto, using(crate::proofs::CallLemmas::no_memory))]
     fn show<O: Outs>(&mut self, due: bool, name: &str, outs: &mut O) -> Result<(), Fault>
         requires { IsTrue (is_writable (O.slots outs.old) 0) }
-        ensures out { OnOk result (O.slots outs.new ≡ with_written 0 (told_of O.told (if due then header_of name.now (is_none self.old.last) else [])) (O.slots outs.old)) }
-        ensures last { OnOk result (self.new ≡ record self.old { last = if due then Some name.now else self.old.last }) }
+        ensures out { OnOk result (O.slots outs.new
+            ≡ with_written 0 (told_of O.told (if due then header_of name.now (is_none self.old.last) else []))
+            (O.slots outs.old)) }
+        ensures last { OnOk result (self.new
+            ≡ record self.old { last = if due then Some name.now else self.old.last }) }
         ensures writable { OnOk result (IsTrue (is_writable (O.slots outs.new) 0)) }
-        ensures short { IfErr result (Short O.told (if due then header_of name.now (is_none self.old.last) else []) (O.slots outs.old) (O.slots outs.new)) }
+        ensures short { IfErr result
+            (Short O.told (if due then header_of name.now (is_none self.old.last) else []) (O.slots outs.old)
+            (O.slots outs.new)) }
     {
         if !due {
             return Ok(());

@@ -44,7 +44,9 @@ pub fn follow_files<W: Watch, O: Outs>(
     requires unseen { W.seen watch.old ≡ [] }
     requires unwatched { W.watched watch.old ≡ [] }
     requires outputs { O.slots outs.old ≡ streams }
-    ensures { FollowEndsBy limits.process W.told O.told (ways_of 0 by_name start) headers (map (λ name. name.now) names.now) limits.looks (W.shows watch.old) (O.slots outs.old) (W.seen watch.new) (W.watched watch.new) (O.slots outs.new) result }
+    ensures { FollowEndsBy limits.process W.told O.told (ways_of 0 by_name start) headers
+        (map (λ name. name.now) names.now) limits.looks (W.shows watch.old) (O.slots outs.old) (W.seen watch.new)
+        (W.watched watch.new) (O.slots outs.new) result }
 {
     let mut follow = match Follow::open(alloc, names, start, by_name, headers) {
         Ok(follow) => follow,
@@ -79,11 +81,14 @@ fn make_looks<W: Watch, O: Outs>(
     ensures looked { OnOk result ((most : ℕ) × AreMost W.told limits.process (W.shows watch.old) limits.looks most
         × ((ways : Ways) (headers : Bool) (names : List (List ℕ)) (first : List Slot)
         → Holds W.told O.told ways headers names [] first follow.old (W.watched watch.old) (O.slots outs.old)
-        → LookedAll W.told O.told ways headers names most (W.shows watch.old) first follow.new (W.seen watch.new) (W.watched watch.new) (O.slots outs.new))) }
-    ensures stopped { IfErr result (λ why. (most : ℕ) × AreMost W.told limits.process (W.shows watch.old) limits.looks most
+        → LookedAll W.told O.told ways headers names most (W.shows watch.old) first follow.new (W.seen watch.new)
+        (W.watched watch.new) (O.slots outs.new))) }
+    ensures stopped { IfErr result
+        (λ why. (most : ℕ) × AreMost W.told limits.process (W.shows watch.old) limits.looks most
         × ((ways : Ways) (headers : Bool) (names : List (List ℕ)) (first : List Slot)
         → Holds W.told O.told ways headers names [] first follow.old (W.watched watch.old) (O.slots outs.old)
-        → StoppedIn W.told O.told ways headers names most (W.shows watch.old) first (W.seen watch.new) (W.watched watch.new) (O.slots outs.new) why)) }
+        → StoppedIn W.told O.told ways headers names most (W.shows watch.old) first (W.seen watch.new)
+        (W.watched watch.new) (O.slots outs.new) why)) }
     ensures error { HasError (O.slots outs.new) }
 {
     let mut made = 0;

@@ -44,11 +44,16 @@ impl Start {
         requires readable { IsTrue (is_readable (W.watched watch.old) place) }
         requires room { 0 < length buffer.old }
         requires bound { len < 2 ^ 63 }
-        requires whole { W.told ≡ true → len ≡ length (open_contents (latest (W.seen watch.old)) (watched_at (W.watched watch.old) place)) }
+        requires whole { W.told ≡ true
+            → len ≡ length (open_contents (latest (W.seen watch.old)) (watched_at (W.watched watch.old) place)) }
         ensures within { IfOk result (λ from. from ≤ len) }
-        ensures part { IfOk result (λ from. W.told ≡ true → let contents = open_contents (latest (W.seen watch.old)) (watched_at (W.watched watch.old) place) in drop from contents ≡ tail_of self.delim self.unit self.from_nth self.count contents) }
+        ensures part { IfOk result (λ from. W.told ≡ true
+            → let contents = open_contents (latest (W.seen watch.old))
+            (watched_at (W.watched watch.old) place) in drop from contents
+            ≡ tail_of self.delim self.unit self.from_nth self.count contents) }
         ensures same { OnOk result (W.watched watch.new ≡ W.watched watch.old) }
-        ensures err { IfErr result (λ fault. (fault ≡ Fault.Read place) × FailsToRead place (W.watched watch.old) (W.watched watch.new)) }
+        ensures err { IfErr result
+            (λ fault. (fault ≡ Fault.Read place) × FailsToRead place (W.watched watch.old) (W.watched watch.new)) }
         ensures sought { IfErr result (λ _. IsTrue (is_sought self.unit)) }
         ensures seen { W.seen watch.new ≡ W.seen watch.old }
         ensures shows { W.shows watch.new ≡ W.shows watch.old }
@@ -80,11 +85,15 @@ fn find_last_lines<W: Watch>(
     requires readable { IsTrue (is_readable (W.watched watch.old) place) }
     requires room { 0 < length buffer.old }
     requires bound { len < 2 ^ 63 }
-    requires whole { W.told ≡ true → len ≡ length (open_contents (latest (W.seen watch.old)) (watched_at (W.watched watch.old) place)) }
+    requires whole { W.told ≡ true
+        → len ≡ length (open_contents (latest (W.seen watch.old)) (watched_at (W.watched watch.old) place)) }
     ensures within { IfOk result (λ from. from ≤ len) }
-    ensures part { IfOk result (λ from. W.told ≡ true → let contents = open_contents (latest (W.seen watch.old)) (watched_at (W.watched watch.old) place) in drop from contents ≡ last_lines delim count contents) }
+    ensures part { IfOk result (λ from. W.told ≡ true
+        → let contents = open_contents (latest (W.seen watch.old))
+        (watched_at (W.watched watch.old) place) in drop from contents ≡ last_lines delim count contents) }
     ensures same { OnOk result (W.watched watch.new ≡ W.watched watch.old) }
-    ensures err { IfErr result (λ fault. (fault ≡ Fault.Read place) × FailsToRead place (W.watched watch.old) (W.watched watch.new)) }
+    ensures err { IfErr result
+        (λ fault. (fault ≡ Fault.Read place) × FailsToRead place (W.watched watch.old) (W.watched watch.new)) }
     ensures seen { W.seen watch.new ≡ W.seen watch.old }
     ensures shows { W.shows watch.new ≡ W.shows watch.old }
 {
@@ -118,11 +127,15 @@ fn pass_lines<W: Watch>(
     requires readable { IsTrue (is_readable (W.watched watch.old) place) }
     requires room { 0 < length buffer.old }
     requires bound { len < 2 ^ 63 }
-    requires whole { W.told ≡ true → len ≡ length (open_contents (latest (W.seen watch.old)) (watched_at (W.watched watch.old) place)) }
+    requires whole { W.told ≡ true
+        → len ≡ length (open_contents (latest (W.seen watch.old)) (watched_at (W.watched watch.old) place)) }
     ensures within { IfOk result (λ from. from ≤ len) }
-    ensures part { IfOk result (λ from. W.told ≡ true → let contents = open_contents (latest (W.seen watch.old)) (watched_at (W.watched watch.old) place) in drop from contents ≡ after_lines delim count contents) }
+    ensures part { IfOk result (λ from. W.told ≡ true
+        → let contents = open_contents (latest (W.seen watch.old))
+        (watched_at (W.watched watch.old) place) in drop from contents ≡ after_lines delim count contents) }
     ensures same { OnOk result (W.watched watch.new ≡ W.watched watch.old) }
-    ensures err { IfErr result (λ fault. (fault ≡ Fault.Read place) × FailsToRead place (W.watched watch.old) (W.watched watch.new)) }
+    ensures err { IfErr result
+        (λ fault. (fault ≡ Fault.Read place) × FailsToRead place (W.watched watch.old) (W.watched watch.new)) }
     ensures seen { W.seen watch.new ≡ W.seen watch.old }
     ensures shows { W.shows watch.new ≡ W.shows watch.old }
 {
@@ -154,10 +167,14 @@ fn read_block<W: Watch>(
     requires readable { IsTrue (is_readable (W.watched watch.old) place) }
     requires fits { from + length block.old < 2 ^ 64 }
     ensures bound { IfOk result (λ n. n ≤ length block.old) }
-    ensures bytes { IfOk result (λ n. W.told ≡ true → take n block.new ≡ take (length block.old) (drop from (open_contents (latest (W.seen watch.old)) (watched_at (W.watched watch.old) place)))) }
+    ensures bytes { IfOk result (λ n. W.told ≡ true
+        → take n block.new
+        ≡ take (length block.old)
+        (drop from (open_contents (latest (W.seen watch.old)) (watched_at (W.watched watch.old) place)))) }
     ensures length { length block.new ≡ length block.old }
     ensures same { OnOk result (W.watched watch.new ≡ W.watched watch.old) }
-    ensures err { IfErr result (λ fault. (fault ≡ Fault.Read place) × FailsToRead place (W.watched watch.old) (W.watched watch.new)) }
+    ensures err { IfErr result
+        (λ fault. (fault ≡ Fault.Read place) × FailsToRead place (W.watched watch.old) (W.watched watch.new)) }
     ensures seen { W.seen watch.new ≡ W.seen watch.old }
     ensures shows { W.shows watch.new ≡ W.shows watch.old }
 {

@@ -82,7 +82,9 @@ impl Visitor {
         requires watchable { IsTrue (is_watchable (W.watched watch.old) place) }
         requires name { (watched_at (W.watched watch.old) place).name ≡ name.now }
         requires can { CanPrint (O.slots outs.old) }
-        ensures visits { (first : ℕ) → Visits W.told O.told (ways_of first by_name start) (latest (W.seen watch.old)) place name.now New (W.watched watch.old) self.old (O.slots outs.old) standing.new (W.watched watch.new) self.new (O.slots outs.new) result }
+        ensures visits { (first : ℕ) → Visits W.told O.told (ways_of first by_name start)
+            (latest (W.seen watch.old)) place name.now New (W.watched watch.old) self.old
+            (O.slots outs.old) standing.new (W.watched watch.new) self.new (O.slots outs.new) result }
         ensures can { CanGoOn (over_in result) (O.slots outs.new) }
         ensures seen { W.seen watch.new ≡ W.seen watch.old }
         ensures shows { W.shows watch.new ≡ W.shows watch.old }
@@ -127,9 +129,12 @@ impl Visitor {
     ) -> Result<u64, Stop>
         requires readable { IsTrue (is_readable (W.watched watch.old) place) }
         requires can { CanPrint (O.slots outs.old) }
-        ensures starts { Starts W.told O.told (is_sought start.unit) (latest (W.seen watch.old)) (tail_of start.delim start.unit start.from_nth start.count) place name.now (W.watched watch.old) self.old (O.slots outs.old) (W.watched watch.new) self.new (O.slots outs.new) (stop_in result) }
+        ensures starts { Starts W.told O.told (is_sought start.unit) (latest (W.seen watch.old))
+            (tail_of start.delim start.unit start.from_nth start.count) place name.now (W.watched watch.old) self.old
+            (O.slots outs.old) (W.watched watch.new) self.new (O.slots outs.new) (stop_in result) }
         ensures long { IfOk result (HoldsMany (latest (W.seen watch.old)) (watched_at (W.watched watch.old) place)) }
-        ensures len { IfOk result (λ len. W.told ≡ true → len ≡ length (open_contents (latest (W.seen watch.old)) (watched_at (W.watched watch.old) place))) }
+        ensures len { IfOk result (λ len. W.told ≡ true
+            → len ≡ length (open_contents (latest (W.seen watch.old)) (watched_at (W.watched watch.old) place))) }
         ensures can { CanGoOn (stop_in result) (O.slots outs.new) }
         ensures seen { W.seen watch.new ≡ W.seen watch.old }
         ensures shows { W.shows watch.new ≡ W.shows watch.old }
@@ -174,7 +179,10 @@ impl Visitor {
         requires watchable { IsTrue (is_watchable (W.watched watch.old) place) }
         requires name { (watched_at (W.watched watch.old) place).name ≡ name.now }
         requires can { CanPrint (O.slots outs.old) }
-        ensures visits { (first : ℕ) (start : List ℕ → List ℕ) (seeks : Bool) → Visits W.told O.told (record { first = first; by_name = by_name; start = start; seeks = seeks }) (latest (W.seen watch.old)) place name.now (Followed position) (W.watched watch.old) self.old (O.slots outs.old) standing.new (W.watched watch.new) self.new (O.slots outs.new) result }
+        ensures visits { (first : ℕ) (start : List ℕ → List ℕ) (seeks : Bool)
+            → Visits W.told O.told (record { first = first; by_name = by_name; start = start; seeks = seeks })
+            (latest (W.seen watch.old)) place name.now (Followed position) (W.watched watch.old) self.old
+            (O.slots outs.old) standing.new (W.watched watch.new) self.new (O.slots outs.new) result }
         ensures can { CanGoOn (over_in result) (O.slots outs.new) }
         ensures seen { W.seen watch.new ≡ W.seen watch.old }
         ensures shows { W.shows watch.new ≡ W.shows watch.old }
@@ -213,7 +221,9 @@ impl Visitor {
         requires watchable { IsTrue (is_watchable (W.watched watch.old) place) }
         requires name { (watched_at (W.watched watch.old) place).name ≡ name.now }
         requires can { CanPrint (O.slots outs.old) }
-        ensures leads { Leads W.told O.told true (latest (W.seen watch.old)) ((latest (W.seen watch.old)).leads name.now) place name.now position (W.watched watch.old) self.old (O.slots outs.old) (W.watched watch.new) self.new (O.slots outs.new) result }
+        ensures leads { Leads W.told O.told true (latest (W.seen watch.old))
+            ((latest (W.seen watch.old)).leads name.now) place name.now position (W.watched watch.old) self.old
+            (O.slots outs.old) (W.watched watch.new) self.new (O.slots outs.new) result }
         ensures can { CanGoOn (stop_in result) (O.slots outs.new) }
         ensures seen { W.seen watch.new ≡ W.seen watch.old }
         ensures shows { W.shows watch.new ≡ W.shows watch.old }
@@ -250,7 +260,8 @@ impl Visitor {
     ) -> Result<u64, Stop>
         requires watchable { IsTrue (is_watchable (W.watched watch.old) place) }
         requires can { CanPrint (O.slots outs.old) }
-        ensures adds { Adds W.told O.told (latest (W.seen watch.old)) place name.now position (W.watched watch.old) self.old (O.slots outs.old) (W.watched watch.new) self.new (O.slots outs.new) result }
+        ensures adds { Adds W.told O.told (latest (W.seen watch.old)) place name.now position
+            (W.watched watch.old) self.old (O.slots outs.old) (W.watched watch.new) self.new (O.slots outs.new) result }
         ensures can { CanGoOn (stop_in result) (O.slots outs.new) }
         ensures seen { W.seen watch.new ≡ W.seen watch.old }
         ensures shows { W.shows watch.new ≡ W.shows watch.old }
@@ -325,8 +336,11 @@ fn copy<W: Watch, O: Outs>(
     requires within { from ≤ len }
     requires room { 0 < length buffer.old }
     requires found { HoldsMany (latest (W.seen watch.old)) (watched_at (W.watched watch.old) place) len }
-    requires whole { W.told ≡ true → len ≡ length (open_contents (latest (W.seen watch.old)) (watched_at (W.watched watch.old) place)) }
-    ensures copies { Copies W.told O.told (latest (W.seen watch.old)) from place name.now (W.watched watch.old) printer.old (O.slots outs.old) (W.watched watch.new) printer.new (O.slots outs.new) (stop_in result) }
+    requires whole { W.told ≡ true
+        → len ≡ length (open_contents (latest (W.seen watch.old)) (watched_at (W.watched watch.old) place)) }
+    ensures copies { Copies W.told O.told (latest (W.seen watch.old)) from place name.now
+        (W.watched watch.old) printer.old (O.slots outs.old) (W.watched watch.new) printer.new (O.slots outs.new)
+        (stop_in result) }
     ensures len { IfOk result (λ n. n ≡ len) }
     ensures seen { W.seen watch.new ≡ W.seen watch.old }
     ensures shows { W.shows watch.new ≡ W.shows watch.old }
@@ -362,7 +376,9 @@ fn begin_at<O: Outs>(
     outs: &mut O,
 ) -> Result<u64, Fault>
     requires can { CanPrint (O.slots outs.old) }
-    ensures ends { (told_in : Bool) (printer : PrinterState) → Ends told_in (Noted (IsPast position len)) O.told false printer name.now (notes_past position len) [] (O.slots outs.old) printer (O.slots outs.new) (over_in result) }
+    ensures ends { (told_in : Bool) (printer : PrinterState)
+        → Ends told_in (Noted (IsPast position len)) O.told false printer name.now (notes_past position len) []
+        (O.slots outs.old) printer (O.slots outs.new) (over_in result) }
     ensures from { IfOk result (λ from. from ≡ (if nat_lt len position then 0 else position)) }
     ensures can { CanGoOn (over_in result) (O.slots outs.new) }
 {
@@ -382,7 +398,9 @@ fn begin_at<O: Outs>(
 /// `Memory` where there was none for the line.
 fn tell<O: Outs>(alloc: Global, found: Notice, name: &str, outs: &mut O) -> Result<(), Fault>
     requires can { CanPrint (O.slots outs.old) }
-    ensures ends { (told_in : Bool) (printer : PrinterState) → Ends told_in (Noted (λ notice. notice ≡ found)) O.told false printer name.now (notes found ∷ []) [] (O.slots outs.old) printer (O.slots outs.new) (over_in result) }
+    ensures ends { (told_in : Bool) (printer : PrinterState)
+        → Ends told_in (Noted (λ notice. notice ≡ found)) O.told false printer name.now (notes found ∷ []) []
+        (O.slots outs.old) printer (O.slots outs.new) (over_in result) }
     ensures can { CanGoOn (over_in result) (O.slots outs.new) }
 {
     match notice_line(alloc, found, name) {

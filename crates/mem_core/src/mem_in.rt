@@ -29,7 +29,16 @@ struct MemSource {
 impl Model for MemSource {
     ghost Value = { Source };
 
-    ghost view = { λ s. record { left = record { bytes = drop s.given s.bytes.items; breaks_off = s.breaks_off }; is_open = s.is_open; is_broken = s.is_broken; asked = s.asked; taken = take s.given s.bytes.items; reached = s.reached; last = s.last; ended = s.ended } };
+    ghost view = { λ s. record {
+      left = record { bytes = drop s.given s.bytes.items; breaks_off = s.breaks_off };
+      is_open = s.is_open;
+      is_broken = s.is_broken;
+      asked = s.asked;
+      taken = take s.given s.bytes.items;
+      reached = s.reached;
+      last = s.last;
+      ended = s.ended;
+    } };
 
     ghost invariant = { λ s. (s.given ≤ length s.bytes.items) × (s.last ≤ s.given) };
 }
@@ -187,7 +196,11 @@ pub struct MemIn {
 impl Model for MemIn {
     ghost Value = { MemInState };
 
-    ghost view = { λ m. record { sources = m.sources.items; files = m.files.items; breaks = map (λ b. (b.slot, b.at)) m.breaks.items } };
+    ghost view = { λ m. record {
+      sources = m.sources.items;
+      files = m.files.items;
+      breaks = map (λ b. (b.slot, b.at)) m.breaks.items;
+    } };
 
     ghost invariant = { λ m. 0 < m.piece };
 }
@@ -199,7 +212,12 @@ impl MemIn {
     ///
     /// `Memory` where there is no room for it.
     pub fn new(alloc: Global) -> Result<Self, Fault>
-        ensures ok { IfOk result (λ inputs. inputs ≡ record { sources = source_of (record { bytes = []; breaks_off = false }) ∷ []; files = []; breaks = [] }) }
+        ensures ok { IfOk result (λ inputs. inputs
+            ≡ record {
+              sources = source_of (record { bytes = []; breaks_off = false }) ∷ [];
+              files = [];
+              breaks = [];
+            }) }
         ensures err { IfErr result (λ fault. fault ≡ Fault.Memory) }
     {
         let mut sources = Vec::new(alloc);
@@ -221,7 +239,8 @@ impl MemIn {
     ///
     /// `Memory` where there is no room for the bytes: nothing is changed.
     pub fn input(&mut self, bytes: &[u8]) -> Result<(), Fault>
-        ensures ok { OnOk result (self.new ≡ record self.old { sources = changed_at 0 (holds bytes.now) self.old.sources }) }
+        ensures ok { OnOk result (self.new
+            ≡ record self.old { sources = changed_at 0 (holds bytes.now) self.old.sources }) }
         ensures err { IfErr result (λ fault. (fault ≡ Fault.Memory) × (self.new ≡ self.old)) }
     {
         let bytes = Vec::from_slice(self.alloc, bytes)?;
@@ -238,7 +257,8 @@ impl MemIn {
     ///
     /// `Memory` where there is no room for it: nothing is changed.
     pub fn file(&mut self, name: &str, bytes: &[u8]) -> Result<(), Fault>
-        ensures ok { OnOk result (self.new ≡ record self.old { files = self.old.files ++ record { name = name.now; bytes = bytes.now } ∷ [] }) }
+        ensures ok { OnOk result (self.new
+            ≡ record self.old { files = self.old.files ++ record { name = name.now; bytes = bytes.now } ∷ [] }) }
         ensures err { IfErr result (λ fault. (fault ≡ Fault.Memory) × (self.new ≡ self.old)) }
     {
         let file = laid(self.alloc, name, bytes)?;
@@ -358,9 +378,12 @@ impl Inputs for MemIn {
     /// Fills the buffer with the input's bytes from a place on, wherever it has as many there.
     fn read_at(&mut self, slot: usize, place: u64, buffer: &mut [u8]) -> bool
         requires { IsTrue (is_readable self.old.sources slot) }
-        ensures could { result ≡ nat_le (place + length buffer.old) (length (source_at self.old.sources slot).left.bytes) }
+        ensures could { result ≡ nat_le (place + length buffer.old)
+            (length (source_at self.old.sources slot).left.bytes) }
         ensures shows { IsTrue result → Shows (source_at self.old.sources slot).left.bytes place buffer.new }
-        ensures rest { self.new ≡ record self.old { sources = changed_at slot (looks (length buffer.old)) self.old.sources } }
+        ensures rest { self.new ≡ record self.old {
+          sources = changed_at slot (looks (length buffer.old)) self.old.sources;
+        } }
     {
         self.sources[slot].read_at(place, buffer)
     }

@@ -19,7 +19,13 @@ struct MemSlot {
 impl Model for MemSlot {
     ghost Value = { Slot };
 
-    ghost view = { λ s. record { name = string_bytes s.name; mode = s.mode; written = s.bytes.items; state = s.state; is_broken = s.is_broken } };
+    ghost view = { λ s. record {
+      name = string_bytes s.name;
+      mode = s.mode;
+      written = s.bytes.items;
+      state = s.state;
+      is_broken = s.is_broken;
+    } };
 }
 
 impl Unopened for MemSlot {

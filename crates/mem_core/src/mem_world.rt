@@ -177,7 +177,8 @@ impl MemWorld {
 
     /// Makes a name lead to a file, or nowhere.
     fn lead(&mut self, alloc: Global, name: &str, file: Option<usize>) -> Result<(), AllocError>
-        ensures { OnOk result (self.new ≡ record self.old { links = record { name = name.now; file = file } ∷ self.old.links }) }
+        ensures { OnOk result (self.new
+            ≡ record self.old { links = record { name = name.now; file = file } ∷ self.old.links }) }
     {
         let name = String::from_str(alloc, name)?;
         self.links.insert(0, MemLink { name, file })?;

@@ -6,6 +6,8 @@ ghost use Rattle.operand_core.specs.declared.operand.Operand.{Operand};
 
 /// Words ask for one list of operands at most, and for none where a word is no operand, or its pattern is none or too large.
 pub fn one_reading()
-    ensures only { (words : List (List ℕ)) (one other : List Operand) → Asks words one → Asks words other → one ≡ other }
-    ensures either { (words : List (List ℕ)) (operands : List Operand) (fault : OperandFault) → Asks words operands → IsFault words fault → IsOfWords fault.kind → ⊥ }
+    ensures only { (words : List (List ℕ)) (one other : List Operand) → Asks words one → Asks words other
+        → one ≡ other }
+    ensures either { (words : List (List ℕ)) (operands : List Operand) (fault : OperandFault) → Asks words operands
+        → IsFault words fault → IsOfWords fault.kind → ⊥ }
 {}

@@ -30,7 +30,15 @@ impl Model for Style {
 
     ghost Value = { Asked };
 
-    ghost view = { λ s. record { prefix = string_bytes s.prefix; form = s.form; ending = string_bytes s.ending; keep = s.keep; quiet = s.quiet; elide = s.elide; suppress = s.suppress } };
+    ghost view = { λ s. record {
+      prefix = string_bytes s.prefix;
+      form = s.form;
+      ending = string_bytes s.ending;
+      keep = s.keep;
+      quiet = s.quiet;
+      elide = s.elide;
+      suppress = s.suppress;
+    } };
 }
 
 impl Style {

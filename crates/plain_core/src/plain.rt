@@ -53,7 +53,8 @@ impl Plain {
     /// Goes on by one token.
     fn take(&mut self, alloc: Global, token: &Token, line: &[u8]) -> Result<(), BreFault>
         ensures ok { (current : Pattern) (around : List Pattern) → Means line.now current around self.old
-            → OnOk result (Means line.now (current_after token.now current around) (around_after token.now current around) self.new) }
+            → OnOk result
+            (Means line.now (current_after token.now current around) (around_after token.now current around) self.new) }
         ensures err { IfErr result (λ fault. fault ≡ Memory) }
     {
         match token {

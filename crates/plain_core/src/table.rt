@@ -90,7 +90,8 @@ fn row_of<F: Fn(usize, usize) -> bool>(
     test: &F,
 ) -> Result<Row, BreFault>
     requires { (to : ℕ) → to ≤ length line.now → F.pre test.now from to }
-    ensures ok { IfOk result (λ row. (to : ℕ) → to ≤ length line.now → F.post test.now from to (slice_index_or row to false)) }
+    ensures ok { IfOk result (λ row. (to : ℕ) → to ≤ length line.now
+        → F.post test.now from to (slice_index_or row to false)) }
     ensures err { IfErr result (λ fault. fault ≡ Memory) }
 {
     let mut flags = Vec::new(alloc);
@@ -107,7 +108,8 @@ fn table_of<F: Fn(usize, usize) -> bool>(
     test: F,
 ) -> Result<Table, BreFault>
     requires { (from to : ℕ) → from ≤ length line.now → to ≤ length line.now → F.pre test from to }
-    ensures ok { IfOk result (λ rows. (from to : ℕ) → from ≤ length line.now → to ≤ length line.now → F.post test from to (at rows from to)) }
+    ensures ok { IfOk result (λ rows. (from to : ℕ) → from ≤ length line.now → to ≤ length line.now
+        → F.post test from to (at rows from to)) }
     ensures err { IfErr result (λ fault. fault ≡ Memory) }
 {
     let mut rows = Vec::new(alloc);
@@ -139,7 +141,8 @@ impl Table {
     /// These stretches, each followed by one of another table.
     pub fn with_after(&self, alloc: Global, line: &[u8], item: &Table) -> Result<Table, BreFault>
         ensures ok { (first second : ℕ → ℕ → Bool) → IsTable (length line.now) first self.now
-            → IsTable (length line.now) second item.now → IfOk result (IsTable (length line.now) (joined first second)) }
+            → IsTable (length line.now) second item.now
+            → IfOk result (IsTable (length line.now) (joined first second)) }
         ensures err { IfErr result (λ fault. fault ≡ Memory) }
     {
         Ok(table_of(alloc, line, |from, to| joined_at(self, item, from, to))?)

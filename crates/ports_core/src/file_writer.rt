@@ -106,9 +106,12 @@ impl FileWriter {
     pub fn put<O: Outs>(&mut self, bytes: &[u8], outs: &mut O) -> Result<(), Fault>
         requires ready { IsReady (seen_writer self.old) (O.slots outs.old) }
         requires fits { CanCount (seen_writer self.old).tells (size_of (seen_writer self.old).current) bytes.now }
-        ensures goes { Goes O.told (seen_writer self.old) (with_bytes bytes.now) (O.slots outs.old) (O.slots outs.new) (seen_writer self.new) (fault_in result) }
-        ensures size { OnOk result (size_of (seen_writer self.new).current ≤ size_of (seen_writer self.old).current + length bytes.now) }
-        ensures stays { OnOk result (is_file (seen_writer self.old).current ≡ true → is_file (seen_writer self.new).current ≡ true) }
+        ensures goes { Goes O.told (seen_writer self.old) (with_bytes bytes.now) (O.slots outs.old) (O.slots outs.new)
+            (seen_writer self.new) (fault_in result) }
+        ensures size { OnOk result (size_of (seen_writer self.new).current
+            ≤ size_of (seen_writer self.old).current + length bytes.now) }
+        ensures stays { OnOk result (is_file (seen_writer self.old).current ≡ true
+            → is_file (seen_writer self.new).current ≡ true) }
         ensures broke { IfErr result (λ fault. is_file (seen_writer self.old).current ≡ true → IsWrite fault) }
     {
         match self.current {
@@ -133,7 +136,8 @@ impl FileWriter {
     /// `Suffixes` where no name is left, `Write` where standard output is told of the file and broke.
     pub fn begin<O: Outs>(&mut self, opening: Opening, outs: &mut O) -> Result<(), Fault>
         requires { IsReady (seen_writer self.old) (O.slots outs.old) }
-        ensures goes { Goes O.told (paused (seen_writer self.old)) (with_next opening) (O.slots outs.old) (O.slots outs.new) (seen_writer self.new) (fault_in result) }
+        ensures goes { Goes O.told (paused (seen_writer self.old)) (with_next opening) (O.slots outs.old)
+            (O.slots outs.new) (seen_writer self.new) (fault_in result) }
         ensures size { OnOk result (size_of (seen_writer self.new).current ≡ 0) }
         ensures made { IfErr result (λ fault. (seen_writer self.new).files ≡ (seen_writer self.old).files) }
     {
@@ -154,7 +158,8 @@ impl FileWriter {
     /// `Write` where the file or standard output broke, and those of `begin`.
     pub fn next<O: Outs>(&mut self, opening: Opening, outs: &mut O) -> Result<(), Fault>
         requires { IsReady (seen_writer self.old) (O.slots outs.old) }
-        ensures goes { Goes O.told (seen_writer self.old) (with_next opening) (O.slots outs.old) (O.slots outs.new) (seen_writer self.new) (fault_in result) }
+        ensures goes { Goes O.told (seen_writer self.old) (with_next opening) (O.slots outs.old) (O.slots outs.new)
+            (seen_writer self.new) (fault_in result) }
         ensures size { OnOk result (size_of (seen_writer self.new).current ≡ 0) }
     {
         self.end(outs)?;
@@ -168,7 +173,8 @@ impl FileWriter {
     /// `Write` where the file or standard output broke.
     pub fn end<O: Outs>(&mut self, outs: &mut O) -> Result<(), Fault>
         requires { IsReady (seen_writer self.old) (O.slots outs.old) }
-        ensures goes { Goes O.told (seen_writer self.old) (with_next Never) (O.slots outs.old) (O.slots outs.new) (seen_writer self.new) (fault_in result) }
+        ensures goes { Goes O.told (seen_writer self.old) (with_next Never) (O.slots outs.old) (O.slots outs.new)
+            (seen_writer self.new) (fault_in result) }
         ensures none { OnOk result ((seen_writer self.new).current ≡ Skipped) }
         ensures broke { IfErr result IsWrite }
     {
@@ -192,7 +198,8 @@ impl FileWriter {
     pub fn clear<O: Outs>(&mut self, outs: &mut O)
         requires { AreThere (seen_writer self.old).files (O.slots outs.old) }
         ensures same { seen_writer self.new ≡ record (seen_writer self.old) { files = (seen_writer self.new).files } }
-        ensures removes { Removes (seen_writer self.old).files (O.slots outs.old) (seen_writer self.new).files (O.slots outs.new) }
+        ensures removes { Removes (seen_writer self.old).files (O.slots outs.old) (seen_writer self.new).files
+            (O.slots outs.new) }
     {
         let left = sweep_files(&mut self.files, outs);
         self.files.truncate(left);
@@ -201,7 +208,8 @@ impl FileWriter {
     /// Makes the next file, to which bytes go then, and returns its output.
     fn make_file<O: Outs>(&mut self, outs: &mut O) -> Result<usize, Fault>
         requires { IsReady (seen_writer self.old) (O.slots outs.old) }
-        ensures { Makes O.told (seen_writer self.old) (O.slots outs.old) (O.slots outs.new) (seen_writer self.new) result }
+        ensures { Makes O.told (seen_writer self.old) (O.slots outs.old) (O.slots outs.new)
+            (seen_writer self.new) result }
     {
         self.current = Current::Unopened;
         make_room(&mut self.files, self.keeps)?;
@@ -221,7 +229,8 @@ impl FileWriter {
     ) -> Result<(), Fault>
         requires writable { IsTrue (is_writable (O.slots outs.old) slot) }
         requires fits { CanCount self.old.tells size bytes.now }
-        ensures { Appends O.told (seen_writer self.old) slot size bytes.now (O.slots outs.old) (O.slots outs.new) (seen_writer self.new) (fault_in result) }
+        ensures { Appends O.told (seen_writer self.old) slot size bytes.now (O.slots outs.old) (O.slots outs.new)
+            (seen_writer self.new) (fault_in result) }
     {
         write_whole(outs, slot, bytes)?;
         self.current = Current::File {

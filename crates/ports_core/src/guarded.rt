@@ -57,16 +57,24 @@ impl<S: Stage> Guarded<S> {
         requires { self.old.is_over ≡ false → S.Ready self.old.stage (O.slots outs.old) }
         ensures same { S.work self.new.stage ≡ S.work self.old.stage }
         ensures holds { OnOk result (TakesIn (HoldsIn S.Holds) piece.now self.old self.new) }
-        ensures outputs { OnOk result (PutsOut S.Holds S.Owns S.work self.old.stage piece.now O.told (O.slots outs.old) (O.slots outs.new)) }
+        ensures outputs { OnOk result (PutsOut S.Holds S.Owns S.work self.old.stage piece.now O.told (O.slots outs.old)
+            (O.slots outs.new)) }
         ensures ready { OnOk result (S.Ready self.new.stage (O.slots outs.new)) }
         ensures fed { OnOk result (self.new.fed ≡ self.old.fed + length piece.now) }
         ensures bound { OnOk result (self.new.fed < 2 ^ 63) }
         ensures owns { KeepsOwn S.Owns self.old.stage self.new.stage (O.slots outs.old) (O.slots outs.new) }
         ensures there { KeepsThere S.files self.old.stage self.new.stage (O.slots outs.old) (O.slots outs.new) }
-        ensures cut { IfErr result (CutsOff S.Holds S.Owns S.work self.old.stage piece.now O.told (O.slots outs.old) (O.slots outs.new)) }
-        ensures refused { IfErr result (IsCaused (IsMet (S.work self.old.stage).means (S.work self.old.stage).means.feeding (S.may_lack self.old.stage piece.now ≡ true) (EndsWith S.Holds S.work self.old.stage piece.now) (O.slots outs.old) (O.slots outs.new)) self.old.is_over self.old.fed (length piece.now) (O.slots outs.old) (O.slots outs.new)) }
-        ensures long { self.old.is_over ≡ false → 2 ^ 63 ≤ self.old.fed + length piece.now → IsErrOf result Fault.TooLong × (O.slots outs.new ≡ O.slots outs.old) }
-        ensures failed { self.old.is_over ≡ true → IsErrOf result Fault.Failed × (self.new ≡ self.old) × (O.slots outs.new ≡ O.slots outs.old) }
+        ensures cut { IfErr result
+            (CutsOff S.Holds S.Owns S.work self.old.stage piece.now O.told (O.slots outs.old) (O.slots outs.new)) }
+        ensures refused { IfErr result
+            (IsCaused (IsMet (S.work self.old.stage).means (S.work self.old.stage).means.feeding
+            (S.may_lack self.old.stage piece.now ≡ true) (EndsWith S.Holds S.work self.old.stage piece.now)
+            (O.slots outs.old) (O.slots outs.new)) self.old.is_over self.old.fed (length piece.now) (O.slots outs.old)
+            (O.slots outs.new)) }
+        ensures long { self.old.is_over ≡ false → 2 ^ 63 ≤ self.old.fed + length piece.now
+            → IsErrOf result Fault.TooLong × (O.slots outs.new ≡ O.slots outs.old) }
+        ensures failed { self.old.is_over ≡ true → IsErrOf result Fault.Failed × (self.new ≡ self.old)
+            × (O.slots outs.new ≡ O.slots outs.old) }
         ensures over { OnErr result (self.new.is_over ≡ true) }
     {
         if self.is_over {
@@ -95,7 +103,9 @@ impl<S: Stage> Guarded<S> {
         requires fresh { HoldsIn S.Holds self.old [] }
         requires input { IsTrue (is_readable (I.sources inputs.old) slot) }
         ensures same { S.work self.new.stage ≡ S.work self.old.stage }
-        ensures loads { Loads S.Holds S.Ready S.Owns S.work I.told (length buffer.old) slot result self.old.stage self.new.stage (I.sources inputs.old) (I.sources inputs.new) }
+        ensures loads { Loads S.Holds S.Ready S.Owns S.work I.told
+            (length buffer.old) slot result self.old.stage self.new.stage (I.sources inputs.old)
+            (I.sources inputs.new) }
         ensures fed { self.new.fed ≡ result }
         ensures live { self.new.is_over ≡ false }
         ensures laid { I.laid inputs.new ≡ I.laid inputs.old }
@@ -117,13 +127,20 @@ impl<S: Stage> Guarded<S> {
     pub fn close<O: Outs>(&mut self, outs: &mut O) -> Result<(), Fault>
         requires { self.old.is_over ≡ false → S.Ready self.old.stage (O.slots outs.old) }
         ensures same { S.work self.new.stage ≡ S.work self.old.stage }
-        ensures outputs { OnOk result (Finishes S.Holds S.Owns S.work self.old.stage O.told (O.slots outs.old) (O.slots outs.new)) }
-        ensures writable { OnOk result (writes (S.work self.old.stage).means.output ≡ true → IsTrue (is_writable (O.slots outs.new) 0)) }
+        ensures outputs { OnOk result (Finishes S.Holds S.Owns S.work self.old.stage O.told (O.slots outs.old)
+            (O.slots outs.new)) }
+        ensures writable { OnOk result (writes (S.work self.old.stage).means.output ≡ true
+            → IsTrue (is_writable (O.slots outs.new) 0)) }
         ensures owns { KeepsOwn S.Owns self.old.stage self.new.stage (O.slots outs.old) (O.slots outs.new) }
         ensures there { KeepsThere S.files self.old.stage self.new.stage (O.slots outs.old) (O.slots outs.new) }
-        ensures cut { IfErr result (EndsShort S.Holds S.Owns S.work self.old.stage O.told (O.slots outs.old) (O.slots outs.new)) }
-        ensures refused { IfErr result (IsCaused (IsMet (S.work self.old.stage).means (S.work self.old.stage).means.closing (Unit {0}) (EndsThere S.Holds S.work self.old.stage) (O.slots outs.old) (O.slots outs.new)) self.old.is_over self.old.fed 0 (O.slots outs.old) (O.slots outs.new)) }
-        ensures failed { self.old.is_over ≡ true → IsErrOf result Fault.Failed × (self.new ≡ self.old) × (O.slots outs.new ≡ O.slots outs.old) }
+        ensures cut { IfErr result
+            (EndsShort S.Holds S.Owns S.work self.old.stage O.told (O.slots outs.old) (O.slots outs.new)) }
+        ensures refused { IfErr result
+            (IsCaused (IsMet (S.work self.old.stage).means (S.work self.old.stage).means.closing (Unit {0})
+            (EndsThere S.Holds S.work self.old.stage) (O.slots outs.old)
+            (O.slots outs.new)) self.old.is_over self.old.fed 0 (O.slots outs.old) (O.slots outs.new)) }
+        ensures failed { self.old.is_over ≡ true → IsErrOf result Fault.Failed × (self.new ≡ self.old)
+            × (O.slots outs.new ≡ O.slots outs.old) }
         ensures over { self.new.is_over ≡ true }
     {
         if replace(&mut self.is_over, true) {
@@ -138,7 +155,8 @@ impl<S: Stage> Guarded<S> {
     pub fn abandon<O: Outs>(&mut self, outs: &mut O)
         requires { AreThere (S.files self.old.stage) (O.slots outs.old) }
         ensures same { S.work self.new.stage ≡ S.work self.old.stage }
-        ensures removes { RemovesIf (S.work self.old.stage).clears (S.files self.old.stage) (O.slots outs.old) (S.files self.new.stage) (O.slots outs.new) }
+        ensures removes { RemovesIf (S.work self.old.stage).clears (S.files self.old.stage) (O.slots outs.old)
+            (S.files self.new.stage) (O.slots outs.new) }
         ensures owns { KeepsOwn S.Owns self.old.stage self.new.stage (O.slots outs.old) (O.slots outs.new) }
         ensures there { AreThere (S.files self.new.stage) (O.slots outs.new) }
         ensures swept { Clears S.Owns S.work self.old.stage (O.slots outs.old) (O.slots outs.new) }
@@ -159,7 +177,8 @@ impl<S: Stage> Guarded<S> {
     /// How many bytes the next piece may have, so that no more of them than its work's `ahead` are not used: of an input that
     /// others read after it, such as a pipe, no more is to be read at once.
     pub fn wanted(&self) -> u64
-        ensures some { (x : List ℕ) → HoldsIn S.Holds self.now x → (S.work self.now.stage).is_complete x ≡ false → 0 < result }
+        ensures some { (x : List ℕ) → HoldsIn S.Holds self.now x → (S.work self.now.stage).is_complete x ≡ false
+            → 0 < result }
         ensures few { MayGet S.Holds S.work self.now.stage result }
     {
         self.stage.wanted()

@@ -24,7 +24,8 @@ pub fn say<O: Outs>(alloc: Global, tool: Tool, fault: &Fault, name: &str, outs: 
 /// output's; else there is none.
 pub fn tell<O: Outs>(alloc: Global, tool: Tool, fault: &Fault, outs: &mut O)
     requires { is_open (slot_at (O.slots outs.old) 1).state ≡ true }
-    ensures { SaysOn O.told tool (message_of tool fault.now (output_named (O.slots outs.old) fault.now)) (O.slots outs.old) (O.slots outs.new) }
+    ensures { SaysOn O.told tool (message_of tool fault.now (output_named (O.slots outs.old) fault.now))
+        (O.slots outs.old) (O.slots outs.new) }
 {
     let line = message(alloc, tool, fault, output_name(fault, outs));
     print_message(tool, line, outs)
@@ -44,7 +45,8 @@ fn output_name<'a, O: Outs>(fault: &Fault, outs: &'a O) -> &'a str
 /// Writes a line to standard error, or that there was no memory for it.
 fn print_message<O: Outs>(tool: Tool, line: Result<Vec<u8>, Fault>, outs: &mut O)
     requires { is_open (slot_at (O.slots outs.old) 1).state ≡ true }
-    ensures { (text : List ℕ) → IfOk line (λ bytes. bytes.items ≡ text) → SaysOn O.told tool text (O.slots outs.old) (O.slots outs.new) }
+    ensures { (text : List ℕ) → IfOk line (λ bytes. bytes.items ≡ text)
+        → SaysOn O.told tool text (O.slots outs.old) (O.slots outs.new) }
 {
     match line {
         Ok(text) => print(&text, outs),

@@ -20,7 +20,11 @@ impl Model for Naming {
 
     ghost Value = { Named };
 
-    ghost view = { λ n. record { prefix = string_bytes n.prefix; numbering = n.numbering; ending = string_bytes n.ending } };
+    ghost view = { λ n. record {
+      prefix = string_bytes n.prefix;
+      numbering = n.numbering;
+      ending = string_bytes n.ending;
+    } };
 
     ghost invariant = { λ n. IsWide n.numbering };
 }
@@ -38,7 +42,8 @@ impl Naming {
         ending: &str,
     ) -> Result<Self, Fault>
         requires { IsWide numbering }
-        ensures ok { IfOk result (λ naming. naming ≡ record { prefix = prefix.now; numbering = numbering; ending = ending.now }) }
+        ensures ok { IfOk result (λ naming. naming
+            ≡ record { prefix = prefix.now; numbering = numbering; ending = ending.now }) }
         ensures err { IfErr result (λ fault. fault ≡ Fault.Memory) }
     {
         Ok(Naming {
@@ -93,7 +98,8 @@ fn write_name(
 ) -> Result<String, AllocError>
     requires wide { IsWide numbering }
     requires has { IsTrue (has_suffix numbering place) }
-    ensures { IfOk result (λ name. string_bytes name ≡ name_at (record { prefix = prefix.now; numbering = numbering; ending = ending.now }) place) }
+    ensures { IfOk result (λ name. string_bytes name
+        ≡ name_at (record { prefix = prefix.now; numbering = numbering; ending = ending.now }) place) }
 {
     let ends = prefix.len().saturating_add(ending.len());
     let mut name = String::with_capacity(alloc, ends.saturating_add(ROOM))?;

@@ -37,7 +37,8 @@ impl<S: Unopened + Drop> Slots<S> {
 
     /// The number of the next output, where `before` others stand before these. None where no number is left.
     pub fn next(&self, before: usize) -> Option<usize>
-        ensures next { IfSome result (λ number. (number ≡ before + (length self.now.kept.items + self.now.lost)) × (number < 2 ^ 64 - 1)) }
+        ensures next { IfSome result
+            (λ number. (number ≡ before + (length self.now.kept.items + self.now.lost)) × (number < 2 ^ 64 - 1)) }
         ensures full { IfNone result (2 ^ 64 - 1 ≤ before + (length self.now.kept.items + self.now.lost)) }
     {
         let number = self.kept.len().checked_add(self.lost)?.checked_add(before)?;
@@ -53,8 +54,11 @@ impl<S: Unopened + Drop> Slots<S> {
         requires { self.old.lost < 2 ^ 64 - 1 }
         ensures name { IfSome result (λ copy. string_bytes copy ≡ name.now) }
         ensures all { IfSome result (λ _. self.new.lost ≡ 0) }
-        ensures same { IfSome result (λ _. self.new.kept.items ≡ with_lost (S.unopened []) self.old.kept.items self.old.lost) }
-        ensures lost { IfNone result (with_lost (S.unopened []) self.new.kept.items self.new.lost ≡ with_lost (S.unopened []) self.old.kept.items self.old.lost ++ S.unopened [] ∷ []) }
+        ensures same { IfSome result
+            (λ _. self.new.kept.items ≡ with_lost (S.unopened []) self.old.kept.items self.old.lost) }
+        ensures lost { IfNone result
+            (with_lost (S.unopened []) self.new.kept.items self.new.lost
+            ≡ with_lost (S.unopened []) self.old.kept.items self.old.lost ++ S.unopened [] ∷ []) }
     {
         restore(alloc, &mut self.kept, &mut self.lost);
         if self.lost > 0 {
@@ -72,8 +76,10 @@ impl<S: Unopened + Drop> Slots<S> {
     /// be opened is added in its place.
     pub fn keep(&mut self, slot: S) -> bool
         requires { self.old.lost ≡ 0 }
-        ensures kept { IsTrue result → with_lost (S.unopened []) self.new.kept.items self.new.lost ≡ self.old.kept.items ++ slot ∷ [] }
-        ensures lost { result ≡ false → with_lost (S.unopened []) self.new.kept.items self.new.lost ≡ self.old.kept.items ++ S.unopened [] ∷ [] }
+        ensures kept { IsTrue result
+            → with_lost (S.unopened []) self.new.kept.items self.new.lost ≡ self.old.kept.items ++ slot ∷ [] }
+        ensures lost { result ≡ false
+            → with_lost (S.unopened []) self.new.kept.items self.new.lost ≡ self.old.kept.items ++ S.unopened [] ∷ [] }
     {
         if self.kept.push(slot).is_ok() {
             return true;
@@ -85,7 +91,8 @@ impl<S: Unopened + Drop> Slots<S> {
 
 /// Gives outputs that were lost their own places in the list, as far as there is memory.
 fn restore<S: Unopened + Drop>(alloc: Global, kept: &mut Vec<S>, lost: &mut usize)
-    ensures same { with_lost (S.unopened []) kept.new.items lost.new ≡ with_lost (S.unopened []) kept.old.items lost.old }
+    ensures same { with_lost (S.unopened []) kept.new.items lost.new
+        ≡ with_lost (S.unopened []) kept.old.items lost.old }
     ensures fewer { lost.new ≤ lost.old }
 {
     while *lost > 0 {

@@ -46,12 +46,16 @@ pub trait Stage {
         ensures same { work self.new ≡ work self.old }
         ensures size { size self.new ≤ size self.old + length piece.now }
         ensures holds { OnOk result (TakesIn Holds piece.now self.old self.new) }
-        ensures outputs { OnOk result (PutsOut Holds Owns work self.old piece.now O.told (O.slots outs.old) (O.slots outs.new)) }
+        ensures outputs { OnOk result (PutsOut Holds Owns work self.old piece.now O.told (O.slots outs.old)
+            (O.slots outs.new)) }
         ensures ready { OnOk result (Ready self.new (O.slots outs.new)) }
         ensures owns { KeepsOwn Owns self.old self.new (O.slots outs.old) (O.slots outs.new) }
         ensures there { KeepsThere files self.old self.new (O.slots outs.old) (O.slots outs.new) }
-        ensures cut { IfErr result (CutsOff Holds Owns work self.old piece.now O.told (O.slots outs.old) (O.slots outs.new)) }
-        ensures met { IfErr result (IsMet (work self.old).means (work self.old).means.feeding (may_lack self.old piece.now ≡ true) (EndsWith Holds work self.old piece.now) (O.slots outs.old) (O.slots outs.new)) };
+        ensures cut { IfErr result
+            (CutsOff Holds Owns work self.old piece.now O.told (O.slots outs.old) (O.slots outs.new)) }
+        ensures met { IfErr result
+            (IsMet (work self.old).means (work self.old).means.feeding (may_lack self.old piece.now ≡ true)
+            (EndsWith Holds work self.old piece.now) (O.slots outs.old) (O.slots outs.new)) };
 
     /// Takes in what an input has left, before any piece, as `Guarded::load`. By itself it takes in none.
     fn load<I: Inputs>(&mut self, slot: usize, buffer: &mut [u8], inputs: &mut I) -> u64
@@ -61,7 +65,8 @@ pub trait Stage {
         requires input { IsTrue (is_readable (I.sources inputs.old) slot) }
         ensures same { work self.new ≡ work self.old }
         ensures size { size self.new ≤ result }
-        ensures loads { Loads Holds Ready Owns work I.told (length buffer.old) slot result self.old self.new (I.sources inputs.old) (I.sources inputs.new) }
+        ensures loads { Loads Holds Ready Owns work I.told (length buffer.old) slot result self.old self.new
+            (I.sources inputs.old) (I.sources inputs.new) }
         ensures laid { I.laid inputs.new ≡ I.laid inputs.old }
         ensures bound { result < 2 ^ 63 }
     {
@@ -81,11 +86,14 @@ pub trait Stage {
         ensures same { work self.new ≡ work self.old }
         ensures size { size self.new ≤ size self.old }
         ensures outputs { OnOk result (Finishes Holds Owns work self.old O.told (O.slots outs.old) (O.slots outs.new)) }
-        ensures writable { OnOk result (writes (work self.old).means.output ≡ true → IsTrue (is_writable (O.slots outs.new) 0)) }
+        ensures writable { OnOk result (writes (work self.old).means.output ≡ true
+            → IsTrue (is_writable (O.slots outs.new) 0)) }
         ensures owns { KeepsOwn Owns self.old self.new (O.slots outs.old) (O.slots outs.new) }
         ensures there { KeepsThere files self.old self.new (O.slots outs.old) (O.slots outs.new) }
         ensures cut { IfErr result (EndsShort Holds Owns work self.old O.told (O.slots outs.old) (O.slots outs.new)) }
-        ensures met { IfErr result (IsMet (work self.old).means (work self.old).means.closing (Unit {0}) (EndsThere Holds work self.old) (O.slots outs.old) (O.slots outs.new)) };
+        ensures met { IfErr result
+            (IsMet (work self.old).means (work self.old).means.closing (Unit {0}) (EndsThere Holds work self.old)
+            (O.slots outs.old) (O.slots outs.new)) };
 
     /// Removes the files that it made and that are still there, in order, if its work clears them. One that can't be
     /// removed is broken and closed, and the next is tried.
@@ -93,7 +101,8 @@ pub trait Stage {
         requires { AreThere (files self.old) (O.slots outs.old) }
         ensures same { work self.new ≡ work self.old }
         ensures size { size self.new ≤ size self.old }
-        ensures removes { RemovesIf (work self.old).clears (files self.old) (O.slots outs.old) (files self.new) (O.slots outs.new) }
+        ensures removes { RemovesIf (work self.old).clears (files self.old) (O.slots outs.old) (files self.new)
+            (O.slots outs.new) }
         ensures swept { Clears Owns work self.old (O.slots outs.old) (O.slots outs.new) }
         ensures owns { KeepsOwn Owns self.old self.new (O.slots outs.old) (O.slots outs.new) }
         ensures there { AreThere (files self.new) (O.slots outs.new) };
@@ -118,5 +127,6 @@ pub trait Stage {
 
     ghost lawful: { (stage : Self) → IsLawful (work stage) };
 
-    ghost there: { (stage : Self) (first : ℕ) (slots : List Slot) → Owns stage first slots → AreThere (files stage) slots };
+    ghost there: { (stage : Self) (first : ℕ) (slots : List Slot) → Owns stage first slots
+        → AreThere (files stage) slots };
 }

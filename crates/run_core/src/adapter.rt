@@ -41,6 +41,8 @@ pub trait Adapter {
     ) -> Result<Guarded<Self::Driven>, Fault>
         requires streams { 2 ≤ length (O.slots outs.old) }
         requires output { IsTrue (is_writable (O.slots outs.old) 0) }
-        ensures ok { IfOk result (Opens Self.Driven.Holds Self.Driven.Owns Self.Driven.work Self.Driven.Ready (task self.now).work O.told (O.slots outs.old) (O.slots outs.new)) }
-        ensures err { IfErr result (OpensShort (task self.now).work (task self.now).opening O.told (O.slots outs.old) (O.slots outs.new)) };
+        ensures ok { IfOk result (Opens Self.Driven.Holds Self.Driven.Owns Self.Driven.work Self.Driven.Ready
+            (task self.now).work O.told (O.slots outs.old) (O.slots outs.new)) }
+        ensures err { IfErr result
+            (OpensShort (task self.now).work (task self.now).opening O.told (O.slots outs.old) (O.slots outs.new)) };
 }

@@ -45,14 +45,23 @@ pub fn feed_input<S: Stage, I: Inputs, O: Outs>(
     requires input { IsTrue (is_readable (I.sources inputs.old) slot) }
     requires output { S.Ready engine.old.stage (O.slots outs.old) }
     requires owns { (first : ℕ) × S.Owns engine.old.stage first (O.slots outs.old) }
-    ensures ends { (before : List Slot) (opening : Needs) → S.Owns engine.old.stage (length before) (O.slots outs.old) → OutputsAt O.told before ((S.work engine.old.stage).settled []) (O.slots outs.old)
+    ensures ends { (before : List Slot) (opening : Needs) → S.Owns engine.old.stage (length before) (O.slots outs.old)
+        → OutputsAt O.told before ((S.work engine.old.stage).settled []) (O.slots outs.old)
         → OfContent I.told (source_at (I.sources inputs.old) slot).left
         (λ content. (FedAs O.told before (S.work engine.old.stage) opening (length buffer.old) content
-        (λ call. LeavesOf I.told content (source_at (I.sources inputs.new) slot) call × (I.told ≡ true → IsUnread (source_at (I.sources inputs.old) slot) → IsReadTo slot (source_at (I.sources inputs.new) slot) call)) (O.slots outs.new) result
-        × (is_stop result ≡ false → ToldEnd (S.work engine.old.stage) content (source_at (I.sources inputs.new) slot))) × CameFrom I.told content (source_at (I.sources inputs.new) slot)) }
-    ensures reads { I.told ≡ true → ReadsFor (S.work engine.old.stage).is_complete (length buffer.old) (source_at (I.sources inputs.old) slot).left (source_at (I.sources inputs.new) slot).left }
-    ensures used { I.told ≡ true → is_stop result ≡ false → IsUnread (source_at (I.sources inputs.old) slot) → Uses (S.work engine.old.stage) (length buffer.old) slot (source_at (I.sources inputs.old) slot).left (source_at (I.sources inputs.new) slot) }
-    ensures asked { (source_at (I.sources inputs.old) slot).asked ≤ length buffer.old → (source_at (I.sources inputs.new) slot).asked ≤ length buffer.old }
+        (λ call. LeavesOf I.told content (source_at (I.sources inputs.new) slot) call
+        × (I.told ≡ true → IsUnread (source_at (I.sources inputs.old) slot)
+        → IsReadTo slot (source_at (I.sources inputs.new) slot) call)) (O.slots outs.new) result
+        × (is_stop result ≡ false → ToldEnd (S.work engine.old.stage) content (source_at (I.sources inputs.new) slot)))
+        × CameFrom I.told content (source_at (I.sources inputs.new) slot)) }
+    ensures reads { I.told ≡ true
+        → ReadsFor (S.work engine.old.stage).is_complete (length buffer.old)
+        (source_at (I.sources inputs.old) slot).left (source_at (I.sources inputs.new) slot).left }
+    ensures used { I.told ≡ true → is_stop result ≡ false → IsUnread (source_at (I.sources inputs.old) slot)
+        → Uses (S.work engine.old.stage) (length buffer.old) slot (source_at (I.sources inputs.old) slot).left
+        (source_at (I.sources inputs.new) slot) }
+    ensures asked { (source_at (I.sources inputs.old) slot).asked ≤ length buffer.old
+        → (source_at (I.sources inputs.new) slot).asked ≤ length buffer.old }
     ensures broke { IfOk result (λ fed. fed ≡ Fed.Broken → (source_at (I.sources inputs.new) slot).is_broken ≡ true) }
     ensures laid { I.laid inputs.new ≡ I.laid inputs.old }
     ensures others { KeepsOthers slot (I.sources inputs.old) (I.sources inputs.new) }
@@ -113,7 +122,8 @@ fn read_part<I: Inputs>(
     requires some { 0 < size }
     requires within { size ≤ length buffer.old }
     ensures bound { IfOk result (λ n. n ≤ size) }
-    ensures bytes { IfOk result (λ n. I.told ≡ true → Gave (source_at (I.sources inputs.old) slot).left buffer.old buffer.new n) }
+    ensures bytes { IfOk result (λ n. I.told ≡ true
+        → Gave (source_at (I.sources inputs.old) slot).left buffer.old buffer.new n) }
     ensures rest { IfOk result (λ n. I.sources inputs.new ≡ changed_at slot (gives size n) (I.sources inputs.old)) }
     ensures err { IfErr result (λ fault. I.sources inputs.new ≡ changed_at slot (fails size) (I.sources inputs.old)) }
     ensures break_off { IfErr result (λ _. I.told ≡ true → BrokeOff (source_at (I.sources inputs.old) slot).left) }
@@ -136,8 +146,11 @@ pub fn feed_nothing<S: Stage, O: Outs>(engine: &mut Guarded<S>, outs: &mut O) ->
     requires bound { engine.old.fed < 2 ^ 63 }
     requires output { S.Ready engine.old.stage (O.slots outs.old) }
     requires owns { (first : ℕ) × S.Owns engine.old.stage first (O.slots outs.old) }
-    ensures ends { (before : List Slot) (opening : Needs) (most : ℕ) → S.Owns engine.old.stage (length before) (O.slots outs.old) → OutputsAt O.told before ((S.work engine.old.stage).settled []) (O.slots outs.old)
-        → FedAs O.told before (S.work engine.old.stage) opening most empty (λ call. Unit {0}) (O.slots outs.new) result }
+    ensures ends { (before : List Slot) (opening : Needs) (most : ℕ)
+        → S.Owns engine.old.stage (length before) (O.slots outs.old)
+        → OutputsAt O.told before ((S.work engine.old.stage).settled []) (O.slots outs.old)
+        → FedAs O.told before (S.work engine.old.stage) opening most empty (λ call. Unit {0})
+        (O.slots outs.new) result }
 {
     if engine.done() {
         return end(engine, Fed::Enough, outs);
@@ -166,7 +179,8 @@ fn given_up<S: Stage, O: Outs>(engine: &mut Guarded<S>, fault: Fault, outs: &mut
     requires { is_verdict fault ≡ false → ((first : ℕ) × S.Owns engine.old.stage first (O.slots outs.old)) }
     ensures same { result ≡ fault }
     ensures judged { is_verdict fault ≡ true → O.slots outs.new ≡ O.slots outs.old }
-    ensures swept { is_verdict fault ≡ false → Clears S.Owns S.work engine.old.stage (O.slots outs.old) (O.slots outs.new) }
+    ensures swept { is_verdict fault ≡ false
+        → Clears S.Owns S.work engine.old.stage (O.slots outs.old) (O.slots outs.new) }
 {
     if !is_verdict(&fault) {
         engine.abandon(outs);

@@ -52,8 +52,10 @@ pub fn run_inputs<A: Adapter, I: Inputs, O: Outs>(
     requires fresh { IsFresh (I.sources inputs.old) }
     requires outputs { O.slots outs.old ≡ streams }
     requires alone { (A.task adapter.now).work.clears ≡ true → length (map (λ name. name.now) names.now) ≤ 1 }
-    ensures untouched { has_dash (map (λ name. name.now) names.now) ≡ false → source_at (I.sources inputs.new) 0 ≡ source_at (I.sources inputs.old) 0 }
-    ensures ends { RunsOver I.told (world_of (I.laid inputs.old) (I.sources inputs.old)) (map (λ name. name.now) names.now)
+    ensures untouched { has_dash (map (λ name. name.now) names.now) ≡ false
+        → source_at (I.sources inputs.new) 0 ≡ source_at (I.sources inputs.old) 0 }
+    ensures ends { RunsOver I.told (world_of (I.laid inputs.old) (I.sources inputs.old))
+        (map (λ name. name.now) names.now)
         (λ found. EndsAs I.told O.told (A.task adapter.now) found (I.sources inputs.new) (O.slots outs.new) result) }
     ensures opened { length (I.sources inputs.new) ≤ count_after 1 (map (λ name. name.now) names.now) }
     ensures asked { AsksAtMost largest_piece (I.sources inputs.new) }
@@ -89,11 +91,14 @@ fn take_names<A: Adapter, I: Inputs, O: Outs>(
     requires fresh { IsFresh (I.sources inputs.old) }
     requires outputs { O.slots outs.old ≡ streams }
     requires alone { (A.task job.now.adapter.now).work.clears ≡ true → length (map (λ name. name.now) names.now) ≤ 1 }
-    ensures took { RunsOver I.told (world_of (I.laid inputs.old) (I.sources inputs.old)) (map (λ name. name.now) names.now)
-        (λ found. TookAll I.told O.told (A.task job.now.adapter.now) found (I.sources inputs.new) (O.slots outs.new) result) }
+    ensures took { RunsOver I.told (world_of (I.laid inputs.old) (I.sources inputs.old))
+        (map (λ name. name.now) names.now)
+        (λ found. TookAll I.told O.told (A.task job.now.adapter.now) found (I.sources inputs.new)
+        (O.slots outs.new) result) }
     ensures opened { length (I.sources inputs.new) ≤ count_after 1 (map (λ name. name.now) names.now) }
     ensures asked { AsksAtMost largest_piece (I.sources inputs.new) }
-    ensures untouched { has_dash (map (λ name. name.now) names.now) ≡ false → source_at (I.sources inputs.new) 0 ≡ source_at (I.sources inputs.old) 0 }
+    ensures untouched { has_dash (map (λ name. name.now) names.now) ≡ false
+        → source_at (I.sources inputs.new) 0 ≡ source_at (I.sources inputs.old) 0 }
 {
     let mut progress = Progress {
         was_read: false,
@@ -126,10 +131,16 @@ fn take_name<A: Adapter, I: Inputs, O: Outs>(
     requires standard { progress.was_read ≡ false → IsTrue (is_readable (I.sources inputs.old) 0) }
     requires unread { progress.was_read ≡ false → IsUnread (source_at (I.sources inputs.old) 0) }
     requires outputs { HasStreams O.told (O.slots outs.old) }
-    ensures took { (so_far : Part) (error : Slot) → is_open error.state ≡ true → OutputsAt O.told (streams_with error) so_far (O.slots outs.old)
-        → OfName I.told (world_of (I.laid inputs.old) (I.sources inputs.old)) progress.was_read (length (I.sources inputs.old)) name.now
-        (λ input. TookInput I.told O.told (A.task job.now.adapter.now) (length buffer.old) input (of_input (A.task job.now.adapter.now) progress.is_first input) progress.is_first progress.failed (progress.was_read || is_dash name.now) so_far error (length (O.slots outs.old)) (I.sources inputs.new) (O.slots outs.new) result) }
-    ensures takes { TakesOne (length buffer.old) progress.was_read name.now (I.sources inputs.old) (I.sources inputs.new) }
+    ensures took { (so_far : Part) (error : Slot) → is_open error.state ≡ true
+        → OutputsAt O.told (streams_with error) so_far (O.slots outs.old)
+        → OfName I.told (world_of (I.laid inputs.old) (I.sources inputs.old)) progress.was_read
+        (length (I.sources inputs.old)) name.now
+        (λ input. TookInput I.told O.told (A.task job.now.adapter.now) (length buffer.old) input
+        (of_input (A.task job.now.adapter.now) progress.is_first input) progress.is_first progress.failed
+        (progress.was_read || is_dash name.now) so_far error (length (O.slots outs.old)) (I.sources inputs.new)
+        (O.slots outs.new) result) }
+    ensures takes { TakesOne (length buffer.old) progress.was_read name.now (I.sources inputs.old)
+        (I.sources inputs.new) }
     ensures opens { OnOk result (length (I.sources inputs.new) ≡ next_slot (length (I.sources inputs.old)) name.now) }
     ensures laid { I.laid inputs.new ≡ I.laid inputs.old }
 {
@@ -204,10 +215,16 @@ fn take_input<A: Adapter, I: Inputs, O: Outs>(
     requires input { IfSome source (λ slot. IsTrue (is_readable (I.sources inputs.old) slot)) }
     requires unread { IfSome source (λ slot. IsUnread (source_at (I.sources inputs.old) slot)) }
     requires outputs { HasStreams O.told (O.slots outs.old) }
-    ensures took { (so_far : Part) (error : Slot) → is_open error.state ≡ true → OutputsAt O.told (streams_with error) so_far (O.slots outs.old)
+    ensures took { (so_far : Part) (error : Slot) → is_open error.state ≡ true
+        → OutputsAt O.told (streams_with error) so_far (O.slots outs.old)
         → OfSource I.told source (I.sources inputs.old)
-        (λ content. TookInput I.told O.told (A.task job.now.adapter.now) (length buffer.old) (input_from name.now source content) (of_content (A.task job.now.adapter.now) progress.is_first name.now (Some content)) progress.is_first progress.failed progress.was_read so_far error (length (O.slots outs.old)) (I.sources inputs.new) (O.slots outs.new) result) }
-    ensures asked { AsksAtMost (length buffer.old) (I.sources inputs.old) → AsksAtMost (length buffer.old) (I.sources inputs.new) }
+        (λ content. TookInput I.told O.told (A.task job.now.adapter.now) (length buffer.old)
+        (input_from name.now source content)
+        (of_content (A.task job.now.adapter.now) progress.is_first name.now
+        (Some content)) progress.is_first progress.failed progress.was_read so_far error (length (O.slots outs.old))
+        (I.sources inputs.new) (O.slots outs.new) result) }
+    ensures asked { AsksAtMost (length buffer.old) (I.sources inputs.old)
+        → AsksAtMost (length buffer.old) (I.sources inputs.new) }
     ensures others { KeepsOther source (I.sources inputs.old) (I.sources inputs.new) }
     ensures laid { I.laid inputs.new ≡ I.laid inputs.old }
 {
@@ -252,9 +269,13 @@ fn put_header<A: Adapter, O: Outs>(
     outs: &mut O,
 ) -> Result<(), Fault>
     requires { IsTrue (is_writable (O.slots outs.old) 0) }
-    ensures ok { OnOk result (O.slots outs.new ≡ with_written 0 (told_of O.told (header_text (A.task job.now.adapter.now).with_header is_first name.now)) (O.slots outs.old)) }
+    ensures ok { OnOk result (O.slots outs.new
+        ≡ with_written 0 (told_of O.told (header_text (A.task job.now.adapter.now).with_header is_first name.now))
+        (O.slots outs.old)) }
     ensures due { OnErr result ((A.task job.now.adapter.now).with_header ≡ true) }
-    ensures err { IfErr result (HeaderFails O.told (header_text (A.task job.now.adapter.now).with_header is_first name.now) (O.slots outs.old) (O.slots outs.new)) }
+    ensures err { IfErr result
+        (HeaderFails O.told (header_text (A.task job.now.adapter.now).with_header is_first name.now) (O.slots outs.old)
+        (O.slots outs.new)) }
 {
     if !job.adapter.with_header() {
         return Ok(());
@@ -281,9 +302,14 @@ fn feed_source<A: Adapter, I: Inputs, O: Outs>(
     requires streams { 2 ≤ length (O.slots outs.old) }
     requires output { IsTrue (is_writable (O.slots outs.old) 0) }
     ensures fed { OfSource I.told source (I.sources inputs.old)
-        (λ content. FedAs O.told (O.slots outs.old) (A.task job.now.adapter.now).work (A.task job.now.adapter.now).opening (length buffer.old) content (Leaves I.told content source (I.sources inputs.new)) (O.slots outs.new) result
-        × (is_stop result ≡ false → IsDone I.told (A.task job.now.adapter.now).work (length buffer.old) source (Some content) (I.sources inputs.new))) }
-    ensures asked { AsksAtMost (length buffer.old) (I.sources inputs.old) → AsksAtMost (length buffer.old) (I.sources inputs.new) }
+        (λ content. FedAs O.told (O.slots outs.old) (A.task job.now.adapter.now).work
+        (A.task job.now.adapter.now).opening (length buffer.old) content
+        (Leaves I.told content source (I.sources inputs.new)) (O.slots outs.new) result
+        × (is_stop result ≡ false
+        → IsDone I.told (A.task job.now.adapter.now).work (length buffer.old) source (Some content)
+        (I.sources inputs.new))) }
+    ensures asked { AsksAtMost (length buffer.old) (I.sources inputs.old)
+        → AsksAtMost (length buffer.old) (I.sources inputs.new) }
     ensures others { KeepsOther source (I.sources inputs.old) (I.sources inputs.new) }
     ensures laid { I.laid inputs.new ≡ I.laid inputs.old }
 {

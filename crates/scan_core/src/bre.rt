@@ -55,8 +55,10 @@ impl Model for Bre {
 
     ghost view = { λ b. b.expression };
 
-    ghost invariant = { λ b. (b.code.items ≡ code_of b.expression) × IsOrdered b.expression × (positions_of b.expression ≤ 65535)
-        × IsMasks b.code.items b.masks × IfSome b.table (IsTable b.code.items) × IfSome b.shifts (IsShiftTable b.code.items) × AreClosures b.code.items b.closures × IfSome b.needle (IsNeedle b.code.items) };
+    ghost invariant = { λ b. (b.code.items ≡ code_of b.expression) × IsOrdered b.expression
+        × (positions_of b.expression ≤ 65535) × IsMasks b.code.items b.masks × IfSome b.table (IsTable b.code.items)
+        × IfSome b.shifts (IsShiftTable b.code.items) × AreClosures b.code.items b.closures
+        × IfSome b.needle (IsNeedle b.code.items) };
 }
 
 impl Bre {

@@ -282,7 +282,8 @@ fn states_of(
     requires rows { length rows.now ≡ length sets.now * 256 }
     requires code { IsCode nodes.now }
     requires masks { IsMasks nodes.now masks.now }
-    ensures ok { IfOk result (λ states. AreEach no_state (IsState nodes.now sets.now rows.now) (length sets.now) states.items) }
+    ensures ok { IfOk result (λ states. AreEach no_state (IsState nodes.now sets.now rows.now)
+        (length sets.now) states.items) }
     ensures err { IfErr result (λ fault. fault ≡ Memory) }
 {
     let mut states = Vec::new(alloc);

@@ -81,7 +81,8 @@ pub fn write_out(nodes: &mut Vec<Node>, duplication: Duplication) -> Result<(), 
 /// At least `low` times, without an upper bound: `low` copies, and then any number of times.
 fn write_starred(nodes: &mut Vec<Node>, start: usize, low: u8) -> Result<(), BreFault>
     requires { start < length nodes.old.items }
-    ensures ok { OnOk result ((before code : List Node) → length before ≡ start → nodes.old.items ≡ before ++ Back 0 ∷ reverse code
+    ensures ok { OnOk result ((before code : List Node) → length before ≡ start
+        → nodes.old.items ≡ before ++ Back 0 ∷ reverse code
         → nodes.new.items ≡ before ++ reverse (copies low code ++ starred code)) }
     ensures more { OnOk result (length nodes.old.items ≤ length nodes.new.items) }
     ensures err { IfErr result (λ fault. fault ≡ Memory) }
@@ -97,7 +98,8 @@ fn write_bounded(nodes: &mut Vec<Node>, start: usize, low: u8, high: u8) -> Resu
     requires start { start ≤ length nodes.old.items }
     requires order { low ≤ high }
     requires some { 0 < high }
-    ensures ok { OnOk result ((before code : List Node) → length before ≡ start → nodes.old.items ≡ before ++ reverse code
+    ensures ok { OnOk result ((before code : List Node) → length before ≡ start
+        → nodes.old.items ≡ before ++ reverse code
         → nodes.new.items ≡ before ++ reverse (copies low code ++ up_to (high - low) code)) }
     ensures more { OnOk result (length nodes.old.items ≤ length nodes.new.items) }
     ensures err { IfErr result (λ fault. fault ≡ Memory) }

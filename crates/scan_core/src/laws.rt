@@ -8,7 +8,8 @@ ghost use Rattle.scan_core.specs.Code.{code_of, IsOrdered, Entered, weight};
 /// A line contains a match exactly where the code's end is entered at some place of it.
 pub fn end_is_entered()
     ensures { (pattern : Pattern) (line : List ℕ) → IsOrdered pattern
-        → (Contains pattern line ↔ ((place : ℕ) × (place ≤ length line) × Entered (code_of pattern) line (length (code_of pattern)) place)) }
+        → (Contains pattern line
+        ↔ ((place : ℕ) × (place ≤ length line) × Entered (code_of pattern) line (length (code_of pattern)) place)) }
 {}
 
 /// The positions of a pattern's code, with its end, are those that are counted for the pattern.

@@ -34,7 +34,8 @@ fn stride(
     requires count { count ≤ 16 }
     requires within { from + count ≤ length line.now }
     ensures small { result.steps ≤ 1048592 }
-    ensures at { (before : ℕ) → IsAt nodes.now table.now line.now from word before → IsAt nodes.now table.now line.now (from + count) result.word (before + result.steps) }
+    ensures at { (before : ℕ) → IsAt nodes.now table.now line.now from word before
+        → IsAt nodes.now table.now line.now (from + count) result.word (before + result.steps) }
 {
     let mut word = word;
     let mut steps: u64 = 0;

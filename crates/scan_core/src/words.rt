@@ -73,7 +73,9 @@ pub fn pass(words: &mut [u64], nodes: &[Node], base: &[u64], takes: &[u64], byte
     requires base { length base.now ≡ width nodes.now }
     requires takes { AreTakes nodes.now takes.now }
     ensures size { length words.new ≡ length words.old }
-    ensures exact { (number : ℕ) → IsIn words.new number ↔ (((before : ℕ) × IsIn words.old before × Passes nodes.now byte before number) ⊎ IsIn base.now number) }
+    ensures exact { (number : ℕ)
+        → IsIn words.new number
+        ↔ (((before : ℕ) × IsIn words.old before × Passes nodes.now byte before number) ⊎ IsIn base.now number) }
 {
     let from = byte as usize * words.len();
     let mut carry: u64 = 0;

@@ -34,7 +34,8 @@ pub fn next_line(bytes: &[u8], delim: u8) -> (&[u8], &[u8])
     ensures joined { bytes.now ≡ result.0.now ++ result.1.now }
     ensures first { 0 < length bytes.now → lines_of delim bytes.now ≡ result.0.now ∷ lines_of delim result.1.now }
     ensures some { 0 < length bytes.now → 0 < length result.0.now }
-    ensures count { delimiters delim bytes.now ≡ (if ends_with delim result.0.now then delimiters delim result.1.now + 1 else delimiters delim result.1.now) }
+    ensures count { delimiters delim bytes.now
+        ≡ (if ends_with delim result.0.now then delimiters delim result.1.now + 1 else delimiters delim result.1.now) }
     ensures last { ends_with delim result.0.now ≡ false → result.1.now ≡ [] }
 {
     match memchr(delim, bytes) {

@@ -11,8 +11,10 @@ use memchr::memrchr;
 pub fn last_delimiter_off(text: &[u8], delim: u8) -> &[u8]
     requires { 0 < length text.now }
     ensures front { result.now ≡ take (length result.now) text.now }
-    ensures count { (before : List ℕ) → line_count delim (before ++ text.now) ≡ delimiters delim before + delimiters delim result.now + 1 }
-    ensures delimiters { delimiters delim text.now ≡ delimiters delim result.now + (length text.now - length result.now) }
+    ensures count { (before : List ℕ)
+        → line_count delim (before ++ text.now) ≡ delimiters delim before + delimiters delim result.now + 1 }
+    ensures delimiters { delimiters delim text.now
+        ≡ delimiters delim result.now + (length text.now - length result.now) }
     ensures shorter { length result.now ≤ length text.now }
 {
     let last = text.len() - 1;

@@ -82,7 +82,8 @@ impl Block {
     /// it was.
     pub(crate) fn append(&mut self, part: &[u8], count: usize) -> Result<(), AllocError>
         requires { count ≤ length part.now }
-        ensures ok { OnOk result (self.new ≡ record { bytes = self.old.bytes ++ part.now; count = self.old.count + count }) }
+        ensures ok { OnOk result (self.new
+            ≡ record { bytes = self.old.bytes ++ part.now; count = self.old.count + count }) }
         ensures err { OnErr result (self.new ≡ self.old) }
     {
         self.bytes.extend_from_slice(part)?;

@@ -90,7 +90,8 @@ fn fill(queue: &mut VecDeque<Block>, part: &[u8], count: usize) -> Result<(), Al
     requires none { deque_len queue.old ≡ 0 → part.now ≡ [] }
     requires few { count ≤ length part.now }
     ensures ok { OnOk result (text_of queue.new.items ≡ text_of queue.old.items ++ part.now) }
-    ensures each { OnOk result ((delim : ℕ) → count ≡ delimiters delim part.now → HaveCounts delim queue.old.items → HaveCounts delim queue.new.items) }
+    ensures each { OnOk result ((delim : ℕ) → count ≡ delimiters delim part.now → HaveCounts delim queue.old.items
+        → HaveCounts delim queue.new.items) }
     ensures err { OnErr result (queue.new.items ≡ queue.old.items) }
     ensures len { deque_len queue.new ≡ deque_len queue.old }
     ensures capacity { deque_capacity queue.new ≡ deque_capacity queue.old }

@@ -97,8 +97,10 @@ impl LineWindow {
     /// What `over` returns, and how many delimiters the piece has if they were counted meanwhile, so
     /// that `put_counted` needn't count them again.
     pub fn count_over(&self, piece: &[u8]) -> Over
-        ensures bytes { result.bytes ≡ length (but_last_lines self.now.delim self.now.most (self.now.held ++ piece.now)) }
-        ensures delimiters { IfSome result.delimiters (λ count. (count ≡ delimiters self.now.delim piece.now) × (result.bytes ≤ length self.now.held)) }
+        ensures bytes { result.bytes
+            ≡ length (but_last_lines self.now.delim self.now.most (self.now.held ++ piece.now)) }
+        ensures delimiters { IfSome result.delimiters
+            (λ count. (count ≡ delimiters self.now.delim piece.now) × (result.bytes ≤ length self.now.held)) }
     {
         let len = self.len;
         if piece.is_empty() {
@@ -175,7 +177,8 @@ impl LineWindow {
     /// The window then stays as it was.
     pub fn put(&mut self, piece: &[u8]) -> Result<(), Fault>
         requires { but_last_lines self.old.delim self.old.most (self.old.held ++ piece.now) ≡ [] }
-        ensures ok { OnOk result (self.new ≡ record { most = self.old.most; delim = self.old.delim; held = self.old.held ++ piece.now }) }
+        ensures ok { OnOk result (self.new
+            ≡ record { most = self.old.most; delim = self.old.delim; held = self.old.held ++ piece.now }) }
         ensures err { IfErr result (λ fault. (fault ≡ Fault.Memory) × (self.new ≡ self.old)) }
         ensures empty { length piece.now ≡ 0 → IsOk result }
     {
@@ -191,7 +194,8 @@ impl LineWindow {
     pub fn put_counted(&mut self, piece: &[u8], count: usize) -> Result<(), Fault>
         requires within { but_last_lines self.old.delim self.old.most (self.old.held ++ piece.now) ≡ [] }
         requires counted { count ≡ delimiters self.old.delim piece.now }
-        ensures ok { OnOk result (self.new ≡ record { most = self.old.most; delim = self.old.delim; held = self.old.held ++ piece.now }) }
+        ensures ok { OnOk result (self.new
+            ≡ record { most = self.old.most; delim = self.old.delim; held = self.old.held ++ piece.now }) }
         ensures err { IfErr result (λ fault. (fault ≡ Fault.Memory) × (self.new ≡ self.old)) }
         ensures empty { length piece.now ≡ 0 → IsOk result }
     {
@@ -234,7 +238,12 @@ impl LineWindow {
     /// 2^63-1 bytes. The window then stays as it was.
     pub fn put_front(&mut self, block: Vec<u8>) -> Result<(), Fault>
         requires some { 0 < length block.items }
-        ensures ok { OnOk result (self.new ≡ record { most = self.old.most; delim = self.old.delim; held = last_lines self.old.delim self.old.most (block.items ++ self.old.held) }) }
+        ensures ok { OnOk result (self.new
+            ≡ record {
+              most = self.old.most;
+              delim = self.old.delim;
+              held = last_lines self.old.delim self.old.most (block.items ++ self.old.held);
+            }) }
         ensures err { IfErr result (λ fault. (fault ≡ Fault.Memory) × (self.new ≡ self.old)) }
     {
         if block.len() as u64 > MOST_HELD - self.len {
@@ -257,7 +266,9 @@ impl LineWindow {
     fn needed_of(&self, bytes: Vec<u8>) -> Block
         requires some { 0 < length bytes.items }
         requires fits { length bytes.items + length self.now.held < 2 ^ 63 }
-        ensures left { result.bytes ≡ after_lines self.now.delim (line_count self.now.delim (bytes.items ++ self.now.held) - self.now.most) bytes.items }
+        ensures left { result.bytes
+            ≡ after_lines self.now.delim
+            (line_count self.now.delim (bytes.items ++ self.now.held) - self.now.most) bytes.items }
         ensures counted { result.count ≡ delimiters self.now.delim result.bytes }
     {
         let count = count_delimiters(&bytes, self.delim);

@@ -63,7 +63,9 @@ impl Deal {
     pub(crate) fn gather(&mut self, piece: &[u8]) -> Result<usize, AllocError>
         ensures delim { self.new.delim ≡ self.old.delim }
         ensures count { length self.new.gathered ≡ length self.old.gathered }
-        ensures gathers { IfOk result (λ reached. Gathers self.old.delim (length self.old.gathered) self.old.next piece.now self.new.gathered self.new.next reached) }
+        ensures gathers { IfOk result (λ reached.
+            Gathers self.old.delim
+            (length self.old.gathered) self.old.next piece.now self.new.gathered self.new.next reached) }
     {
         clear(&mut self.gathered);
         let count = self.gathered.len();
@@ -112,7 +114,8 @@ fn append_to(
     requires within { place < length gathered.old.items }
     requires enough { count ≤ length text.now }
     ensures count { length gathered.new.items ≡ length gathered.old.items }
-    ensures ok { OnOk result (gathered.new.items ≡ changed_at place (λ had. had ++ take count text.now) gathered.old.items) }
+    ensures ok { OnOk result (gathered.new.items
+        ≡ changed_at place (λ had. had ++ take count text.now) gathered.old.items) }
 {
     gathered[place].append(text, count)
 }

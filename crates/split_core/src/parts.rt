@@ -38,7 +38,13 @@ impl Model for Parts {
 
     ghost Value = { PartsState };
 
-    ghost view = { λ p. record { limit = p.limit; left = p.left; has_line = p.has_line; waiting = p.waiting.held; writer = seen_writer p.writer } };
+    ghost view = { λ p. record {
+      limit = p.limit;
+      left = p.left;
+      has_line = p.has_line;
+      waiting = p.waiting.held;
+      writer = seen_writer p.writer;
+    } };
 
     ghost invariant = { λ p. Fits p.limit p.left p.has_line p.waiting };
 }
@@ -58,7 +64,8 @@ impl Parts {
         requires some { 0 < most limit }
         requires tells { TellsNoSizes tells }
         ensures holds { IfOk result (λ parts. Stands parts []) }
-        ensures does { IfOk result (λ parts. work parts ≡ parts_work limit (record { names = naming; verbose = is_verbose tells })) }
+        ensures does { IfOk result (λ parts. work parts
+            ≡ parts_work limit (record { names = naming; verbose = is_verbose tells })) }
         ensures writer { IfOk result (λ parts. parts.writer ≡ new_writer naming tells Open) }
         ensures err { IfErr result (λ fault. fault ≡ Fault.Memory) }
     {
@@ -107,7 +114,8 @@ impl Parts {
     fn wait(&mut self, piece: &[u8]) -> Result<usize, Fault>
         requires { length piece.now < self.old.left }
         ensures count { IfOk result (λ n. n ≡ length piece.now) }
-        ensures waits { OnOk result (self.new ≡ record self.old { left = self.old.left - length piece.now; waiting = self.old.waiting ++ piece.now }) }
+        ensures waits { OnOk result (self.new
+            ≡ record self.old { left = self.old.left - length piece.now; waiting = self.old.waiting ++ piece.now }) }
         ensures err { IfErr result (λ fault. (fault ≡ Fault.Memory) × (self.new ≡ self.old)) }
     {
         match self.waiting.put(piece) {

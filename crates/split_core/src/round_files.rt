@@ -70,7 +70,8 @@ impl RoundFiles {
     ) -> Result<(), Fault>
         requires ready { AreReady self.old (O.slots outs.old) }
         requires named { are_named self.old.names.naming (length gathered.now) ≡ true }
-        ensures { Adds O.told self.old (λ place. slice_index_or gathered.now place []) 0 (length gathered.now) (O.slots outs.old) self.new (O.slots outs.new) result }
+        ensures { Adds O.told self.old (λ place. slice_index_or gathered.now place []) 0 (length gathered.now)
+            (O.slots outs.old) self.new (O.slots outs.new) result }
     {
         for place in 0..gathered.len() {
             self.send(place, gathered[place].bytes(), outs)?;
@@ -98,7 +99,8 @@ impl RoundFiles {
         requires ready { AreReady self.old (O.slots outs.old) }
         requires near { place ≤ length self.old.outputs }
         requires named { has_name self.old.names.naming place ≡ true }
-        ensures { Adds O.told self.old (only_at place bytes.now) place (place + 1) (O.slots outs.old) self.new (O.slots outs.new) result }
+        ensures { Adds O.told self.old (only_at place bytes.now) place (place + 1) (O.slots outs.old) self.new
+            (O.slots outs.new) result }
     {
         self.reach(place, outs)?;
         write_bytes(self.outputs[place], bytes, outs)

@@ -34,7 +34,13 @@ impl Model for RoundSplitter {
 
     ghost Value = { RoundState };
 
-    ghost view = { λ r. record { delim = r.deal.delim; count = length r.deal.gathered; elide = r.elide; files = r.files; next = r.deal.next } };
+    ghost view = { λ r. record {
+      delim = r.deal.delim;
+      count = length r.deal.gathered;
+      elide = r.elide;
+      files = r.files;
+      next = r.deal.next;
+    } };
 
     ghost invariant = { λ r. are_named r.files.names.naming (length r.deal.gathered) ≡ true };
 }
@@ -62,11 +68,19 @@ impl RoundSplitter {
         requires tells { TellsNoSizes tells }
         requires output { CanTell tells (O.slots outs.old) }
         ensures holds { IfOk result (λ round. Holds round []) }
-        ensures does { IfOk result (λ round. work round ≡ split_work (round_plan delim count elide (record { names = naming; verbose = is_verbose tells }))) }
+        ensures does { IfOk result (λ round. work round
+            ≡ split_work (round_plan delim count elide (record { names = naming; verbose = is_verbose tells }))) }
         ensures ready { IfOk result (λ round. Ready round (O.slots outs.new)) }
         ensures owns { IfOk result (λ round. Owns round (length (O.slots outs.old)) (O.slots outs.new)) }
-        ensures outputs { OnOk result ((before : List Slot) → OutputsAt O.told before nothing (O.slots outs.old) → OutputsAt O.told before (settled_by (round_plan delim count elide (record { names = naming; verbose = is_verbose tells })) []) (O.slots outs.new)) }
-        ensures cut { IfErr result (λ fault. (before : List Slot) → OutputsAt O.told before nothing (O.slots outs.old) → StoppedBetween (output_by (is_verbose tells)) O.told before nothing (settled_by (round_plan delim count elide (record { names = naming; verbose = is_verbose tells })) []) fault (O.slots outs.new)) }
+        ensures outputs { OnOk result ((before : List Slot) → OutputsAt O.told before nothing (O.slots outs.old)
+            → OutputsAt O.told before
+            (settled_by (round_plan delim count elide (record { names = naming; verbose = is_verbose tells })) [])
+            (O.slots outs.new)) }
+        ensures cut { IfErr result
+            (λ fault. (before : List Slot) → OutputsAt O.told before nothing (O.slots outs.old)
+            → StoppedBetween (output_by (is_verbose tells)) O.told before nothing
+            (settled_by (round_plan delim count elide
+            (record { names = naming; verbose = is_verbose tells })) []) fault (O.slots outs.new)) }
         ensures refused { IfErr result (CannotOpen (is_verbose tells) (O.slots outs.old) (O.slots outs.new)) }
     {
         let deal = Deal::new(alloc, count, delim)?;

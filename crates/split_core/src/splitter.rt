@@ -55,11 +55,32 @@ impl Splitter {
         requires output { CanTell tells (O.slots outs.old) }
         ensures holds { IfOk result (λ engine. HoldsIn Holds engine []) }
         ensures bound { IfOk result (λ engine. engine.fed < 2 ^ 63) }
-        ensures does { IfOk result (λ engine. work engine.stage ≡ split_work (record { cut = cut; elide = elide; filing = record { names = names.naming; verbose = is_verbose tells } })) }
+        ensures does { IfOk result (λ engine. work engine.stage
+            ≡ split_work
+            (record {
+              cut = cut;
+              elide = elide;
+              filing = record { names = names.naming; verbose = is_verbose tells };
+            })) }
         ensures ready { IfOk result (λ engine. Ready engine.stage (O.slots outs.new)) }
         ensures owns { IfOk result (λ engine. Owns engine.stage (length (O.slots outs.old)) (O.slots outs.new)) }
-        ensures outputs { OnOk result ((before : List Slot) → OutputsAt O.told before nothing (O.slots outs.old) → OutputsAt O.told before (settled_by (record { cut = cut; elide = elide; filing = record { names = names.naming; verbose = is_verbose tells } }) []) (O.slots outs.new)) }
-        ensures cut { IfErr result (λ fault. (before : List Slot) → OutputsAt O.told before nothing (O.slots outs.old) → StoppedBetween (output_by (is_verbose tells)) O.told before nothing (settled_by (record { cut = cut; elide = elide; filing = record { names = names.naming; verbose = is_verbose tells } }) []) fault (O.slots outs.new)) }
+        ensures outputs { OnOk result ((before : List Slot) → OutputsAt O.told before nothing (O.slots outs.old)
+            → OutputsAt O.told before
+            (settled_by (record {
+              cut = cut;
+              elide = elide;
+              filing = record { names = names.naming; verbose = is_verbose tells };
+            }) [])
+            (O.slots outs.new)) }
+        ensures cut { IfErr result
+            (λ fault. (before : List Slot) → OutputsAt O.told before nothing (O.slots outs.old)
+            → StoppedBetween (output_by (is_verbose tells)) O.told before nothing
+            (settled_by (record {
+              cut = cut;
+              elide = elide;
+              filing = record { names = names.naming; verbose = is_verbose tells };
+            }) []) fault
+            (O.slots outs.new)) }
         ensures refused { IfErr result (CannotOpen (is_verbose tells) (O.slots outs.old) (O.slots outs.new)) }
     {
         match cut {

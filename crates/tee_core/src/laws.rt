@@ -11,8 +11,10 @@ use ports_core::Mode;
 /// What is settled is what all continuations agree on: all that came in, in each output. So no byte waits, and each goes
 /// to its spot in every output. Where nothing breaks, a run leaves the outputs at the whole.
 pub fn agreed_is_settled()
-    ensures outputs { (mode : Mode) (names : List (List ℕ)) (x : List ℕ) → IsAgreed (tee_work mode names) x ((tee_work mode names).settled x) }
+    ensures outputs { (mode : Mode) (names : List (List ℕ)) (x : List ℕ)
+        → IsAgreed (tee_work mode names) x ((tee_work mode names).settled x) }
     ensures waits { (names : List (List ℕ)) (x : List ℕ) → IsUndecided (tee_spots names) x [] }
     ensures placed { (mode : Mode) (names : List (List ℕ)) → ArePlaced (tee_work mode names) (tee_spots names) }
-    ensures whole { (told : Bool) (mode : Mode) (names : List (List ℕ)) (x : List ℕ) → OutputsAt told streams ((tee_work mode names).whole x) (all_copied told mode names x) }
+    ensures whole { (told : Bool) (mode : Mode) (names : List (List ℕ)) (x : List ℕ)
+        → OutputsAt told streams ((tee_work mode names).whole x) (all_copied told mode names x) }
 {}

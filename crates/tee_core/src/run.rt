@@ -36,9 +36,13 @@ pub fn run_tee<I: Inputs, O: Outs>(
 ) -> u8
     requires fresh { IsFresh (I.sources inputs.old) }
     requires outputs { O.slots outs.old ≡ streams }
-    ensures ends { OfContent I.told (source_at (I.sources inputs.old) 0).left (λ content. EndsAs I.told O.told mode on_broken (map (λ name. name.now) names.now) content (source_at (I.sources inputs.new) 0) (O.slots outs.new) result
+    ensures ends { OfContent I.told (source_at (I.sources inputs.old) 0).left
+        (λ content. EndsAs I.told O.told mode on_broken (map (λ name. name.now) names.now) content
+        (source_at (I.sources inputs.new) 0) (O.slots outs.new) result
         × CameFrom I.told content (source_at (I.sources inputs.new) 0)) }
-    ensures whole { I.told ≡ true → result ≡ 0 → O.slots outs.new ≡ all_copied O.told mode (map (λ name. name.now) names.now) (source_at (I.sources inputs.old) 0).left.bytes }
+    ensures whole { I.told ≡ true → result ≡ 0
+        → O.slots outs.new
+        ≡ all_copied O.told mode (map (λ name. name.now) names.now) (source_at (I.sources inputs.old) 0).left.bytes }
     ensures others { KeepsOthers 0 (I.sources inputs.old) (I.sources inputs.new) }
     ensures asked { AsksAtMost largest_piece (I.sources inputs.new) }
 {
@@ -66,9 +70,13 @@ fn copy_input<I: Inputs, O: Outs>(
 ) -> Result<bool, Fault>
     requires fresh { IsFresh (I.sources inputs.old) }
     requires outputs { O.slots outs.old ≡ streams }
-    ensures copied { IfOk result (λ failed. OfContent I.told (source_at (I.sources inputs.old) 0).left (λ content. EndsAs I.told O.told mode on_broken (map (λ name. name.now) names.now) content (source_at (I.sources inputs.new) 0) (O.slots outs.new) (if failed then 1 else 0)
+    ensures copied { IfOk result (λ failed. OfContent I.told (source_at (I.sources inputs.old) 0).left
+        (λ content. EndsAs I.told O.told mode on_broken (map (λ name. name.now) names.now) content
+        (source_at (I.sources inputs.new) 0) (O.slots outs.new) (if failed then 1 else 0)
         × CameFrom I.told content (source_at (I.sources inputs.new) 0))) }
-    ensures err { IfErr result (λ fault. (fault ≡ Fault.Memory) × (O.slots outs.new ≡ O.slots outs.old) × (I.sources inputs.new ≡ I.sources inputs.old)) }
+    ensures err { IfErr result
+        (λ fault. (fault ≡ Fault.Memory) × (O.slots outs.new ≡ O.slots outs.old)
+        × (I.sources inputs.new ≡ I.sources inputs.old)) }
     ensures others { KeepsOthers 0 (I.sources inputs.old) (I.sources inputs.new) }
     ensures asked { AsksAtMost largest_piece (I.sources inputs.new) }
 {
@@ -107,7 +115,9 @@ fn copy_all<I: Inputs, O: Outs>(
     requires opened { (mode : Mode) × Opens mode (map (λ name. name.now) names.now) streams (O.slots outs.old) }
     requires unknown { known.old ≡ replicate (length names.now + 1) false }
     ensures copied { (mode : Mode) → Opens mode (map (λ name. name.now) names.now) streams (O.slots outs.old)
-        → OfContent I.told (source_at (I.sources inputs.old) 0).left (λ content. EndsAs I.told O.told mode on_broken (map (λ name. name.now) names.now) content (source_at (I.sources inputs.new) 0) (O.slots outs.new) (if result then 1 else 0)
+        → OfContent I.told (source_at (I.sources inputs.old) 0).left
+        (λ content. EndsAs I.told O.told mode on_broken (map (λ name. name.now) names.now) content
+        (source_at (I.sources inputs.new) 0) (O.slots outs.new) (if result then 1 else 0)
         × CameFrom I.told content (source_at (I.sources inputs.new) 0)) }
     ensures others { KeepsOthers 0 (I.sources inputs.old) (I.sources inputs.new) }
     ensures asked { AsksAtMost largest_piece (I.sources inputs.new) }
@@ -146,13 +156,18 @@ fn copy_pieces<I: Inputs, O: Outs>(
     requires most { length buffer.old ≤ largest_piece }
     requires input { IsTrue (is_readable (I.sources inputs.old) 0) }
     requires tee { IsTeeOf (map (λ name. name.now) names.now) tee.old }
-    requires copies { (mode : Mode) × Copies O.told mode on_broken (map (λ name. name.now) names.now) [] [] (O.slots outs.old) known.old }
+    requires copies { (mode : Mode)
+        × Copies O.told mode on_broken (map (λ name. name.now) names.now) [] [] (O.slots outs.old) known.old }
     ensures same { tee.new ≡ tee.old }
-    ensures copies { (mode : Mode) → Copies O.told mode on_broken (map (λ name. name.now) names.now) [] [] (O.slots outs.old) known.old
-        → OfContent I.told (source_at (I.sources inputs.old) 0).left (λ content. CopiesRead I.told O.told mode on_broken (map (λ name. name.now) names.now) content (source_at (I.sources inputs.new) 0) (O.slots outs.new) known.new result
+    ensures copies { (mode : Mode)
+        → Copies O.told mode on_broken (map (λ name. name.now) names.now) [] [] (O.slots outs.old) known.old
+        → OfContent I.told (source_at (I.sources inputs.old) 0).left
+        (λ content. CopiesRead I.told O.told mode on_broken (map (λ name. name.now) names.now) content
+        (source_at (I.sources inputs.new) 0) (O.slots outs.new) known.new result
         × CameFrom I.told content (source_at (I.sources inputs.new) 0)) }
     ensures others { KeepsOthers 0 (I.sources inputs.old) (I.sources inputs.new) }
-    ensures asked { (source_at (I.sources inputs.old) 0).asked ≤ length buffer.old → (source_at (I.sources inputs.new) 0).asked ≤ length buffer.old }
+    ensures asked { (source_at (I.sources inputs.old) 0).asked ≤ length buffer.old
+        → (source_at (I.sources inputs.new) 0).asked ≤ length buffer.old }
 {
     let mut fed = 0;
     'pieces: while !is_done(on_broken, known) {
@@ -182,10 +197,14 @@ fn copy_piece<O: Outs>(
     outs: &mut O,
 )
     requires tee { IsTeeOf (map (λ name. name.now) names.now) tee.old }
-    requires copies { (mode : Mode) × (on_broken : OnBroken) × (pieces : List (List ℕ)) × Copies O.told mode on_broken (map (λ name. name.now) names.now) pieces [] (O.slots outs.old) known.old }
+    requires copies { (mode : Mode) × (on_broken : OnBroken) × (pieces : List (List ℕ))
+        × Copies O.told mode on_broken (map (λ name. name.now) names.now) pieces [] (O.slots outs.old) known.old }
     ensures same { tee.new ≡ tee.old }
-    ensures copies { (mode : Mode) (on_broken : OnBroken) (pieces : List (List ℕ)) → is_done on_broken known.old ≡ false
-        → Copies O.told mode on_broken (map (λ name. name.now) names.now) pieces [] (O.slots outs.old) known.old → Copies O.told mode on_broken (map (λ name. name.now) names.now) (pieces ++ piece.now ∷ []) [] (O.slots outs.new) known.new }
+    ensures copies { (mode : Mode) (on_broken : OnBroken) (pieces : List (List ℕ))
+        → is_done on_broken known.old ≡ false
+        → Copies O.told mode on_broken (map (λ name. name.now) names.now) pieces [] (O.slots outs.old) known.old
+        → Copies O.told mode on_broken (map (λ name. name.now) names.now) (pieces ++ piece.now ∷ []) []
+        (O.slots outs.new) known.new }
 {
     tee.feed(piece, outs);
     tell_broken(alloc, &Fault::Write(0), names, known, outs);
@@ -200,8 +219,13 @@ fn close_all<O: Outs>(
     outs: &mut O,
 )
     requires tee { IsTeeOf (map (λ name. name.now) names.now) tee.old }
-    requires copies { (mode : Mode) × (on_broken : OnBroken) × (pieces : List (List ℕ)) × (messages : List (List ℕ)) × Copies O.told mode on_broken (map (λ name. name.now) names.now) pieces messages (O.slots outs.old) known.old }
-    ensures { (mode : Mode) (on_broken : OnBroken) (pieces : List (List ℕ)) (fault : Option Fault) → Copies O.told mode on_broken (map (λ name. name.now) names.now) pieces (said_of_input fault) (O.slots outs.old) known.old → HasCopied O.told mode on_broken (map (λ name. name.now) names.now) pieces fault known.old (O.slots outs.new) known.new }
+    requires copies { (mode : Mode) × (on_broken : OnBroken) × (pieces : List (List ℕ)) × (messages : List (List ℕ))
+        × Copies O.told mode on_broken (map (λ name. name.now) names.now) pieces messages (O.slots outs.old) known.old }
+    ensures { (mode : Mode) (on_broken : OnBroken) (pieces : List (List ℕ)) (fault : Option Fault)
+        → Copies O.told mode on_broken (map (λ name. name.now) names.now) pieces (said_of_input fault)
+        (O.slots outs.old) known.old
+        → HasCopied O.told mode on_broken (map (λ name. name.now) names.now) pieces fault known.old
+        (O.slots outs.new) known.new }
 {
     tee.close(outs);
     tell_broken(alloc, &Fault::Write(0), names, known, outs);
@@ -263,7 +287,9 @@ fn tell_broken<O: Outs>(
 )
     requires streams { HasStreams (O.slots outs.old) (length names.now) }
     requires known { length known.old ≡ length names.now + 1 }
-    ensures said { SaysTo O.told (said_since fault.now (output_names (map (λ name. name.now) names.now)) known.old (broken_of (O.slots outs.old))) (O.slots outs.old) (O.slots outs.new) }
+    ensures said { SaysTo O.told
+        (said_since fault.now (output_names (map (λ name. name.now) names.now)) known.old
+        (broken_of (O.slots outs.old))) (O.slots outs.old) (O.slots outs.new) }
     ensures known { known.new ≡ broken_of (O.slots outs.old) }
 {
     for n in 0..known.len() {
@@ -283,7 +309,8 @@ fn tell_one<O: Outs>(
 ) -> bool
     requires { is_open (slot_at (O.slots outs.old) 1).state ≡ true }
     ensures broken { result ≡ (slot_at (O.slots outs.old) slot).is_broken }
-    ensures told { IsTrue (not known && result) → SaysOn O.told Tool.Tee (message_of Tool.Tee fault.now name.now) (O.slots outs.old) (O.slots outs.new) }
+    ensures told { IsTrue (not known && result)
+        → SaysOn O.told Tool.Tee (message_of Tool.Tee fault.now name.now) (O.slots outs.old) (O.slots outs.new) }
     ensures quiet { (not known && result) ≡ false → O.slots outs.new ≡ O.slots outs.old }
 {
     let broken = outs.broken(slot);

@@ -52,11 +52,15 @@ impl Tee {
         requires streams { 2 ≤ length (O.slots outs.old) }
         requires output { is_open (slot_at (O.slots outs.old) 0).state ≡ true }
         ensures live { IfOk result (λ tee. tee.is_over ≡ false) }
-        ensures files { IfOk result (λ tee. (tee.count ≡ length names.now) × (0 < tee.count → tee.first ≡ length (O.slots outs.old))) }
-        ensures opens { OnOk result (Opens mode (map (λ name. name.now) names.now) (O.slots outs.old) (O.slots outs.new)) }
+        ensures files { IfOk result (λ tee. (tee.count ≡ length names.now)
+            × (0 < tee.count → tee.first ≡ length (O.slots outs.old))) }
+        ensures opens { OnOk result (Opens mode (map (λ name. name.now) names.now) (O.slots outs.old)
+            (O.slots outs.new)) }
         ensures ready { IfOk result (λ tee. IsReady tee (O.slots outs.new)) }
-        ensures err { IfErr result (λ fault. (fault ≡ Fault.Memory) × (2 ^ 64 - 1 < length (O.slots outs.old) + length names.now)) }
-        ensures some { IfErr result (λ _. OpensSome mode (map (λ name. name.now) names.now) (O.slots outs.old) (O.slots outs.new)) }
+        ensures err { IfErr result
+            (λ fault. (fault ≡ Fault.Memory) × (2 ^ 64 - 1 < length (O.slots outs.old) + length names.now)) }
+        ensures some { IfErr result
+            (λ _. OpensSome mode (map (λ name. name.now) names.now) (O.slots outs.old) (O.slots outs.new)) }
     {
         let _ = alloc;
         let [name, rest @ ..] = names else {
@@ -81,9 +85,14 @@ impl Tee {
     pub fn feed<O: Outs>(&mut self, piece: &[u8], outs: &mut O) -> u64
         requires { self.old.is_over ≡ false → IsReady self.old (O.slots outs.old) }
         ensures same { self.new ≡ self.old }
-        ensures gets { self.old.is_over ≡ false → ChangesEach (Gets O.told piece.now) (IsOutput self.old) (O.slots outs.old) (O.slots outs.new) }
-        ensures sound { self.old.is_over ≡ false → (place : ℕ) → IsOutput self.old place → (slot_at (O.slots outs.new) place).is_broken ≡ false → slot_at (O.slots outs.new) place ≡ adds (told_of O.told piece.now) (slot_at (O.slots outs.old) place) }
-        ensures so_far { self.old.is_over ≡ false → (start : List Slot) (x : List ℕ) → ChangesEach (Gets O.told x) (IsOutput self.old) start (O.slots outs.old) → ChangesEach (Gets O.told (x ++ piece.now)) (IsOutput self.old) start (O.slots outs.new) }
+        ensures gets { self.old.is_over ≡ false
+            → ChangesEach (Gets O.told piece.now) (IsOutput self.old) (O.slots outs.old) (O.slots outs.new) }
+        ensures sound { self.old.is_over ≡ false → (place : ℕ) → IsOutput self.old place
+            → (slot_at (O.slots outs.new) place).is_broken ≡ false
+            → slot_at (O.slots outs.new) place ≡ adds (told_of O.told piece.now) (slot_at (O.slots outs.old) place) }
+        ensures so_far { self.old.is_over ≡ false → (start : List Slot) (x : List ℕ)
+            → ChangesEach (Gets O.told x) (IsOutput self.old) start (O.slots outs.old)
+            → ChangesEach (Gets O.told (x ++ piece.now)) (IsOutput self.old) start (O.slots outs.new) }
         ensures broke { result ≡ newly_broken (O.slots outs.old) (O.slots outs.new) }
         ensures ready { self.old.is_over ≡ false → IsReady self.old (O.slots outs.new) }
         ensures over { self.old.is_over ≡ true → (result ≡ 0) × (O.slots outs.new ≡ O.slots outs.old) }
@@ -99,7 +108,8 @@ impl Tee {
     /// and returns 0. It takes no memory.
     pub fn close<O: Outs>(&mut self, outs: &mut O) -> u64
         requires { self.old.is_over ≡ false → IsReady self.old (O.slots outs.old) }
-        ensures closes { self.old.is_over ≡ false → ChangesEach Closes (IsFile self.old) (O.slots outs.old) (O.slots outs.new) }
+        ensures closes { self.old.is_over ≡ false
+            → ChangesEach Closes (IsFile self.old) (O.slots outs.old) (O.slots outs.new) }
         ensures broke { result ≡ newly_broken (O.slots outs.old) (O.slots outs.new) }
         ensures is_over { self.new ≡ record self.old { is_over = true } }
         ensures over { self.old.is_over ≡ true → (result ≡ 0) × (O.slots outs.new ≡ O.slots outs.old) }
@@ -145,8 +155,10 @@ fn open_files<O: Outs>(names: &[&str], mode: Mode, outs: &mut O) -> Result<(), F
     requires { length (O.slots outs.old) ≤ 2 ^ 64 }
     ensures ok { OnOk result (Opens mode (map (λ name. name.now) names.now) (O.slots outs.old) (O.slots outs.new)) }
     ensures bound { OnOk result (length (O.slots outs.new) ≤ 2 ^ 64) }
-    ensures err { IfErr result (λ fault. (fault ≡ Fault.Memory) × (2 ^ 64 - 1 < length (O.slots outs.old) + length names.now)) }
-    ensures some { IfErr result (λ _. OpensSome mode (map (λ name. name.now) names.now) (O.slots outs.old) (O.slots outs.new)) }
+    ensures err { IfErr result
+        (λ fault. (fault ≡ Fault.Memory) × (2 ^ 64 - 1 < length (O.slots outs.old) + length names.now)) }
+    ensures some { IfErr result
+        (λ _. OpensSome mode (map (λ name. name.now) names.now) (O.slots outs.old) (O.slots outs.new)) }
 {
     let mut left = names;
     while let [name, rest @ ..] = left {
@@ -162,9 +174,12 @@ fn open_files<O: Outs>(names: &[&str], mode: Mode, outs: &mut O) -> Result<(), F
 ///
 /// `Memory` where no number is left.
 fn open_file<O: Outs>(name: &str, mode: Mode, outs: &mut O) -> Result<usize, Fault>
-    ensures ok { IfOk result (λ slot. (slot ≡ length (O.slots outs.old)) × OpensOne mode name.now (O.slots outs.old) (O.slots outs.new)) }
+    ensures ok { IfOk result (λ slot. (slot ≡ length (O.slots outs.old))
+        × OpensOne mode name.now (O.slots outs.old) (O.slots outs.new)) }
     ensures bound { IfOk result (λ slot. slot < 2 ^ 64) }
-    ensures err { IfErr result (λ fault. (fault ≡ Fault.Memory) × (2 ^ 64 - 1 ≤ length (O.slots outs.old)) × (O.slots outs.new ≡ O.slots outs.old)) }
+    ensures err { IfErr result
+        (λ fault. (fault ≡ Fault.Memory) × (2 ^ 64 - 1 ≤ length (O.slots outs.old))
+        × (O.slots outs.new ≡ O.slots outs.old)) }
 {
     match outs.open(name, mode) {
         Ok(slot) => Ok(slot),
@@ -176,7 +191,8 @@ fn open_file<O: Outs>(name: &str, mode: Mode, outs: &mut O) -> Result<usize, Fau
 /// Writes the piece to an output, unless that is broken. Returns 1 where it broke, and else 0.
 fn write_piece<O: Outs>(slot: usize, piece: &[u8], outs: &mut O) -> u64
     requires { IsUsable (slot_at (O.slots outs.old) slot) }
-    ensures turned { Turns (Gets O.told piece.now) (λ place. place ≡ slot) (O.slots outs.old) (O.slots outs.new) result }
+    ensures turned { Turns (Gets O.told piece.now) (λ place. place ≡ slot) (O.slots outs.old)
+        (O.slots outs.new) result }
     ensures few { result ≤ 1 }
 {
     if outs.broken(slot) {

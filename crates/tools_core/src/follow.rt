@@ -29,7 +29,8 @@ pub fn run_follow<W: Watch, O: Outs>(
     requires unseen { W.seen watch.old ≡ [] }
     requires unwatched { W.watched watch.old ≡ [] }
     requires outputs { O.slots outs.old ≡ streams }
-    ensures { FollowingEnds W.told O.told (map (λ word. word.now) words.now) looks (W.shows watch.old) (W.seen watch.new) (W.watched watch.new) (O.slots outs.new) result }
+    ensures { FollowingEnds W.told O.told (map (λ word. word.now) words.now) looks (W.shows watch.old)
+        (W.seen watch.new) (W.watched watch.new) (O.slots outs.new) result }
 {
     match read_words(alloc, words) {
         Ok(settings) => follow_asked(alloc, words, &settings, watch, outs, looks),
@@ -50,8 +51,8 @@ pub(crate) fn follow_asked<W: Watch, O: Outs>(
     requires unwatched { W.watched watch.old ≡ [] }
     requires outputs { O.slots outs.old ≡ streams }
     requires operands { HasOperands settings.now }
-    ensures { FollowingEndsAt W.told O.told (map (λ word. word.now) words.now) looks (W.shows watch.old) (W.seen watch.new)
-        (W.watched watch.new) (O.slots outs.new) result (Ok settings.now) }
+    ensures { FollowingEndsAt W.told O.told (map (λ word. word.now) words.now) looks (W.shows watch.old)
+        (W.seen watch.new) (W.watched watch.new) (O.slots outs.new) result (Ok settings.now) }
 {
     match settings {
         Settings::Tail(tail) => match tail.followed {
@@ -81,7 +82,8 @@ fn follow_tail<W: Watch, O: Outs>(
     requires unseen { W.seen watch.old ≡ [] }
     requires unwatched { W.watched watch.old ≡ [] }
     requires outputs { O.slots outs.old ≡ streams }
-    ensures { FollowsAs W.told O.told settings.now followed limits.process limits.looks (W.shows watch.old) (W.seen watch.new) (W.watched watch.new) (O.slots outs.new) result }
+    ensures { FollowsAs W.told O.told settings.now followed limits.process limits.looks (W.shows watch.old)
+        (W.seen watch.new) (W.watched watch.new) (O.slots outs.new) result }
 {
     follow_files(
         alloc,

@@ -28,11 +28,15 @@ pub fn run_words<I: Inputs, W: Watch, O: Outs>(
     requires unseen { W.seen watch.old ≡ [] }
     requires unwatched { W.watched watch.old ≡ [] }
     requires outputs { O.slots outs.old ≡ streams }
-    ensures ends { ProgramEnds I.told W.told O.told (map (λ word. word.now) words.now) (I.laid inputs.old) (I.sources inputs.old) (I.sources inputs.new) (W.shows watch.old) (W.seen watch.new) (W.watched watch.new) (O.slots outs.new) result }
+    ensures ends { ProgramEnds I.told W.told O.told (map (λ word. word.now) words.now) (I.laid inputs.old)
+        (I.sources inputs.old) (I.sources inputs.new) (W.shows watch.old) (W.seen watch.new) (W.watched watch.new)
+        (O.slots outs.new) result }
     ensures opened { length (I.sources inputs.new) ≤ count_after 1 (names_read (map (λ word. word.now) words.now)) }
     ensures asked { AsksAtMost largest_piece (I.sources inputs.new) }
-    ensures unopened { names_read (map (λ word. word.now) words.now) ≡ [] → I.sources inputs.new ≡ I.sources inputs.old }
-    ensures untouched { has_dash (names_read (map (λ word. word.now) words.now)) ≡ false → source_at (I.sources inputs.new) 0 ≡ source_at (I.sources inputs.old) 0 }
+    ensures unopened { names_read (map (λ word. word.now) words.now) ≡ []
+        → I.sources inputs.new ≡ I.sources inputs.old }
+    ensures untouched { has_dash (names_read (map (λ word. word.now) words.now)) ≡ false
+        → source_at (I.sources inputs.new) 0 ≡ source_at (I.sources inputs.old) 0 }
 {
     match read_words(alloc, words) {
         Ok(settings) => {

@@ -30,8 +30,11 @@ ghost use Rattle.words_core.specs.declared.value.Followed.{Followed};
 /// be followed, it ended as `run` ensures, and no file was watched. Where they ask `tail` to follow files, it ended as `run_follow`
 /// ensures, in as many looks as the words ask for, and no input was opened or read.
 pub fn program_makes_these_runs()
-    ensures runs { (run : Run) (asked : Settings) → IsOfProgram run → settings_of run.words ≡ Ok asked → follows asked ≡ false → Ran run asked × (run.seen ≡ []) × (run.watched ≡ []) }
-    ensures followed { (run : Run) (options : EndsAsked) (followed : Followed) (looks : ℕ) → IsOfProgram run → AsksToFollow run options followed looks → run.status ≡ 0 → Follows run looks options followed × (run.inputs ≡ source_of run.world.standard ∷ []) }
+    ensures runs { (run : Run) (asked : Settings) → IsOfProgram run → settings_of run.words ≡ Ok asked
+        → follows asked ≡ false → Ran run asked × (run.seen ≡ []) × (run.watched ≡ []) }
+    ensures followed { (run : Run) (options : EndsAsked) (followed : Followed) (looks : ℕ) → IsOfProgram run
+        → AsksToFollow run options followed looks → run.status ≡ 0 → Follows run looks options followed
+        × (run.inputs ≡ source_of run.world.standard ∷ []) }
 {}
 
 /// Of one input, the first N lines and all from the line after them on, written one after another, are the input:
@@ -39,8 +42,12 @@ pub fn program_makes_these_runs()
 /// `tail -n N`. The same holds of bytes (`-c`), and of lines that end with byte 0 (`-z`), where both runs have that option and
 /// neither writes a header.
 pub fn head_and_tail_meet()
-    ensures first { (head tail : Run) (first rest : EndsAsked) (n : ℕ) (input : List ℕ) → CountAlike first rest → IsHead head first Plain n → IsTail tail rest Plus (n + 1) → HasInput head input → HasInput tail input → output_of head ++ output_of tail ≡ input }
-    ensures last { (head tail : Run) (first rest : EndsAsked) (n : ℕ) (input : List ℕ) → CountAlike first rest → IsHead head first Minus n → IsTail tail rest Plain n → HasInput head input → HasInput tail input → output_of head ++ output_of tail ≡ input }
+    ensures first { (head tail : Run) (first rest : EndsAsked) (n : ℕ) (input : List ℕ) → CountAlike first rest
+        → IsHead head first Plain n → IsTail tail rest Plus (n + 1) → HasInput head input → HasInput tail input
+        → output_of head ++ output_of tail ≡ input }
+    ensures last { (head tail : Run) (first rest : EndsAsked) (n : ℕ) (input : List ℕ) → CountAlike first rest
+        → IsHead head first Minus n → IsTail tail rest Plain n → HasInput head input → HasInput tail input
+        → output_of head ++ output_of tail ≡ input }
 {}
 
 /// After `tee` standard output and each file that is named once have the input's bytes; with `-a` each file has them after
@@ -48,9 +55,12 @@ pub fn head_and_tail_meet()
 /// breaks: each output that is sound has all that was read, each that is broken all but a part of that piece, and what comes
 /// after it is left in the input.
 pub fn tee_copies()
-    ensures output { (tee : Run) (asked : TeeAsked) (input : List ℕ) → Does tee (Tee asked) → HasInput tee input → output_of tee ≡ input }
-    ensures files { (tee : Run) (asked : TeeAsked) (input : List ℕ) → Does tee (Tee asked) → HasInput tee input → AreCopies asked.mode asked.names input (files_of tee) }
-    ensures stops { (tee : Run) (asked : TeeAsked) → Ran tee (Tee asked) → asked.on_broken ≡ Stop → length tee.world.standard.bytes < 2 ^ 63 → EndsWithBreak tee (Tee asked) }
+    ensures output { (tee : Run) (asked : TeeAsked) (input : List ℕ) → Does tee (Tee asked) → HasInput tee input
+        → output_of tee ≡ input }
+    ensures files { (tee : Run) (asked : TeeAsked) (input : List ℕ) → Does tee (Tee asked) → HasInput tee input
+        → AreCopies asked.mode asked.names input (files_of tee) }
+    ensures stops { (tee : Run) (asked : TeeAsked) → Ran tee (Tee asked) → asked.on_broken ≡ Stop
+        → length tee.world.standard.bytes < 2 ^ 63 → EndsWithBreak tee (Tee asked) }
 {}
 
 /// How an input comes changes nothing: two runs that are asked for the same, over inputs of the same bytes, leave the same
@@ -61,9 +71,11 @@ pub fn tee_copies()
 /// much input, operands of `csplit` that are wrong, or an output that broke, by its name. Where an output of `tee` breaks, it
 /// goes on with the others, or ends with that; then that is told, and this law says no more of that run.
 pub fn cutting_changes_nothing()
-    ensures same { (one other : Run) (asked : Settings) → Does one asked → Does other asked → FindAlike one other → one.outputs ≡ other.outputs }
+    ensures same { (one other : Run) (asked : Settings) → Does one asked → Does other asked → FindAlike one other
+        → one.outputs ≡ other.outputs }
     ensures ended { (run : Run) (asked : Settings) → Ran run asked → Completes run asked ⊎ IsStopped run asked }
-    ensures alike { (one other : Run) (asked : Settings) → Completes one asked → Completes other asked → FindAlike one other → LeaveAlike asked one other }
+    ensures alike { (one other : Run) (asked : Settings) → Completes one asked → Completes other asked
+        → FindAlike one other → LeaveAlike asked one other }
 {}
 
 /// `split` loses nothing. Its files have the names that were asked for, and come in the order of these, byte by byte. With
@@ -72,14 +84,24 @@ pub fn cutting_changes_nothing()
 /// and a line is cut only where it is longer than that; an input has just one such list of pieces. With `-n r/N` each line is
 /// in just one file, in turn. Standard output has nothing; with `--verbose` it has a line for each file, in their order.
 pub fn split_loses_nothing()
-    ensures listed { (split : Run) (asked : SplitAsked) (input : List ℕ) → Does split (Split asked) → HasInput split input → AreListed asked (files_of split) }
-    ensures told { (split : Run) (asked : SplitAsked) (input : List ℕ) → Does split (Split asked) → HasInput split input → output_of split ≡ (if asked.verbose then lines_telling (files_of split) else []) }
-    ensures lines { (split : Run) (asked : SplitAsked) (n delim : ℕ) (input : List ℕ) → Does split (Split asked) → HasInput split input → asked.cut ≡ Parts (Lines n delim) → ArePieces (line_count delim) n input (contents_of split) }
-    ensures uncut { (split : Run) (asked : SplitAsked) (n delim : ℕ) (input : List ℕ) → Does split (Split asked) → HasInput split input → asked.cut ≡ Parts (Lines n delim) → AreUncut delim (contents_of split) }
-    ensures bytes { (split : Run) (asked : SplitAsked) (n : ℕ) (input : List ℕ) → Does split (Split asked) → HasInput split input → asked.cut ≡ Parts (Bytes n) → ArePieces length n input (contents_of split) }
-    ensures line_bytes { (split : Run) (asked : SplitAsked) (n delim : ℕ) (input : List ℕ) → Does split (Split asked) → HasInput split input → asked.cut ≡ Parts (LineBytes n delim) → AreLinePieces delim n input (contents_of split) }
-    ensures one_list { (delim n : ℕ) (input : List ℕ) (some other : List (List ℕ)) → 0 < n → AreLinePieces delim n input some → AreLinePieces delim n input other → some ≡ other }
-    ensures dealt { (split : Run) (asked : SplitAsked) (n delim : ℕ) (input : List ℕ) → Does split (Split asked) → HasInput split input → asked.cut ≡ Round n delim → AreDealt delim n asked.elide input (contents_of split) }
+    ensures listed { (split : Run) (asked : SplitAsked) (input : List ℕ) → Does split (Split asked)
+        → HasInput split input → AreListed asked (files_of split) }
+    ensures told { (split : Run) (asked : SplitAsked) (input : List ℕ) → Does split (Split asked)
+        → HasInput split input → output_of split ≡ (if asked.verbose then lines_telling (files_of split) else []) }
+    ensures lines { (split : Run) (asked : SplitAsked) (n delim : ℕ) (input : List ℕ) → Does split (Split asked)
+        → HasInput split input → asked.cut ≡ Parts (Lines n delim)
+        → ArePieces (line_count delim) n input (contents_of split) }
+    ensures uncut { (split : Run) (asked : SplitAsked) (n delim : ℕ) (input : List ℕ) → Does split (Split asked)
+        → HasInput split input → asked.cut ≡ Parts (Lines n delim) → AreUncut delim (contents_of split) }
+    ensures bytes { (split : Run) (asked : SplitAsked) (n : ℕ) (input : List ℕ) → Does split (Split asked)
+        → HasInput split input → asked.cut ≡ Parts (Bytes n) → ArePieces length n input (contents_of split) }
+    ensures line_bytes { (split : Run) (asked : SplitAsked) (n delim : ℕ) (input : List ℕ) → Does split (Split asked)
+        → HasInput split input → asked.cut ≡ Parts (LineBytes n delim)
+        → AreLinePieces delim n input (contents_of split) }
+    ensures one_list { (delim n : ℕ) (input : List ℕ) (some other : List (List ℕ)) → 0 < n
+        → AreLinePieces delim n input some → AreLinePieces delim n input other → some ≡ other }
+    ensures dealt { (split : Run) (asked : SplitAsked) (n delim : ℕ) (input : List ℕ) → Does split (Split asked)
+        → HasInput split input → asked.cut ≡ Round n delim → AreDealt delim n asked.elide input (contents_of split) }
 {}
 
 /// `csplit` loses nothing. Its files are numbered in their order, and no two have one name. Their order is that of their names,
@@ -87,9 +109,14 @@ pub fn split_loses_nothing()
 /// (`--suppress-matched`), they are joined the input. In any case each line is in just one section, in the order of the input,
 /// or is left out at a cut, and the files have just the sections that are kept; with `-z` an empty one has no file.
 pub fn csplit_loses_nothing()
-    ensures numbered { (csplit : Run) (asked : CsplitAsked) (input : List ℕ) → Does csplit (Csplit asked) → HasInput csplit input → AreNumbered asked.style (files_of csplit) }
-    ensures joined { (csplit : Run) (asked : CsplitAsked) (input : List ℕ) → Does csplit (Csplit asked) → HasInput csplit input → asked.style.suppress ≡ false → SkipNothing asked.operands → joined (contents_of csplit) ≡ input }
-    ensures sections { (csplit : Run) (asked : CsplitAsked) (input : List ℕ) → Does csplit (Csplit asked) → HasInput csplit input → (operands : List Operand) × Asks asked.operands operands × AreSections asked.style operands input (contents_of csplit) }
+    ensures numbered { (csplit : Run) (asked : CsplitAsked) (input : List ℕ) → Does csplit (Csplit asked)
+        → HasInput csplit input → AreNumbered asked.style (files_of csplit) }
+    ensures joined { (csplit : Run) (asked : CsplitAsked) (input : List ℕ) → Does csplit (Csplit asked)
+        → HasInput csplit input → asked.style.suppress ≡ false → SkipNothing asked.operands
+        → joined (contents_of csplit) ≡ input }
+    ensures sections { (csplit : Run) (asked : CsplitAsked) (input : List ℕ) → Does csplit (Csplit asked)
+        → HasInput csplit input → (operands : List Operand) × Asks asked.operands operands
+        × AreSections asked.style operands input (contents_of csplit) }
 {}
 
 /// Nothing after a fault but a beginning. Whatever a run met over its inputs, standard output and each file have a beginning of
@@ -99,10 +126,13 @@ pub fn csplit_loses_nothing()
 /// can't be written, or not be opened, is told by its name. That a file of `csplit` couldn't be removed need not be told, nor
 /// then what broke it before; each other file of that run is gone, or broken too.
 pub fn faults_leave_a_beginning()
-    ensures begins { (run well : Run) (asked : Settings) → Ran run asked → Completes well asked → FindAlike run well → BeginsEach run well }
-    ensures beside { (run : Run) (asked : Settings) → Ran run asked → HasOperands asked → (HasLong run asked → ⊥) → (well : Run) × FindAlike run well × Completes well asked }
+    ensures begins { (run well : Run) (asked : Settings) → Ran run asked → Completes well asked → FindAlike run well
+        → BeginsEach run well }
+    ensures beside { (run : Run) (asked : Settings) → Ran run asked → HasOperands asked → (HasLong run asked → ⊥)
+        → (well : Run) × FindAlike run well × Completes well asked }
     ensures says { (run : Run) (asked : Settings) → Ran run asked → run.status ≡ 1 → SaysWhy run asked }
-    ensures broken { (run : Run) (asked : Settings) (place : ℕ) → Ran run asked → (place ≡ 1 → ⊥) → (slot_at run.outputs place).is_broken ≡ true → (run.status ≡ 1) × WhyBroken run asked place }
+    ensures broken { (run : Run) (asked : Settings) (place : ℕ) → Ran run asked → (place ≡ 1 → ⊥)
+        → (slot_at run.outputs place).is_broken ≡ true → (run.status ≡ 1) × WhyBroken run asked place }
 {}
 
 /// `tail -f` tells all, once. Of one file that only grows, where no header is written, it writes the last lines or bytes that
@@ -112,9 +142,16 @@ pub fn faults_leave_a_beginning()
 /// which it only grew, and from the second stretch on all that it came to have. What the file is at looks that were not made is
 /// no matter.
 pub fn tail_follows()
-    ensures grows { (run : Run) (options : EndsAsked) (followed : Followed) (name came : List ℕ) (file n : ℕ) → Follows run (n + 1) options followed → IsBare options → options.names ≡ name ∷ [] → OnlyGrows (length run.seen) run.shows name file
-        → (run.shows n).holds file ≡ (run.shows 0).holds file ++ came
-        → (slot_at run.outputs 0).written ≡ tail_of options.delim options.unit (is_plus options.count.sign) options.count.amount ((run.shows 0).holds file) ++ came }
-    ensures text { (run : Run) (count : ℕ) (options : EndsAsked) (followed : Followed) (name : List ℕ) → Follows run count options followed → IsBare options → options.names ≡ name ∷ [] → AreKept (entries_of (is_name followed) name run.seen)
-        → (slot_at run.outputs 0).written ≡ name_text (tail_of options.delim options.unit (is_plus options.count.sign) options.count.amount) (entries_of (is_name followed) name run.seen) }
+    ensures grows { (run : Run) (options : EndsAsked) (followed : Followed) (name came : List ℕ) (file n : ℕ)
+        → Follows run (n + 1) options followed → IsBare options → options.names ≡ name ∷ []
+        → OnlyGrows (length run.seen) run.shows name file → (run.shows n).holds file ≡ (run.shows 0).holds file ++ came
+        → (slot_at run.outputs 0).written
+        ≡ tail_of options.delim options.unit (is_plus options.count.sign) options.count.amount
+        ((run.shows 0).holds file) ++ came }
+    ensures text { (run : Run) (count : ℕ) (options : EndsAsked) (followed : Followed) (name : List ℕ)
+        → Follows run count options followed → IsBare options → options.names ≡ name ∷ []
+        → AreKept (entries_of (is_name followed) name run.seen)
+        → (slot_at run.outputs 0).written
+        ≡ name_text (tail_of options.delim options.unit (is_plus options.count.sign) options.count.amount)
+        (entries_of (is_name followed) name run.seen) }
 {}

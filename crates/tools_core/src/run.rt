@@ -28,12 +28,16 @@ use words_core::{Settings, find_tool, read_words};
 pub fn run<I: Inputs, O: Outs>(alloc: Global, words: &[&str], inputs: &mut I, outs: &mut O) -> u8
     requires inputs { IsFresh (I.sources inputs.old) }
     requires outputs { O.slots outs.old ≡ streams }
-    ensures ends { RunsOver I.told (world_of (I.laid inputs.old) (I.sources inputs.old)) (names_read (map (λ word. word.now) words.now))
-        (λ found. RunEnds I.told O.told (map (λ word. word.now) words.now) found (I.sources inputs.old) (I.sources inputs.new) (O.slots outs.new) result) }
+    ensures ends { RunsOver I.told (world_of (I.laid inputs.old) (I.sources inputs.old))
+        (names_read (map (λ word. word.now) words.now))
+        (λ found. RunEnds I.told O.told (map (λ word. word.now) words.now) found (I.sources inputs.old)
+        (I.sources inputs.new) (O.slots outs.new) result) }
     ensures opened { length (I.sources inputs.new) ≤ count_after 1 (names_read (map (λ word. word.now) words.now)) }
     ensures asked { AsksAtMost largest_piece (I.sources inputs.new) }
-    ensures unopened { names_read (map (λ word. word.now) words.now) ≡ [] → I.sources inputs.new ≡ I.sources inputs.old }
-    ensures untouched { has_dash (names_read (map (λ word. word.now) words.now)) ≡ false → source_at (I.sources inputs.new) 0 ≡ source_at (I.sources inputs.old) 0 }
+    ensures unopened { names_read (map (λ word. word.now) words.now) ≡ []
+        → I.sources inputs.new ≡ I.sources inputs.old }
+    ensures untouched { has_dash (names_read (map (λ word. word.now) words.now)) ≡ false
+        → source_at (I.sources inputs.new) 0 ≡ source_at (I.sources inputs.old) 0 }
 {
     match read_words(alloc, words) {
         Ok(settings) => run_tool(alloc, &settings, inputs, outs),
@@ -69,7 +73,8 @@ pub(crate) fn run_tool<I: Inputs, O: Outs>(
         (λ found. DoesAsked I.told O.told settings.now found (I.sources inputs.new) (O.slots outs.new) result) }
     ensures opened { length (I.sources inputs.new) ≤ count_after 1 (names_of settings.now) }
     ensures asked { AsksAtMost largest_piece (I.sources inputs.new) }
-    ensures untouched { has_dash (names_of settings.now) ≡ false → source_at (I.sources inputs.new) 0 ≡ source_at (I.sources inputs.old) 0 }
+    ensures untouched { has_dash (names_of settings.now) ≡ false
+        → source_at (I.sources inputs.new) 0 ≡ source_at (I.sources inputs.old) 0 }
 {
     match settings {
         Settings::Head(settings) => run_inputs(

@@ -76,7 +76,8 @@ pub trait Watch {
     ///
     /// `Memory`: nothing is changed.
     fn add(&mut self, name: &str) -> Result<usize, Fault>
-        ensures ok { IfOk result (λ place. (place ≡ length (watched self.old)) × (watched self.new ≡ watched self.old ++ added name.now ∷ [])) }
+        ensures ok { IfOk result (λ place. (place ≡ length (watched self.old))
+            × (watched self.new ≡ watched self.old ++ added name.now ∷ [])) }
         ensures err { IfErr result (λ fault. (fault ≡ Fault.Memory) × (watched self.new ≡ watched self.old)) }
         ensures seen { seen self.new ≡ seen self.old }
         ensures shows { shows self.new ≡ shows self.old };
@@ -88,11 +89,15 @@ pub trait Watch {
     /// `Open` where that can't be told: the name is broken.
     fn look(&mut self, place: usize) -> Result<Option<Seen>, Fault>
         requires { IsTrue (is_watchable (watched self.old) place) }
-        ensures ok { IfOk result (λ found. told ≡ true → Finds (latest (seen self.old)) (watched_at (watched self.old) place).name found) }
-        ensures found { IfOk result (λ found. Found (latest (seen self.old)) (watched_at (watched self.old) place).name (leads_to (option_map (λ file. file.id) found))) }
+        ensures ok { IfOk result (λ found. told ≡ true
+            → Finds (latest (seen self.old)) (watched_at (watched self.old) place).name found) }
+        ensures found { IfOk result (λ found. Found (latest (seen self.old)) (watched_at (watched self.old) place).name
+            (leads_to (option_map (λ file. file.id) found))) }
         ensures bound { IfOk result (λ found. IfSome found (λ file. file.len < 2 ^ 63)) }
         ensures same { OnOk result (watched self.new ≡ watched self.old) }
-        ensures err { IfErr result (λ fault. (fault ≡ Fault.Open place) × (watched self.new ≡ changed_at place (breaks (λ file. Broken.Look)) (watched self.old))) }
+        ensures err { IfErr result
+            (λ fault. (fault ≡ Fault.Open place)
+            × (watched self.new ≡ changed_at place (breaks (λ file. Broken.Look)) (watched self.old))) }
         ensures seen { seen self.new ≡ seen self.old }
         ensures shows { shows self.new ≡ shows self.old };
 
@@ -105,7 +110,9 @@ pub trait Watch {
     fn reopen(&mut self, place: usize) -> Result<bool, Fault>
         requires { IsTrue (is_watchable (watched self.old) place) }
         ensures ok { IfOk result (Reopens told (latest (seen self.old)) (watched self.old) (watched self.new) place) }
-        ensures err { IfErr result (λ fault. (fault ≡ Fault.Open place) × (watched self.new ≡ changed_at place (breaks (λ file. Broken.Open)) (watched self.old))) }
+        ensures err { IfErr result
+            (λ fault. (fault ≡ Fault.Open place)
+            × (watched self.new ≡ changed_at place (breaks (λ file. Broken.Open)) (watched self.old))) }
         ensures seen { seen self.new ≡ seen self.old }
         ensures shows { shows self.new ≡ shows self.old };
 
@@ -120,11 +127,15 @@ pub trait Watch {
     /// `Read` where that can't be told: the name is broken.
     fn open_len(&mut self, place: usize) -> Result<u64, Fault>
         requires { IsTrue (is_readable (watched self.old) place) }
-        ensures ok { IfOk result (λ len. told ≡ true → len ≡ length (open_contents (latest (seen self.old)) (watched_at (watched self.old) place))) }
-        ensures found { IfOk result (λ len. Found (latest (seen self.old)) (watched_at (watched self.old) place).name (holds_many (watched_at (watched self.old) place).opened len)) }
+        ensures ok { IfOk result (λ len. told ≡ true
+            → len ≡ length (open_contents (latest (seen self.old)) (watched_at (watched self.old) place))) }
+        ensures found { IfOk result (λ len. Found (latest (seen self.old)) (watched_at (watched self.old) place).name
+            (holds_many (watched_at (watched self.old) place).opened len)) }
         ensures bound { IfOk result (λ len. len < 2 ^ 63) }
         ensures same { OnOk result (watched self.new ≡ watched self.old) }
-        ensures err { IfErr result (λ fault. (fault ≡ Fault.Read place) × (watched self.new ≡ changed_at place (breaks (λ file. Broken.Len file)) (watched self.old))) }
+        ensures err { IfErr result
+            (λ fault. (fault ≡ Fault.Read place)
+            × (watched self.new ≡ changed_at place (breaks (λ file. Broken.Len file)) (watched self.old))) }
         ensures seen { seen self.new ≡ seen self.old }
         ensures shows { shows self.new ≡ shows self.old };
 
@@ -137,11 +148,17 @@ pub trait Watch {
     fn read_at(&mut self, place: usize, from: u64, buffer: &mut [u8]) -> Result<usize, Fault>
         requires { IsTrue (is_readable (watched self.old) place) }
         ensures bound { IfOk result (λ n. n ≤ length buffer.old) }
-        ensures bytes { IfOk result (λ n. told ≡ true → GaveFrom (open_contents (latest (seen self.old)) (watched_at (watched self.old) place)) from buffer.old buffer.new n) }
-        ensures found { IfOk result (λ n. 0 < length buffer.old → Found (latest (seen self.old)) (watched_at (watched self.old) place).name (reads_as (watched_at (watched self.old) place).opened from (take n buffer.new))) }
+        ensures bytes { IfOk result (λ n. told ≡ true
+            → GaveFrom (open_contents (latest (seen self.old))
+            (watched_at (watched self.old) place)) from buffer.old buffer.new n) }
+        ensures found { IfOk result (λ n. 0 < length buffer.old
+            → Found (latest (seen self.old)) (watched_at (watched self.old) place).name
+            (reads_as (watched_at (watched self.old) place).opened from (take n buffer.new))) }
         ensures length { length buffer.new ≡ length buffer.old }
         ensures same { OnOk result (watched self.new ≡ watched self.old) }
-        ensures err { IfErr result (λ fault. (fault ≡ Fault.Read place) × (watched self.new ≡ changed_at place (breaks (λ file. Broken.Read file from)) (watched self.old))) }
+        ensures err { IfErr result
+            (λ fault. (fault ≡ Fault.Read place)
+            × (watched self.new ≡ changed_at place (breaks (λ file. Broken.Read file from)) (watched self.old))) }
         ensures seen { seen self.new ≡ seen self.old }
         ensures shows { shows self.new ≡ shows self.old };
 }

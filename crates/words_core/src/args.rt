@@ -78,7 +78,8 @@ fn first_words(alloc: Global, tool: Option<Tool>) -> Result<Vec<String>, AllocEr
 
 /// These words, and after them those that follow the program's own name.
 fn read_rest(env: &impl Env, alloc: Global, first: Vec<String>) -> Result<Vec<String>, ArgsFault>
-    ensures { IfOk result (λ words. (rest : List (List ℕ)) × (map string_bytes words.items ≡ map string_bytes first.items ++ rest)) }
+    ensures { IfOk result (λ words. (rest : List (List ℕ))
+        × (map string_bytes words.items ≡ map string_bytes first.items ++ rest)) }
 {
     let mut words = first;
     for index in 1..usize::MAX {
@@ -93,7 +94,8 @@ fn read_rest(env: &impl Env, alloc: Global, first: Vec<String>) -> Result<Vec<St
 
 /// Puts an argument after the words, where it is text.
 fn push_text(words: &mut Vec<String>, bytes: Vec<u8>) -> Result<(), ArgsFault>
-    ensures { IfOk result (λ _. map string_bytes words.new.items ≡ map string_bytes words.old.items ++ bytes.items ∷ []) }
+    ensures { IfOk result (λ _. map string_bytes words.new.items
+        ≡ map string_bytes words.old.items ++ bytes.items ∷ []) }
 {
     let place = words.len();
     match String::from_utf8(bytes) {

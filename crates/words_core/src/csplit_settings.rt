@@ -29,7 +29,12 @@ impl<'a> Model for CsplitSettings<'a> {
 
     ghost Value = { CsplitAsked };
 
-    ghost view = { λ s. record { style = s.style; input = s.input.now; operands = map (λ word. word.now) s.words.items; places = s.places.items } };
+    ghost view = { λ s. record {
+      style = s.style;
+      input = s.input.now;
+      operands = map (λ word. word.now) s.words.items;
+      places = s.places.items;
+    } };
 
     ghost invariant = { λ s. Asks (map (λ word. word.now) s.words.items) s.operands };
 }
@@ -64,7 +69,9 @@ pub fn read_settings<'a>(
 ) -> Result<CsplitSettings<'a>, Fault>
     ensures ok { IfOk result (λ settings. settings ≡ asked_with style input.now (map operand_seen operands.now)) }
     ensures operands { IfOk result HasRead }
-    ensures err { IfErr result (λ fault. (fault ≡ Fault.Memory) ⊎ HasBadOperand (asked_with style input.now (map operand_seen operands.now)) fault) }
+    ensures err { IfErr result
+        (λ fault. (fault ≡ Fault.Memory)
+        ⊎ HasBadOperand (asked_with style input.now (map operand_seen operands.now)) fault) }
 {
     let words = texts_of(alloc, operands)?;
     let places = places_of(alloc, operands)?;

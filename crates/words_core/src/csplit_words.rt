@@ -42,7 +42,15 @@ impl<'a> Model for CsplitOptions<'a> {
 
     ghost Value = { CsplitOptions };
 
-    ghost view = { λ s. record { prefix = s.prefix.now; digits = s.digits; format = option_map format_seen s.format; keep = s.keep; quiet = s.quiet; elide = s.elide; suppress = s.suppress } };
+    ghost view = { λ s. record {
+      prefix = s.prefix.now;
+      digits = s.digits;
+      format = option_map format_seen s.format;
+      keep = s.keep;
+      quiet = s.quiet;
+      elide = s.elide;
+      suppress = s.suppress;
+    } };
 }
 
 /// What is asked for without options.

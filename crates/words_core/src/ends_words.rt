@@ -120,7 +120,8 @@ fn choose_ends(options: &[Chosen<'_>]) -> EndsOptions
 
 /// The names of the inputs: the operands, or standard input where there is none.
 fn names_of<'a>(alloc: Global, operands: &[Operand<'a>]) -> Result<Vec<&'a str>, Fault>
-    ensures ok { IfOk result (λ names. map (λ name. name.now) names.items ≡ names_asked (map operand_seen operands.now)) }
+    ensures ok { IfOk result (λ names. map (λ name. name.now) names.items
+        ≡ names_asked (map operand_seen operands.now)) }
     ensures err { IfErr result (λ fault. fault ≡ Fault.Memory) }
 {
     let mut names = texts_of(alloc, operands)?;

@@ -65,8 +65,12 @@ pub fn last_of_csplit_decides()
     ensures prefix { LastDecides names_prefix (λ options. (chosen_by options).prefix) (codes "xx") }
     ensures digits { LastDecides counts_digits (λ options. (chosen_by options).digits) 2 }
     ensures format { LastDecides gives_format (λ options. (chosen_by options).format) None }
-    ensures plain { (options : List GivenOption) → (chosen_by options).format ≡ None → ((style_of options).prefix ≡ (chosen_by options).prefix) × ((style_of options).form ≡ decimal_form (chosen_by options).digits) × ((style_of options).ending ≡ []) }
-    ensures formatted { (options : List GivenOption) (format : Format) → (chosen_by options).format ≡ Some format → ((style_of options).prefix ≡ (chosen_by options).prefix ++ format.before) × ((style_of options).form ≡ format.form) × ((style_of options).ending ≡ format.after) }
+    ensures plain { (options : List GivenOption) → (chosen_by options).format ≡ None
+        → ((style_of options).prefix ≡ (chosen_by options).prefix)
+        × ((style_of options).form ≡ decimal_form (chosen_by options).digits) × ((style_of options).ending ≡ []) }
+    ensures formatted { (options : List GivenOption) (format : Format) → (chosen_by options).format ≡ Some format
+        → ((style_of options).prefix ≡ (chosen_by options).prefix ++ format.before)
+        × ((style_of options).form ≡ format.form) × ((style_of options).ending ≡ format.after) }
 {}
 
 /// Of several options of `tee` that say what is done once an output is broken the last decides, as if it stood alone, whatever
@@ -79,8 +83,11 @@ pub fn last_of_tee_decides()
 /// it. So it is with `-u` of `split` and `--max-unchanged-stats` of `tail`.
 pub fn some_have_no_effect()
     ensures { (tool : Tool) (before after : List GivenOption) (value : Meant) (word : ℕ) (operands : List GivenOperand)
-        → settings_for tool (record { options = before ++ record { choice = Choice.NoEffect; value = value; word = word } ∷ after; operands = operands })
-        ≡ settings_for tool (record { options = before ++ after; operands = operands }) }
+        → settings_for tool
+        (record {
+          options = before ++ record { choice = Choice.NoEffect; value = value; word = word } ∷ after;
+          operands = operands;
+        }) ≡ settings_for tool (record { options = before ++ after; operands = operands }) }
 {}
 
 /// What an option without a value asks is asked for exactly where the option is given, wherever it stands and however
@@ -92,7 +99,8 @@ pub fn options_stand_anywhere()
     ensures suppress { (options : List GivenOption) → (style_of options).suppress ≡ has leaves_lines_out options }
     ensures leave_out { (options : List GivenOption) → (split_of options).elide ≡ has elides_files options }
     ensures tell { (options : List GivenOption) → (split_of options).verbose ≡ has tells_of_files options }
-    ensures zero { (options : List GivenOption) → (ends_of options).delim ≡ (if has ends_with_zero options then 0 else 10) }
+    ensures zero { (options : List GivenOption)
+        → (ends_of options).delim ≡ (if has ends_with_zero options then 0 else 10) }
     ensures append { (given : Given) → ((tee_asked given).mode ≡ Mode.Append) ↔ (has appends given.options ≡ true) }
 {}
 
@@ -101,93 +109,117 @@ pub fn options_stand_anywhere()
 pub fn one_way_at_most()
     ensures accepted { (options : List GivenOption) → IsOk (way_of options) ↔ (length (filter is_way options) ≤ 1) }
     ensures way { (before after : List GivenOption) (option : GivenOption) (cut : Cut) → is_way option ≡ true
-        → way_of (before ++ option ∷ after) ≡ Ok cut → cut ≡ way_in (separator_in (before ++ option ∷ after)) option.value option.choice }
-    ensures second { (before after : List GivenOption) (option : GivenOption) → length (filter is_way before) ≡ 1 → is_way option ≡ true
-        → way_of (before ++ option ∷ after) ≡ Err (Fault.Usage TwoWays option.word) }
+        → way_of (before ++ option ∷ after) ≡ Ok cut
+        → cut ≡ way_in (separator_in (before ++ option ∷ after)) option.value option.choice }
+    ensures second { (before after : List GivenOption) (option : GivenOption) → length (filter is_way before) ≡ 1
+        → is_way option ≡ true → way_of (before ++ option ∷ after) ≡ Err (Fault.Usage TwoWays option.word) }
 {}
 
 /// Suffixes never widen where an option says which number the first file has.
 pub fn numbers_keep_their_width()
-    ensures { (given : Given) (asked : SplitAsked) (from : ℕ) → split_asked given ≡ Ok asked → asked.from ≡ Some from → asked.auto ≡ false }
+    ensures { (given : Given) (asked : SplitAsked) (from : ℕ) → split_asked given ≡ Ok asked → asked.from ≡ Some from
+        → asked.auto ≡ false }
 {}
 
 /// Where options may stand, all words after `--` are operands, whatever they begin with (POSIX.1-2017, XBD 12.2,
 /// guideline 10).
 pub fn operands_follow_the_end()
     ensures { (rows : List OptionRow) (words : List (List ℕ)) (place : ℕ)
-        → spelled rows (codes "--" ∷ words) place Reading ≡ Ok (record { options = []; operands = as_operands (place + 1) words }) }
+        → spelled rows (codes "--" ∷ words) place Reading
+        ≡ Ok (record { options = []; operands = as_operands (place + 1) words }) }
 {}
 
 /// A long name in full is never read as the beginning of another. Where one is cut short, every option of which a name begins
 /// so is the one that it stands for; where names of two begin so, that is told (GNU's long options).
 pub fn beginnings_are_of_one_option()
-    ensures full { (rows : List OptionRow) (name : List ℕ) (option : Choice × Takes) → option_named rows name ≡ Some option → option_called rows name ≡ Ok option }
-    ensures one { (rows : List OptionRow) (name : List ℕ) (option : Choice × Takes) → option_called rows name ≡ Ok option → option_named rows name ≡ None
+    ensures full { (rows : List OptionRow) (name : List ℕ) (option : Choice × Takes)
+        → option_named rows name ≡ Some option → option_called rows name ≡ Ok option }
+    ensures one { (rows : List OptionRow) (name : List ℕ) (option : Choice × Takes)
+        → option_called rows name ≡ Ok option → option_named rows name ≡ None
         → (beginning name rows ≢ []) × All (λ row. (row.choice, row.takes) ≡ option) (beginning name rows) }
-    ensures several { (rows : List OptionRow) (name : List ℕ) → option_called rows name ≡ Err AmbiguousOption → 2 ≤ length (beginning name rows) }
+    ensures several { (rows : List OptionRow) (name : List ℕ) → option_called rows name ≡ Err AmbiguousOption
+        → 2 ≤ length (beginning name rows) }
 {}
 
 /// The value of an option, where it isn't empty, is spelled in four ways: right after its letter or in the next word,
 /// and after its long name and `=` or in the next word. All four give the same option and value (POSIX.1-2017, XBD
 /// 12.1; GNU's long options).
 pub fn values_are_spelled_alike()
-    ensures attached { (rows : List OptionRow) (letter : ℕ) (choice : Choice) (kind : Kind) (value : List ℕ) (meant : Meant) (words : List (List ℕ)) (place : ℕ)
-        → IsLetter rows letter choice kind → value ≢ [] → value_in kind value ≡ Ok meant
-        → Gives rows ((codes "-" ++ letter ∷ value) ∷ words) place choice meant (spelled rows words (place + 1) Reading) }
-    ensures after_letter { (rows : List OptionRow) (letter : ℕ) (choice : Choice) (kind : Kind) (value : List ℕ) (meant : Meant) (words : List (List ℕ)) (place : ℕ)
-        → IsLetter rows letter choice kind → value_in kind value ≡ Ok meant
-        → Gives rows ((codes "-" ++ letter ∷ []) ∷ value ∷ words) place choice meant (spelled rows words (place + 1 + 1) Reading) }
-    ensures after_equals { (rows : List OptionRow) (name : List ℕ) (choice : Choice) (kind : Kind) (value : List ℕ) (meant : Meant) (words : List (List ℕ)) (place : ℕ)
-        → IsName rows name choice kind → value_in kind value ≡ Ok meant
-        → Gives rows ((codes "--" ++ (name ++ (codes "=" ++ value))) ∷ words) place choice meant (spelled rows words (place + 1) Reading) }
-    ensures after_name { (rows : List OptionRow) (name : List ℕ) (choice : Choice) (kind : Kind) (value : List ℕ) (meant : Meant) (words : List (List ℕ)) (place : ℕ)
-        → IsName rows name choice kind → value_in kind value ≡ Ok meant
-        → Gives rows ((codes "--" ++ name) ∷ value ∷ words) place choice meant (spelled rows words (place + 1 + 1) Reading) }
+    ensures attached { (rows : List OptionRow) (letter : ℕ) (choice : Choice) (kind : Kind) (value : List ℕ)
+        (meant : Meant) (words : List (List ℕ)) (place : ℕ) → IsLetter rows letter choice kind → value ≢ []
+        → value_in kind value ≡ Ok meant
+        → Gives rows ((codes "-" ++ letter ∷ value) ∷ words) place choice meant
+        (spelled rows words (place + 1) Reading) }
+    ensures after_letter { (rows : List OptionRow) (letter : ℕ) (choice : Choice) (kind : Kind) (value : List ℕ)
+        (meant : Meant) (words : List (List ℕ)) (place : ℕ) → IsLetter rows letter choice kind
+        → value_in kind value ≡ Ok meant
+        → Gives rows ((codes "-" ++ letter ∷ []) ∷ value ∷ words) place choice meant
+        (spelled rows words (place + 1 + 1) Reading) }
+    ensures after_equals { (rows : List OptionRow) (name : List ℕ) (choice : Choice) (kind : Kind) (value : List ℕ)
+        (meant : Meant) (words : List (List ℕ)) (place : ℕ) → IsName rows name choice kind
+        → value_in kind value ≡ Ok meant
+        → Gives rows ((codes "--" ++ (name ++ (codes "=" ++ value))) ∷ words) place choice meant
+        (spelled rows words (place + 1) Reading) }
+    ensures after_name { (rows : List OptionRow) (name : List ℕ) (choice : Choice) (kind : Kind) (value : List ℕ)
+        (meant : Meant) (words : List (List ℕ)) (place : ℕ) → IsName rows name choice kind
+        → value_in kind value ≡ Ok meant
+        → Gives rows ((codes "--" ++ name) ∷ value ∷ words) place choice meant
+        (spelled rows words (place + 1 + 1) Reading) }
 {}
 
 /// Letters in one word spell what they spell apart (POSIX.1-2017, XBD 12.2, guideline 5). A letter to which no value belongs
 /// gives its option, and what comes after it is read as if it weren't there: the other letters of its word, after a
 /// hyphen, and where it is the only one the words that follow.
 pub fn letters_stand_together()
-    ensures together { (rows : List OptionRow) (letter next : ℕ) (choice : Choice) (rest : List ℕ) (words : List (List ℕ)) (place : ℕ)
-        → IsSwitch rows letter choice → next ≢ 45
-        → spelled rows ((codes "-" ++ letter ∷ next ∷ rest) ∷ words) place Reading ≡ given_before (bare choice place) (spelled rows ((codes "-" ++ next ∷ rest) ∷ words) place Reading) }
-    ensures apart { (rows : List OptionRow) (letter : ℕ) (choice : Choice) (words : List (List ℕ)) (place : ℕ) → IsSwitch rows letter choice
-        → spelled rows ((codes "-" ++ letter ∷ []) ∷ words) place Reading ≡ given_before (bare choice place) (spelled rows words (place + 1) Reading) }
+    ensures together { (rows : List OptionRow) (letter next : ℕ) (choice : Choice) (rest : List ℕ)
+        (words : List (List ℕ)) (place : ℕ) → IsSwitch rows letter choice → next ≢ 45
+        → spelled rows ((codes "-" ++ letter ∷ next ∷ rest) ∷ words) place Reading
+        ≡ given_before (bare choice place) (spelled rows ((codes "-" ++ next ∷ rest) ∷ words) place Reading) }
+    ensures apart { (rows : List OptionRow) (letter : ℕ) (choice : Choice) (words : List (List ℕ)) (place : ℕ)
+        → IsSwitch rows letter choice → spelled rows ((codes "-" ++ letter ∷ []) ∷ words) place Reading
+        ≡ given_before (bare choice place) (spelled rows words (place + 1) Reading) }
 {}
 
 /// Options and operands may mix: a word that doesn't begin with a hyphen, or is one alone, is an operand wherever options may
 /// stand, and they may stand after it as before (GNU's tools; POSIX.1-2017, XBD 12.2, guideline 9, wants options first).
 pub fn operands_may_mix()
     ensures { (rows : List OptionRow) (word : List ℕ) (words : List (List ℕ)) (place : ℕ) → is_plain word ≡ true
-        → spelled rows (word ∷ words) place Reading ≡ given_before (one_operand word place) (spelled rows words (place + 1) Reading) }
+        → spelled rows (word ∷ words) place Reading
+        ≡ given_before (one_operand word place) (spelled rows words (place + 1) Reading) }
 {}
 
 /// Of several faults of single words the leftmost word's is told: one that is found among the first words is told whatever follows them, but
 /// that a value is missing, which is so only where no word follows; and where nothing is wrong with the first words, the
 /// fault stands after them.
 pub fn leftmost_fault_decides()
-    ensures decides { (rows : List OptionRow) (first more : List (List ℕ)) (place : ℕ) (state : State) (kind : UsageKind) (word : ℕ)
-        → spelled rows first place state ≡ Err (Fault.Usage kind word) → kind ≢ MissingValue
-        → spelled rows (first ++ more) place state ≡ Err (Fault.Usage kind word) }
-    ensures later { (rows : List OptionRow) (first more : List (List ℕ)) (place : ℕ) (state : State) (given : Given) (kind : UsageKind) (word : ℕ)
-        → spelled rows first place state ≡ Ok given → spelled rows (first ++ more) place state ≡ Err (Fault.Usage kind word)
-        → place + length first ≤ word }
+    ensures decides { (rows : List OptionRow) (first more : List (List ℕ)) (place : ℕ) (state : State)
+        (kind : UsageKind) (word : ℕ) → spelled rows first place state ≡ Err (Fault.Usage kind word)
+        → kind ≢ MissingValue → spelled rows (first ++ more) place state ≡ Err (Fault.Usage kind word) }
+    ensures later { (rows : List OptionRow) (first more : List (List ℕ)) (place : ℕ) (state : State) (given : Given)
+        (kind : UsageKind) (word : ℕ) → spelled rows first place state ≡ Ok given
+        → spelled rows (first ++ more) place state ≡ Err (Fault.Usage kind word) → place + length first ≤ word }
 {}
 
 /// Words are read from the left, each by what those before it left. An option as `--help` ends that: whatever follows it, even
 /// what would be a fault, gives nothing. So it asks for its text, and the line as a whole isn't checked.
 #[tactic(auto, unfolding(crate::specs::Spelling::foremost, crate::specs::Table::tools))]
 pub fn reading_ends()
-    ensures left { (rows : List OptionRow) (first : List (List ℕ)) (place : ℕ) (state : State) → LeaveTheRest rows first place state }
-    ensures last { (rows : List OptionRow) (name : List ℕ) (choice : Choice) (words : List (List ℕ)) (place : ℕ) → IsLast rows name choice
-        → spelled rows ((codes "--" ++ name) ∷ words) place Reading ≡ Ok (bare choice place) }
-    ensures head { (words : List (List ℕ)) → settings_of (codes "head" ∷ codes "--help" ∷ words) ≡ Ok (Settings.About Tool.Head Topic.Help) }
-    ensures tail { (words : List (List ℕ)) → settings_of (codes "tail" ∷ codes "--help" ∷ words) ≡ Ok (Settings.About Tool.Tail Topic.Help) }
-    ensures split { (words : List (List ℕ)) → settings_of (codes "split" ∷ codes "--version" ∷ words) ≡ Ok (Settings.About Tool.Split Topic.Version) }
-    ensures csplit { (words : List (List ℕ)) → settings_of (codes "csplit" ∷ codes "--help" ∷ words) ≡ Ok (Settings.About Tool.Csplit Topic.Help) }
-    ensures tee { (words : List (List ℕ)) → settings_of (codes "tee" ∷ codes "--version" ∷ words) ≡ Ok (Settings.About Tool.Tee Topic.Version) }
-    ensures program { (words : List (List ℕ)) → settings_of (codes "--version" ∷ words) ≡ Ok (Settings.About Tool.Cutters Topic.Version) }
+    ensures left { (rows : List OptionRow) (first : List (List ℕ)) (place : ℕ) (state : State)
+        → LeaveTheRest rows first place state }
+    ensures last { (rows : List OptionRow) (name : List ℕ) (choice : Choice) (words : List (List ℕ)) (place : ℕ)
+        → IsLast rows name choice → spelled rows ((codes "--" ++ name) ∷ words) place Reading ≡ Ok (bare choice place) }
+    ensures head { (words : List (List ℕ))
+        → settings_of (codes "head" ∷ codes "--help" ∷ words) ≡ Ok (Settings.About Tool.Head Topic.Help) }
+    ensures tail { (words : List (List ℕ))
+        → settings_of (codes "tail" ∷ codes "--help" ∷ words) ≡ Ok (Settings.About Tool.Tail Topic.Help) }
+    ensures split { (words : List (List ℕ))
+        → settings_of (codes "split" ∷ codes "--version" ∷ words) ≡ Ok (Settings.About Tool.Split Topic.Version) }
+    ensures csplit { (words : List (List ℕ))
+        → settings_of (codes "csplit" ∷ codes "--help" ∷ words) ≡ Ok (Settings.About Tool.Csplit Topic.Help) }
+    ensures tee { (words : List (List ℕ))
+        → settings_of (codes "tee" ∷ codes "--version" ∷ words) ≡ Ok (Settings.About Tool.Tee Topic.Version) }
+    ensures program { (words : List (List ℕ))
+        → settings_of (codes "--version" ∷ words) ≡ Ok (Settings.About Tool.Cutters Topic.Version) }
 {}
 
 /// The operands are some of the words, in their order, each with its place.
@@ -200,122 +232,182 @@ pub fn operands_keep_their_order()
 /// digits alone gives the option that its tool has for it, with these digits as the value.
 #[tactic(auto, unfolding(crate::specs::Spelling::foremost))]
 pub fn number_comes_first()
-    ensures other { (rows : List OptionRow) (choice : Choice) (kind : Kind) (letters : Letters) (byte : ℕ) (rest : List ℕ) (words : List (List ℕ)) (place : ℕ)
-        → is_number rest ≡ false → is_lettered rows letters rest ≡ false
-        → spelled rows ((byte ∷ rest) ∷ words) place (State.First choice kind letters) ≡ spelled rows ((byte ∷ rest) ∷ words) place Reading }
-    ensures number { (rows : List OptionRow) (choice : Choice) (kind : Kind) (letters : Letters) (digits : List ℕ) (meant : Meant) (words : List (List ℕ)) (place : ℕ)
-        → is_number digits ≡ true → value_in kind digits ≡ Ok meant
-        → spelled rows ((codes "-" ++ digits) ∷ words) place (State.First choice kind letters) ≡ given_before (one_option choice meant place) (spelled rows words (place + 1) Reading) }
+    ensures other { (rows : List OptionRow) (choice : Choice) (kind : Kind) (letters : Letters) (byte : ℕ)
+        (rest : List ℕ) (words : List (List ℕ)) (place : ℕ) → is_number rest ≡ false
+        → is_lettered rows letters rest ≡ false
+        → spelled rows ((byte ∷ rest) ∷ words) place (State.First choice kind letters)
+        ≡ spelled rows ((byte ∷ rest) ∷ words) place Reading }
+    ensures number { (rows : List OptionRow) (choice : Choice) (kind : Kind) (letters : Letters) (digits : List ℕ)
+        (meant : Meant) (words : List (List ℕ)) (place : ℕ) → is_number digits ≡ true → value_in kind digits ≡ Ok meant
+        → spelled rows ((codes "-" ++ digits) ∷ words) place (State.First choice kind letters)
+        ≡ given_before (one_option choice meant place) (spelled rows words (place + 1) Reading) }
 {}
 
 /// What a letter after the digits of a first word asks: one that says what is counted, as many of that as the digits write;
 /// one of an option, as many lines and that option.
 pub fn letters_ask()
-    ensures unit { (rows : List OptionRow) (digits : List ℕ) (letter place : ℕ) (unit : Choice × ℕ) (count : Count) → is_number digits ≡ true
-        → unit_of letter ≡ Some unit → counted (sized Sign.Plain (value_of digits * unit.1)) ≡ Ok count
+    ensures unit { (rows : List OptionRow) (digits : List ℕ) (letter place : ℕ) (unit : Choice × ℕ) (count : Count)
+        → is_number digits ≡ true → unit_of letter ≡ Some unit
+        → counted (sized Sign.Plain (value_of digits * unit.1)) ≡ Ok count
         → with_letters rows place (digits ++ letter ∷ []) ≡ Ok (one_option unit.0 (Counted count) place) }
-    ensures option { (rows : List OptionRow) (digits : List ℕ) (letter place : ℕ) (option : Choice × Takes) (count : Count) → is_number digits ≡ true
-        → unit_of letter ≡ None → is_ascii_digit letter ≡ false → letter_named rows letter ≡ Some option
-        → counted (sized Sign.Plain (value_of digits)) ≡ Ok count
-        → with_letters rows place (digits ++ letter ∷ []) ≡ Ok (joined (one_option Choice.Lines (Counted count) place) (bare option.0 place)) }
+    ensures option { (rows : List OptionRow) (digits : List ℕ) (letter place : ℕ) (option : Choice × Takes)
+        (count : Count) → is_number digits ≡ true → unit_of letter ≡ None → is_ascii_digit letter ≡ false
+        → letter_named rows letter ≡ Some option → counted (sized Sign.Plain (value_of digits)) ≡ Ok count
+        → with_letters rows place (digits ++ letter ∷ [])
+        ≡ Ok (joined (one_option Choice.Lines (Counted count) place) (bare option.0 place)) }
 {}
 
 /// A first word that is read as a hyphen, digits and letters means nothing else: read as any other word it is an unknown
 /// option.
 pub fn letters_take_no_option_away()
-    ensures head { (text : List ℕ) (place : ℕ) → is_lettered head_table OfHead text ≡ true → mixed head_table place (codes "-" ++ text) ≡ Err (Fault.Usage UnknownOption place) }
-    ensures tail { (text : List ℕ) (place : ℕ) → is_lettered tail_table OfTail text ≡ true → mixed tail_table place (codes "-" ++ text) ≡ Err (Fault.Usage UnknownOption place) }
+    ensures head { (text : List ℕ) (place : ℕ) → is_lettered head_table OfHead text ≡ true
+        → mixed head_table place (codes "-" ++ text) ≡ Err (Fault.Usage UnknownOption place) }
+    ensures tail { (text : List ℕ) (place : ℕ) → is_lettered tail_table OfTail text ≡ true
+        → mixed tail_table place (codes "-" ++ text) ≡ Err (Fault.Usage UnknownOption place) }
 {}
 
 /// What the options of `head` and `tail` ask for, each alone: lines and bytes with their count, headers never or
 /// always (POSIX.1-2017, XCU head and tail; GNU coreutils manual).
 pub fn ends_options_ask()
     ensures head_lines { (value : List ℕ) (count : Count) → count_of value ≡ Ok count
-        → settings_of (codes "head" ∷ codes "-n" ∷ value ∷ []) ≡ Ok (Settings.Head (ends_as Unit.Lines count Headers.ForSeveral)) }
+        → settings_of (codes "head" ∷ codes "-n" ∷ value ∷ [])
+        ≡ Ok (Settings.Head (ends_as Unit.Lines count Headers.ForSeveral)) }
     ensures head_bytes { (value : List ℕ) (count : Count) → count_of value ≡ Ok count
-        → settings_of (codes "head" ∷ codes "-c" ∷ value ∷ []) ≡ Ok (Settings.Head (ends_as Unit.Bytes count Headers.ForSeveral)) }
+        → settings_of (codes "head" ∷ codes "-c" ∷ value ∷ [])
+        ≡ Ok (Settings.Head (ends_as Unit.Bytes count Headers.ForSeveral)) }
     ensures tail_lines { (value : List ℕ) (count : Count) → count_of value ≡ Ok count
-        → settings_of (codes "tail" ∷ codes "-n" ∷ value ∷ []) ≡ Ok (Settings.Tail (tail_as (ends_as Unit.Lines count Headers.ForSeveral))) }
+        → settings_of (codes "tail" ∷ codes "-n" ∷ value ∷ [])
+        ≡ Ok (Settings.Tail (tail_as (ends_as Unit.Lines count Headers.ForSeveral))) }
     ensures tail_bytes { (value : List ℕ) (count : Count) → count_of value ≡ Ok count
-        → settings_of (codes "tail" ∷ codes "-c" ∷ value ∷ []) ≡ Ok (Settings.Tail (tail_as (ends_as Unit.Bytes count Headers.ForSeveral))) }
-    ensures head_quiet { settings_of (codes "head" ∷ codes "-q" ∷ []) ≡ Ok (Settings.Head (ends_as Unit.Lines ten_lines.count Headers.Never)) }
-    ensures head_verbose { settings_of (codes "head" ∷ codes "-v" ∷ []) ≡ Ok (Settings.Head (ends_as Unit.Lines ten_lines.count Headers.Always)) }
-    ensures tail_quiet { settings_of (codes "tail" ∷ codes "-q" ∷ []) ≡ Ok (Settings.Tail (tail_as (ends_as Unit.Lines ten_lines.count Headers.Never))) }
-    ensures tail_verbose { settings_of (codes "tail" ∷ codes "-v" ∷ []) ≡ Ok (Settings.Tail (tail_as (ends_as Unit.Lines ten_lines.count Headers.Always))) }
+        → settings_of (codes "tail" ∷ codes "-c" ∷ value ∷ [])
+        ≡ Ok (Settings.Tail (tail_as (ends_as Unit.Bytes count Headers.ForSeveral))) }
+    ensures head_quiet { settings_of (codes "head" ∷ codes "-q" ∷ [])
+        ≡ Ok (Settings.Head (ends_as Unit.Lines ten_lines.count Headers.Never)) }
+    ensures head_verbose { settings_of (codes "head" ∷ codes "-v" ∷ [])
+        ≡ Ok (Settings.Head (ends_as Unit.Lines ten_lines.count Headers.Always)) }
+    ensures tail_quiet { settings_of (codes "tail" ∷ codes "-q" ∷ [])
+        ≡ Ok (Settings.Tail (tail_as (ends_as Unit.Lines ten_lines.count Headers.Never))) }
+    ensures tail_verbose { settings_of (codes "tail" ∷ codes "-v" ∷ [])
+        ≡ Ok (Settings.Tail (tail_as (ends_as Unit.Lines ten_lines.count Headers.Always))) }
 {}
 
 /// What the options of `tail` for following ask for: files that are opened once, or names; as many looks as can be, or this many;
 /// pauses of a second at most, or of this many milliseconds (POSIX.1-2017, XCU tail; GNU coreutils manual).
 #[tactic(auto, unfolding(crate::specs::Spelling::foremost, crate::specs::Table::tools, seg_core::specs::Count::digits_of))]
 pub fn tail_options_ask()
-    ensures follows { settings_of (codes "tail" ∷ codes "-f" ∷ codes "f" ∷ []) ≡ Ok (Settings.Tail (following_as (Some Followed.Descriptor) (2 ^ 63 - 1))) }
-    ensures long { settings_of (codes "tail" ∷ codes "--follow" ∷ codes "f" ∷ []) ≡ Ok (Settings.Tail (following_as (Some Followed.Descriptor) (2 ^ 63 - 1))) }
-    ensures descriptor { settings_of (codes "tail" ∷ codes "--follow=descriptor" ∷ codes "f" ∷ []) ≡ Ok (Settings.Tail (following_as (Some Followed.Descriptor) (2 ^ 63 - 1))) }
-    ensures names { settings_of (codes "tail" ∷ codes "-F" ∷ codes "f" ∷ []) ≡ Ok (Settings.Tail (following_as (Some Followed.Name) (2 ^ 63 - 1))) }
-    ensures retry { settings_of (codes "tail" ∷ codes "--follow=name" ∷ codes "--retry" ∷ codes "f" ∷ []) ≡ Ok (Settings.Tail (following_as (Some Followed.Name) (2 ^ 63 - 1))) }
-    ensures looks { settings_of (codes "tail" ∷ codes "-f" ∷ codes "--looks=3" ∷ codes "f" ∷ []) ≡ Ok (Settings.Tail (following_as (Some Followed.Descriptor) 3)) }
-    ensures pause { settings_of (codes "tail" ∷ codes "-f" ∷ codes "-s" ∷ codes "2.5" ∷ codes "f" ∷ []) ≡ Ok (Settings.Tail (record (following_as (Some Followed.Descriptor) (2 ^ 63 - 1)) { pause = 2500 })) }
-    ensures process { settings_of (codes "tail" ∷ codes "-f" ∷ codes "--pid=7" ∷ codes "f" ∷ []) ≡ Ok (Settings.Tail (record (following_as (Some Followed.Descriptor) (2 ^ 63 - 1)) { process = Some 7 })) }
-    ensures short_pause { settings_of (codes "tail" ∷ codes "-f" ∷ codes "--sleep-interval=.0501" ∷ codes "f" ∷ []) ≡ Ok (Settings.Tail (record (following_as (Some Followed.Descriptor) (2 ^ 63 - 1)) { pause = 51 })) }
+    ensures follows { settings_of (codes "tail" ∷ codes "-f" ∷ codes "f" ∷ [])
+        ≡ Ok (Settings.Tail (following_as (Some Followed.Descriptor) (2 ^ 63 - 1))) }
+    ensures long { settings_of (codes "tail" ∷ codes "--follow" ∷ codes "f" ∷ [])
+        ≡ Ok (Settings.Tail (following_as (Some Followed.Descriptor) (2 ^ 63 - 1))) }
+    ensures descriptor { settings_of (codes "tail" ∷ codes "--follow=descriptor" ∷ codes "f" ∷ [])
+        ≡ Ok (Settings.Tail (following_as (Some Followed.Descriptor) (2 ^ 63 - 1))) }
+    ensures names { settings_of (codes "tail" ∷ codes "-F" ∷ codes "f" ∷ [])
+        ≡ Ok (Settings.Tail (following_as (Some Followed.Name) (2 ^ 63 - 1))) }
+    ensures retry { settings_of (codes "tail" ∷ codes "--follow=name" ∷ codes "--retry" ∷ codes "f" ∷ [])
+        ≡ Ok (Settings.Tail (following_as (Some Followed.Name) (2 ^ 63 - 1))) }
+    ensures looks { settings_of (codes "tail" ∷ codes "-f" ∷ codes "--looks=3" ∷ codes "f" ∷ [])
+        ≡ Ok (Settings.Tail (following_as (Some Followed.Descriptor) 3)) }
+    ensures pause { settings_of (codes "tail" ∷ codes "-f" ∷ codes "-s" ∷ codes "2.5" ∷ codes "f" ∷ [])
+        ≡ Ok (Settings.Tail (record (following_as (Some Followed.Descriptor) (2 ^ 63 - 1)) { pause = 2500 })) }
+    ensures process { settings_of (codes "tail" ∷ codes "-f" ∷ codes "--pid=7" ∷ codes "f" ∷ [])
+        ≡ Ok (Settings.Tail (record (following_as (Some Followed.Descriptor) (2 ^ 63 - 1)) { process = Some 7 })) }
+    ensures short_pause { settings_of (codes "tail" ∷ codes "-f" ∷ codes "--sleep-interval=.0501" ∷ codes "f" ∷ [])
+        ≡ Ok (Settings.Tail (record (following_as (Some Followed.Descriptor) (2 ^ 63 - 1)) { pause = 51 })) }
 {}
 
 /// What the options of `split` ask for, each alone (POSIX.1-2017, XCU split; GNU coreutils manual).
 pub fn split_options_ask()
     ensures lines { (value : List ℕ) (size : ℕ) → size_in value ≡ Ok size
-        → settings_of (codes "split" ∷ codes "-l" ∷ value ∷ []) ≡ Ok (Settings.Split (split_as (Cut.Parts (Limit.Lines size 10)) Alphabet.Letters 2 true false)) }
+        → settings_of (codes "split" ∷ codes "-l" ∷ value ∷ [])
+        ≡ Ok (Settings.Split (split_as (Cut.Parts (Limit.Lines size 10)) Alphabet.Letters 2 true false)) }
     ensures bytes { (value : List ℕ) (size : ℕ) → size_in value ≡ Ok size
-        → settings_of (codes "split" ∷ codes "-b" ∷ value ∷ []) ≡ Ok (Settings.Split (split_as (Cut.Parts (Limit.Bytes size)) Alphabet.Letters 2 true false)) }
+        → settings_of (codes "split" ∷ codes "-b" ∷ value ∷ [])
+        ≡ Ok (Settings.Split (split_as (Cut.Parts (Limit.Bytes size)) Alphabet.Letters 2 true false)) }
     ensures line_bytes { (value : List ℕ) (size : ℕ) → size_in value ≡ Ok size
-        → settings_of (codes "split" ∷ codes "-C" ∷ value ∷ []) ≡ Ok (Settings.Split (split_as (Cut.Parts (Limit.LineBytes size 10)) Alphabet.Letters 2 true false)) }
+        → settings_of (codes "split" ∷ codes "-C" ∷ value ∷ [])
+        ≡ Ok (Settings.Split (split_as (Cut.Parts (Limit.LineBytes size 10)) Alphabet.Letters 2 true false)) }
     ensures files { (value : List ℕ) (files : ℕ) → round_in value ≡ Ok files
-        → settings_of (codes "split" ∷ codes "-n" ∷ value ∷ []) ≡ Ok (Settings.Split (split_as (Cut.Round files 10) Alphabet.Letters (least_width Alphabet.Letters files) false false)) }
-    ensures digits { settings_of (codes "split" ∷ codes "-d" ∷ []) ≡ Ok (Settings.Split (split_as (thousand_lines 10) Alphabet.Digits 2 true false)) }
-    ensures hexadecimal { settings_of (codes "split" ∷ codes "-x" ∷ []) ≡ Ok (Settings.Split (split_as (thousand_lines 10) Alphabet.Hex 2 true false)) }
+        → settings_of (codes "split" ∷ codes "-n" ∷ value ∷ [])
+        ≡ Ok (Settings.Split
+        (split_as (Cut.Round files 10) Alphabet.Letters (least_width Alphabet.Letters files) false false)) }
+    ensures digits { settings_of (codes "split" ∷ codes "-d" ∷ [])
+        ≡ Ok (Settings.Split (split_as (thousand_lines 10) Alphabet.Digits 2 true false)) }
+    ensures hexadecimal { settings_of (codes "split" ∷ codes "-x" ∷ [])
+        ≡ Ok (Settings.Split (split_as (thousand_lines 10) Alphabet.Hex 2 true false)) }
     ensures digits_from { (value : List ℕ) (from : ℕ) → up_to (2 ^ 63 - 1) (digits_of value) ≡ Ok from → from < 100
-        → settings_of (codes "split" ∷ (codes "--numeric-suffixes=" ++ value) ∷ []) ≡ Ok (Settings.Split (record (split_as (thousand_lines 10) Alphabet.Digits 2 false false) { from = Some from })) }
+        → settings_of (codes "split" ∷ (codes "--numeric-suffixes=" ++ value) ∷ [])
+        ≡ Ok (Settings.Split
+        (record (split_as (thousand_lines 10) Alphabet.Digits 2 false false) { from = Some from })) }
     ensures hexadecimal_from { (value : List ℕ) (from : ℕ) → hex_in value ≡ Ok from → from < 256
-        → settings_of (codes "split" ∷ (codes "--hex-suffixes=" ++ value) ∷ []) ≡ Ok (Settings.Split (record (split_as (thousand_lines 10) Alphabet.Hex 2 false false) { from = Some from })) }
+        → settings_of (codes "split" ∷ (codes "--hex-suffixes=" ++ value) ∷ [])
+        ≡ Ok (Settings.Split (record (split_as (thousand_lines 10) Alphabet.Hex 2 false false) { from = Some from })) }
     ensures too_short { (value : List ℕ) (from : ℕ) → up_to (2 ^ 63 - 1) (digits_of value) ≡ Ok from → 100 ≤ from
-        → settings_of (codes "split" ∷ (codes "--numeric-suffixes=" ++ value) ∷ []) ≡ Err (Fault.Usage SuffixTooShort 0) }
-    ensures split_verbose { settings_of (codes "split" ∷ codes "--verbose" ∷ []) ≡ Ok (Settings.Split (record (split_as (thousand_lines 10) Alphabet.Letters 2 true false) { verbose = true })) }
-    ensures elide { settings_of (codes "split" ∷ codes "-e" ∷ []) ≡ Ok (Settings.Split (split_as (thousand_lines 10) Alphabet.Letters 2 true true)) }
-    ensures width { settings_of (codes "split" ∷ codes "-a3" ∷ []) ≡ Ok (Settings.Split (split_as (thousand_lines 10) Alphabet.Letters 3 false false)) }
+        → settings_of (codes "split" ∷ (codes "--numeric-suffixes=" ++ value) ∷ [])
+        ≡ Err (Fault.Usage SuffixTooShort 0) }
+    ensures split_verbose { settings_of (codes "split" ∷ codes "--verbose" ∷ [])
+        ≡ Ok (Settings.Split (record (split_as (thousand_lines 10) Alphabet.Letters 2 true false) { verbose = true })) }
+    ensures elide { settings_of (codes "split" ∷ codes "-e" ∷ [])
+        ≡ Ok (Settings.Split (split_as (thousand_lines 10) Alphabet.Letters 2 true true)) }
+    ensures width { settings_of (codes "split" ∷ codes "-a3" ∷ [])
+        ≡ Ok (Settings.Split (split_as (thousand_lines 10) Alphabet.Letters 3 false false)) }
 {}
 
 /// What the options of `csplit` ask for, each alone, and what is asked for without any (POSIX.1-2017, XCU csplit; GNU
 /// coreutils manual).
 pub fn csplit_options_ask()
-    ensures nothing { settings_of (codes "csplit" ∷ codes "-" ∷ codes "1" ∷ []) ≡ Ok (Settings.Csplit (csplit_as plain_style 2)) }
-    ensures prefix { (text : List ℕ) → settings_of (codes "csplit" ∷ codes "-f" ∷ text ∷ codes "-" ∷ codes "1" ∷ []) ≡ Ok (Settings.Csplit (csplit_as (record plain_style { prefix = text }) 4)) }
+    ensures nothing { settings_of (codes "csplit" ∷ codes "-" ∷ codes "1" ∷ [])
+        ≡ Ok (Settings.Csplit (csplit_as plain_style 2)) }
+    ensures prefix { (text : List ℕ) → settings_of (codes "csplit" ∷ codes "-f" ∷ text ∷ codes "-" ∷ codes "1" ∷ [])
+        ≡ Ok (Settings.Csplit (csplit_as (record plain_style { prefix = text }) 4)) }
     ensures digits { (value : List ℕ) (digits : ℕ) → up_to 255 (digits_of value) ≡ Ok digits
-        → settings_of (codes "csplit" ∷ codes "-n" ∷ value ∷ codes "-" ∷ codes "1" ∷ []) ≡ Ok (Settings.Csplit (csplit_as (record plain_style { form = decimal_form digits }) 4)) }
+        → settings_of (codes "csplit" ∷ codes "-n" ∷ value ∷ codes "-" ∷ codes "1" ∷ [])
+        ≡ Ok (Settings.Csplit (csplit_as (record plain_style { form = decimal_form digits }) 4)) }
     ensures format { (value : List ℕ) (format : Format) → format_in value ≡ Some format
-        → settings_of (codes "csplit" ∷ codes "-b" ∷ value ∷ codes "-" ∷ codes "1" ∷ []) ≡ Ok (Settings.Csplit (csplit_as (record plain_style { prefix = codes "xx" ++ format.before; form = format.form; ending = format.after }) 4)) }
-    ensures keep { settings_of (codes "csplit" ∷ codes "-k" ∷ codes "-" ∷ codes "1" ∷ []) ≡ Ok (Settings.Csplit (csplit_as (record plain_style { keep = true }) 3)) }
-    ensures quiet { settings_of (codes "csplit" ∷ codes "-s" ∷ codes "-" ∷ codes "1" ∷ []) ≡ Ok (Settings.Csplit (csplit_as (record plain_style { quiet = true }) 3)) }
-    ensures also_quiet { settings_of (codes "csplit" ∷ codes "-q" ∷ codes "-" ∷ codes "1" ∷ []) ≡ Ok (Settings.Csplit (csplit_as (record plain_style { quiet = true }) 3)) }
-    ensures elide { settings_of (codes "csplit" ∷ codes "-z" ∷ codes "-" ∷ codes "1" ∷ []) ≡ Ok (Settings.Csplit (csplit_as (record plain_style { elide = true }) 3)) }
-    ensures suppress { settings_of (codes "csplit" ∷ codes "--suppress-matched" ∷ codes "-" ∷ codes "1" ∷ []) ≡ Ok (Settings.Csplit (csplit_as (record plain_style { suppress = true }) 3)) }
+        → settings_of (codes "csplit" ∷ codes "-b" ∷ value ∷ codes "-" ∷ codes "1" ∷ [])
+        ≡ Ok (Settings.Csplit
+        (csplit_as (record plain_style {
+          prefix = codes "xx" ++ format.before;
+          form = format.form;
+          ending = format.after;
+        }) 4)) }
+    ensures keep { settings_of (codes "csplit" ∷ codes "-k" ∷ codes "-" ∷ codes "1" ∷ [])
+        ≡ Ok (Settings.Csplit (csplit_as (record plain_style { keep = true }) 3)) }
+    ensures quiet { settings_of (codes "csplit" ∷ codes "-s" ∷ codes "-" ∷ codes "1" ∷ [])
+        ≡ Ok (Settings.Csplit (csplit_as (record plain_style { quiet = true }) 3)) }
+    ensures also_quiet { settings_of (codes "csplit" ∷ codes "-q" ∷ codes "-" ∷ codes "1" ∷ [])
+        ≡ Ok (Settings.Csplit (csplit_as (record plain_style { quiet = true }) 3)) }
+    ensures elide { settings_of (codes "csplit" ∷ codes "-z" ∷ codes "-" ∷ codes "1" ∷ [])
+        ≡ Ok (Settings.Csplit (csplit_as (record plain_style { elide = true }) 3)) }
+    ensures suppress { settings_of (codes "csplit" ∷ codes "--suppress-matched" ∷ codes "-" ∷ codes "1" ∷ [])
+        ≡ Ok (Settings.Csplit (csplit_as (record plain_style { suppress = true }) 3)) }
 {}
 
 /// What `tee` is asked for without options, with `-a`, and with an option that says what is done once an output is broken
 /// (POSIX.1-2017, XCU tee; GNU coreutils manual).
 #[tactic(auto, unfolding(crate::specs::Table::tools))]
 pub fn tee_options_ask()
-    ensures nothing { settings_of (codes "tee" ∷ codes "f" ∷ []) ≡ Ok (Settings.Tee (record { mode = Mode.Fresh; on_broken = OnBroken.GoOn; names = codes "f" ∷ [] })) }
-    ensures append { settings_of (codes "tee" ∷ codes "-a" ∷ codes "f" ∷ []) ≡ Ok (Settings.Tee (record { mode = Mode.Append; on_broken = OnBroken.GoOn; names = codes "f" ∷ [] })) }
-    ensures warn { settings_of (codes "tee" ∷ codes "-p" ∷ codes "f" ∷ []) ≡ Ok (Settings.Tee (record { mode = Mode.Fresh; on_broken = OnBroken.GoOn; names = codes "f" ∷ [] })) }
-    ensures stop { settings_of (codes "tee" ∷ codes "--output-error=exit" ∷ codes "f" ∷ []) ≡ Ok (Settings.Tee (record { mode = Mode.Fresh; on_broken = OnBroken.Stop; names = codes "f" ∷ [] })) }
-    ensures stop_at_no_pipe { settings_of (codes "tee" ∷ codes "--output-error=exit-nopipe" ∷ codes "f" ∷ []) ≡ Ok (Settings.Tee (record { mode = Mode.Fresh; on_broken = OnBroken.Stop; names = codes "f" ∷ [] })) }
+    ensures nothing { settings_of (codes "tee" ∷ codes "f" ∷ [])
+        ≡ Ok (Settings.Tee (record { mode = Mode.Fresh; on_broken = OnBroken.GoOn; names = codes "f" ∷ [] })) }
+    ensures append { settings_of (codes "tee" ∷ codes "-a" ∷ codes "f" ∷ [])
+        ≡ Ok (Settings.Tee (record { mode = Mode.Append; on_broken = OnBroken.GoOn; names = codes "f" ∷ [] })) }
+    ensures warn { settings_of (codes "tee" ∷ codes "-p" ∷ codes "f" ∷ [])
+        ≡ Ok (Settings.Tee (record { mode = Mode.Fresh; on_broken = OnBroken.GoOn; names = codes "f" ∷ [] })) }
+    ensures stop { settings_of (codes "tee" ∷ codes "--output-error=exit" ∷ codes "f" ∷ [])
+        ≡ Ok (Settings.Tee (record { mode = Mode.Fresh; on_broken = OnBroken.Stop; names = codes "f" ∷ [] })) }
+    ensures stop_at_no_pipe { settings_of (codes "tee" ∷ codes "--output-error=exit-nopipe" ∷ codes "f" ∷ [])
+        ≡ Ok (Settings.Tee (record { mode = Mode.Fresh; on_broken = OnBroken.Stop; names = codes "f" ∷ [] })) }
 {}
 
 /// A hyphen and digits as the only word mean what `-n` means with these digits for `head` and `tail`, and what `-l` means for
 /// `split` (GNU coreutils manual).
 pub fn numbers_ask()
     ensures head { (digits : List ℕ) (count : Count) → is_number digits ≡ true → count_of digits ≡ Ok count
-        → settings_of (codes "head" ∷ (codes "-" ++ digits) ∷ []) ≡ settings_of (codes "head" ∷ codes "-n" ∷ digits ∷ []) }
+        → settings_of (codes "head" ∷ (codes "-" ++ digits) ∷ [])
+        ≡ settings_of (codes "head" ∷ codes "-n" ∷ digits ∷ []) }
     ensures tail { (digits : List ℕ) (count : Count) → is_number digits ≡ true → count_of digits ≡ Ok count
-        → settings_of (codes "tail" ∷ (codes "-" ++ digits) ∷ []) ≡ settings_of (codes "tail" ∷ codes "-n" ∷ digits ∷ []) }
+        → settings_of (codes "tail" ∷ (codes "-" ++ digits) ∷ [])
+        ≡ settings_of (codes "tail" ∷ codes "-n" ∷ digits ∷ []) }
     ensures split { (digits : List ℕ) (size : ℕ) → is_number digits ≡ true → size_in digits ≡ Ok size
-        → settings_of (codes "split" ∷ (codes "-" ++ digits) ∷ []) ≡ settings_of (codes "split" ∷ codes "-l" ∷ digits ∷ []) }
+        → settings_of (codes "split" ∷ (codes "-" ++ digits) ∷ [])
+        ≡ settings_of (codes "split" ∷ codes "-l" ∷ digits ∷ []) }
 {}

@@ -117,7 +117,8 @@ fn unit_in(letters: &[u8]) -> (Choice, u64)
 
 /// The number that the digits write which a text begins with, or ten without digits, and at most the greatest `u64`.
 fn leading_or_ten(text: &[u8]) -> u64
-    ensures { result ≡ min (if length (leading_digits text.now) == 0 then 10 else value_of (leading_digits text.now)) (2 ^ 64 - 1) }
+    ensures { result ≡ min (if length (leading_digits text.now) == 0 then 10 else value_of (leading_digits text.now))
+        (2 ^ 64 - 1) }
 {
     match leading_number(text) {
         (_, 0) => TEN,
@@ -147,7 +148,8 @@ pub fn read_lettered<'a>(
     text: &[u8],
     spelled: &mut Spelled<'a>,
 ) -> Result<State, Fault>
-    ensures { Adds (given_at place (with_letters (map row_seen rows.now) place text.now)) spelled.old spelled.new result }
+    ensures { Adds (given_at place
+        (with_letters (map row_seen rows.now) place text.now)) spelled.old spelled.new result }
 {
     let letters = after_digits(text);
     let (choice, each) = unit_in(letters);
@@ -184,7 +186,8 @@ fn add_switch<'a>(
     letter: u8,
     spelled: &mut Spelled<'a>,
 ) -> Result<(), Fault>
-    ensures ok { IfOk result (λ _. spelled.new ≡ joined spelled.old (switched place (letter_named (map row_seen rows.now) letter))) }
+    ensures ok { IfOk result (λ _. spelled.new
+        ≡ joined spelled.old (switched place (letter_named (map row_seen rows.now) letter))) }
     ensures err { IfErr result (λ fault. fault ≡ Fault.Memory) }
 {
     match find_option(rows, &[b'-', letter]) {

@@ -56,7 +56,13 @@ pub struct EndsSettings<'a> {
 impl<'a> Model for EndsSettings<'a> {
     ghost Value = { EndsAsked };
 
-    ghost view = { λ s. record { unit = s.unit; count = s.count; headers = s.headers; delim = s.delim; names = map (λ name. name.now) s.names.items } };
+    ghost view = { λ s. record {
+      unit = s.unit;
+      count = s.count;
+      headers = s.headers;
+      delim = s.delim;
+      names = map (λ name. name.now) s.names.items;
+    } };
 }
 
 /// What `tail` is to write of its inputs.
@@ -114,7 +120,18 @@ pub struct SplitSettings<'a> {
 impl<'a> Model for SplitSettings<'a> {
     ghost Value = { SplitAsked };
 
-    ghost view = { λ s. record { cut = s.cut; alphabet = s.alphabet; width = s.width; auto = s.auto; from = s.from; elide = s.elide; verbose = s.verbose; input = s.input.now; prefix = s.prefix.now; ending = s.ending.now } };
+    ghost view = { λ s. record {
+      cut = s.cut;
+      alphabet = s.alphabet;
+      width = s.width;
+      auto = s.auto;
+      from = s.from;
+      elide = s.elide;
+      verbose = s.verbose;
+      input = s.input.now;
+      prefix = s.prefix.now;
+      ending = s.ending.now;
+    } };
 }
 
 /// What `tee` is to write its input to, besides standard output.
@@ -131,5 +148,9 @@ pub struct TeeSettings<'a> {
 impl<'a> Model for TeeSettings<'a> {
     ghost Value = { TeeAsked };
 
-    ghost view = { λ s. record { mode = s.mode; on_broken = s.on_broken; names = map (λ name. name.now) s.names.items } };
+    ghost view = { λ s. record {
+      mode = s.mode;
+      on_broken = s.on_broken;
+      names = map (λ name. name.now) s.names.items;
+    } };
 }

@@ -41,7 +41,10 @@ pub struct Spelled<'a> {
 impl<'a> Model for Spelled<'a> {
     ghost Value = { Given };
 
-    ghost view = { λ s. record { options = map option_seen s.options.items; operands = map operand_seen s.operands.items } };
+    ghost view = { λ s. record {
+      options = map option_seen s.options.items;
+      operands = map operand_seen s.operands.items;
+    } };
 }
 
 impl<'a> Spelled<'a> {

@@ -107,7 +107,8 @@ fn read_first<'a>(
     word: &'a str,
     spelled: &mut Spelled<'a>,
 ) -> Result<State, Fault>
-    ensures { Adds (foremost (map row_seen rows.now) number.0 number.1 number.2 place word.now) spelled.old spelled.new result }
+    ensures { Adds (foremost
+        (map row_seen rows.now) number.0 number.1 number.2 place word.now) spelled.old spelled.new result }
 {
     let (choice, kind, letters) = number;
     match first_letter(word) {
@@ -201,7 +202,8 @@ fn read_named<'a>(
     place: usize,
     spelled: &mut Spelled<'a>,
 ) -> Result<State, Fault>
-    ensures { Adds (named place (Ok (choice, takes)) (option_map (λ text. text.now) value.entry)) spelled.old spelled.new result }
+    ensures { Adds (named place (Ok (choice, takes))
+        (option_map (λ text. text.now) value.entry)) spelled.old spelled.new result }
 {
     match (takes, value) {
         (Takes::Nothing | Takes::Optional(_), None) => {

@@ -596,7 +596,9 @@ fn first_beginning<'a>(
     start: &[u8],
 ) -> Option<(&'a OptionRow, &'a [OptionRow])>
     ensures none { IfNone result (beginning start.now (map row_seen rows.now) ≡ []) }
-    ensures some { IfSome result (λ found. beginning start.now (map row_seen rows.now) ≡ row_seen found.0.now ∷ beginning start.now (map row_seen found.1.now)) }
+    ensures some { IfSome result
+        (λ found. beginning start.now (map row_seen rows.now)
+        ≡ row_seen found.0.now ∷ beginning start.now (map row_seen found.1.now)) }
 {
     let mut left = rows;
     while let [row, rest @ ..] = left {

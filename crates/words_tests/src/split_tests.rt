@@ -442,8 +442,18 @@ const OPERANDS: &[OperandRow<'static>] = &[
 #[test]
 fn reads_whether_files_are_told_of(rt: HostRuntime) {
     check(&rt, rt.alloc(), &["split", "-l", "2"], Wanted::Told(false));
-    check(&rt, rt.alloc(), &["split", "--verbose", "-e"], Wanted::Told(true));
-    check(&rt, rt.alloc(), &["split", "f", "--verb"], Wanted::Told(true));
+    check(
+        &rt,
+        rt.alloc(),
+        &["split", "--verbose", "-e"],
+        Wanted::Told(true),
+    );
+    check(
+        &rt,
+        rt.alloc(),
+        &["split", "f", "--verb"],
+        Wanted::Told(true),
+    );
 }
 
 type EndRow<'a> = (&'a [&'a str], u8, &'a str);

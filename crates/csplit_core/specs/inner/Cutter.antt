@@ -114,10 +114,12 @@ pub record Took (cutter : CutterState) (text : List ℕ) (next : CutterState) : 
   pub size : load next ≤ load cutter + length text
 
 -- These bytes came in, and what is settled with them is written; or a fault came among them.
-pub record Takes (told : Bool) (cutter : CutterState) (text : List ℕ) (old new : List Slot) (next : CutterState) (fault : Option Fault) : Type 0 where
+pub record Takes (told : Bool) (cutter : CutterState) (text : List ℕ) (old new : List Slot) (next : CutterState)
+    (fault : Option Fault) : Type 0 where
   pub keeps : Keeps cutter next old new fault
   pub reaches : (x : List ℕ) → IsWhole x → Stands cutter x
-      → Reaches (sizes_wanted cutter.style) told cutter.writer next.writer (settled_part cutter x) (settled_part cutter (x ++ text)) old new fault
+      → Reaches (sizes_wanted cutter.style) told cutter.writer next.writer (settled_part cutter x)
+      (settled_part cutter (x ++ text)) old new fault
   pub went : IfNone fault (Took cutter text next)
 
 -- The plan over x ends where the cutter stands, and what is written of the open section is settled.
@@ -134,10 +136,12 @@ pub record Held (cutter : CutterState) (left : List ℕ) (next : CutterState) : 
   pub size : size_of next.writer.current + length next.window.held ≤ size_of cutter.writer.current + length left
 
 -- What `hold` does: the lines up to x came in, and these were left.
-pub record Holds (told : Bool) (cutter : CutterState) (left : List ℕ) (old new : List Slot) (next : CutterState) (fault : Option Fault) : Type 0 where
+pub record Holds (told : Bool) (cutter : CutterState) (left : List ℕ) (old new : List Slot) (next : CutterState)
+    (fault : Option Fault) : Type 0 where
   pub keeps : Keeps cutter next old new fault
   pub reaches : (x : List ℕ) (at : IsAt cutter x left) → Arrives cutter x left at
-      → Reaches (sizes_wanted cutter.style) told cutter.writer next.writer (part_at cutter x left at) (settled_part cutter x) old new fault
+      → Reaches (sizes_wanted cutter.style) told cutter.writer next.writer (part_at cutter x left at)
+      (settled_part cutter x) old new fault
   pub went : IfNone fault (Held cutter left next)
 
 -- a line stands last in x, which ends with its newline where it has one
@@ -230,7 +234,8 @@ pub record WentOn (cutter : CutterState) (cut : Cut) (next : CutterState) : Type
 
 abbrev pub PassesCut : CutterState → Cut → CutterState → Option Fault → Type 0
 PassesCut cutter cut next None = WentOn cutter cut next
-PassesCut cutter cut next (Some fault) = (fault ≡ Memory) × (next.writer ≡ cutter.writer) × (next.operands ≡ cutter.operands)
+PassesCut cutter cut next (Some fault) = (fault ≡ Memory) × (next.writer ≡ cutter.writer)
+    × (next.operands ≡ cutter.operands)
     × (next.style ≡ cutter.style)
 
 -- one text ends with another
@@ -245,7 +250,8 @@ pub record IsAfter (told : Bool) (cutter : CutterState) (x line : List ℕ) (nex
   pub near : next.lines ≤ search_line (suppress_in next) (state_in next)
   pub none : now.taken ≡ 0
   pub grows : Begins low (part_at next x rest now)
-  pub reaches : Reaches (sizes_wanted cutter.style) told cutter.writer next.writer low (part_at next x rest now) old new None
+  pub reaches : Reaches (sizes_wanted cutter.style) told cutter.writer next.writer low
+      (part_at next x rest now) old new None
 
 -- Some cuts were made, and these lines are left.
 pub record Spreading (told : Bool) (cutter : CutterState) (cut : Cut) (place : ℕ) (waiting line : List ℕ)
@@ -275,19 +281,23 @@ pub record Spread (told : Bool) (cutter : CutterState) (cut : Cut) (place : ℕ)
   pub aim : AimHolds next.operands next.lines next.progress next.aim
 
 -- the lines that were left were cut as often as operands cut, and more came in that aren't cut
-pub record CutAll (cutter : CutterState) (cut : Cut) (place : ℕ) (left line more : List ℕ) (next : CutterState) : Type 0 where
+pub record CutAll (cutter : CutterState) (cut : Cut) (place : ℕ) (left line more : List ℕ)
+    (next : CutterState) : Type 0 where
   pub lines : next.lines ≤ cutter.lines + length more
   pub sound : IsSound next
-  pub stands : (x : List ℕ) (at : IsAt cutter x left) → CutsNow cutter x left line cut place at → Stands next (x ++ more)
+  pub stands : (x : List ℕ) (at : IsAt cutter x left) → CutsNow cutter x left line cut place at
+      → Stands next (x ++ more)
   pub size : size_of next.writer.current + length next.window.held
       ≤ size_of cutter.writer.current + length left + length more
 
 -- What cutting as often as operands cut does, from the first cut on, and then taking in more lines that aren't cut.
-pub record CutsAll (told : Bool) (cutter : CutterState) (cut : Cut) (place : ℕ) (left line more : List ℕ) (old new : List Slot)
+pub record CutsAll (told : Bool) (cutter : CutterState) (cut : Cut) (place : ℕ) (left line more : List ℕ)
+    (old new : List Slot)
     (next : CutterState) (fault : Option Fault) : Type 0 where
   pub keeps : Keeps cutter next old new fault
   pub reaches : (x : List ℕ) (at : IsAt cutter x left) → CutsNow cutter x left line cut place at
-      → Reaches (sizes_wanted cutter.style) told cutter.writer next.writer (part_at cutter x left at) (settled_part cutter (x ++ more)) old new fault
+      → Reaches (sizes_wanted cutter.style) told cutter.writer next.writer (part_at cutter x left at)
+      (settled_part cutter (x ++ more)) old new fault
   pub went : IfNone fault (CutAll cutter cut place left line more next)
 
 -- What passing over lines says: the next operand stands as it did.
@@ -329,7 +339,8 @@ pub record PassesClear (cutter : CutterState) (text : List ℕ) (next : CutterSt
 
 -- A stretch of the text was taken in, of this many bytes, with its first line at least; or a fault came among them. Returned
 -- are these, and how many bytes the next line is, where the pattern that is searched for was found in it.
-pub record Stretches (told : Bool) (cutter : CutterState) (text : List ℕ) (size : ℕ) (old new : List Slot) (next : CutterState)
+pub record Stretches (told : Bool) (cutter : CutterState) (text : List ℕ) (size : ℕ) (old new : List Slot)
+    (next : CutterState)
     (result : Result Passed Fault) : Type 0 where
   pub n : ℕ
   pub least : size ≤ n
@@ -350,7 +361,8 @@ pub record GoesOn (told : Bool) (cutter : CutterState) (left rest : List ℕ) (o
   pub found : IfOk result (λ passed. IfSome passed.found (IsNextFound mid (drop n rest)))
 
 -- A line was cut, and of the text after it the lines that aren't cut were taken in too, which are this many bytes.
-pub record CutsOn (told : Bool) (cutter : CutterState) (cut : Cut) (line rest : List ℕ) (old new : List Slot) (next : CutterState)
+pub record CutsOn (told : Bool) (cutter : CutterState) (cut : Cut) (line rest : List ℕ) (old new : List Slot)
+    (next : CutterState)
     (result : Result Passed Fault) : Type 0 where
   pub n : ℕ
   pub within : n ≤ length rest
@@ -377,7 +389,8 @@ writer_for style = paused (new_for style)
 
 -- The first section could not begin, of which this part is due: a file could not be made, or there was no memory.
 pub record BegunNot (told : Bool) (style : Style) (part : Part) (old new : List Slot) (fault : Fault) : Type 0 where
-  pub reaches : Reaches (sizes_wanted style) told (writer_for style) (writer_for style) nothing part old new (Some fault)
+  pub reaches : Reaches (sizes_wanted style) told (writer_for style) (writer_for style) nothing part old new
+      (Some fault)
   pub breaks : Breaks (manner_of style) old new fault
   -- no file was made
   pub none : HasNoFiles (length old) new
@@ -388,7 +401,8 @@ pub record Opened (told : Bool) (style : Style) (operands : List Operand) (old n
   pub asked : cutter.style ≡ style
   pub operands_are : cutter.operands ≡ operands
   pub stands : Stands cutter []
-  pub reaches : Reaches (sizes_wanted style) told (writer_for style) cutter.writer nothing (settled_of style operands []) old new None
+  pub reaches : Reaches (sizes_wanted style) told (writer_for style) cutter.writer nothing
+      (settled_of style operands []) old new None
   pub owns : OwnsFiles cutter.writer (length old) new
   pub ready : IsReady cutter.writer new
   pub output : IsTrue (is_writable old 0) → IsTrue (is_writable new 0)
@@ -402,10 +416,12 @@ Opens told style operands old new (Ok cutter) = Opened told style operands old n
 Opens told style operands old new (Err fault) = BegunNot told style (settled_of style operands []) old new fault
 
 -- The last section ended, or a fault came before that. How the plan ends stays.
-pub record EndsAll (told : Bool) (cutter : CutterState) (old new : List Slot) (next : CutterState) (fault : Option Fault) : Type 0 where
+pub record EndsAll (told : Bool) (cutter : CutterState) (old new : List Slot) (next : CutterState)
+    (fault : Option Fault) : Type 0 where
   pub keeps : Keeps cutter next old new fault
   pub reaches : (x : List ℕ) → Stands cutter x
-      → Reaches (sizes_wanted cutter.style) told cutter.writer next.writer (settled_part cutter x) (whole_part cutter x) old new fault
+      → Reaches (sizes_wanted cutter.style) told cutter.writer next.writer (settled_part cutter x)
+      (whole_part cutter x) old new fault
   pub judged : IfNone fault ((x : List ℕ) → Stands cutter x → IsJudged next x)
 
 -- The files that were there are removed, and those are left whose removal failed.
@@ -422,19 +438,23 @@ pub record Came (cutter : CutterState) (rest piece : List ℕ) (next : CutterSta
   pub size : load next + length after ≤ load cutter + length rest + length piece
 
 -- Their complete lines went to the cutter, or a fault came among them.
-pub record PassesFrom (told : Bool) (cutter : CutterState) (rest piece : List ℕ) (old new : List Slot) (next : CutterState) (after : List ℕ)
+pub record PassesFrom (told : Bool) (cutter : CutterState) (rest piece : List ℕ) (old new : List Slot)
+    (next : CutterState) (after : List ℕ)
     (result : Result (Unit {0}) Fault) : Type 0 where
   pub took : Takes told cutter (whole_lines (rest ++ piece)) old new next (fault_in result)
   pub passed : OnOk result (Came cutter rest piece next after)
 
 abbrev pub Passes : Bool → CsplitState → List ℕ → List Slot → List Slot → CsplitState → Result (Unit {0}) Fault → Type 0
-Passes told stage piece old new next result = PassesFrom told stage.cutter stage.rest piece old new next.cutter next.rest result
+Passes told stage piece old new next result =
+    PassesFrom told stage.cutter stage.rest piece old new next.cutter next.rest result
 
 -- The open line came in, if there was one, and the last section ended; or a fault came before that.
-pub record Closed (told : Bool) (stage : CsplitState) (old new : List Slot) (next : CsplitState) (fault : Option Fault) : Type 0 where
+pub record Closed (told : Bool) (stage : CsplitState) (old new : List Slot) (next : CsplitState)
+    (fault : Option Fault) : Type 0 where
   pub keeps : Keeps stage.cutter next.cutter old new fault
   pub reaches : (x : List ℕ) → IsWhole x → Stands stage.cutter x
-      → Reaches (sizes_wanted stage.cutter.style) told stage.cutter.writer next.cutter.writer (settled_part stage.cutter x) (whole_part stage.cutter (x ++ stage.rest)) old new fault
+      → Reaches (sizes_wanted stage.cutter.style) told stage.cutter.writer next.cutter.writer
+      (settled_part stage.cutter x) (whole_part stage.cutter (x ++ stage.rest)) old new fault
   pub judged : IfNone fault ((x : List ℕ) → IsWhole x → Stands stage.cutter x → IsJudged next.cutter (x ++ stage.rest))
 
 -- what the cutter says of the fault, once the last section ended, is where the plan over all lines ends
@@ -454,7 +474,8 @@ pub record Sweeps (stage : CsplitState) (old new : List Slot) (next : CsplitStat
 pub data Closes (told : Bool) (stage : CsplitState) (old new : List Slot) (next : CsplitState) : Result (Unit {0}) Fault
     → Type 0 where
   ended_well : Closed told stage old new next None → Judges next.cutter None → Closes told stage old new next (Ok tt)
-  ended_short : (fault : Fault) → Closed told stage old new next (Some fault) → Closes told stage old new next (Err fault)
+  ended_short : (fault : Fault) → Closed told stage old new next (Some fault)
+      → Closes told stage old new next (Err fault)
   ended_so : (fault : Fault) (mid : CsplitState) (reached : List Slot) → Closed told stage old reached mid None
       → Judges mid.cutter (Some fault) → is_verdict fault ≡ true → Sweeps mid reached new next
       → Closes told stage old new next (Err fault)

@@ -12,31 +12,41 @@ use Rattle.std.proofs.lemmas.Bool.Decides.{nat_tests}
 use Rattle.bre_core.specs.Pattern.{Pattern}
 use Rattle.csplit_core.specs.Measure.{Moves}
 
-matched_on : (operand : Operand) (lines : List Line) {from : ℕ} (has : Bool) → is_match operand lines from ≡ has → from ≤ length lines
-    → (matched : Option ℕ) → MatchesAs operand lines (suc from) matched → MatchesAs operand lines from (cond has (Some from) matched)
+matched_on : (operand : Operand) (lines : List Line) {from : ℕ} (has : Bool) → is_match operand lines from ≡ has
+    → from ≤ length lines
+    → (matched : Option ℕ) → MatchesAs operand lines (suc from) matched
+    → MatchesAs operand lines from (cond has (Some from) matched)
 matched_on operand lines has is within matched rest = grind (arith, common_steps)
 
-among : (operand : Operand) (front rest : List Line) {from : ℕ} → from ≡ length front + 1 → MatchesAs operand (front ++ rest) from (first_among operand from rest)
+among : (operand : Operand) (front rest : List Line) {from : ℕ} → from ≡ length front + 1
+    → MatchesAs operand (front ++ rest) from (first_among operand from rest)
 among operand front [] is = grind (arith, common_steps)
 among operand front (line ∷ rest) {from} is = matched_on operand (front ++ line ∷ rest) (line.marks operand)
-    (ap (λ n. (get_or (front ++ line ∷ rest) n unmarked).marks operand) (let e : from - 1 ≡ length front = omega (arith, is) in e)
+    (ap (λ n. (get_or (front ++ line ∷ rest) n unmarked).marks operand)
+    (let e : from - 1 ≡ length front = omega (arith, is) in e)
     ∙ ap (λ (l : Line). l.marks operand) (get_or-append_seam front line rest unmarked))
     (let e = length-append front (line ∷ rest) in omega (arith, e, is)) (first_among operand (suc from) rest)
-    (subst (λ those. MatchesAs operand those (suc from) (first_among operand (suc from) rest)) (append_assoc front (line ∷ []) rest)
+    (subst (λ those. MatchesAs operand those (suc from) (first_among operand (suc from) rest))
+    (append_assoc front (line ∷ []) rest)
     (among operand (front ++ line ∷ []) rest (let e = length-append front (line ∷ []) in omega (arith, e, is))))
 
-pub first_match_as : (operand : Operand) (lines : List Line) (from : ℕ) → 1 ≤ from → MatchesAs operand lines from (first_match operand lines from)
+pub first_match_as : (operand : Operand) (lines : List Line) (from : ℕ) → 1 ≤ from
+    → MatchesAs operand lines from (first_match operand lines from)
 first_match_as operand lines from some = elim (cases_lt (length lines) (from - 1)) [
-  | inl beyond ↦ subst (λ those. MatchesAs operand lines from (first_among operand from those)) (sym (drop_all (from - 1) lines (omega (arith, beyond))))
+  | inl beyond ↦ subst (λ those. MatchesAs operand lines from (first_among operand from those))
+      (sym (drop_all (from - 1) lines (omega (arith, beyond))))
       (λ line from_on within. absurd (omega (arith, beyond, from_on, within)))
-  | inr on ↦ subst (λ those. MatchesAs operand those from (first_match operand lines from)) (take-append-drop (from - 1) lines)
-      (among operand (take (from - 1) lines) (drop (from - 1) lines) (let e = length-take-le (from - 1) lines on in omega (arith, e, some)))
+  | inr on ↦ subst (λ those. MatchesAs operand those from (first_match operand lines from))
+      (take-append-drop (from - 1) lines)
+      (among operand (take (from - 1) lines) (drop (from - 1) lines)
+      (let e = length-take-le (from - 1) lines on in omega (arith, e, some)))
 ]
 
 pub search_some : (suppress : Bool) (state : State) → 1 ≤ search_line suppress state
 search_some suppress state = grind (arith, common_steps)
 
-first_is : (suppress : Bool) (operand : Operand) (lines : List Line) (state : State) (matched : Option ℕ) → MatchesAs operand lines (search_line suppress state) matched
+first_is : (suppress : Bool) (operand : Operand) (lines : List Line) (state : State) (matched : Option ℕ)
+    → MatchesAs operand lines (search_line suppress state) matched
     → first_match operand lines (search_line suppress state) ≡ matched
 first_is suppress operand lines state matched is = grind (arith, common_steps, first_match_as, search_some)
 
@@ -56,34 +66,43 @@ from_not_less a b is = grind (arith, nat_tests, is)
 
 -- What a plan says, the computation does
 
-turn_at_cut : (suppress : Bool) (lines : List Line) (state : State) (operand : Operand) (operands : List Operand) (target : Target) (matched cut : ℕ)
+turn_at_cut : (suppress : Bool) (lines : List Line) (state : State) (operand : Operand) (operands : List Operand)
+    (target : Target) (matched cut : ℕ)
     → CutsAt suppress lines state operand target matched cut → turn_to suppress lines state operand operands target
     ≡ turn_at suppress (length lines) state operand operands matched cut
 turn_at_cut suppress lines state operand operands (Number n) matched cut at = grind (arith, common_steps)
 turn_at_cut suppress lines state operand operands (Search pattern kept offset) matched cut at =
-    ap (turn_from suppress (length lines) state operand operands offset) (first_is suppress operand lines state (Some matched) at.0)
+    ap (turn_from suppress (length lines) state operand operands offset)
+    (first_is suppress operand lines state (Some matched) at.0)
     ∙ ap (turn_at suppress (length lines) state operand operands matched) (sym at.1)
 
-turn_missed : (suppress : Bool) (lines : List Line) (state : State) {operand : Operand} (operands : List Operand) (target : Target)
-    → Misses suppress lines state operand target → turn_to suppress lines state operand operands target ≡ ends (missed operand state.repetition)
+turn_missed : (suppress : Bool) (lines : List Line) (state : State) {operand : Operand} (operands : List Operand)
+    (target : Target)
+    → Misses suppress lines state operand target
+    → turn_to suppress lines state operand operands target ≡ ends (missed operand state.repetition)
 turn_missed suppress lines state operands (Number n) none = absurd none
 turn_missed suppress lines state {operand} operands (Search pattern kept offset) none =
     ap (turn_from suppress (length lines) state operand operands offset)
     (first_is suppress operand lines state None none)
 
-fewer_operands : (total : ℕ) (state : State) (operands : List Operand) → needed_by total state operands < length operands * (total + 1) + 1
+fewer_operands : (total : ℕ) (state : State) (operands : List Operand)
+    → needed_by total state operands < length operands * (total + 1) + 1
 fewer_operands total state [] = omega arith
 fewer_operands total state (operand ∷ operands) = grind (arith, common_steps)
 
-pub fewer_left : (total : ℕ) (state next : State) (target : Target) {matched : ℕ} (cut : ℕ) → Moves total state target matched cut → 1 ≤ cut → cut ≤ total
-    → next.repetition ≡ state.repetition + 1 → next.matched ≡ matched → left_of total next target < left_of total state target
+pub fewer_left : (total : ℕ) (state next : State) (target : Target) {matched : ℕ} (cut : ℕ)
+    → Moves total state target matched cut → 1 ≤ cut → cut ≤ total
+    → next.repetition ≡ state.repetition + 1 → next.matched ≡ matched
+    → left_of total next target < left_of total state target
 fewer_left total state next (Number zero) cut at some within again same = grind (arith, common_steps)
 fewer_left total state next (Number (suc n)) cut at some within again same = grind (arith, common_steps)
 fewer_left total state next (Search pattern kept offset) cut at some within again same = omega (arith, at.0, at.1, same)
 
 fewer_by : (total : ℕ) (state : State) (operand : Operand) (operands : List Operand) {matched : ℕ} (cut : ℕ)
-    → Moves total state operand.target matched cut → 1 ≤ cut → cut ≤ total → (more : Bool) (next : State) → next.operands ≡ operands_after more operand operands
-    → next.repetition ≡ repetition_after more state.repetition → next.matched ≡ matched → needed total next < needed_by total state (operand ∷ operands)
+    → Moves total state operand.target matched cut → 1 ≤ cut → cut ≤ total → (more : Bool) (next : State)
+    → next.operands ≡ operands_after more operand operands
+    → next.repetition ≡ repetition_after more state.repetition → next.matched ≡ matched
+    → needed total next < needed_by total state (operand ∷ operands)
 fewer_by total state operand operands cut at some within true next left again same =
     let fewer : left_of total next operand.target < left_of total state operand.target =
     fewer_left total state next operand.target cut at some within again same in
@@ -96,16 +115,20 @@ fewer_by total state operand operands cut at some within false next left again s
     omega (arith, fewer, is)
 
 pub fewer_moves : (suppress : Bool) (total : ℕ) (state : State) {operand : Operand} {operands : List Operand}
-    (matched cut : ℕ) → state.operands ≡ operand ∷ operands → Moves total state operand.target matched cut → 1 ≤ cut → cut ≤ total
+    (matched cut : ℕ) → state.operands ≡ operand ∷ operands → Moves total state operand.target matched cut → 1 ≤ cut
+    → cut ≤ total
     → needed total (state_after suppress operand operands state.repetition matched cut) < needed total state
 fewer_moves suppress total state {operand} {operands} matched cut is at some within =
-    subst (λ those. needed total (state_after suppress operand operands state.repetition matched cut) < needed_by total state those) (sym is)
+    subst (λ those. needed total (state_after suppress operand operands state.repetition matched cut)
+    < needed_by total state those) (sym is)
     (fewer_by total state operand operands cut at some within (has_more operand.times state.repetition)
     (state_after suppress operand operands state.repetition matched cut) refl refl refl)
 
 pub fewer : (suppress : Bool) (lines : List Line) (state : State) {operand : Operand} {operands : List Operand}
-    (matched cut : ℕ) → state.operands ≡ operand ∷ operands → CutsAt suppress lines state operand operand.target matched cut → 1 ≤ cut → cut ≤ length lines
-    → needed (length lines) (state_after suppress operand operands state.repetition matched cut) < needed (length lines) state
+    (matched cut : ℕ) → state.operands ≡ operand ∷ operands
+    → CutsAt suppress lines state operand operand.target matched cut → 1 ≤ cut → cut ≤ length lines
+    → needed (length lines) (state_after suppress operand operands state.repetition matched cut)
+    < needed (length lines) state
 fewer suppress lines state {operand} matched cut is at some within = grind (arith, common_steps, fewer_moves)
 
 pub line_some : (suppress : Bool) (cut : ℕ) → cut ≤ line_after suppress cut
@@ -118,74 +141,97 @@ ends_within : (bound : ℕ) (suppress : Bool) (lines : List Line) (state : State
 ends_within bound suppress lines state is e enough = grind (arith, common_steps)
 
 tested : (suppress : Bool) (total : ℕ) (state : State) (operand : Operand) (operands : List Operand) (matched cut : ℕ)
-    {far low : Bool} → nat_lt total cut ≡ far → nat_lt cut state.current ≡ low → turn_at suppress total state operand operands matched cut
+    {far low : Bool} → nat_lt total cut ≡ far → nat_lt cut state.current ≡ low
+    → turn_at suppress total state operand operands matched cut
     ≡ cond far (ends (above operand state.repetition matched cut)) (cond low (ends (below operand state.repetition))
     (goes (step_of state operand matched cut) (state_after suppress operand operands state.repetition matched cut)))
 tested suppress total state operand operands matched cut {far} is are = grind (arith, common_steps)
 
 -- A plan is the one that is computed
-pub computed : {suppress : Bool} {lines : List Line} {first : State} (all : List Step) (end : State) {how : Ending} → Runs suppress lines first all end how
-    → (bound : ℕ) → needed (length lines) first ≤ bound → 1 ≤ first.current → plan_within bound suppress lines first ≡ so all end how
+pub computed : {suppress : Bool} {lines : List Line} {first : State} (all : List Step) (end : State) {how : Ending}
+    → Runs suppress lines first all end how
+    → (bound : ℕ) → needed (length lines) first ≤ bound → 1 ≤ first.current
+    → plan_within bound suppress lines first ≡ so all end how
 computed all end (is_used_up state none) zero enough some = refl
 computed {suppress} {lines} all end (is_used_up state none) (suc bound) enough some = grind (arith, common_steps)
 computed {suppress} {lines} all end (misses state operand operands is none) bound enough some =
     ends_within bound suppress lines state is (turn_missed suppress lines state operands operand.target none) enough
 computed {suppress} {lines} all end (is_above state operand operands matched cut is at far) bound enough some =
-    ends_within bound suppress lines state is (turn_at_cut suppress lines state operand operands operand.target matched cut at
+    ends_within bound suppress lines state is
+    (turn_at_cut suppress lines state operand operands operand.target matched cut at
     ∙ tested suppress (length lines) state operand operands matched cut (less_test (length lines) cut far) refl) enough
 computed {suppress} {lines} all end (is_below state operand operands matched cut is at within low) bound enough some =
-    ends_within bound suppress lines state is (turn_at_cut suppress lines state operand operands operand.target matched cut at
-    ∙ tested suppress (length lines) state operand operands matched cut (not_less_test (length lines) cut within) (less_test cut state.current low)) enough
-computed {lines} all end (cuts state operand operands matched cut steps last ending is at from within rest) zero enough some = grind (arith, common_steps)
-computed {suppress} {lines} all end (cuts state operand operands matched cut steps last ending is at from within rest) (suc bound) enough some =
+    ends_within bound suppress lines state is
+    (turn_at_cut suppress lines state operand operands operand.target matched cut at
+    ∙ tested suppress (length lines) state operand operands matched cut (not_less_test (length lines) cut within)
+    (less_test cut state.current low)) enough
+computed {lines} all end
+    (cuts state operand operands matched cut steps last ending is at from within rest) zero enough some = grind
+    (arith, common_steps)
+computed {suppress} {lines} all end (cuts state operand operands matched cut steps last ending is at from within rest)
+    (suc bound) enough some =
     (grind (
       arith,
       common_steps,
       is,
       (turn_at_cut suppress lines state operand operands operand.target matched cut at
-          ∙ tested suppress (length lines) state operand operands matched cut (not_less_test (length lines) cut within) (not_less_test cut state.current from)),
+          ∙ tested suppress (length lines) state operand operands matched cut (not_less_test (length lines) cut within)
+          (not_less_test cut state.current from)),
     ))
     ∙ ap (with_step (step_of state operand matched cut)) (computed steps last rest bound
     (let less : needed (length lines) (state_after suppress operand operands state.repetition matched cut) < needed
-    (length lines) state = fewer suppress lines state matched cut is at (omega (arith, some, from)) within in omega (arith, less, enough))
+    (length lines) state = fewer suppress lines state matched cut is at (omega (arith, some, from)) within in omega
+    (arith, less, enough))
     (let least : cut ≤ line_after suppress cut = line_some suppress cut in omega (arith, least, some, from)))
 
 -- an operand is left, and a plan goes on after its cuts
-module _ (bound : ℕ) (suppress : Bool) (lines : List Line) (state : State) {operand : Operand} {operands : List Operand} (is : state.operands ≡ operand ∷ operands)
-    (rest : (matched cut : ℕ) → CutsAt suppress lines state operand operand.target matched cut → state.current ≤ cut → cut ≤ length lines
+module _ (bound : ℕ) (suppress : Bool) (lines : List Line)
+    (state : State) {operand : Operand} {operands : List Operand} (is : state.operands ≡ operand ∷ operands)
+    (rest : (matched cut : ℕ) → CutsAt suppress lines state operand operand.target matched cut → state.current ≤ cut
+    → cut ≤ length lines
     → RunsAs suppress lines (state_after suppress operand operands state.repetition matched cut)
     (plan_within bound suppress lines (state_after suppress operand operands state.repetition matched cut))) where
-  runs_at : (matched cut : ℕ) → CutsAt suppress lines state operand operand.target matched cut → (far low : Bool) → nat_lt (length lines) cut ≡ far
+  runs_at : (matched cut : ℕ) → CutsAt suppress lines state operand operand.target matched cut → (far low : Bool)
+      → nat_lt (length lines) cut ≡ far
       → nat_lt cut state.current ≡ low → RunsAs suppress lines state (after bound suppress lines state
-      (cond far (ends (above operand state.repetition matched cut)) (cond low (ends (below operand state.repetition)) (goes (step_of state operand matched cut)
+      (cond far (ends (above operand state.repetition matched cut))
+      (cond low (ends (below operand state.repetition)) (goes (step_of state operand matched cut)
       (state_after suppress operand operands state.repetition matched cut)))))
-  runs_at matched cut at true low far_is low_is = is_above state operand operands matched cut is at (from_less (length lines) cut far_is)
+  runs_at matched cut at true low far_is low_is = is_above state operand operands matched cut is at
+      (from_less (length lines) cut far_is)
   runs_at matched cut at false true far_is low_is =
-      is_below state operand operands matched cut is at (from_not_less (length lines) cut far_is) (from_less cut state.current low_is)
+      is_below state operand operands matched cut is at (from_not_less (length lines) cut far_is)
+      (from_less cut state.current low_is)
   runs_at matched cut at false false far_is low_is =
       let from : state.current ≤ cut = from_not_less cut state.current low_is in
       let within : cut ≤ length lines = from_not_less (length lines) cut far_is in
       cuts state operand operands matched cut _ _ _ is at from within (rest matched cut at from within)
 
-  runs_matched : {pattern' : Pattern} {kept : Bool} (offset : Offset) → operand.target ≡ Search pattern' kept offset → (matched : Option ℕ)
-      → MatchesAs operand lines (search_line suppress state) matched → RunsAs suppress lines state (after bound suppress lines state
+  runs_matched : {pattern' : Pattern} {kept : Bool} (offset : Offset) → operand.target ≡ Search pattern' kept offset
+      → (matched : Option ℕ)
+      → MatchesAs operand lines (search_line suppress state) matched
+      → RunsAs suppress lines state (after bound suppress lines state
       (turn_from suppress (length lines) state operand operands offset matched))
-  runs_matched offset target None none = misses state operand operands is (subst (Misses suppress lines state operand) (sym target) none)
+  runs_matched offset target None none = misses state operand operands is
+      (subst (Misses suppress lines state operand) (sym target) none)
   runs_matched offset target (Some matched) first = search (rules, runs_at)
 
   runs_target : (target : Target) → operand.target ≡ target
-      → RunsAs suppress lines state (after bound suppress lines state (turn_to suppress lines state operand operands target))
+      → RunsAs suppress lines state
+      (after bound suppress lines state (turn_to suppress lines state operand operands target))
   runs_target (Number n) target = search (rules, runs_at)
   runs_target (Search pattern' kept offset) target = search (rules, runs_matched, first_match_as, search_some)
 
-mutual_runs : (bound : ℕ) (suppress : Bool) (lines : List Line) (state : State) (operands : List Operand) → state.operands ≡ operands
+mutual_runs : (bound : ℕ) (suppress : Bool) (lines : List Line) (state : State) (operands : List Operand)
+    → state.operands ≡ operands
     → ((operand : Operand) (rest : List Operand) → state.operands ≡ operand ∷ rest → (matched cut : ℕ)
     → CutsAt suppress lines state operand operand.target matched cut → state.current ≤ cut → cut ≤ length lines
     → RunsAs suppress lines (state_after suppress operand rest state.repetition matched cut)
     (plan_within bound suppress lines (state_after suppress operand rest state.repetition matched cut)))
     → RunsAs suppress lines state (after bound suppress lines state (turn_of suppress lines state operands))
 mutual_runs bound suppress lines state [] is rest = is_used_up state is
-mutual_runs bound suppress lines state (operand ∷ operands) is rest = runs_target bound suppress lines state is (rest operand operands is) operand.target refl
+mutual_runs bound suppress lines state (operand ∷ operands) is rest = runs_target bound suppress lines state is
+    (rest operand operands is) operand.target refl
 
 none_by : (suppress : Bool) (lines : List Line) (state : State) (operands : List Operand) → state.operands ≡ operands
     → needed_by (length lines) state operands ≤ 0 → RunsAs suppress lines state (ended state used_up)
@@ -206,23 +252,31 @@ runs (suc bound) suppress lines state enough some =
 enough_at_start : (total : ℕ) (operands : List Operand) → needed total (start operands) ≤ length operands * (total + 1)
 enough_at_start total operands = let less = fewer_operands total (start operands) operands in omega (arith, less)
 
-pub plan_runs : (suppress : Bool) (operands : List Operand) (lines : List Line) → RunsAs suppress lines (start operands) (plan suppress operands lines)
+pub plan_runs : (suppress : Bool) (operands : List Operand) (lines : List Line)
+    → RunsAs suppress lines (start operands) (plan suppress operands lines)
 plan_runs suppress operands lines = search (rules, runs, enough_at_start)
 
 pub plan_once : (suppress : Bool) (operands : List Operand) (lines : List Line) (steps : List Step) (last : State)
-    (ending : Ending) → Runs suppress lines (start operands) steps last ending → plan suppress operands lines ≡ so steps last ending
+    (ending : Ending) → Runs suppress lines (start operands) steps last ending
+    → plan suppress operands lines ≡ so steps last ending
 plan_once suppress operands lines steps last ending is = grind (arith, common_steps, computed, enough_at_start)
 
 -- What was cut off stays so
 
 pub cuts_still : (suppress : Bool) (a b : List Line) (state : State) (operand : Operand) (target : Target)
-    (matched cut : ℕ) → CutsAt suppress a state operand target matched cut → CutsAt suppress (a ++ b) state operand target matched cut
+    (matched cut : ℕ) → CutsAt suppress a state operand target matched cut
+    → CutsAt suppress (a ++ b) state operand target matched cut
 cuts_still suppress a b state operand target matched cut at = grind (arith, common_steps)
 
-pub goes_on : {suppress : Bool} {a : List Line} (b : List Line) {first : State} {steps : List Step} {last : State} {ending : Ending}
-    (more : List Step) (end : State) {how : Ending} → Runs suppress a first steps last ending → Runs suppress (a ++ b) last more end how
+pub goes_on : {suppress : Bool} {a : List Line}
+    (b : List Line) {first : State} {steps : List Step} {last : State} {ending : Ending}
+    (more : List Step) (end : State) {how : Ending} → Runs suppress a first steps last ending
+    → Runs suppress (a ++ b) last more end how
     → Runs suppress (a ++ b) first (steps ++ more) end how
-goes_on {suppress} {a} b more end {how} (cuts state operand operands matched cut steps' last' ending' is at from within rest') rest =
-    cuts state operand operands matched cut (steps' ++ more) end how is (cuts_still suppress a b state operand operand.target matched cut at) from
-    (let e : length (a ++ b) ≡ length a + length b = length-append a b in omega (arith, e, within)) (goes_on b more end rest' rest)
+goes_on {suppress} {a} b more end {how}
+    (cuts state operand operands matched cut steps' last' ending' is at from within rest') rest =
+    cuts state operand operands matched cut (steps' ++ more) end how is
+    (cuts_still suppress a b state operand operand.target matched cut at) from
+    (let e : length (a ++ b) ≡ length a + length b = length-append a b in omega (arith, e, within))
+    (goes_on b more end rest' rest)
 goes_on b more end run rest = rest

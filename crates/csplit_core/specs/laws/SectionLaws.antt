@@ -22,10 +22,12 @@ pub take_begins : {X : Type 0} (n m : ℕ) (xs : List X) → n ≤ m → (rest :
 take_begins zero m xs less = (take m xs, refl)
 take_begins (suc n) zero xs less = absurd (omega arith)
 take_begins (suc n) (suc m) [] less = ([], refl)
-take_begins (suc n) (suc m) (x ∷ xs) less = let rest = take_begins n m xs (omega arith) in (rest.0, ap (λ those. x ∷ those) rest.1)
+take_begins (suc n) (suc m) (x ∷ xs) less = let rest = take_begins n m xs (omega arith) in
+    (rest.0, ap (λ those. x ∷ those) rest.1)
 
 -- more lines change nothing before them
-pub between_still : (first past : ℕ) (a b : List Line) → 1 ≤ first → past ≤ length a + 1 → lines_between first past (a ++ b) ≡ lines_between first past a
+pub between_still : (first past : ℕ) (a b : List Line) → 1 ≤ first → past ≤ length a + 1
+    → lines_between first past (a ++ b) ≡ lines_between first past a
 between_still first past a b some within = grind (arith, common_steps)
 
 -- and what is taken further begins with it
@@ -44,28 +46,39 @@ pub ends_as : (suppress : Bool) (lines : List Line) (first : State) (steps : Lis
     → Runs suppress lines first steps last ending → EndsAs suppress lines last ending
 ends_as suppress lines first steps last ending (is_used_up state none) = none
 ends_as suppress lines first steps last ending (misses state operand operands is none) = (operands, is, none, refl)
-ends_as suppress lines first steps last ending (is_above state operand operands matched cut is at far) = (operands, is, at, far, refl)
-ends_as suppress lines first steps last ending (is_below state operand operands matched cut is at within low) = grind (arith, common_steps)
-ends_as suppress lines first steps last ending (cuts state operand operands matched cut steps' last' ending' is at from within rest) =
-    ends_as suppress lines (state_after suppress operand operands state.repetition matched cut) steps' last' ending' rest
+ends_as suppress lines first steps last ending (is_above state operand operands matched cut is at far) =
+    (operands, is, at, far, refl)
+ends_as suppress lines first steps last ending (is_below state operand operands matched cut is at within low) = grind
+    (arith, common_steps)
+ends_as suppress lines first steps last ending
+    (cuts state operand operands matched cut steps' last' ending' is at from within rest) =
+    ends_as suppress lines
+    (state_after suppress operand operands state.repetition matched cut) steps' last' ending' rest
 
 pub are_within : (suppress : Bool) (lines : List Line) (first : State) (steps : List Step) (last : State)
-    (ending : Ending) → Runs suppress lines first steps last ending → 1 ≤ first.current → AreWithin (length lines) steps × (1 ≤ last.current)
-are_within suppress lines first steps last ending (cuts state operand operands matched cut steps' last' ending' is at from within rest) some =
+    (ending : Ending) → Runs suppress lines first steps last ending → 1 ≤ first.current
+    → AreWithin (length lines) steps × (1 ≤ last.current)
+are_within suppress lines first steps last ending
+    (cuts state operand operands matched cut steps' last' ending' is at from within rest) some =
     let least : cut ≤ line_after suppress cut = line_some suppress cut in
     let those = are_within suppress lines (state_after suppress operand operands state.repetition matched cut) steps'
     last' ending' rest (omega (arith, least, some, from)) in
     ((some, from, within, those.0), those.1)
 are_within suppress lines first steps last ending run some = (tt, some)
 
-pub closed_still : (a b : List Line) (steps : List Step) → AreWithin (length a) steps → map (section_of (a ++ b)) steps ≡ map (section_of a) steps
+pub closed_still : (a b : List Line) (steps : List Step) → AreWithin (length a) steps
+    → map (section_of (a ++ b)) steps ≡ map (section_of a) steps
 closed_still a b [] within = refl
 closed_still a b (step ∷ steps) within =
-    ap (λ lines. section (is_kept step.operand.target) true lines ∷ map (section_of (a ++ b)) steps) (between_still step.current step.cut a b within.0
-    (let less : step.cut ≤ length a = within.2 in omega (arith, less))) ∙ ap (λ those. section_of a step ∷ those) (closed_still a b steps within.3)
+    ap (λ lines. section (is_kept step.operand.target) true lines ∷ map (section_of (a ++ b)) steps)
+    (between_still step.current step.cut a b within.0
+    (let less : step.cut ≤ length a = within.2 in omega (arith, less))) ∙ ap (λ those. section_of a step ∷ those)
+    (closed_still a b steps within.3)
 
-next_by : (a b : List Line) (current past more : ℕ) {kept : Bool} (closed : Bool) {other_kept : Bool} {rest : List Section} → 1 ≤ current
-    → past ≤ length a + 1 → (past ≤ more) ⊎ (past ≤ current) → kept ≡ other_kept → Next (section kept false (lines_between current past a))
+next_by : (a b : List Line) (current past more : ℕ) {kept : Bool}
+    (closed : Bool) {other_kept : Bool} {rest : List Section} → 1 ≤ current
+    → past ≤ length a + 1 → (past ≤ more) ⊎ (past ≤ current) → kept ≡ other_kept
+    → Next (section kept false (lines_between current past a))
     (section other_kept closed (lines_between current more (a ++ b)) ∷ rest)
 next_by a b current past more {kept} closed {other_kept} {rest} some within less same =
     let grown = between_grows current past more a b some within less in
@@ -79,7 +92,8 @@ next_by a b current past more {kept} closed {other_kept} {rest} some within less
     }
 
 -- what is settled stands before what the next operand does where more lines follow
-pub cuts_from : (suppress : Bool) (a b : List Line) (state : State) (ending : Ending) {operands : List Operand} → EndsAs suppress a state ending → state.operands ≡ operands
+pub cuts_from : (suppress : Bool) (a b : List Line) (state : State) (ending : Ending) {operands : List Operand}
+    → EndsAs suppress a state ending → state.operands ≡ operands
     → CutsFrom suppress (a ++ b) state (settled_end (length a) ending) (is_last_kept ending) operands
 cuts_from suppress a b state ending ends are = grind (arith, common_steps)
 
@@ -91,76 +105,107 @@ next_of : {suppress : Bool} (closed : Bool) (end_of : ℕ → Ending → ℕ) �
     → (more : List Step) (end : State) {how : Ending} → Runs suppress (a ++ b) last more end how
     → Next (section (is_last_kept ending) false (lines_between last.current (settled_end (length a) ending) a))
     (sections_by closed end_of (a ++ b) (record { steps = more; last = end; ending = how }))
-next_of {suppress} closed end_of covers a b ending some ends more end (is_used_up state none) = grind (arith, common_steps, next_by, settled_most, cuts_from)
-next_of {suppress} closed end_of covers a b ending some ends more end (misses state operand operands are none) = grind (arith, common_steps, cuts_from, next_by, settled_most)
-next_of {suppress} closed end_of covers a b ending some ends more end (is_above state operand operands matched cut are at far) =
+next_of {suppress} closed end_of covers a b ending some ends more end (is_used_up state none) = grind
+    (arith, common_steps, next_by, settled_most, cuts_from)
+next_of {suppress} closed end_of covers a b ending some ends more end (misses state operand operands are none) = grind
+    (arith, common_steps, cuts_from, next_by, settled_most)
+next_of {suppress} closed end_of covers a b ending some ends more end
+    (is_above state operand operands matched cut are at far) =
     let most : suc (length (a ++ b)) ≤ end_of (length (a ++ b)) (above operand state.repetition matched cut) =
     covers (length (a ++ b)) (above operand state.repetition matched cut) in
-    next_by a b state.current (settled_end (length a) ending) (end_of (length (a ++ b)) (above operand state.repetition matched cut)) closed some
-    (settled_most (length a) ending) (inl (omega (arith, most, settled_most (length a) ending, length-append a b))) (let so = cuts_from suppress a b state ending ends are in so.0)
-next_of {suppress} closed end_of covers a b ending some ends more end (is_below state operand operands matched cut are at in_lines low) =
+    next_by a b state.current (settled_end (length a) ending)
+    (end_of (length (a ++ b)) (above operand state.repetition matched cut)) closed some
+    (settled_most (length a) ending) (inl (omega (arith, most, settled_most (length a) ending, length-append a b)))
+    (let so = cuts_from suppress a b state ending ends are in so.0)
+next_of {suppress} closed end_of covers a b ending some ends more end
+    (is_below state operand operands matched cut are at in_lines low) =
     let so = cuts_from suppress a b state ending ends are in
-    next_by a b state.current (settled_end (length a) ending) (end_of (length (a ++ b)) (below operand state.repetition)) closed some
+    next_by a b state.current (settled_end (length a) ending)
+    (end_of (length (a ++ b)) (below operand state.repetition)) closed some
     (settled_most (length a) ending) (inr (let past = so.1 matched cut at in omega (arith, past, low))) so.0
-next_of {suppress} closed end_of covers a b ending some ends more end (cuts state operand operands matched cut steps' last' ending' are at from in_lines rest) =
+next_of {suppress} closed end_of covers a b ending some ends more end
+    (cuts state operand operands matched cut steps' last' ending' are at from in_lines rest) =
     let so = cuts_from suppress a b state ending ends are in
-    next_by a b state.current (settled_end (length a) ending) cut true some (settled_most (length a) ending) (inl (so.1 matched cut at)) so.0
+    next_by a b state.current (settled_end (length a) ending) cut true some (settled_most (length a) ending)
+    (inl (so.1 matched cut at)) so.0
 
 sections_grow : {suppress : Bool} (closed : Bool) (end_of : ℕ → Ending → ℕ) → Covers end_of
-    → {a : List Line} (b : List Line) {first : State} {steps : List Step} {last : State} {ending : Ending} (more : List Step)
-    (end : State) {how : Ending} → 1 ≤ first.current → Runs suppress a first steps last ending → Runs suppress (a ++ b) last more end how
+    → {a : List Line} (b : List Line) {first : State} {steps : List Step} {last : State} {ending : Ending}
+    (more : List Step)
+    (end : State) {how : Ending} → 1 ≤ first.current → Runs suppress a first steps last ending
+    → Runs suppress (a ++ b) last more end how
     → Grow (settled_sections a (record { steps = steps; last = last; ending = ending }))
     (sections_by closed end_of (a ++ b) (record { steps = steps ++ more; last = end; ending = how }))
-sections_grow {suppress} closed end_of covers {a} b {first} {steps} {last} {ending} more end {how} some runs_a rest = grind (arith, common_steps, are_within, map-append, closed_still, next_of, ends_as)
+sections_grow {suppress} closed end_of covers {a} b {first} {steps} {last} {ending} more end {how} some runs_a rest =
+    grind (arith, common_steps, are_within, map-append, closed_still, next_of, ends_as)
 
 pub plan_goes_on : {suppress : Bool} (operands : List Operand) (a b : List Line) → GoesOn suppress operands a b
 plan_goes_on {suppress} operands a b =
     let here = plan_runs suppress operands a in
     let within = are_within suppress a (start operands) (plan suppress operands a).steps (plan suppress operands a).last
     (plan suppress operands a).ending here (omega arith) in
-    let rest = runs (needed (length (a ++ b)) (plan suppress operands a).last) suppress (a ++ b) (plan suppress operands a).last (omega arith) within.1 in
+    let rest = runs (needed (length (a ++ b)) (plan suppress operands a).last) suppress (a ++ b)
+    (plan suppress operands a).last (omega arith) within.1 in
     record {
-      more = (plan_within (needed (length (a ++ b)) (plan suppress operands a).last) suppress (a ++ b) (plan suppress operands a).last).steps;
-      end = (plan_within (needed (length (a ++ b)) (plan suppress operands a).last) suppress (a ++ b) (plan suppress operands a).last).last;
-      how = (plan_within (needed (length (a ++ b)) (plan suppress operands a).last) suppress (a ++ b) (plan suppress operands a).last).ending;
+      more = (plan_within (needed (length (a ++ b)) (plan suppress operands a).last) suppress (a ++ b)
+          (plan suppress operands a).last).steps;
+      end = (plan_within (needed (length (a ++ b)) (plan suppress operands a).last) suppress (a ++ b)
+          (plan suppress operands a).last).last;
+      how = (plan_within (needed (length (a ++ b)) (plan suppress operands a).last) suppress (a ++ b)
+          (plan suppress operands a).last).ending;
       rest = rest;
       is = plan_once suppress operands (a ++ b) _ _ _ (goes_on b _ _ here rest);
     }
 
-pub plan_grows : (suppress closed : Bool) (end_of : ℕ → Ending → ℕ) → Covers end_of → (operands : List Operand) (a b : List Line)
-    → Grow (settled_sections a (plan suppress operands a)) (sections_by closed end_of (a ++ b) (plan suppress operands (a ++ b)))
+pub plan_grows : (suppress closed : Bool) (end_of : ℕ → Ending → ℕ) → Covers end_of
+    → (operands : List Operand) (a b : List Line)
+    → Grow (settled_sections a (plan suppress operands a))
+    (sections_by closed end_of (a ++ b) (plan suppress operands (a ++ b)))
 plan_grows suppress closed end_of covers operands a b =
     let goes = plan_goes_on operands a b in
-    subst (λ p. Grow (settled_sections a (plan suppress operands a)) (sections_by closed end_of (a ++ b) p)) (sym goes.is)
+    subst (λ p. Grow (settled_sections a (plan suppress operands a)) (sections_by closed end_of (a ++ b) p))
+    (sym goes.is)
     (sections_grow closed end_of covers b goes.more goes.end (omega arith) (plan_runs suppress operands a) goes.rest)
 
 -- What is put out grows with them
 
 bytes-append : (a b : List Line) → bytes_of (a ++ b) ≡ bytes_of a ++ bytes_of b
 bytes-append [] b = refl
-bytes-append (line ∷ a) b = ap (λ those. line.text ++ those) (bytes-append a b) ∙ sym (append_assoc line.text (bytes_of a) (bytes_of b))
+bytes-append (line ∷ a) b = ap (λ those. line.text ++ those) (bytes-append a b) ∙ sym
+    (append_assoc line.text (bytes_of a) (bytes_of b))
 
-pub shares-append : (style : Style) (a b : List Section) → shares_in style (a ++ b) ≡ shares_in style a ++ shares_in style b
+pub shares-append : (style : Style) (a b : List Section)
+    → shares_in style (a ++ b) ≡ shares_in style a ++ shares_in style b
 shares-append style a b = flat_map-append (λ section. map (share (state_in section)) (file_in style section)) a b
 
 -- what is written of sections whose last one goes on, and may end
 pub section_grows : (style : Style) (front : List Section) (begun other : Section) (more : List Section)
-    → begun.is_closed ≡ false → begun.is_kept ≡ other.is_kept → (rest : List ℕ) → bytes_of other.lines ≡ bytes_of begun.lines ++ rest
+    → begun.is_closed ≡ false → begun.is_kept ≡ other.is_kept → (rest : List ℕ)
+    → bytes_of other.lines ≡ bytes_of begun.lines ++ rest
     → Begins (part_of style (front ++ begun ∷ [])) (part_of style (front ++ other ∷ more))
 section_grows style front begun other more is_open kept rest bytes =
-    subst (λ those. Begins (part_by (manner_of style) those) (part_of style (front ++ other ∷ more))) (sym (shares-append style front (begun ∷ []) ∙ ap (λ those. shares_in style front ++ those) last))
-    (subst (λ those. Begins (part_by (manner_of style) (shares_in style front ++ map (share Open) (file_in style begun))) (part_by (manner_of style) those)) (sym (shares-append style front (other ∷ more)))
-    (part_grows (manner_of style) (shares_in style front) (file_in style begun) _ (shares_wider _ _ (shares_in style more)
-    (subst (λ k. SharesBegin (map (share Open) (made_of (opening_of style k) (bytes_of begun.lines))) (map (share (state_in other)) (file_in style other))) (sym kept)
-    (made_begin (opening_of style other.is_kept) (state_in other) (bytes_of begun.lines) (bytes_of other.lines) (rest, bytes)))))) where
+    subst (λ those. Begins (part_by (manner_of style) those) (part_of style (front ++ other ∷ more)))
+    (sym (shares-append style front (begun ∷ []) ∙ ap (λ those. shares_in style front ++ those) last))
+    (subst (λ those.
+    Begins (part_by (manner_of style) (shares_in style front ++ map (share Open) (file_in style begun)))
+    (part_by (manner_of style) those)) (sym (shares-append style front (other ∷ more)))
+    (part_grows (manner_of style) (shares_in style front) (file_in style begun) _
+    (shares_wider _ _ (shares_in style more)
+    (subst (λ k. SharesBegin (map (share Open) (made_of (opening_of style k) (bytes_of begun.lines)))
+    (map (share (state_in other)) (file_in style other))) (sym kept)
+    (made_begin (opening_of style other.is_kept) (state_in other) (bytes_of begun.lines) (bytes_of other.lines)
+    (rest, bytes)))))) where
       last : shares_in style (begun ∷ []) ≡ map (share Open) (file_in style begun)
       last = append-nil _ ∙ ap (λ closed. map (share (cond closed Closed Open)) (file_in style begun)) is_open
 
-pub parts_grow : (style : Style) {low high : List Section} → Grow low high → Begins (part_of style low) (part_of style high)
+pub parts_grow : (style : Style) {low high : List Section} → Grow low high
+    → Begins (part_of style low) (part_of style high)
 parts_grow style {high} grow =
     subst (λ those. Begins (part_of style those) (part_of style high)) (sym grow.low_is)
-    (subst (λ those. Begins (part_of style (grow.front ++ grow.begun ∷ [])) (part_of style those)) (sym (grow.high_is ∙ ap (λ those. grow.front ++ those) grow.next.are))
-    (section_grows style grow.front grow.begun grow.next.other grow.next.more grow.is_open grow.next.kept (bytes_of grow.next.rest)
+    (subst (λ those. Begins (part_of style (grow.front ++ grow.begun ∷ [])) (part_of style those))
+    (sym (grow.high_is ∙ ap (λ those. grow.front ++ those) grow.next.are))
+    (section_grows style grow.front grow.begun grow.next.other grow.next.more grow.is_open grow.next.kept
+    (bytes_of grow.next.rest)
     (ap bytes_of grow.next.lines ∙ bytes-append grow.begun.lines grow.next.rest)))
 
 pub settled_covers : Covers settled_end
@@ -170,8 +215,10 @@ pub whole_covers : Covers whole_end
 whole_covers total ending = grind (arith, common_steps)
 
 -- The two laws of what is settled: it only grows, and what is put out in the end begins with it.
-pub grows : (style : Style) (operands : List Operand) (a b : List Line) → Begins (settled_of style operands a) (settled_of style operands (a ++ b))
+pub grows : (style : Style) (operands : List Operand) (a b : List Line)
+    → Begins (settled_of style operands a) (settled_of style operands (a ++ b))
 grows style operands a b = parts_grow style (plan_grows style.suppress false settled_end settled_covers operands a b)
 
-pub ends_with : (style : Style) (operands : List Operand) (a b : List Line) → Begins (settled_of style operands a) (whole_of style operands (a ++ b))
+pub ends_with : (style : Style) (operands : List Operand) (a b : List Line)
+    → Begins (settled_of style operands a) (whole_of style operands (a ++ b))
 ends_with style operands a b = parts_grow style (plan_grows style.suppress true whole_end whole_covers operands a b)

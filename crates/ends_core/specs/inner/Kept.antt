@@ -27,7 +27,8 @@ pub data Stops (told lacks : Bool) (bytes : List ℕ) (old new : List Slot) : Fa
   no_room : lacks ≡ true → new ≡ with_written 0 (told_of told bytes) old → Stops told lacks bytes old new fault.Memory
 
 -- the bytes were written, or that stopped
-pub record Writes (told lacks : Bool) (bytes : List ℕ) (old new : List Slot) (result : Result (Unit {0}) Fault) : Type 0 where
+pub record Writes (told lacks : Bool) (bytes : List ℕ) (old new : List Slot)
+    (result : Result (Unit {0}) Fault) : Type 0 where
   pub out : OnOk result (new ≡ with_written 0 (told_of told bytes) old)
   pub cut : IfErr result (Stops told lacks bytes old new)
 

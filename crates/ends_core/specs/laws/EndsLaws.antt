@@ -11,7 +11,8 @@ use Rattle.seg_core.specs.declared.unit.Unit.{Unit as Counted}
 use Rattle.seg_core.specs.declared.unit.Unit.TheVariants.{Lines, Bytes}
 use Rattle.ends_core.specs.Ends.{measure, first_of, after_of, last_of, but_last_of}
 
-pub measure-append : (delim : ℕ) (unit : Counted) (x y : List ℕ) → measure delim unit (x ++ y) ≡ measure delim unit x + measure delim unit y
+pub measure-append : (delim : ℕ) (unit : Counted) (x y : List ℕ)
+    → measure delim unit (x ++ y) ≡ measure delim unit x + measure delim unit y
 measure-append delim Lines x y = delimiters-append delim x y
 measure-append delim Bytes x y = length-append x y
 
@@ -34,16 +35,19 @@ first_of-zero delim Lines x = cc
 first_of-zero delim Bytes x = refl
 
 -- a text with fewer than n complete lines or bytes is its own first n, and so is that text with one byte more
-pub first_of-short : (delim : ℕ) (unit : Counted) (n : ℕ) {x : List ℕ} → measure delim unit x < n → first_of delim unit n x ≡ x
+pub first_of-short : (delim : ℕ) (unit : Counted) (n : ℕ) {x : List ℕ} → measure delim unit x < n
+    → first_of delim unit n x ≡ x
 first_of-short delim Lines n {x} short = first_lines-short delim n x short
 first_of-short delim Bytes n {x} short = take_all n x (omega arith)
 
 -- once there are n, what follows adds nothing
-pub first_of-full : (delim : ℕ) (unit : Counted) (n : ℕ) (x y : List ℕ) → n ≤ measure delim unit x → first_of delim unit n (x ++ y) ≡ first_of delim unit n x
+pub first_of-full : (delim : ℕ) (unit : Counted) (n : ℕ) (x y : List ℕ) → n ≤ measure delim unit x
+    → first_of delim unit n (x ++ y) ≡ first_of delim unit n x
 first_of-full delim unit n x y full = grind (arith, common_steps, first_of-append, first_of-zero, append-nil)
 
 -- the first of a text and what stands after them are the text
-pub first_then_after : (delim : ℕ) (unit : Counted) (n : ℕ) (x : List ℕ) → first_of delim unit n x ++ after_of delim unit n x ≡ x
+pub first_then_after : (delim : ℕ) (unit : Counted) (n : ℕ) (x : List ℕ)
+    → first_of delim unit n x ++ after_of delim unit n x ≡ x
 first_then_after delim Lines n x = first_lines_then_rest delim n x
 first_then_after delim Bytes n x = take-append-drop n x
 
@@ -52,9 +56,11 @@ pub after_of-append : (delim : ℕ) (unit : Counted) (n : ℕ) (x y : List ℕ)
     → after_of delim unit n (x ++ y) ≡ after_of delim unit n x ++ after_of delim unit (n - measure delim unit x) y
 after_of-append delim unit n x y =
     append_cancel_left (first_of delim unit n x ++ first_of delim unit (n - measure delim unit x) y) _ _
-    (ap (λ front. front ++ after_of delim unit n (x ++ y)) (sym (first_of-append delim unit n x y)) ∙ first_then_after delim unit n (x ++ y)
+    (ap (λ front. front ++ after_of delim unit n (x ++ y))
+    (sym (first_of-append delim unit n x y)) ∙ first_then_after delim unit n (x ++ y)
     ∙ ap (λ z. z ++ y) (sym (first_then_after delim unit n x))
-    ∙ ap (λ z. (first_of delim unit n x ++ after_of delim unit n x) ++ z) (sym (first_then_after delim unit (n - measure delim unit x) y))
+    ∙ ap (λ z. (first_of delim unit n x ++ after_of delim unit n x) ++ z)
+    (sym (first_then_after delim unit (n - measure delim unit x) y))
     ∙ swapped) where
       -- one of them is empty
       swapped : (first_of delim unit n x ++ after_of delim unit n x)
@@ -64,19 +70,23 @@ after_of-append delim unit n x y =
       swapped = elim (cases_lt (measure delim unit x) n) [
         | inl short ↦
             let none : after_of delim unit n x ≡ [] = append_cancel_left x _ _
-            (ap (λ z. z ++ after_of delim unit n x) (sym (first_of-short delim unit n short)) ∙ first_then_after delim unit n x ∙ sym (append-nil x)) in
+            (ap (λ z. z ++ after_of delim unit n x)
+            (sym (first_of-short delim unit n short)) ∙ first_then_after delim unit n x ∙ sym (append-nil x)) in
             simp (none, append-nil, append_assoc)
         | inr full ↦
-            let none : first_of delim unit (n - measure delim unit x) y ≡ [] = ap (λ k. first_of delim unit k y) (omega arith) ∙ first_of-zero delim unit y in
+            let none : first_of delim unit (n - measure delim unit x) y
+            ≡ [] = ap (λ k. first_of delim unit k y) (omega arith) ∙ first_of-zero delim unit y in
             simp (none, append-nil, append_assoc)
       ]
 
 -- what stands before the last of a text, and these, are the text
-pub ends_together : (delim : ℕ) (unit : Counted) (n : ℕ) (x : List ℕ) → but_last_of delim unit n x ++ last_of delim unit n x ≡ x
+pub ends_together : (delim : ℕ) (unit : Counted) (n : ℕ) (x : List ℕ)
+    → but_last_of delim unit n x ++ last_of delim unit n x ≡ x
 ends_together delim Lines n x = first_then_after delim Lines (line_count delim x - n) x
 ends_together delim Bytes n x = grind (arith, common_steps)
 
-last_bytes-append : (n : ℕ) (x y : List ℕ) → drop (length (x ++ y) - n) (x ++ y) ≡ drop (length (drop (length x - n) x ++ y) - n) (drop (length x - n) x ++ y)
+last_bytes-append : (n : ℕ) (x y : List ℕ)
+    → drop (length (x ++ y) - n) (x ++ y) ≡ drop (length (drop (length x - n) x ++ y) - n) (drop (length x - n) x ++ y)
 last_bytes-append n x y =
     let k = length x - n in
     let within : k ≤ length x = omega arith in
@@ -84,20 +94,26 @@ last_bytes-append n x y =
     let here : drop k (x ++ y) ≡ drop k x ++ y = drop-append-le k x y within in
     let short : length (drop k x ++ y) ≡ length (x ++ y) - k = ap length (sym here) ∙ length-drop k (x ++ y) in
     let both : k + (length (drop k x ++ y) - n) ≡ length (x ++ y) - n = omega arith in
-    sym (ap (drop (length (drop k x ++ y) - n)) (sym here) ∙ drop-drop (length (drop k x ++ y) - n) k (x ++ y) ∙ ap (λ m. drop m (x ++ y)) both)
+    sym (ap (drop (length (drop k x ++ y) - n)) (sym here) ∙ drop-drop (length (drop k x ++ y) - n) k (x ++ y) ∙ ap
+    (λ m. drop m (x ++ y)) both)
 
 -- the last of a text that goes on are among its last and what follows: nothing else need be kept
-pub last_of-append : (delim : ℕ) (unit : Counted) (n : ℕ) (x y : List ℕ) → last_of delim unit n (x ++ y) ≡ last_of delim unit n (last_of delim unit n x ++ y)
+pub last_of-append : (delim : ℕ) (unit : Counted) (n : ℕ) (x y : List ℕ)
+    → last_of delim unit n (x ++ y) ≡ last_of delim unit n (last_of delim unit n x ++ y)
 last_of-append delim Lines n x y = last_lines-append delim n x y
 last_of-append delim Bytes n x y = last_bytes-append n x y
 
 -- what stands before the last of a text stays there, and some of what was among the last joins it
-pub but_last_of-append : (delim : ℕ) (unit : Counted) (n : ℕ) (x y : List ℕ) → but_last_of delim unit n (x ++ y) ≡ but_last_of delim unit n x
+pub but_last_of-append : (delim : ℕ) (unit : Counted) (n : ℕ) (x y : List ℕ)
+    → but_last_of delim unit n (x ++ y) ≡ but_last_of delim unit n x
     ++ but_last_of delim unit n (last_of delim unit n x ++ y)
 but_last_of-append delim unit n x y =
     let z = last_of delim unit n x ++ y in
-    append_cancel_right (but_last_of delim unit n (x ++ y)) (but_last_of delim unit n x ++ but_last_of delim unit n z) (last_of delim unit n z)
-    (ap (λ last. but_last_of delim unit n (x ++ y) ++ last) (sym (last_of-append delim unit n x y)) ∙ ends_together delim unit n (x ++ y)
-    ∙ ap (λ w. w ++ y) (sym (ends_together delim unit n x)) ∙ append_assoc (but_last_of delim unit n x) (last_of delim unit n x) y
+    append_cancel_right (but_last_of delim unit n (x ++ y)) (but_last_of delim unit n x ++ but_last_of delim unit n z)
+    (last_of delim unit n z)
+    (ap (λ last. but_last_of delim unit n (x ++ y) ++ last)
+    (sym (last_of-append delim unit n x y)) ∙ ends_together delim unit n (x ++ y)
+    ∙ ap (λ w. w ++ y) (sym (ends_together delim unit n x)) ∙ append_assoc (but_last_of delim unit n x)
+    (last_of delim unit n x) y
     ∙ ap (λ w. but_last_of delim unit n x ++ w) (sym (ends_together delim unit n z))
     ∙ sym (append_assoc (but_last_of delim unit n x) (but_last_of delim unit n z) (last_of delim unit n z)))

@@ -191,7 +191,8 @@ pub record Copies (told_in told : Bool) (snapshot : Snapshot) (from : ℕ) (plac
     (after : PrinterState) (slots_new : List Slot) (stop : Option Stop) : Type 0 where
   pub at : ℕ
   pub ends : let opened = watched_at watched place in let contents = open_contents snapshot opened in
-      Ends told_in (WereFound Nothing (FromThere opened.opened from) snapshot opened.name (unread opened.opened at) stop)
+      Ends told_in
+      (WereFound Nothing (FromThere opened.opened from) snapshot opened.name (unread opened.opened at) stop)
       told false printer name (gives (drop from contents) ∷ [])
       (all_but (length contents - at) (gives (drop from contents) ∷ [])) slots after slots_new stop
   pub keeps : Keeps place watched watched_new (unread (watched_at watched place).opened at) stop
@@ -201,12 +202,14 @@ abbrev pub Anywhere : Option ℕ → ℕ → Type 0
 Anywhere file from = Unit {0}
 
 -- The part of the open file that the first look writes was written. It was sought first.
-pub record Starts (told_in told seeks : Bool) (snapshot : Snapshot) (start : List ℕ → List ℕ) (place : ℕ) (name : List ℕ)
+pub record Starts (told_in told seeks : Bool) (snapshot : Snapshot) (start : List ℕ → List ℕ) (place : ℕ)
+    (name : List ℕ)
     (watched : List Watched) (printer : PrinterState) (slots : List Slot) (watched_new : List Watched)
     (after : PrinterState) (slots_new : List Slot) (stop : Option Stop) : Type 0 where
   pub fate : Fate
   pub ends : let due = gives (start (held_at snapshot (watched_at watched place).opened)) ∷ [] in
-      Ends told_in (WereFound Nothing Anywhere snapshot (watched_at watched place).name fate stop) told false printer name due
+      Ends told_in
+      (WereFound Nothing Anywhere snapshot (watched_at watched place).name fate stop) told false printer name due
       (led_before snapshot fate due) slots after slots_new stop
   pub keeps : Keeps place watched watched_new fate stop
   pub met : IfBroke stop ((by_name : Bool) → can_meet true by_name seeks fate ≡ true)
@@ -235,8 +238,10 @@ pub record Adds (told_in told : Bool) (snapshot : Snapshot) (place : ℕ) (name 
   pub ends : let opened = (watched_at watched place).opened in (last : Entry)
       → (told_in ≡ true → StandsAt last opened position) → let due = events_later last (entries_open snapshot opened) in
       let known = (watched_at watched place).name in
-      Ends told_in (WereFound (ToldShort snapshot known opened position) (FromEither opened position) snapshot known fate
-      (stop_in result)) told false printer name due (came_before snapshot fate due) slots after slots_new (stop_in result)
+      Ends told_in
+      (WereFound (ToldShort snapshot known opened position) (FromEither opened position) snapshot known fate
+      (stop_in result)) told false printer name due (came_before snapshot fate due) slots after slots_new
+      (stop_in result)
   pub stands : let opened = (watched_at watched place).opened in IfOk result (λ len. told_in ≡ true → (last : Entry)
       → StandsAt last opened position → StandsAt (last_from last (entries_open snapshot opened)) opened len)
   pub long : IfOk result (HoldsMany snapshot (watched_at watched place))
@@ -253,9 +258,13 @@ pub record Leads (told_in told by_name : Bool) (snapshot : Snapshot) (led : Opti
     (after : PrinterState) (slots_new : List Slot) (result : Result ℕ Stop) : Type 0 where
   pub fate : Fate
   pub ends : let opened = (watched_at watched place).opened in (last : Entry)
-      → (told_in ≡ true → StandsAt last opened position) → let due = events_later last (entries_led snapshot opened led) in
+      → (told_in ≡ true → StandsAt last opened position)
+      → let due = events_later last (entries_led snapshot opened led) in
       let known = (watched_at watched place).name in
-      Ends told_in (WereFound (ToldLed by_name snapshot known opened) FromFront snapshot known fate (stop_in result)) told false printer name due (led_before snapshot fate due) slots after slots_new (stop_in result)
+      Ends told_in
+      (WereFound (ToldLed by_name snapshot known opened) FromFront snapshot known fate
+      (stop_in result)) told false printer name due (led_before snapshot fate due) slots after slots_new
+      (stop_in result)
   pub stands : let opened = (watched_at watched place).opened in IfOk result (λ len. told_in ≡ true → (last : Entry)
       → StandsAt last opened position → StandsAt (last_from last (entries_led snapshot opened led)) led len)
   pub long : HoldsMany snapshot (watched_at watched place) position → let now = watched_at watched_new place in

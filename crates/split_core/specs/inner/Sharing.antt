@@ -105,7 +105,8 @@ pub record Adds (told : Bool) (files : FilesState) (more : ℕ → List ℕ) (fr
       (max (length files.outputs) to) from to new result
 
 -- files were opened, as far as they weren't open, or one couldn't be
-pub record Opens (told : Bool) (files : FilesState) (from to : ℕ) (old : List Slot) (next : FilesState) (new : List Slot)
+pub record Opens (told : Bool) (files : FilesState) (from to : ℕ) (old : List Slot) (next : FilesState)
+    (new : List Slot)
     (result : Result (Unit {0}) Fault) : Type 0 where
   pub adds : Adds told files (λ place. []) from to old next new result
   pub caused : IfErr result (CannotOpen (is_verbose files.tells) old new)

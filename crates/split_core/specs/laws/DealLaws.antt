@@ -14,39 +14,48 @@ use Rattle.split_core.specs.Split.{is_some, dealt_files}
 use Rattle.split_core.specs.Round.{opened_by}
 use Rattle.split_core.specs.inner.Dealt.{EachSome, share_of}
 
-pub dealt_first : (ends : Bool) (n file place byte : ℕ) (lines : List (List ℕ)) → dealt n file place (cond ends ((byte ∷ []) ∷ lines) (onto_first byte lines))
-    ≡ cond (eqb (place % n) file) (byte ∷ dealt n file (cond ends (place + 1) place) lines) (dealt n file (cond ends (place + 1) place) lines)
+pub dealt_first : (ends : Bool) (n file place byte : ℕ) (lines : List (List ℕ))
+    → dealt n file place (cond ends ((byte ∷ []) ∷ lines) (onto_first byte lines))
+    ≡ cond (eqb (place % n) file) (byte ∷ dealt n file (cond ends (place + 1) place) lines)
+    (dealt n file (cond ends (place + 1) place) lines)
 dealt_first true n file place byte lines = refl
 dealt_first false n file place byte lines = search rules
 
-goes_on : (gets : Bool) (byte : ℕ) (these more : List ℕ) → cond gets (byte ∷ (these ++ more)) (these ++ more) ≡ cond gets (byte ∷ these) these ++ more
+goes_on : (gets : Bool) (byte : ℕ) (these more : List ℕ)
+    → cond gets (byte ∷ (these ++ more)) (these ++ more) ≡ cond gets (byte ∷ these) these ++ more
 goes_on true byte these more = refl
 goes_on false byte these more = refl
 
-pub next_place : (ends : Bool) (place count : ℕ) → cond ends (place + 1) place + count ≡ place + cond ends (count + 1) count
+pub next_place : (ends : Bool) (place count : ℕ)
+    → cond ends (place + 1) place + count ≡ place + cond ends (count + 1) count
 next_place ends place count = grind (arith, nat_tests)
 
 -- an open last line goes on where it began
-pub dealt_append : (delim n file place : ℕ) (x y : List ℕ) → dealt n file place (lines_of delim (x ++ y)) ≡ dealt n file place (lines_of delim x)
+pub dealt_append : (delim n file place : ℕ) (x y : List ℕ)
+    → dealt n file place (lines_of delim (x ++ y)) ≡ dealt n file place (lines_of delim x)
     ++ dealt n file (place + delimiters delim x) (lines_of delim y)
 dealt_append delim n file place [] y = grind (arith, common_steps)
 dealt_append delim n file place (byte ∷ x) y =
     let next = cond (eqb byte delim) (place + 1) place in
     dealt_first (eqb byte delim) n file place byte (lines_of delim (x ++ y))
     ∙ ap (λ those. cond (eqb (place % n) file) (byte ∷ those) those) (dealt_append delim n file next x y)
-    ∙ goes_on (eqb (place % n) file) byte (dealt n file next (lines_of delim x)) (dealt n file (next + delimiters delim x) (lines_of delim y))
+    ∙ goes_on (eqb (place % n) file) byte (dealt n file next (lines_of delim x))
+    (dealt n file (next + delimiters delim x) (lines_of delim y))
     ∙ ap (λ those. those ++ dealt n file (next + delimiters delim x) (lines_of delim y))
     (sym (dealt_first (eqb byte delim) n file place byte (lines_of delim x)))
-    ∙ ap (λ at. dealt n file place (lines_of delim (byte ∷ x)) ++ dealt n file at (lines_of delim y)) (next_place (eqb byte delim) place (delimiters delim x))
+    ∙ ap (λ at. dealt n file place (lines_of delim (byte ∷ x)) ++ dealt n file at (lines_of delim y))
+    (next_place (eqb byte delim) place (delimiters delim x))
 
 -- Which files have a line
 
 differs : (n file place : ℕ) → place < file → file < n → eqb (place % n) file ≡ false
 differs n file place before within = grind (arith, common_steps)
 
-pub dealt_none : (n file place : ℕ) (lines : List (List ℕ)) → place + length lines ≤ file → file < n → dealt n file place lines ≡ []
+pub dealt_none : (n file place : ℕ) (lines : List (List ℕ)) → place + length lines ≤ file → file < n
+    → dealt n file place lines ≡ []
 dealt_none n file place [] short within = refl
-dealt_none n file place (line ∷ lines) short within = cc (differs n file place (omega arith) within, dealt_none n file (place + 1) lines (omega arith) within)
+dealt_none n file place (line ∷ lines) short within = cc
+    (differs n file place (omega arith) within, dealt_none n file (place + 1) lines (omega arith) within)
 
 some_either : (gets : Bool) (line rest : List ℕ) → 0 < length rest → 0 < length (cond gets (line ++ rest) rest)
 some_either true line rest some = omega (arith, length-append line rest)
@@ -65,7 +74,8 @@ dealt_some n file place (line ∷ lines) each from before within = elim (cases_e
       let same : eqb (place % n) file ≡ true = eq-eqb (place % n) file (mod-eq_of_lt (omega arith) ∙ here) in
       rw same (omega (arith, each.0, length-append line (dealt n file (place + 1) lines)))
 
-each_step : (ends : Bool) (byte : ℕ) (lines : List (List ℕ)) → EachSome lines → EachSome (cond ends ((byte ∷ []) ∷ lines) (onto_first byte lines))
+each_step : (ends : Bool) (byte : ℕ) (lines : List (List ℕ)) → EachSome lines
+    → EachSome (cond ends ((byte ∷ []) ∷ lines) (onto_first byte lines))
 each_step true byte lines each = (omega arith, each)
 each_step false byte lines each = search rules
 
@@ -77,24 +87,35 @@ pub is_some_of : (bytes : List ℕ) → 0 < length bytes → is_some bytes ≡ t
 is_some_of [] some = absurd (omega arith)
 is_some_of (byte ∷ bytes) some = refl
 
-pub share_none : (delim n : ℕ) (x : List ℕ) (file : ℕ) → line_count delim x ≤ file → file < n → share_of delim n x file ≡ []
+pub share_none : (delim n : ℕ) (x : List ℕ) (file : ℕ) → line_count delim x ≤ file → file < n
+    → share_of delim n x file ≡ []
 share_none delim n x file short within = dealt_none n file 0 (lines_of delim x) (omega arith) within
 
-pub share_some : (delim n : ℕ) (x : List ℕ) (file : ℕ) → file < line_count delim x → file < n → is_some (share_of delim n x file) ≡ true
-share_some delim n x file before within = is_some_of _ (dealt_some n file 0 (lines_of delim x) (each_line delim x) (omega arith) (omega arith) within)
+pub share_some : (delim n : ℕ) (x : List ℕ) (file : ℕ) → file < line_count delim x → file < n
+    → is_some (share_of delim n x file) ≡ true
+share_some delim n x file before within = is_some_of _
+    (dealt_some n file 0 (lines_of delim x) (each_line delim x) (omega arith) (omega arith) within)
 
 -- where members up to a place aren't empty and those from there on are, the filter leaves those up to that place
-filter_first : (f : ℕ → List ℕ) (n end : ℕ) → ((file : ℕ) → file < n → file < end → is_some (f file) ≡ true) → ((file : ℕ) → file < n → end ≤ file → f file ≡ [])
+filter_first : (f : ℕ → List ℕ) (n end : ℕ) → ((file : ℕ) → file < n → file < end → is_some (f file) ≡ true)
+    → ((file : ℕ) → file < n → end ≤ file → f file ≡ [])
     → filter is_some (map f (range_with_len 0 n)) ≡ map f (range_with_len 0 (min n end))
 filter_first f zero end some none = grind (arith, common_steps)
 filter_first f (suc n) end some none =
-    let before = filter_first f n end (λ file within. some file (omega arith)) (λ file within. none file (omega arith)) in
+    let before = filter_first f n end (λ file within. some file (omega arith))
+    (λ file within. none file (omega arith)) in
     let next : suc n ≡ n + 1 = omega arith in
-    ap (λ k. filter is_some (map f (range_with_len 0 k))) next ∙ filter_of_map_range_with_len_more is_some f 0 n n (zero-add n) ∙ elim (cases_lt n end) [
+    ap (λ k. filter is_some (map f (range_with_len 0 k))) next ∙ filter_of_map_range_with_len_more is_some f 0 n n
+    (zero-add n) ∙ elim (cases_lt n end) [
       | inl less ↦ (let all : min (suc n) end ≡ n + 1 = omega arith in let low : min n end ≡ n = omega arith in
           cc (before, some n (omega arith) less, map-range_with_len_more f 0 n n (zero-add n)))
       | inr past ↦ (let all : min (suc n) end ≡ min n end = omega arith in
-          cc (before, ap (λ bytes. cond (is_some bytes) (bytes ∷ []) []) (none n (omega arith) past), append-nil (map f (range_with_len 0 (min n end)))))
+          cc (
+            before,
+            ap (λ bytes. cond (is_some bytes) (bytes ∷ []) []) (none n (omega arith) past),
+            append-nil
+                (map f (range_with_len 0 (min n end))),
+          ))
     ]
 
 -- the files that have a line are the first ones
@@ -105,6 +126,7 @@ dealt_files_are delim false n x = refl
 
 -- a text that goes on opens no fewer files
 
-pub opened_by-grows : (delim : ℕ) (elide : Bool) (n : ℕ) (x y : List ℕ) → opened_by delim elide n x ≤ opened_by delim elide n (x ++ y)
+pub opened_by-grows : (delim : ℕ) (elide : Bool) (n : ℕ) (x y : List ℕ)
+    → opened_by delim elide n x ≤ opened_by delim elide n (x ++ y)
 opened_by-grows delim true n x y = omega (arith, line_count-grows delim x y)
 opened_by-grows delim false n x y = omega arith

@@ -35,12 +35,17 @@ pub told_begins : (verbose : Bool) (low high : List File) → FilesBegin low hig
 told_begins false low high begins = begins_itself []
 told_begins true low high begins = openings_begin opening_line low high begins
 
-pub part_begins : (filing : Filing) (low high : List Share) → SharesBegin low high → Begins (part_of (manner_of filing) low) (part_of (manner_of filing) high)
+pub part_begins : (filing : Filing) (low high : List Share) → SharesBegin low high
+    → Begins (part_of (manner_of filing) low) (part_of (manner_of filing) high)
 part_begins filing low high begins =
-    let files = files_begin (manner_of filing) 0 low high begins in record { out = told_begins filing.verbose _ _ files; files = files }
+    let files = files_begin (manner_of filing) 0 low high begins in record {
+      out = told_begins filing.verbose _ _ files;
+      files = files;
+    }
 
 -- where a place has no name, what stands from there on makes no file
-pub named_short : (filing : Filing) (place : ℕ) (front rest : List Share) → has_name filing.names (place + length front) ≡ false
+pub named_short : (filing : Filing) (place : ℕ) (front rest : List Share)
+    → has_name filing.names (place + length front) ≡ false
     → named filing place (front ++ rest) ≡ named filing place front
 named_short filing place front rest none = files_stop (manner_of filing) place front rest none
 
@@ -56,18 +61,23 @@ first_lines_begin delim k n x less = (
 
 whole_begins_by : (delim : ℕ) (x y : List ℕ) (k m : ℕ) → delimiters delim x ≡ k → delimiters delim (x ++ y) ≡ m
     → IsBeginning (whole_lines delim x) (whole_lines delim (x ++ y))
-whole_begins_by delim x y (suc k) (suc m) here all = subst (λ low. IsBeginning low (whole_lines delim (x ++ y))) (sym (whole_of_lines delim x (omega arith)
-    ∙ sym (first_lines-full delim (delimiters delim x) x y (omega arith)))) (subst (λ high. IsBeginning (first_lines delim (delimiters delim x) (x ++ y)) high)
-    (sym (whole_of_lines delim (x ++ y) (omega arith))) (first_lines_begin delim (delimiters delim x) (delimiters delim (x ++ y)) (x ++ y)
+whole_begins_by delim x y (suc k) (suc m) here all = subst (λ low. IsBeginning low (whole_lines delim (x ++ y)))
+    (sym (whole_of_lines delim x (omega arith)
+    ∙ sym (first_lines-full delim (delimiters delim x) x y (omega arith))))
+    (subst (λ high. IsBeginning (first_lines delim (delimiters delim x) (x ++ y)) high)
+    (sym (whole_of_lines delim (x ++ y) (omega arith)))
+    (first_lines_begin delim (delimiters delim x) (delimiters delim (x ++ y)) (x ++ y)
     (omega (arith, delimiters-append delim x y))))
-whole_begins_by delim x y zero (suc m) here all = subst (λ low. IsBeginning low (whole_lines delim (x ++ y))) (sym (whole_of_none delim x here)) (
-  _,
-  whole_of_lines delim (x ++ y) (omega arith) ∙ first_lines-append delim (delimiters delim (x ++ y)) x y
-      ∙ ap (λ front. front ++ first_lines delim (delimiters delim (x ++ y) - delimiters delim x) y)
-      (first_lines-short delim (delimiters delim (x ++ y)) x (omega arith)),
-)
+whole_begins_by delim x y zero (suc m) here all = subst (λ low. IsBeginning low (whole_lines delim (x ++ y)))
+    (sym (whole_of_none delim x here)) (
+      _,
+      whole_of_lines delim (x ++ y) (omega arith) ∙ first_lines-append delim (delimiters delim (x ++ y)) x y
+          ∙ ap (λ front. front ++ first_lines delim (delimiters delim (x ++ y) - delimiters delim x) y)
+          (first_lines-short delim (delimiters delim (x ++ y)) x (omega arith)),
+    )
 whole_begins_by delim x y zero zero here all =
-    subst (λ low. IsBeginning low (whole_lines delim (x ++ y))) (sym (whole_of_none delim x here)) (y, whole_of_none delim (x ++ y) all)
+    subst (λ low. IsBeginning low (whole_lines delim (x ++ y))) (sym (whole_of_none delim x here))
+    (y, whole_of_none delim (x ++ y) all)
 whole_begins_by delim x y (suc k) zero here all = absurd (omega (arith, delimiters-append delim x y))
 
 pub whole_begins : (delim : ℕ) (x y : List ℕ) → IsBeginning (whole_lines delim x) (whole_lines delim (x ++ y))
@@ -76,18 +86,22 @@ whole_begins delim x y = whole_begins_by delim x y (delimiters delim x) (delimit
 take_begins_long : (n : ℕ) (x y : List ℕ) → length x < n → (more : List ℕ) × (take n (x ++ y) ≡ x ++ more)
 take_begins_long n [] y short = (take n y, refl)
 take_begins_long zero (byte ∷ x) y short = absurd (omega arith)
-take_begins_long (suc n) (byte ∷ x) y short = let past = take_begins_long n x y (omega arith) in (past.0, ap (λ rest. byte ∷ rest) past.1)
+take_begins_long (suc n) (byte ∷ x) y short = let past = take_begins_long n x y (omega arith) in
+    (past.0, ap (λ rest. byte ∷ rest) past.1)
 
 -- what is settled of a text without a full part begins the first part of the text that goes on
 
-settled_in_full : (limit : Limit) (x y : List ℕ) → measure limit x < most limit → IsBeginning (settled_rest limit x) (first_part limit (x ++ y))
+settled_in_full : (limit : Limit) (x y : List ℕ) → measure limit x < most limit
+    → IsBeginning (settled_rest limit x) (first_part limit (x ++ y))
 settled_in_full (Lines n delim) x y short = (
   _,
-  first_lines-append delim n x y ∙ ap (λ front. front ++ first_lines delim (n - delimiters delim x) y) (first_lines-short delim n x short),
+  first_lines-append delim n x y ∙ ap (λ front. front ++ first_lines delim (n - delimiters delim x) y)
+      (first_lines-short delim n x short),
 )
 settled_in_full (Bytes n) x y short = take_begins_long n x y short
 settled_in_full (LineBytes n delim) x y short =
-    let taken = take_begins_long n x y short in subst (λ those. IsBeginning (whole_lines delim x) (whole_lines delim those)) (sym taken.1)
+    let taken = take_begins_long n x y short in subst
+    (λ those. IsBeginning (whole_lines delim x) (whole_lines delim those)) (sym taken.1)
     (whole_begins delim x taken.0)
 
 settled_in_rest : (limit : Limit) (x y : List ℕ) → IsBeginning (settled_rest limit x) (settled_rest limit (x ++ y))
@@ -100,23 +114,31 @@ settled_in_whole limit x = (_, sym (settled_then_waiting limit x))
 -- what files get of a text that goes on: the full parts of the text, and then what they get of the rest and what
 -- follows
 
-pub settled_on : (limit : Limit) (x y : List ℕ) → settled_parts limit (x ++ y) ≡ map (share Closed) (cut_up limit x).full
+pub settled_on : (limit : Limit) (x y : List ℕ)
+    → settled_parts limit (x ++ y) ≡ map (share Closed) (cut_up limit x).full
     ++ settled_parts limit ((cut_up limit x).rest ++ y)
 settled_on limit x y = grind (arith, common_steps, cut_on, map-append)
 
-pub parts_on : (limit : Limit) (x y : List ℕ) → parts limit (x ++ y) ≡ (cut_up limit x).full ++ parts limit ((cut_up limit x).rest ++ y)
-parts_on limit x y = ap (λ cut. cut.full ++ unless_empty cut.rest) (cut_on limit x y) ∙ append_assoc (cut_up limit x).full _ _
+pub parts_on : (limit : Limit) (x y : List ℕ)
+    → parts limit (x ++ y) ≡ (cut_up limit x).full ++ parts limit ((cut_up limit x).rest ++ y)
+parts_on limit x y = ap (λ cut. cut.full ++ unless_empty cut.rest) (cut_on limit x y) ∙ append_assoc
+    (cut_up limit x).full _ _
 
 -- a text with a full part has that as its first
-pub cut_first : (limit : Limit) (x : List ℕ) → is_full limit x ≡ true → cut_up limit x ≡ cut_so (first_part limit x ∷ (cut_up limit (after_first limit x)).full)
+pub cut_first : (limit : Limit) (x : List ℕ) → is_full limit x ≡ true
+    → cut_up limit x ≡ cut_so (first_part limit x ∷ (cut_up limit (after_first limit x)).full)
     (cut_up limit (after_first limit x)).rest
 cut_first limit x full = cut_once limit (goes x _ _ full (cuts_up))
 
 rest_begins_by : (limit : Limit) (rest y : List ℕ) (full : Bool) → is_full limit (rest ++ y) ≡ full
-    → is_full limit rest ≡ false → SharesBegin (map (share Open) (unless_empty (settled_rest limit rest))) (settled_parts limit (rest ++ y))
-rest_begins_by limit rest y true full short = subst (λ cut. SharesBegin (map (share Open) (unless_empty (settled_rest limit rest)))
-    (map (share Closed) cut.full ++ map (share Open) (unless_empty (settled_rest limit cut.rest)))) (sym (cut_first limit (rest ++ y) full))
-    (in_first (settled_rest limit rest) _ (settled_in_full limit rest y (short_some limit rest short (full_some limit (rest ++ y) full).0))) where
+    → is_full limit rest ≡ false
+    → SharesBegin (map (share Open) (unless_empty (settled_rest limit rest))) (settled_parts limit (rest ++ y))
+rest_begins_by limit rest y true full short = subst
+    (λ cut. SharesBegin (map (share Open) (unless_empty (settled_rest limit rest)))
+    (map (share Closed) cut.full ++ map (share Open) (unless_empty (settled_rest limit cut.rest))))
+    (sym (cut_first limit (rest ++ y) full))
+    (in_first (settled_rest limit rest) _
+    (settled_in_full limit rest y (short_some limit rest short (full_some limit (rest ++ y) full).0))) where
       in_first : (low : List ℕ) (more : List Share) → IsBeginning low (first_part limit (rest ++ y))
           → SharesBegin (map (share Open) (unless_empty low)) (share Closed (first_part limit (rest ++ y)) ∷ more)
       in_first [] more begins = tt
@@ -132,8 +154,11 @@ pub settled_grow : (limit : Limit) (x y : List ℕ) → SharesBegin (settled_par
 settled_grow limit x y = grind (arith, common_steps, settled_on, shares_after, rest_begins, rest_short)
 
 pub settled_end : (limit : Limit) (x : List ℕ) → SharesBegin (settled_parts limit x) (whole_parts limit x)
-settled_end limit x = subst (SharesBegin (settled_parts limit x)) (sym (map-append (share Closed) (cut_up limit x).full (unless_empty (cut_up limit x).rest)))
-    (shares_after (map (share Closed) (cut_up limit x).full) _ _ (made_begin Late Closed (settled_rest limit (cut_up limit x).rest) (cut_up limit x).rest (settled_in_whole limit (cut_up limit x).rest)))
+settled_end limit x = subst (SharesBegin (settled_parts limit x))
+    (sym (map-append (share Closed) (cut_up limit x).full (unless_empty (cut_up limit x).rest)))
+    (shares_after (map (share Closed) (cut_up limit x).full) _ _
+    (made_begin Late Closed (settled_rest limit (cut_up limit x).rest) (cut_up limit x).rest
+    (settled_in_whole limit (cut_up limit x).rest)))
 
 -- there are as many shares as the text has parts
 
@@ -149,7 +174,8 @@ settled_count limit x = grind (arith, common_steps, length-map, unless_count, se
 
 -- Once names ran out, nothing more is written.
 
-pub are_named_more : (names : Naming) (count more : ℕ) → are_named names count ≡ false → count ≤ more → are_named names more ≡ false
+pub are_named_more : (names : Naming) (count more : ℕ) → are_named names count ≡ false → count ≤ more
+    → are_named names more ≡ false
 are_named_more names zero more none few = cc
 are_named_more names (suc last) zero none few = search rules
 are_named_more names (suc last) (suc more) none few = grind (arith, common_steps)
@@ -159,11 +185,13 @@ place_nameless : (names : Naming) (limit : Limit) (x : List ℕ) → are_named n
 place_nameless names limit x short = grind (arith, common_steps)
 
 -- the files are those of the full parts alone
-pub files_settled : (filing : Filing) (limit : Limit) (x y : List ℕ) → are_named filing.names (length (parts limit x)) ≡ false
+pub files_settled : (filing : Filing) (limit : Limit) (x y : List ℕ)
+    → are_named filing.names (length (parts limit x)) ≡ false
     → named filing 0 (settled_parts limit (x ++ y)) ≡ named filing 0 (map (share Closed) (cut_up limit x).full)
 files_settled filing limit x y short = grind (arith, common_steps, settled_on, named_short, place_nameless)
 
-pub files_whole : (filing : Filing) (limit : Limit) (x y : List ℕ) → are_named filing.names (length (parts limit x)) ≡ false
+pub files_whole : (filing : Filing) (limit : Limit) (x y : List ℕ)
+    → are_named filing.names (length (parts limit x)) ≡ false
     → named filing 0 (whole_parts limit (x ++ y)) ≡ named filing 0 (map (share Closed) (cut_up limit x).full)
 files_whole filing limit x y short = grind (arith, common_steps, parts_on, map-append, named_short, place_nameless)
 
@@ -175,4 +203,5 @@ shares_fewer (share ∷ low) (whole ∷ high) begins = omega (arith, shares_fewe
 -- a text that goes on has no fewer parts
 pub parts_grow : (limit : Limit) (x y : List ℕ) → length (parts limit x) ≤ length (parts limit (x ++ y))
 parts_grow limit x y = subst (λ n. n ≤ length (parts limit (x ++ y))) (settled_count limit x)
-    (subst (λ n. length (settled_parts limit x) ≤ n) (settled_count limit (x ++ y)) (shares_fewer _ _ (settled_grow limit x y)))
+    (subst (λ n. length (settled_parts limit x) ≤ n) (settled_count limit (x ++ y))
+    (shares_fewer _ _ (settled_grow limit x y)))

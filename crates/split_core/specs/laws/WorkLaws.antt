@@ -33,41 +33,55 @@ begin_step true file high files wholes name mode sound open_yet bytes rest = gri
 begin_step false file high files wholes name mode sound open_yet bytes rest = tt
 
 -- where each of some files has a beginning of what others have, and these are no fewer, those begin these
-files_begin : (filing : Filing) (high : State) (f g : ℕ → List ℕ) → ((file : ℕ) → IsBeginning (f file) (g file)) → (place start m n : ℕ) → m ≤ n
-    → FilesBegin (named filing place (map (share Open) (map f (range_with_len start m)))) (named filing place (map (share high) (map g (range_with_len start n))))
+files_begin : (filing : Filing) (high : State) (f g : ℕ → List ℕ) → ((file : ℕ) → IsBeginning (f file) (g file))
+    → (place start m n : ℕ) → m ≤ n
+    → FilesBegin (named filing place (map (share Open) (map f (range_with_len start m))))
+    (named filing place (map (share high) (map g (range_with_len start n))))
 files_begin filing high f g begin place start zero n few = tt
 files_begin filing high f g begin place start (suc m) zero few = absurd (omega arith)
 files_begin filing high f g begin place start (suc m) (suc n) few =
-    begin_step (has_name filing.names place) (file_at filing place (share Open (f start))) (file_at filing place (share high (g start)))
+    begin_step (has_name filing.names place) (file_at filing place (share Open (f start)))
+    (file_at filing place (share high (g start)))
     _ _ refl refl refl refl (begin start) (files_begin filing high f g begin (place + 1) (start + 1) m n (omega arith))
 
 -- each file only grows, and none is taken back
-dealt_begin : (delim : ℕ) (elide : Bool) (n : ℕ) (filing : Filing) (high : State) (x z : List ℕ) → ((file : ℕ) → IsBeginning (share_of delim n x file) (share_of delim n z file))
+dealt_begin : (delim : ℕ) (elide : Bool) (n : ℕ) (filing : Filing) (high : State) (x z : List ℕ)
+    → ((file : ℕ) → IsBeginning (share_of delim n x file) (share_of delim n z file))
     → opened_by delim elide n x ≤ opened_by delim elide n z
-    → Begins (part_of (manner_of filing) (map (share Open) (dealt_files delim elide n x))) (part_of (manner_of filing) (map (share high) (dealt_files delim elide n z)))
-dealt_begin delim elide n filing high x z begin few = record { out = told_begins filing.verbose _ _ files; files = files } where
-  files : FilesBegin (named filing 0 (map (share Open) (dealt_files delim elide n x))) (named filing 0 (map (share high) (dealt_files delim elide n z)))
+    → Begins (part_of (manner_of filing) (map (share Open) (dealt_files delim elide n x)))
+    (part_of (manner_of filing) (map (share high) (dealt_files delim elide n z)))
+dealt_begin delim elide n filing high x z begin few = record {
+  out = told_begins filing.verbose _ _ files;
+  files = files;
+} where
+  files : FilesBegin (named filing 0 (map (share Open) (dealt_files delim elide n x)))
+      (named filing 0 (map (share high) (dealt_files delim elide n z)))
   files = grind (arith, common_steps, dealt_files_are, files_begin)
 
-pub round_lawful : (delim count : ℕ) (elide : Bool) (filing : Filing) → IsLawful (round_work (round_plan delim count elide filing))
+pub round_lawful : (delim count : ℕ) (elide : Bool) (filing : Filing)
+    → IsLawful (round_work (round_plan delim count elide filing))
 round_lawful delim count elide filing = record {
-  grows = λ x y. dealt_begin delim elide count filing Open x (x ++ y) (λ file. (_, dealt_append delim count file 0 x y)) (opened_by-grows delim elide count x y);
+  grows = λ x y. dealt_begin delim elide count filing Open x (x ++ y)
+      (λ file. (_, dealt_append delim count file 0 x y)) (opened_by-grows delim elide count x y);
   ends = λ x. dealt_begin delim elide count filing Closed x x (λ file. begins_itself _) (omega arith);
   stays = λ x y never. absurd (false≢true never);
 }
 
 -- Parts that follow one another
 
-stays : (limit : Limit) (filing : Filing) (x y : List ℕ) → (parts_work limit filing).is_complete x ≡ true → IsComplete (parts_work limit filing) x y
+stays : (limit : Limit) (filing : Filing) (x y : List ℕ) → (parts_work limit filing).is_complete x ≡ true
+    → IsComplete (parts_work limit filing) x y
 stays limit filing x y short = grind (arith, common_steps, none, more, here, files_settled, files_whole, not-true) where
   none : are_named filing.names (length (parts limit x)) ≡ false
   none = sym (ap (are_named filing.names) (length-map (parts limit x) (share Closed))) ∙ not-true _ short
 
   more : are_named filing.names (length (map (share Closed) (parts limit (x ++ y)))) ≡ false
-  more = ap (are_named filing.names) (length-map (parts limit (x ++ y)) (share Closed)) ∙ are_named_more filing.names (length (parts limit x)) _ none (parts_grow limit x y)
+  more = ap (are_named filing.names) (length-map (parts limit (x ++ y)) (share Closed)) ∙ are_named_more filing.names
+      (length (parts limit x)) _ none (parts_grow limit x y)
 
   here : named filing 0 (settled_parts limit x) ≡ named filing 0 (map (share Closed) (cut_up limit x).full)
-  here = ap (λ all. named filing 0 (settled_parts limit all)) (sym (append-nil x)) ∙ files_settled filing limit x [] none
+  here = ap (λ all. named filing 0 (settled_parts limit all))
+      (sym (append-nil x)) ∙ files_settled filing limit x [] none
 
 pub parts_lawful : (limit : Limit) (filing : Filing) → IsLawful (parts_work limit filing)
 parts_lawful limit filing = search (rules, part_begins, settled_grow, settled_end, stays)
