@@ -11,6 +11,7 @@ use crate::csplit_tests::{Options, open as open_csplitter, style_of};
 use crate::ends_plain::{Asked, Side};
 use crate::play::{close, feed, feed_all, open_ends, open_splitter};
 use crate::tee_tests::pass as pass_on;
+use crate::told_tests::open as open_telling;
 use csplit_core::{OperandFaultKind, read_operands};
 use ends_core::{Ends, Unit};
 use follow_core::{Follow, Notice, Start, notice_line};
@@ -27,6 +28,8 @@ use tee_core::Tee;
 enum Job<'a> {
     Ends(Side, Unit, u64),
     Split(Cut),
+    /// Of files that standard output is told of.
+    Told(Cut),
     Csplit(&'a [&'a str]),
 }
 
@@ -95,6 +98,18 @@ const ROWS: &[Row<'static>] = &[
         &[b"a\nc", b"b\n"],
     ),
     (
+        Job::Told(Cut::Parts(Limit::Lines(1, b'\n'))),
+        &[b"a\nb", b"\n"],
+        b"creating file 'xaa'\ncreating file 'xab'\n",
+        &[b"a\n", b"b\n"],
+    ),
+    (
+        Job::Told(Cut::Round(2, b'\n')),
+        &[b"a\nb", b"\nc"],
+        b"creating file 'xaa'\ncreating file 'xab'\n",
+        &[b"a\nc", b"b\n"],
+    ),
+    (
         Job::Csplit(&["/c/-1", "/d/"]),
         &[b"a\nb", b"\nc\n", b"d"],
         b"2\n4\n1\n",
@@ -147,6 +162,10 @@ fn ends(rt: &impl Abort, alloc: Global, row: &Row<'_>, outs: &mut MemOut) -> Res
         }
         Job::Split(cut) => {
             let mut engine = open_cut(alloc, cut, outs)?;
+            goes(rt, &mut engine, outs, pieces)
+        }
+        Job::Told(cut) => {
+            let mut engine = open_telling(alloc, cut, false, outs)?;
             goes(rt, &mut engine, outs, pieces)
         }
         Job::Csplit(words) => cuts(rt, alloc, words, outs, pieces),
