@@ -38,7 +38,7 @@ fills_more n digits ten fills (suc width) small =
     ap (λ zeros. replicate zeros 48 ++ (digits ++ (48 + n % 10) ∷ [])) count ∙ sym (append_assoc (replicate (suc width - length digits) 48) digits _)
     ∙ ap (λ front. front ++ (48 + n % 10) ∷ []) (fills width (front_digits (suc width) small)) ∙ sym (last_digit (suc width) small)
 
-fills : (width n : ℕ) → 0 < width → n < 10 ^ width → n < 2 ^ 64 → zero_filled width (decimal n) ≡ written Digits width n
+pub fills : (width n : ℕ) → 0 < width → n < 10 ^ width → n < 2 ^ 64 → zero_filled width (decimal n) ≡ written Digits width n
 fills zero n some small least = absurd (omega (arith, some))
 fills (suc width) n some small least = decimal_by_steps Fills fills_one fills_more n least width small
 

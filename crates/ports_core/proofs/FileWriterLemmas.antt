@@ -11,7 +11,7 @@ use Rattle.ports_core.specs.FileWriter.{WriterState, Writes, CanCount, IsCounted
 use Rattle.ports_core.specs.Name.{Naming}
 use Rattle.ports_core.specs.Names.{next_name, has_next, line_next, told_next, OpensNone, no_memory, no_line, no_file, no_number, no_name}
 use Rattle.ports_core.specs.Part.{File as PartFile, Part, OutputsAt, Begins, IsBeginning, Output, gets_none, gets_bytes, gets_lines, gets_openings, lines_for, writes}
-use Rattle.ports_core.specs.Slot.{Slot, with_written, told_of, Rose, has_file, slot_at, changed_at, opened, unopened, closes, with_broken, is_writable}
+use Rattle.ports_core.specs.Slot.{Slot, with_written, told_of, Rose, has_file, slot_at, changed_at, opened, closes, with_broken, is_writable}
 use Rattle.ports_core.specs.Swept.{AreThere, is_among}
 use Rattle.ports_core.specs.FileWriter.{At, KeepsFiles, KeepsOrBreaks, Leaves, Reaches, Goes, paused}
 use Rattle.ports_core.specs.inner.FileWriter.{MakesNone, Made, Appends, TellsSize, CountsOn, files_with}

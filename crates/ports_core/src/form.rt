@@ -3,7 +3,7 @@ ghost use Rattle.std.specs.Prelude.{◌≡◌, ◌+◌, ◌<◌, ◌^◌, ◌++�
 ghost use Rattle.ports_core.specs.Name.{alphabet_of, digit_count, digits_written, formatted, least_digits, mark_of, marked, radix, written};
 
 use crate::Alphabet;
-use crate::numbering::{push_copies, push_number};
+use crate::numbering::{push_copies, push_decimal, push_number};
 use std::alloc::AllocError;
 
 /// The base in which a number is written.
@@ -57,6 +57,18 @@ impl Base {
             Base::Capitals => Alphabet::Capitals,
         }
     }
+
+    /// Appends a number with this many digits.
+    fn push(self, name: &mut String, digits: usize, number: u64) -> Result<(), AllocError>
+        requires { number < radix (alphabet_of self) ^ digits }
+        ensures { IfOk result (λ _. string_bytes name.new
+            ≡ string_bytes name.old ++ written (alphabet_of self) digits number) }
+    {
+        match self {
+            Base::Decimal if digits > 0 => push_decimal(name, digits, number),
+            _ => push_number(name, self.alphabet(), digits, number),
+        }
+    }
 }
 
 impl Form {
@@ -64,27 +76,37 @@ impl Form {
     pub(crate) fn push(self, name: &mut String, number: u64) -> Result<(), AllocError>
         ensures { IfOk result (λ _. string_bytes name.new ≡ string_bytes name.old ++ formatted self number) }
     {
-        let size = self.mark(number).len() + self.digits(number);
-        let blanks = usize::from(self.width).saturating_sub(size);
+        let mark = self.mark(number);
+        let digits = self.digits(number);
+        let blanks = usize::from(self.width).saturating_sub(mark.len() + digits);
         match self.filling {
-            Filling::Zeros => self.push_marked(name, number),
+            Filling::Zeros => self.push_marked(name, mark, digits, number),
             Filling::BlanksBefore => {
                 push_copies(name, b' ', blanks)?;
-                self.push_marked(name, number)
+                self.push_marked(name, mark, digits, number)
             }
             Filling::BlanksAfter => {
-                self.push_marked(name, number)?;
+                self.push_marked(name, mark, digits, number)?;
                 push_copies(name, b' ', blanks)
             }
         }
     }
 
-    /// Appends a number without blanks.
-    fn push_marked(self, name: &mut String, number: u64) -> Result<(), AllocError>
+    /// Appends a number without blanks, with its mark and with this many digits.
+    fn push_marked(
+        self,
+        name: &mut String,
+        mark: &str,
+        digits: usize,
+        number: u64,
+    ) -> Result<(), AllocError>
+        requires mark { mark.now ≡ mark_of self number }
+        requires digits { digits ≡ digits_written self number }
+        requires enough { number < radix (alphabet_of self.base) ^ digits }
         ensures { IfOk result (λ _. string_bytes name.new ≡ string_bytes name.old ++ marked self number) }
     {
-        name.push_str(self.mark(number))?;
-        push_number(name, self.base.alphabet(), self.digits(number), number)
+        name.push_str(mark)?;
+        self.base.push(name, digits, number)
     }
 
     /// What stands before the digits of a number.

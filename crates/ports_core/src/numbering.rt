@@ -1,8 +1,9 @@
-ghost use Rattle.std.specs.Prelude.{nat_lt, ◌≡◌, ◌++◌, ◌∷◌, [], ◌+◌, ◌-◌, ◌*◌, ◌≤◌, ◌<◌, ◌^◌, replicate, string_bytes, IsTrue, IfOk, SomeIff};
-ghost use Rattle.ports_core.specs.Name.{radix, written, suffix_at, has_suffix, widening_suffix, IsWide, block_size};
+ghost use Rattle.std.specs.Prelude.{nat_lt, ◌≡◌, ◌++◌, ◌∷◌, [], ◌+◌, ◌-◌, ◌*◌, ◌≤◌, ◌<◌, ◌^◌, replicate, decimal, string_bytes, IsTrue, IfOk, SomeIff};
+ghost use Rattle.ports_core.specs.Name.{radix, written, suffix_at, has_suffix, widening_suffix, zero_filled, IsWide, block_size};
 ghost use Rattle.ports_core.specs.inner.Name.{IsInBlock};
 
 use crate::{Alphabet, Form};
+use itoa::Buffer;
 use std::alloc::AllocError;
 
 /// How a name writes the number of its place.
@@ -144,6 +145,16 @@ pub(crate) fn push_number(
     let radix = alphabet.radix();
     push_number(name, alphabet, digits - 1, number / radix)?;
     push_ascii(name, alphabet.character((number % radix) as u8))
+}
+
+/// Appends a number in decimal, with zeros before it where it has fewer digits.
+pub(crate) fn push_decimal(name: &mut String, digits: usize, number: u64) -> Result<(), AllocError>
+    ensures { IfOk result (λ _. string_bytes name.new ≡ string_bytes name.old ++ zero_filled digits (decimal number)) }
+{
+    let mut buffer = Buffer::new();
+    let text = buffer.format(number);
+    push_copies(name, b'0', digits.saturating_sub(text.len()))?;
+    name.push_str(text)
 }
 
 pub(crate) fn push_copies(name: &mut String, character: u8, count: usize) -> Result<(), AllocError>

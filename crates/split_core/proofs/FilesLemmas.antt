@@ -235,11 +235,6 @@ stopped_as output told {before} {low} {high' = high'} {why} {now} is_low is_high
 
 -- Steps in a row
 
--- the same files
-pub outputs_as : (told : Bool) {before now : List Slot} (filing : Filing) {shares others : ℕ → Share} {m n : ℕ} → ((i : ℕ) → i < n → shares i ≡ others i) → m ≡ n
-    → OutputsAt told before (part_by filing shares m) now → OutputsAt told before (part_by filing others n) now
-outputs_as told {before} {now} filing {shares} {others} {n = n} same count at = subst (λ files. OutputsAt told before (part_with (output_by filing.verbose) files) now) (same_by _ _ 0 n (λ i low high. ap (file_at filing i) (same i (omega (arith, high))))) (subst (λ n. OutputsAt told before (part_by filing shares n) now) count at)
-
 -- a fault came at a place before anything was done but that standard output got a beginning of the line for the next file
 pub adds_not : (told : Bool) (files : FilesState) {names : Names} (more : ℕ → List ℕ) {from : ℕ} (place to : ℕ) {old reached new : List Slot} (bytes : List ℕ) (why : Fault) → from ≤ place → place < max 1 to → place ≤ length files.outputs
     → names.naming ≡ files.names.naming → KeepsFiles files old (record files { names = names }) new → IsOfFiles (is_verbose files.tells) old new why → ((i : ℕ) → (i < place) ⊎ (to ≤ i) → more i ≡ [])

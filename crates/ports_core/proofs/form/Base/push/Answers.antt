@@ -1,0 +1,8 @@
+use Rattle.std.proofs.lemmas.Grind.{common_steps}
+use Rattle.std.proofs.Common.{arith}
+use Rattle.std.proofs.lemmas.Result.{IfOk-weaker}
+use Rattle.ports_core.proofs.DecimalLemmas.{fills}
+use Rattle.ports_core.proofs.form.Base.push.Goals as goal
+
+pub returns-in-Decimal : goal.returns-in-Decimal
+returns-in-Decimal c = grind (arith, common_steps, IfOk-weaker, fills)
