@@ -30,7 +30,7 @@ CanTell Openings slots = IsTrue (is_writable slots 0)
 abbrev pub line_next : Tells → Names → List ℕ
 line_next tells names = told_before (output_of tells) (next_name names)
 
--- it was told of it
+-- the outputs once it was told of it
 abbrev pub told_next : Bool → Tells → Names → List Slot → List Slot
 told_next told tells names slots = with_written 0 (told_of told (line_next tells names)) slots
 

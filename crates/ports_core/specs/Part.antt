@@ -142,7 +142,7 @@ openings_for line [] = []
 openings_for line (file ∷ files) = line file.name ++ openings_for line files
 
 -- What there is of the line for a file that is due: nothing; a beginning of it, perhaps all, where standard output broke
--- in it; or all of it, where the file could not be opened after it.
+-- in it; or all of it, where the file could not be opened after it, or no number was left for it.
 abbrev pub IsDueLine : (List ℕ → Type 0) → (List ℕ → List ℕ) → List ℕ → Fault → Type 0
 IsDueLine IsDue line bytes (Write slot) = (bytes ≡ [])
     ⊎ ((slot ≡ 0) × ((name : List ℕ) × IsDue name × IsBeginning bytes (line name)))

@@ -25,7 +25,7 @@ abbrev pub spots_by : Cut → Plan → List ℕ → ℕ → List Spot
 spots_by (Parts limit) plan x i = spots_from 1 (file_bytes (whole_by plan x)) i
 spots_by (Round n delim) plan x i = dealt_spots delim n plan.filing.names x i
 
--- the work without what it writes to standard output
+-- the work whose whole has nothing on standard output
 abbrev pub beside_output : Work → Work
 beside_output work = record work { whole = λ x. record (work.whole x) { out = [] } }
 

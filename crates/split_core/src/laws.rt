@@ -85,7 +85,8 @@ pub fn lines_are_dealt()
 /// different places, or one of them nowhere. So nothing is written that could still go into another file, and nothing
 /// is kept back that can't. This holds of all four ways to cut, of any byte that lines end with, and of both values of
 /// eliding; what it says of waiting, where the input so far needs no more files than there are names. Where a byte goes
-/// is said by spots, and each file has at each spot just the one byte that goes there; standard output has none.
+/// is said by spots, and each file has at each spot just the one byte that goes there; no spot is on standard
+/// output.
 pub fn agreed_is_settled()
     ensures outputs { (plan : Plan) → IsPositive plan.cut → (x : List ℕ)
         → IsAgreed (split_work plan) x ((split_work plan).settled x) }

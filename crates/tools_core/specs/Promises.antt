@@ -141,7 +141,7 @@ pub record CountAlike (one other : EndsAsked) : Type 0 where
 abbrev pub files_of : Run → List Slot
 files_of run = drop 2 run.outputs
 
--- the lines that tell of files, each of which was written before the file was opened
+-- the lines that tell of these files, in order
 abbrev pub lines_telling : List Slot → List ℕ
 lines_telling files = flat_map (λ (file : Slot). opening_line file.name) files
 

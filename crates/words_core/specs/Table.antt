@@ -1,6 +1,6 @@
 -- The tools and their options, as their manuals list them: POSIX.1-2017, XCU head, tail, split, csplit and tee; GNU
 -- coreutils manual, for `-q`, `-v`, `-z`, the `-c` of `head`, the `-C`, `-n`, `-d`, `-x`, `-e`, `-t` and
--- `--additional-suffix` and `-u` of `split`, the `--suppress-matched` of `csplit`, the `-F`, `--follow`, `--retry`,
+-- `--additional-suffix`, `-u` and `--verbose` of `split`, the `-b` and `--suppress-matched` of `csplit`, the `-F`, `--follow`, `--retry`,
 -- `-s`, `--pid` and `--max-unchanged-stats` of `tail`, the `-p` and `--output-error` of `tee`, and the long names;
 -- `--looks` is of these tools alone.
 use Rattle.std.specs.Prelude.{ℕ, Bool, true, false, List, [], ◌∷◌, map, filter, codes, Option, Some, None, Result, Ok, Err, if◌then◌else◌, eqb, bytes_eq}

@@ -1,7 +1,8 @@
 //! The tools and their options, as their manuals list them: POSIX.1-2017, XCU head, tail, split, csplit and tee; `-q`, `-v`,
-//! `-z`, the `-c` of `head`, the `-C`, `-n`, `-d`, `-x`, `-e`, `-t` and `--additional-suffix` of `split`, the
-//! `-b` and `--suppress-matched` of `csplit`, the `-F`, `--follow`, `--retry`, `-s`, `--pid` and `--max-unchanged-stats` of `tail`, the `-u` of `split`,
-//! the `-p` and `--output-error` of `tee` and the long names are GNU's; `--looks` is of these tools alone.
+//! `-z`, the `-c` of `head`, the `-C`, `-n`, `-d`, `-x`, `-e`, `-t`, `-u`, `--additional-suffix` and `--verbose` of
+//! `split`, the `-b` and `--suppress-matched` of `csplit`, the `-F`, `--follow`, `--retry`, `-s`, `--pid` and
+//! `--max-unchanged-stats` of `tail`, the `-p` and `--output-error` of `tee` and the long names are GNU's; `--looks` is of
+//! these tools alone.
 ghost use Rattle.std.specs.Prelude.{◌≡◌, [], ◌∷◌, map, option_map, IfNone, IfSome};
 ghost use Rattle.words_core.specs.Table.{beginning, begins_one, is_among, only_one, option_called, option_named, program_table, row_named, row_seen, tool_seen, tools};
 
@@ -20,7 +21,7 @@ pub enum Choice {
     Files,
     /// No headers.
     Quiet,
-    /// A header before each input.
+    /// A header before each input; of `split`, a line before each file.
     Verbose,
     /// The width of suffixes.
     SuffixLength,
