@@ -14,14 +14,14 @@ use Rattle.scan_core.specs.declared.hops.Hop.{Hop}
 use Rattle.scan_core.specs.declared.node.Node.{Node}
 use Rattle.scan_core.specs.declared.way.Way.{Way}
 use Rattle.scan_core.specs.inner.Closing.{Closer, Follows, HasLanded, IsApart, Passes}
-use Rattle.scan_core.specs.inner.Closures.{AreClosures, Closes, Stays}
+use Rattle.scan_core.specs.inner.Closures.{AreClosures, Closes, HasAnchors, IsPlain, Stays}
 use Rattle.scan_core.specs.inner.Hops.{AreHops, AreLandings, HopsTo, IsHop, IsLanding, Meets, PartsTo, end_of, no_hop}
 use Rattle.scan_core.specs.inner.Sets.{Flows, FlowsOn, LeadsOn}
 use Rattle.scan_core.specs.inner.Ways.{IsWay}
 use Rattle.scan_core.specs.inner.Words.{Adds, IsIn, SpreadsOut, unset, width}
 use Rattle.scan_core.proofs.Countings.{set_elsewhere}
-use Rattle.scan_core.proofs.Enterings.{at_index, each_more, each_to, flows_of, led_by}
-use Rattle.scan_core.proofs.Insides.{adds_anywhere, adds_both, entered_one, either_bit, fresh_bit, is_in_word, is_within, left_bit, right_bit, spreads_out, unset-set}
+use Rattle.scan_core.proofs.Enterings.{at_index, at_least, each_more, each_to, flows_of, led_by}
+use Rattle.scan_core.proofs.Insides.{adds_anywhere, adds_both, entered_one, either_bit, flows_join, fresh_bit, is_in_word, is_within, left_bit, right_bit, spreads_out, unset-set}
 
 -- some of a word's numbers are those of a hop, or none
 pub one_of : (word from : ℕ) → word < 2 ^ 64 → (bit_and word from ≡ 0 → ⊥) → (bit : ℕ) × (bit < 64) × (bit_at word bit ≡ 1) × (bit_at from bit ≡ 1)
@@ -119,15 +119,30 @@ parting_ends {all = all} {onward} {landings} p h met number to f = elim (met num
 
 -- At a line's front and end.
 
-pub plain_more : (code : List Node) {count : ℕ} {read : Node} → ((at_first at_last : Bool) (from to : ℕ) → from < count → Flows code at_first at_last from to → Flows code false false from to)
-    → read ≡ get_or code count read → count < length code → ((at_first at_last : Bool) (from to : ℕ) → LeadsOn read at_first at_last from to → LeadsOn read false false from to)
-    → (at_first at_last : Bool) (from to : ℕ) → from < count + 1 → Flows code at_first at_last from to → Flows code false false from to
-plain_more code {count} {read} before e inside plain at_first at_last from to h f = elim (cases_eq from count) [
-  | inl same ↦
-      let here = subst (At code count) (sym e) (at_index code count read inside) in
-      let flow = flows_of code read at_first at_last to here (subst (λ n. Flows code at_first at_last n to) same f) in
-      subst (λ n. Flows code false false n to) (sym same) (read, here, plain at_first at_last count to flow)
-  | inr other ↦ before at_first at_last from to (omega (arith, h, other)) f
+pub plain_node : (code : List Node) {number : ℕ} {read : Node} → read ≡ get_or code number read → number < length code
+    → ((at_first at_last : Bool) (from to : ℕ) → LeadsOn read at_first at_last from to → LeadsOn read false false from to) → IsPlain code number
+plain_node code {number} {read} e inside plain = λ at_first at_last to f.
+    let here = subst (At code number) (sym e) (at_index code number read inside) in
+    (read, here, plain at_first at_last number to (flows_of code read at_first at_last to here f))
+
+pub plain_beyond : (code : List Node) (number : ℕ) → length code ≤ number → IsPlain code number
+plain_beyond code number h = λ at_first at_last to f. absurd (let l = at_least code number f.0 f.1 in omega (arith, l, h))
+
+-- the first words of a set have no anchors
+abbrev pub NoneAnchors : List Node → List ℕ → ℕ → Type 0
+NoneAnchors code words count = (number : ℕ) → number < 64 * count → IsIn words number → IsPlain code number
+
+pub none_more : (code : List Node) (words : List ℕ) (count anchors : ℕ) → NoneAnchors code words count → HasAnchors code count anchors
+    → bit_and (get_or words count 0) anchors ≡ 0 → NoneAnchors code words (count + 1)
+none_more code words count anchors before has none = λ number h k. elim (cases_lt number (64 * count)) [
+  | inl l ↦ before number l k
+  | inr l ↦
+      let same : number ≡ count * 64 + number % 64 = omega (arith, h, l) in
+      let one = (is_in_word words count (number % 64) (omega arith)).1 (subst (IsIn words) same k) in
+      elim (has (number % 64) (omega arith)) [
+        | inl two ↦ absurd (none_of (get_or words count 0) anchors (number % 64) none one two)
+        | inr plain ↦ subst (IsPlain code) (sym same) plain
+      ]
 ]
 
 -- Closing a word.
@@ -460,9 +475,9 @@ pub record Spreads (code : List Node) (closures : Closures) (old now : List ℕ)
 pub spreads_more : {code : List Node} {closures : Closures} {old now new : List ℕ} {before over : ℕ} → Spreads code closures old now before → Passes code closures now new over → Spreads code closures old new over
 spreads_more s p = record { adds = adds_both s.adds p.closer.adds; apart = p.closer.apart; done = p.done }
 
-pub spreads_end : {code : List Node} {closures : Closures} (base : List ℕ) (landings : List Hop) (at_first at_last : Bool) {old now new : List ℕ} {over : ℕ} → Spreads code closures old now over → over ≡ 0 → HasLanded code base landings now new → base ≡ closures.base.items → landings ≡ closures.hops.landings.items
-    → ((number : ℕ) → IsIn closures.base.items number → IsIn old number) → ((from to : ℕ) → Flows code at_first at_last from to → Flows code false false from to) → SpreadsOut code at_first at_last old new
-spreads_end {code} base landings at_first at_last {old} {now} {new} s z l eb el begun plain = spreads_out (adds_anywhere at_first at_last (adds_both s.adds l.adds)) (λ from to k f. closed from to k (plain from to f))
+pub spreads_end : {code : List Node} {closures : Closures} (base : List ℕ) (landings : List Hop) {old now new : List ℕ} {over : ℕ} → Spreads code closures old now over → over ≡ 0 → HasLanded code base landings now new → base ≡ closures.base.items → landings ≡ closures.hops.landings.items
+    → ((number : ℕ) → IsIn closures.base.items number → IsIn old number) → SpreadsOut code false false old new
+spreads_end {code} base landings {old} {now} {new} s z l eb el begun = spreads_out (adds_both s.adds l.adds) closed
   where
     closed : (from to : ℕ) → IsIn new from → Flows code false false from to → IsIn new to
     closed from to k flow = elim (l.over from k) [
@@ -472,6 +487,24 @@ spreads_end {code} base landings at_first at_last {old} {now} {new} s z l eb el 
       ]
       | inr ends ↦ l.adds.kept to (s.adds.kept to (begun to (subst (λ w. IsIn w to) eb (ends to flow))))
     ]
+
+-- At a line's front and end after that.
+
+adds_of : {code : List Node} {at_first at_last : Bool} {old new : List ℕ} → SpreadsOut code at_first at_last old new → Adds code at_first at_last old new
+adds_of s = record { size = s.size; kept = λ number k. (s.exact number).1 (number, k, (0, refl)); from = λ number. (s.exact number).0 }
+
+closed_of : {code : List Node} {at_first at_last : Bool} {old new : List ℕ} → SpreadsOut code at_first at_last old new → (from to : ℕ) → IsIn new from → Flows code at_first at_last from to → IsIn new to
+closed_of {code} {at_first} {at_last} s from to k f =
+    let was = (s.exact from).0 k in
+    (s.exact to).1 (was.0, was.1, flows_join code at_first at_last 1 was.0 from to was.2 (from, refl, f))
+
+pub spreads_plainly : {code : List Node} {at_first at_last : Bool} {old new : List ℕ} → SpreadsOut code false false old new
+    → ((from to : ℕ) → IsIn new from → Flows code at_first at_last from to → Flows code false false from to) → SpreadsOut code at_first at_last old new
+spreads_plainly {at_first = at_first} {at_last} s plain = spreads_out (adds_anywhere at_first at_last (adds_of s)) (λ from to k f. closed_of s from to k (plain from to k f))
+
+pub spreads_again : {code : List Node} {at_first at_last : Bool} {old now new : List ℕ} → SpreadsOut code false false old now → SpreadsOut code at_first at_last now new
+    → SpreadsOut code at_first at_last old new
+spreads_again {at_first = at_first} {at_last} s t = spreads_out (adds_both (adds_anywhere at_first at_last (adds_of s)) (adds_of t)) (closed_of t)
 
 pub not_zero : (n : ℕ) → IsTrue (not (eqb n 0)) → n ≡ 0 → ⊥
 not_zero n t = eqb-false n 0 (not-true (eqb n 0) t)

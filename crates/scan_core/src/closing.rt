@@ -3,7 +3,7 @@
 
 ghost use Rattle.std.specs.Prelude.{◌≡◌, ◌<◌, ◌+◌, ◌*◌, ℕ, false, IsFalse, length};
 ghost use Rattle.scan_core.specs.inner.Closing.{Follows, HasLanded, IsApart, Passes};
-ghost use Rattle.scan_core.specs.inner.Closures.{AreClosures};
+ghost use Rattle.scan_core.specs.inner.Closures.{AreClosures, IsPlain};
 ghost use Rattle.scan_core.specs.inner.Hops.{AreLandings, IsHop};
 ghost use Rattle.scan_core.specs.inner.Sets.{IsCode, Flows};
 ghost use Rattle.scan_core.specs.inner.Words.{Adds, IsIn, SpreadsOut, width};
@@ -82,17 +82,54 @@ fn land(words: &mut [u64], nodes: &[Node], base: &[u64], landings: &[Hop])
     }
 }
 
-/// Whether a node may lead on at this place that doesn't at each.
+/// Enters all that a set leads to at any place, without a byte. The base is in the set.
 #[inline(always)]
-fn is_anchored(nodes: &[Node], closures: &Closures, at_first: bool, at_last: bool) -> bool
+fn spread_anywhere(words: &mut [u64], nodes: &[Node], closures: &Closures)
+    requires size { length words.old ≡ width nodes.now }
     requires closures { AreClosures nodes.now closures.now }
-    ensures { IsFalse result → (from to : ℕ) → Flows nodes.now at_first at_last from to
+    requires begun { (number : ℕ) → IsIn closures.now.base.items number → IsIn words.old number }
+    ensures { SpreadsOut nodes.now false false words.old words.new }
+{
+    close_words(words, nodes, closures);
+    let mut over = 1;
+    'passes: while over != 0 {
+        over = follow_all(words, nodes, closures);
+    }
+    land(words, nodes, &closures.base, &closures.hops.landings);
+}
+
+/// Whether a number of a set may lead to more at a line's front or end than elsewhere.
+fn has_anchors(words: &[u64], nodes: &[Node], closures: &Closures) -> bool
+    requires size { length words.now ≡ width nodes.now }
+    requires closures { AreClosures nodes.now closures.now }
+    ensures { IsFalse result → (number : ℕ) → IsIn words.now number → IsPlain nodes.now number }
+{
+    for at in 0..words.len() {
+        if words[at] & closures.anchors[at] != 0 {
+            return true;
+        }
+    }
+    false
+}
+
+/// Whether a number of a set may lead to more at this place than elsewhere.
+#[inline(always)]
+fn is_anchored(
+    words: &[u64],
+    nodes: &[Node],
+    closures: &Closures,
+    at_first: bool,
+    at_last: bool,
+) -> bool
+    requires size { length words.now ≡ width nodes.now }
+    requires closures { AreClosures nodes.now closures.now }
+    ensures { IsFalse result → (from to : ℕ) → IsIn words.now from → Flows nodes.now at_first at_last from to
         → Flows nodes.now false false from to }
 {
-    if !closures.anchored {
-        return false;
+    if at_first || at_last {
+        return has_anchors(words, nodes, closures);
     }
-    at_first || at_last
+    false
 }
 
 /// Enters all that a set leads to at one place, without a byte. The base is in the set.
@@ -104,14 +141,8 @@ pub fn spread(words: &mut [u64], nodes: &[Node], closures: &Closures, at_first: 
     requires begun { (number : ℕ) → IsIn closures.now.base.items number → IsIn words.old number }
     ensures { SpreadsOut nodes.now at_first at_last words.old words.new }
 {
-    if is_anchored(nodes, closures, at_first, at_last) {
+    spread_anywhere(words, nodes, closures);
+    if is_anchored(words, nodes, closures, at_first, at_last) {
         spread_all(words, nodes, at_first, at_last);
-        return;
     }
-    close_words(words, nodes, closures);
-    let mut over = 1;
-    'passes: while over != 0 {
-        over = follow_all(words, nodes, closures);
-    }
-    land(words, nodes, &closures.base, &closures.hops.landings);
 }

@@ -3,7 +3,7 @@
 ghost use Rattle.std.specs.Prelude.{◌≡◌, ◌⊎◌, ◌↔◌, ◌<◌, ◌≤◌, ◌+◌, ◌*◌, ◌/◌, ◌%◌, ◌^◌, ℕ, Bool, false, IsFalse, IsTrue, IfOk, IfErr, IfSome, None, length};
 ghost use Rattle.std.specs.Int.{bit_at};
 ghost use Rattle.bre_core.specs.declared.fault.BreFault.TheVariants.{Memory};
-ghost use Rattle.scan_core.specs.inner.Closures.{AreClosures, Closes, IsInside, IsLeading, IsPlain};
+ghost use Rattle.scan_core.specs.inner.Closures.{AreClosures, Closes, HasAnchors, IsInside, IsLeading, IsPlain};
 ghost use Rattle.scan_core.specs.inner.Each.{AreEach};
 ghost use Rattle.scan_core.specs.inner.Sets.{IsCode, Flows, LeadsOn};
 ghost use Rattle.scan_core.specs.inner.Words.{IsIn, width};
@@ -26,8 +26,8 @@ pub struct Closures {
     pub inside: Vec<u64>,
     /// What leads out of a word, and of the base.
     pub hops: Hops,
-    /// Whether some node leads on only at a line's front, or only at its end.
-    pub anchored: bool,
+    /// For each word, the numbers whose nodes lead on only at a line's front, or only at its end.
+    pub anchors: Vec<u64>,
 }
 
 /// The numbers of a word whose nodes lead out of a set.
@@ -55,16 +55,26 @@ fn is_anchor(node: &Node) -> bool
     }
 }
 
-/// Whether some node does.
-fn has_anchors(nodes: &[Node]) -> bool
-    ensures { IsFalse result → IsPlain nodes.now }
+/// Whether a number's node leads to the same numbers at each place of a line.
+fn is_plain(nodes: &[Node], number: usize) -> bool
+    ensures { IsTrue result → IsPlain nodes.now number }
 {
-    for number in 0..nodes.len() {
-        if is_anchor(&nodes[number]) {
-            return true;
-        }
+    if number >= nodes.len() {
+        return true;
     }
-    false
+    !is_anchor(&nodes[number])
+}
+
+/// The numbers of a word whose nodes lead on only at a line's front, or only at its end.
+fn anchors_in(nodes: &[Node], at: usize) -> u64
+    requires { at < width nodes.now }
+    ensures { HasAnchors nodes.now at result }
+{
+    let mut word: u64 = 0;
+    for bit in 0..64usize {
+        word |= (!is_plain(nodes, at * 64 + bit) as u64) << bit;
+    }
+    word
 }
 
 /// A number's bit, if it stands in this word.
@@ -171,15 +181,16 @@ pub fn closures_of(alloc: Global, nodes: &[Node]) -> Result<Closures, BreFault>
     let begun = base.as_slice();
     let hops = hops_of(alloc, nodes, begun)?;
     let mut leads = Vec::new(alloc);
+    let mut anchors = Vec::new(alloc);
     for at in 0..nodes.len() / 64 + 1 {
         leads.push(leading(nodes, begun, at))?;
+        anchors.push(anchors_in(nodes, at))?;
     }
-    let anchored = has_anchors(nodes);
     Ok(Closures {
         base,
         leads,
         inside,
         hops,
-        anchored,
+        anchors,
     })
 }

@@ -1,5 +1,5 @@
 -- What numbers lead to without a byte, ready to be looked up.
-use Rattle.std.specs.Prelude.{◌≡◌, ◌⊎◌, ◌↔◌, ℕ, ◌+◌, ◌*◌, ◌/◌, ◌%◌, ◌^◌, ◌<◌, Bool, false, IsFalse, List, length}
+use Rattle.std.specs.Prelude.{◌≡◌, ◌⊎◌, ◌↔◌, ℕ, ◌+◌, ◌*◌, ◌/◌, ◌%◌, ◌^◌, ◌<◌, Bool, false, List, length}
 use Rattle.std.specs.Int.{bit_at}
 use Rattle.scan_core.specs.declared.closures.Closures.{Closures}
 use Rattle.scan_core.specs.declared.node.Node.{Node}
@@ -18,10 +18,14 @@ abbrev pub IsLeading : List Node → List ℕ → ℕ → ℕ → Type 0
 IsLeading code words at word = (bit : ℕ) (to : ℕ) → bit < 64 → Flows code false false (at * 64 + bit) to
     → (bit_at word bit ≡ 1) ⊎ IsIn words to
 
--- at a line's front and at its end no node leads to more than elsewhere
-abbrev pub IsPlain : List Node → Type 0
-IsPlain code = (at_first at_last : Bool) (from to : ℕ) → Flows code at_first at_last from to
+-- at a line's front and at its end a number leads to no more than elsewhere
+abbrev pub IsPlain : List Node → ℕ → Type 0
+IsPlain code from = (at_first at_last : Bool) (to : ℕ) → Flows code at_first at_last from to
     → Flows code false false from to
+
+-- where a number of a word leads to more there, the bit is set
+abbrev pub HasAnchors : List Node → ℕ → ℕ → Type 0
+HasAnchors code at word = (bit : ℕ) → bit < 64 → (bit_at word bit ≡ 1) ⊎ IsPlain code (at * 64 + bit)
 
 -- a step without a byte to a number of the same word
 abbrev pub Stays : List Node → ℕ → ℕ → Type 0
@@ -47,4 +51,4 @@ pub record AreClosures (code : List Node) (closures : Closures) : Type 0 where
   pub leads : AreEach 0 (IsLeading code closures.base.items) (width code) closures.leads.items
   pub inside : AreEach 0 (IsInside code) (width code * 2048) closures.inside.items
   pub hops : AreParted code closures.base.items closures.hops
-  pub plain : IsFalse closures.anchored → IsPlain code
+  pub anchors : AreEach 0 (HasAnchors code) (width code) closures.anchors.items

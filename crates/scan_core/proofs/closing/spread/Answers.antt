@@ -1,8 +1,8 @@
-use Rattle.scan_core.proofs.Closings.{spreads_more, spreads_end}
+use Rattle.scan_core.proofs.Closings.{spreads_again, spreads_plainly}
 use Rattle.scan_core.proofs.closing.spread.Goals as goal
 
-pub passes-preserved : goal.passes-preserved
-passes-preserved c = spreads_more c.passes.invariant c.follow_all-over.ensures
+pub returns-then-is_anchored : goal.returns-then-is_anchored
+returns-then-is_anchored c = spreads_again c.spread_anywhere.ensures c.spread_all.ensures
 
-pub returns : goal.returns
-returns c = spreads_end _ _ c.args.at_first c.args.at_last c.passes.invariant c.passes-test.false c.land.ensures c.deref.ensures.value c.deref-2.ensures.value c.requires.begun (c.is_anchored.ensures c.if-is_anchored.false)
+pub returns-else-is_anchored : goal.returns-else-is_anchored
+returns-else-is_anchored c = spreads_plainly c.spread_anywhere.ensures (c.is_anchored.ensures c.if-is_anchored.false)

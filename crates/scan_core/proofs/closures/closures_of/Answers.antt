@@ -7,7 +7,7 @@ use Rattle.scan_core.proofs.Enterings.{each_more, each_to}
 use Rattle.scan_core.proofs.closures.closures_of.Goals as goal
 
 pub loop-at-preserved : goal.loop-at-preserved
-loop-at-preserved c = each_more c.loop-at.invariant c.leading.ensures c.in_ok-push.ensures.items
+loop-at-preserved c = (each_more c.loop-at.invariant.0 c.leading.ensures c.in_ok-push.ensures.items, each_more c.loop-at.invariant.1 c.anchors_in.ensures c.in_ok-push-2.ensures.items)
 
 pub returns-clause-ok : goal.returns-clause-ok
 returns-clause-ok c =
@@ -16,8 +16,8 @@ returns-clause-ok c =
     let value = c.as_slice-begun.ensures.value in
     record {
       base = c.in_ok-base.ensures.ok;
-      leads = subst (λ words. AreEach 0 (IsLeading nodes words) (width nodes) c.loop-at.leads.items) value (each_to c.loop-at.invariant all);
+      leads = subst (λ words. AreEach 0 (IsLeading nodes words) (width nodes) c.loop-at.leads.items) value (each_to c.loop-at.invariant.0 all);
       inside = c.in_ok-inside.ensures.ok;
       hops = subst (λ words. AreParted nodes words c.in_ok-hops.hops) value c.in_ok-hops.ensures.ok;
-      plain = c.has_anchors-anchored.ensures;
+      anchors = each_to c.loop-at.invariant.1 all;
     }

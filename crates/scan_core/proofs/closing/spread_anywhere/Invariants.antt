@@ -1,7 +1,7 @@
 use Rattle.std.proofs.Common.{◌+◌, min}
 use Rattle.scan_core.specs.inner.Words.{unset}
 use Rattle.scan_core.proofs.Closings.{Spreads}
-use Rattle.scan_core.proofs.closing.spread.Given as goal
+use Rattle.scan_core.proofs.closing.spread_anywhere.Given as goal
 
 abbrev pub invariant-passes : goal.invariant-passes
 invariant-passes l = Spreads l.nodes l.closures l.fn.words l.words l.over

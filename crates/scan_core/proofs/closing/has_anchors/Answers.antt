@@ -1,0 +1,17 @@
+use Rattle.std.proofs.Common.{◌<◌, ap, sym, ◌∙◌, arith, bit_and, get_or}
+use Rattle.std.proofs.lemmas.List.{get_or_default}
+use Rattle.scan_core.specs.inner.Words.{width}
+use Rattle.scan_core.proofs.Closings.{none_more}
+use Rattle.scan_core.proofs.Insides.{is_within}
+use Rattle.scan_core.proofs.closing.has_anchors.Goals as goal
+
+pub loop-at-preserved : goal.loop-at-preserved
+loop-at-preserved c =
+    let at = c.loop-at.at in
+    let anchors = c.args.closures.now.anchors.items in
+    let inside : at < width c.args.nodes.now = (let s = c.requires.size in let t = c.loop-at-test.true in omega (arith, s, t)) in
+    let read = c.index.ensures ∙ get_or_default anchors at _ 0 (let s = c.requires.closures.anchors.size in omega (arith, s, inside)) in
+    none_more c.args.nodes.now c.args.words.now at _ c.loop-at.invariant (c.requires.closures.anchors.each at inside) (ap (bit_and (get_or c.args.words.now at 0)) (sym read) ∙ c.if-words-at-ne0.false)
+
+pub returns : goal.returns
+returns c = λ none number k. c.loop-at.invariant number (let w = is_within c.args.words.now number k in let t = c.loop-at-test.false in omega (arith, w, t)) k
