@@ -258,12 +258,14 @@ fn tells_in_pieces(
 /// Whether standard output has a line for each file that was opened, in order, and nothing else.
 fn has_told(alloc: Global, outs: &MemOut) -> Result<bool, AllocError> {
     let mut lines = Vec::new(alloc);
-    let mut slot = 2usize;
-    while !outs.name(slot).is_empty() && slot < 100 {
+    for slot in 2..100usize {
+        let name = outs.name(slot);
+        if name.is_empty() {
+            break;
+        }
         lines.extend_from_slice(b"creating file '")?;
-        lines.extend_from_slice(outs.name(slot).as_bytes())?;
+        lines.extend_from_slice(name.as_bytes())?;
         lines.extend_from_slice(b"'\n")?;
-        slot = slot.saturating_add(1);
     }
     Ok(outs.bytes(0) == lines.as_slice())
 }
