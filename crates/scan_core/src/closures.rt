@@ -11,7 +11,7 @@ ghost use Rattle.scan_core.specs.inner.Words.{IsIn, width};
 use crate::hops::{Hops, hops_of, is_within};
 use crate::node::Node;
 use crate::way::{is_open, way_of};
-use crate::worklist::base_of;
+use crate::worklist::begun_of;
 use bre_core::BreFault;
 use std::alloc::Global;
 
@@ -20,6 +20,8 @@ use std::alloc::Global;
 pub struct Closures {
     /// What number 0 leads to, itself among it: since a search begins at every place, it is in each set.
     pub base: Vec<u64>,
+    /// What number 0 leads to at a line's front.
+    pub front: Vec<u64>,
     /// For each word, the numbers whose nodes lead to others than the base.
     pub leads: Vec<u64>,
     /// For each word, each eight of its numbers, and each choice from these: what the chosen ones lead to in the word.
@@ -176,7 +178,8 @@ pub fn closures_of(alloc: Global, nodes: &[Node]) -> Result<Closures, BreFault>
     ensures ok { IfOk result (AreClosures nodes.now) }
     ensures err { IfErr result (λ fault. fault ≡ Memory) }
 {
-    let base = base_of(alloc, nodes)?;
+    let base = begun_of(alloc, nodes, false)?;
+    let front = begun_of(alloc, nodes, true)?;
     let inside = insides_of(alloc, nodes)?;
     let begun = base.as_slice();
     let hops = hops_of(alloc, nodes, begun)?;
@@ -188,6 +191,7 @@ pub fn closures_of(alloc: Global, nodes: &[Node]) -> Result<Closures, BreFault>
     }
     Ok(Closures {
         base,
+        front,
         leads,
         inside,
         hops,
