@@ -120,13 +120,13 @@ parting_ends {all = all} {onward} {landings} p h met number to f = elim (met num
 -- At a line's front and end.
 
 pub plain_node : (code : List Node) {number : ℕ} {read : Node} → read ≡ get_or code number read → number < length code
-    → ((at_first at_last : Bool) (from to : ℕ) → LeadsOn read at_first at_last from to → LeadsOn read false false from to) → IsPlain code number
-plain_node code {number} {read} e inside plain = λ at_first at_last to f.
+    → ((from to : ℕ) → LeadsOn read false true from to → LeadsOn read false false from to) → IsPlain code number
+plain_node code {number} {read} e inside plain = λ to f.
     let here = subst (At code number) (sym e) (at_index code number read inside) in
-    (read, here, plain at_first at_last number to (flows_of code read at_first at_last to here f))
+    (read, here, plain number to (flows_of code read false true to here f))
 
 pub plain_beyond : (code : List Node) (number : ℕ) → length code ≤ number → IsPlain code number
-plain_beyond code number h = λ at_first at_last to f. absurd (let l = at_least code number f.0 f.1 in omega (arith, l, h))
+plain_beyond code number h = λ to f. absurd (let l = at_least code number f.0 f.1 in omega (arith, l, h))
 
 -- the first words of a set have no anchors
 abbrev pub NoneAnchors : List Node → List ℕ → ℕ → Type 0

@@ -98,7 +98,7 @@ fn spread_anywhere(words: &mut [u64], nodes: &[Node], closures: &Closures)
     land(words, nodes, &closures.base, &closures.hops.landings);
 }
 
-/// Whether a number of a set may lead to more at a line's front or end than elsewhere.
+/// Whether a number of a set may lead to more at a line's end than before it.
 fn has_anchors(words: &[u64], nodes: &[Node], closures: &Closures) -> bool
     requires size { length words.now ≡ width nodes.now }
     requires closures { AreClosures nodes.now closures.now }
@@ -126,7 +126,10 @@ fn is_anchored(
     ensures { IsFalse result → (from to : ℕ) → IsIn words.now from → Flows nodes.now at_first at_last from to
         → Flows nodes.now false false from to }
 {
-    if at_first || at_last {
+    if at_first {
+        return true;
+    }
+    if at_last {
         return has_anchors(words, nodes, closures);
     }
     false

@@ -22,10 +22,9 @@ abbrev pub IsLeading : List Node → List ℕ → ℕ → ℕ → Type 0
 IsLeading code words at word = (bit : ℕ) (to : ℕ) → bit < 64 → Flows code false false (at * 64 + bit) to
     → (bit_at word bit ≡ 1) ⊎ IsIn words to
 
--- at a line's front and at its end a number leads to no more than elsewhere
+-- at a line's end a number leads to no more than before it
 abbrev pub IsPlain : List Node → ℕ → Type 0
-IsPlain code from = (at_first at_last : Bool) (to : ℕ) → Flows code at_first at_last from to
-    → Flows code false false from to
+IsPlain code from = (to : ℕ) → Flows code false true from to → Flows code false false from to
 
 -- where a number of a word leads to more there, the bit is set
 abbrev pub HasAnchors : List Node → ℕ → ℕ → Type 0
