@@ -14,13 +14,13 @@ use Rattle.scan_core.specs.declared.hops.Hop.{Hop}
 use Rattle.scan_core.specs.declared.node.Node.{Node}
 use Rattle.scan_core.specs.declared.way.Way.{Way}
 use Rattle.scan_core.specs.inner.Closing.{Closer, Follows, HasLanded, IsApart, Passes}
-use Rattle.scan_core.specs.inner.Closures.{AreClosures, Closes, HasAnchors, IsPlain, Stays}
+use Rattle.scan_core.specs.inner.Closures.{AreClosures, Closes, HasAnchors, IsBase, IsBegun, IsPlain, Stays}
 use Rattle.scan_core.specs.inner.Hops.{AreHops, AreLandings, HopsTo, IsHop, IsLanding, Meets, PartsTo, end_of, no_hop}
 use Rattle.scan_core.specs.inner.Sets.{Flows, FlowsOn, LeadsOn}
 use Rattle.scan_core.specs.inner.Ways.{IsWay}
 use Rattle.scan_core.specs.inner.Words.{Adds, IsIn, SpreadsOut, unset, width}
 use Rattle.scan_core.proofs.Countings.{set_elsewhere}
-use Rattle.scan_core.proofs.Enterings.{at_index, at_least, each_more, each_to, flows_of, led_by}
+use Rattle.scan_core.proofs.Enterings.{at_index, at_least, each_more, each_to, flows_of, led_by, parts_anywhere}
 use Rattle.scan_core.proofs.Insides.{adds_anywhere, adds_both, entered_one, either_bit, flows_join, fresh_bit, is_in_word, is_within, left_bit, right_bit, spreads_out, unset-set}
 
 -- some of a word's numbers are those of a hop, or none
@@ -120,13 +120,13 @@ parting_ends {all = all} {onward} {landings} p h met number to f = elim (met num
 -- At a line's front and end.
 
 pub plain_node : (code : List Node) {number : ℕ} {read : Node} → read ≡ get_or code number read → number < length code
-    → ((at_first at_last : Bool) (from to : ℕ) → LeadsOn read at_first at_last from to → LeadsOn read false false from to) → IsPlain code number
-plain_node code {number} {read} e inside plain = λ at_first at_last to f.
+    → ((from to : ℕ) → LeadsOn read false true from to → LeadsOn read false false from to) → IsPlain code number
+plain_node code {number} {read} e inside plain = λ to f.
     let here = subst (At code number) (sym e) (at_index code number read inside) in
-    (read, here, plain at_first at_last number to (flows_of code read at_first at_last to here f))
+    (read, here, plain number to (flows_of code read false true to here f))
 
 pub plain_beyond : (code : List Node) (number : ℕ) → length code ≤ number → IsPlain code number
-plain_beyond code number h = λ at_first at_last to f. absurd (let l = at_least code number f.0 f.1 in omega (arith, l, h))
+plain_beyond code number h = λ to f. absurd (let l = at_least code number f.0 f.1 in omega (arith, l, h))
 
 -- the first words of a set have no anchors
 abbrev pub NoneAnchors : List Node → List ℕ → ℕ → Type 0
@@ -488,7 +488,18 @@ spreads_end {code} base landings {old} {now} {new} s z l eb el begun = spreads_o
       | inr ends ↦ l.adds.kept to (s.adds.kept to (begun to (subst (λ w. IsIn w to) eb (ends to flow))))
     ]
 
--- At a line's front and end after that.
+-- At a line's front and end.
+
+pub spreads_front : {code : List Node} {base front old new : List ℕ} {at_first at_last : Bool} → IsBase code base → IsBegun code true front → length old ≡ width code → ((number : ℕ) → IsIn base number → IsIn old number)
+    → ((number : ℕ) → IsIn old number → IsIn base number) → new ≡ front → IsTrue at_first → at_last ≡ false → SpreadsOut code at_first at_last old new
+spreads_front {code} {old = old} {new} {at_last = at_last} b f size begun only e t l = subst (λ first. SpreadsOut code first at_last old new) (sym t) (subst (λ last. SpreadsOut code true last old new) (sym l) (record {
+  size = ap length e ∙ f.size ∙ sym size;
+  exact = λ number. (
+    λ k. (0, begun 0 ((b.exact 0).1 (0, refl)), (f.exact number).0 (subst (λ w. IsIn w number) e k)),
+    λ k. let on = (b.exact k.0).0 (only k.0 k.1) in
+        subst (λ w. IsIn w number) (sym e) ((f.exact number).1 (flows_join code true false k.2.0 0 k.0 number (on.0, parts_anywhere code true false on.0 0 k.0 on.1) k.2.1)),
+  );
+}))
 
 adds_of : {code : List Node} {at_first at_last : Bool} {old new : List ℕ} → SpreadsOut code at_first at_last old new → Adds code at_first at_last old new
 adds_of s = record { size = s.size; kept = λ number k. (s.exact number).1 (number, k, (0, refl)); from = λ number. (s.exact number).0 }

@@ -1,7 +1,7 @@
 //! Entering all that follows without a byte, as it was made ready: each word is closed by itself, and then the hops are
 //! followed.
 
-ghost use Rattle.std.specs.Prelude.{◌≡◌, ◌<◌, ◌+◌, ◌*◌, ℕ, false, IsFalse, length};
+ghost use Rattle.std.specs.Prelude.{◌≡◌, ◌<◌, ◌+◌, ◌*◌, ℕ, false, IsFalse, IsTrue, length};
 ghost use Rattle.scan_core.specs.inner.Closing.{Follows, HasLanded, IsApart, Passes};
 ghost use Rattle.scan_core.specs.inner.Closures.{AreClosures, IsPlain};
 ghost use Rattle.scan_core.specs.inner.Hops.{AreLandings, IsHop};
@@ -98,7 +98,7 @@ fn spread_anywhere(words: &mut [u64], nodes: &[Node], closures: &Closures)
     land(words, nodes, &closures.base, &closures.hops.landings);
 }
 
-/// Whether a number of a set may lead to more at a line's front or end than elsewhere.
+/// Whether a number of a set may lead to more at a line's end than before it.
 fn has_anchors(words: &[u64], nodes: &[Node], closures: &Closures) -> bool
     requires size { length words.now ≡ width nodes.now }
     requires closures { AreClosures nodes.now closures.now }
@@ -126,21 +126,29 @@ fn is_anchored(
     ensures { IsFalse result → (from to : ℕ) → IsIn words.now from → Flows nodes.now at_first at_last from to
         → Flows nodes.now false false from to }
 {
-    if at_first || at_last {
+    if at_first {
+        return true;
+    }
+    if at_last {
         return has_anchors(words, nodes, closures);
     }
     false
 }
 
-/// Enters all that a set leads to at one place, without a byte. The base is in the set.
+/// Enters all that a set leads to at one place, without a byte. The base is in the set, and nothing else at a line's front.
 #[inline(always)]
 pub fn spread(words: &mut [u64], nodes: &[Node], closures: &Closures, at_first: bool, at_last: bool)
     requires code { IsCode nodes.now }
     requires size { length words.old ≡ width nodes.now }
     requires closures { AreClosures nodes.now closures.now }
     requires begun { (number : ℕ) → IsIn closures.now.base.items number → IsIn words.old number }
+    requires front { IsTrue at_first → (number : ℕ) → IsIn words.old number → IsIn closures.now.base.items number }
     ensures { SpreadsOut nodes.now at_first at_last words.old words.new }
 {
+    if at_first && !at_last {
+        words.copy_from_slice(&closures.front);
+        return;
+    }
     spread_anywhere(words, nodes, closures);
     if is_anchored(words, nodes, closures, at_first, at_last) {
         spread_all(words, nodes, at_first, at_last);

@@ -1,6 +1,6 @@
 //! What follows without a byte, ready to be looked up: within a word for eight numbers at once, and out of it by hops.
 
-ghost use Rattle.std.specs.Prelude.{◌≡◌, ◌⊎◌, ◌↔◌, ◌<◌, ◌≤◌, ◌+◌, ◌*◌, ◌/◌, ◌%◌, ◌^◌, ℕ, Bool, false, IsFalse, IsTrue, IfOk, IfErr, IfSome, None, length};
+ghost use Rattle.std.specs.Prelude.{◌≡◌, ◌⊎◌, ◌↔◌, ◌<◌, ◌≤◌, ◌+◌, ◌*◌, ◌/◌, ◌%◌, ◌^◌, ℕ, true, false, IsFalse, IsTrue, IfOk, IfErr, IfSome, None, length};
 ghost use Rattle.std.specs.Int.{bit_at};
 ghost use Rattle.bre_core.specs.declared.fault.BreFault.TheVariants.{Memory};
 ghost use Rattle.scan_core.specs.inner.Closures.{AreClosures, Closes, HasAnchors, IsInside, IsLeading, IsPlain};
@@ -11,7 +11,7 @@ ghost use Rattle.scan_core.specs.inner.Words.{IsIn, width};
 use crate::hops::{Hops, hops_of, is_within};
 use crate::node::Node;
 use crate::way::{is_open, way_of};
-use crate::worklist::base_of;
+use crate::worklist::begun_of;
 use bre_core::BreFault;
 use std::alloc::Global;
 
@@ -20,13 +20,15 @@ use std::alloc::Global;
 pub struct Closures {
     /// What number 0 leads to, itself among it: since a search begins at every place, it is in each set.
     pub base: Vec<u64>,
+    /// What number 0 leads to at a line's front.
+    pub front: Vec<u64>,
     /// For each word, the numbers whose nodes lead to others than the base.
     pub leads: Vec<u64>,
     /// For each word, each eight of its numbers, and each choice from these: what the chosen ones lead to in the word.
     pub inside: Vec<u64>,
     /// What leads out of a word, and of the base.
     pub hops: Hops,
-    /// For each word, the numbers whose nodes lead on only at a line's front, or only at its end.
+    /// For each word, the numbers whose nodes lead on only at a line's end.
     pub anchors: Vec<u64>,
 }
 
@@ -44,18 +46,18 @@ fn leading(nodes: &[Node], words: &[u64], at: usize) -> u64
     word
 }
 
-/// Whether a node leads on only at a line's front, or only at its end.
+/// Whether a node leads on only at a line's end.
 fn is_anchor(node: &Node) -> bool
-    ensures { IsFalse result → (at_first at_last : Bool) (from to : ℕ) → LeadsOn node.now at_first at_last from to
+    ensures { IsFalse result → (from to : ℕ) → LeadsOn node.now false true from to
         → LeadsOn node.now false false from to }
 {
     match node {
-        Node::First | Node::Last => true,
-        Node::Take(_) | Node::Choose(_) | Node::Back(_) => false,
+        Node::Last => true,
+        Node::Take(_) | Node::First | Node::Choose(_) | Node::Back(_) => false,
     }
 }
 
-/// Whether a number's node leads to the same numbers at each place of a line.
+/// Whether a number's node leads to no more at a line's end than before it.
 fn is_plain(nodes: &[Node], number: usize) -> bool
     ensures { IsTrue result → IsPlain nodes.now number }
 {
@@ -65,7 +67,7 @@ fn is_plain(nodes: &[Node], number: usize) -> bool
     !is_anchor(&nodes[number])
 }
 
-/// The numbers of a word whose nodes lead on only at a line's front, or only at its end.
+/// The numbers of a word whose nodes lead on only at a line's end.
 fn anchors_in(nodes: &[Node], at: usize) -> u64
     requires { at < width nodes.now }
     ensures { HasAnchors nodes.now at result }
@@ -176,7 +178,8 @@ pub fn closures_of(alloc: Global, nodes: &[Node]) -> Result<Closures, BreFault>
     ensures ok { IfOk result (AreClosures nodes.now) }
     ensures err { IfErr result (λ fault. fault ≡ Memory) }
 {
-    let base = base_of(alloc, nodes)?;
+    let base = begun_of(alloc, nodes, false)?;
+    let front = begun_of(alloc, nodes, true)?;
     let inside = insides_of(alloc, nodes)?;
     let begun = base.as_slice();
     let hops = hops_of(alloc, nodes, begun)?;
@@ -188,6 +191,7 @@ pub fn closures_of(alloc: Global, nodes: &[Node]) -> Result<Closures, BreFault>
     }
     Ok(Closures {
         base,
+        front,
         leads,
         inside,
         hops,

@@ -2,7 +2,7 @@
 
 ghost use Rattle.std.specs.Prelude.{◌≡◌, ◌↔◌, ◌<◌, ◌+◌, ◌*◌, ◌-◌, ℕ, false, IfOk, IfErr, length};
 ghost use Rattle.bre_core.specs.declared.fault.BreFault.TheVariants.{Memory};
-ghost use Rattle.scan_core.specs.inner.Closures.{IsBase};
+ghost use Rattle.scan_core.specs.inner.Closures.{IsBegun};
 ghost use Rattle.scan_core.specs.inner.Sets.{IsCode, Flows, FlowsOn};
 ghost use Rattle.scan_core.specs.inner.Words.{Grows, IsIn, SpreadsOut, width};
 
@@ -50,13 +50,13 @@ pub fn begin(words: &mut [u64], nodes: &[Node], at_first: bool)
     spread_all(words, nodes, at_first, false);
 }
 
-/// What number 0 leads to without a byte, at any place of a line.
-pub fn base_of(alloc: Global, nodes: &[Node]) -> Result<Vec<u64>, BreFault>
+/// What number 0 leads to without a byte, at a line's front or elsewhere.
+pub fn begun_of(alloc: Global, nodes: &[Node], at_first: bool) -> Result<Vec<u64>, BreFault>
     requires { IsCode nodes.now }
-    ensures ok { IfOk result (λ base. IsBase nodes.now base.items) }
+    ensures ok { IfOk result (λ begun. IsBegun nodes.now at_first begun.items) }
     ensures err { IfErr result (λ fault. fault ≡ Memory) }
 {
     let mut words = vec![in alloc; 0u64; nodes.len() / 64 + 1]?;
-    begin(&mut words, nodes, false);
+    begin(&mut words, nodes, at_first);
     Ok(words)
 }

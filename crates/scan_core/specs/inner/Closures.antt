@@ -1,5 +1,5 @@
 -- What numbers lead to without a byte, ready to be looked up.
-use Rattle.std.specs.Prelude.{◌≡◌, ◌⊎◌, ◌↔◌, ℕ, ◌+◌, ◌*◌, ◌/◌, ◌%◌, ◌^◌, ◌<◌, Bool, false, List, length}
+use Rattle.std.specs.Prelude.{◌≡◌, ◌⊎◌, ◌↔◌, ℕ, ◌+◌, ◌*◌, ◌/◌, ◌%◌, ◌^◌, ◌<◌, Bool, true, false, List, length}
 use Rattle.std.specs.Int.{bit_at}
 use Rattle.scan_core.specs.declared.closures.Closures.{Closures}
 use Rattle.scan_core.specs.declared.node.Node.{Node}
@@ -8,20 +8,23 @@ use Rattle.scan_core.specs.inner.Hops.{AreParted}
 use Rattle.scan_core.specs.inner.Sets.{Flows, FlowsOn}
 use Rattle.scan_core.specs.inner.Words.{IsIn, width}
 
--- what is in each set: all that number 0 leads to
-pub record IsBase (code : List Node) (words : List ℕ) : Type 0 where
+-- all that number 0 leads to, at a line's front or elsewhere
+pub record IsBegun (code : List Node) (at_first : Bool) (words : List ℕ) : Type 0 where
   pub size : length words ≡ width code
-  pub exact : (number : ℕ) → IsIn words number ↔ FlowsOn code false false 0 number
+  pub exact : (number : ℕ) → IsIn words number ↔ FlowsOn code at_first false 0 number
+
+-- what is in each set
+abbrev pub IsBase : List Node → List ℕ → Type 0
+IsBase code = IsBegun code false
 
 -- where a node of a word leads out of a set, the bit is set
 abbrev pub IsLeading : List Node → List ℕ → ℕ → ℕ → Type 0
 IsLeading code words at word = (bit : ℕ) (to : ℕ) → bit < 64 → Flows code false false (at * 64 + bit) to
     → (bit_at word bit ≡ 1) ⊎ IsIn words to
 
--- at a line's front and at its end a number leads to no more than elsewhere
+-- at a line's end a number leads to no more than before it
 abbrev pub IsPlain : List Node → ℕ → Type 0
-IsPlain code from = (at_first at_last : Bool) (to : ℕ) → Flows code at_first at_last from to
-    → Flows code false false from to
+IsPlain code from = (to : ℕ) → Flows code false true from to → Flows code false false from to
 
 -- where a number of a word leads to more there, the bit is set
 abbrev pub HasAnchors : List Node → ℕ → ℕ → Type 0
@@ -48,6 +51,7 @@ IsInside code place entry = Closes code (place / 2048) (chosen_at place) entry
 
 pub record AreClosures (code : List Node) (closures : Closures) : Type 0 where
   pub base : IsBase code closures.base.items
+  pub front : IsBegun code true closures.front.items
   pub leads : AreEach 0 (IsLeading code closures.base.items) (width code) closures.leads.items
   pub inside : AreEach 0 (IsInside code) (width code * 2048) closures.inside.items
   pub hops : AreParted code closures.base.items closures.hops

@@ -16,6 +16,7 @@ returns-clause-ok c =
     let value = c.as_slice-begun.ensures.value in
     record {
       base = c.in_ok-base.ensures.ok;
+      front = c.in_ok-front.ensures.ok;
       leads = subst (λ words. AreEach 0 (IsLeading nodes words) (width nodes) c.loop-at.leads.items) value (each_to c.loop-at.invariant.0 all);
       inside = c.in_ok-inside.ensures.ok;
       hops = subst (λ words. AreParted nodes words c.in_ok-hops.hops) value c.in_ok-hops.ensures.ok;

@@ -1,8 +1,8 @@
-use Rattle.std.proofs.Common.{rules, ◌≡◌, ◌⊎◌, ◌↔◌, ℕ, ◌<◌, length, slice_index, refl, ◌∙◌, subst, arith}
+use Rattle.std.proofs.Common.{rules, ◌≡◌, ◌⊎◌, ◌↔◌, ℕ, ◌<◌, length, slice_index, refl, sym, ◌∙◌, subst, arith, eqb-true}
 use Rattle.scan_core.specs.inner.Sets.{Passes}
 use Rattle.scan_core.specs.inner.Words.{IsIn}
 use Rattle.scan_core.proofs.Shiftings.{inner, final}
-use Rattle.scan_core.proofs.Searchings.{entered_here, search_more, search_found, search_ends, search_fits}
+use Rattle.scan_core.proofs.Searchings.{entered_here, front_is, search_more, search_found, search_ends, search_fits}
 use Rattle.scan_core.proofs.search.search.Goals as goal
 
 pub overflow_add-steps : goal.overflow_add-steps
@@ -16,6 +16,12 @@ overflow_add-steps-2 c =
     let n : length c.args.nodes.now < 9223372036854775808 = search rules in
     let f = search_fits c.args.line.now c.spread-2.new.words c.loop-place.invariant c.positions-2.ensures n (omega arith) in
     search (rules, f)
+
+pub spread-requires-clause-front : goal.spread-requires-clause-front
+spread-requires-clause-front c = λ t. front_is c.args.line.now c.loop-place.invariant c.requires.closures.base (eqb-true _ 0 t)
+
+pub spread-requires-2-clause-front : goal.spread-requires-2-clause-front
+spread-requires-2-clause-front c = λ t. let z = eqb-true _ 0 (sym c.is_empty.ensures ∙ t) in front_is c.args.line.now c.loop-place.invariant c.requires.closures.base (omega (arith, z))
 
 pub returns-then-has-clause-outcome : goal.returns-then-has-clause-outcome
 returns-then-has-clause-outcome c =
