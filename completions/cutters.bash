@@ -85,7 +85,7 @@ _cutters() {
     *" ${before%=} "*)
         # Any other value is a count or a text, which nobody can guess.
         case ${COMP_WORDS[1]}${before%=} in
-        split-n | split--number) _cutters_offer r/ ;;
+        split-n | split--number) _cutters_offer l/ r/ ;;
         esac
         return
         ;;

@@ -41,7 +41,7 @@ complete -c cutters -n '__cutters_tool tail' -l version -d 'Write the version, a
 complete -c cutters -n '__cutters_tool split' -s l -l lines -x -d 'Put this many lines in each file'
 complete -c cutters -n '__cutters_tool split' -s b -l bytes -x -d 'Put this many bytes in each file'
 complete -c cutters -n '__cutters_tool split' -s C -l line-bytes -x -d 'Put whole lines of at most BYTES in each file'
-complete -c cutters -n '__cutters_tool split' -s n -l number -x -a r/ -d 'Deal lines to this many files in turn'
+complete -c cutters -n '__cutters_tool split' -s n -l number -x -a 'l/ r/' -d 'Into N files: N, l/N, r/N; the Kth alone: K/N'
 complete -c cutters -n '__cutters_tool split' -s a -l suffix-length -x -d 'Names have WIDTH characters after the prefix'
 complete -c cutters -n '__cutters_tool split' -s d -d 'Digits in names, not letters, from FROM on'
 complete -c cutters -n '__cutters_tool split' -l numeric-suffixes -f -a '0 1' -d 'Digits in names, not letters, from FROM on'

@@ -5,6 +5,8 @@ use Rattle.seg_core.specs.Window.{Window}
 use Rattle.ports_core.specs.Slot.{Slot, is_writable}
 use Rattle.ports_core.specs.declared.fault.Fault.{Fault}
 use Rattle.ports_core.specs.declared.fault.Fault.TheVariants.{Memory}
+use Rattle.ports_core.specs.declared.fault.Fault.TheVariants as fault_is
+use Rattle.ports_core.specs.declared.verdict.Verdict.{Verdict}
 use Rattle.ports_core.proofs.PartLemmas.{nothing_begins_part, outputs_count, stopped_in_turn}
 use Rattle.ports_core.specs.Turn.{LinesTo}
 use Rattle.ports_core.specs.inner.Part.{HasLines}
@@ -255,7 +257,7 @@ end_short {cutter = cutter} fit all goes =
       judged = tt;
     }
 
--- The fault with which the work ends, from where the cutter stands.
+-- The verdict with which the work ends, from where the cutter stands.
 
 -- how the plan ends, where its ending is known from the cutter
 abbrev ending_in : CutterState → List ℕ → Ending
@@ -267,8 +269,8 @@ of_it {cutter} {x} judged =
 
 -- where no operand is left
 
--- the fault of the next operand, by what it did
-abbrev pub verdict_at : Turn → Operand → ℕ → Option Fault
+-- the verdict on the next operand, by what it did
+abbrev pub verdict_at : Turn → Operand → ℕ → Option Verdict
 verdict_at Missed operand repetition = verdict_of (missed operand repetition)
 verdict_at (Above matched line) operand repetition = verdict_of (above operand repetition 0 0)
 verdict_at Below operand repetition = verdict_of (below operand repetition)
@@ -280,11 +282,11 @@ verdict_is suppress lines state aim ending ends are aims = search rules
 
 -- What `verdict` returns
 
-pub judged_none : {cutter : CutterState} {result : Option Fault} {x : List ℕ} → false ≡ nat_lt cutter.progress.done (length cutter.operands) → result ≡ None → IsJudged cutter x → result ≡ verdict_of (ending_in cutter x)
+pub judged_none : {cutter : CutterState} {result : Option Verdict} {x : List ℕ} → false ≡ nat_lt cutter.progress.done (length cutter.operands) → result ≡ None → IsJudged cutter x → result ≡ verdict_of (ending_in cutter x)
 judged_none {cutter} {x = x} over none judged = grind (arith, common_steps, nat_tests, of_it, drop_all)
 
 -- the operand that was looked up is the next
-pub judged_next : {cutter : CutterState} {operand : Operand} {aim : Turn} {result : Option Fault} {x : List ℕ} → cutter.progress.done < length cutter.operands → operand ≡ get_or cutter.operands cutter.progress.done operand
+pub judged_next : {cutter : CutterState} {operand : Operand} {aim : Turn} {result : Option Verdict} {x : List ℕ} → cutter.progress.done < length cutter.operands → operand ≡ get_or cutter.operands cutter.progress.done operand
     → cutter.aim ≡ aim → result ≡ verdict_at aim operand cutter.progress.repetition → IsJudged cutter x → result ≡ verdict_of (ending_in cutter x)
 judged_next {cutter} {aim = aim} {x = x} within here aimed made judged = grind (arith, common_steps, verdict_is, of_it, left_is)
 
@@ -482,10 +484,10 @@ last_none {told} {stage = stage} {slots = slots} is size empty ready sound =
 pub last_line : {before stage : CsplitState} {n : ℕ} {text : List ℕ} → before ≡ stage → text ≡ before.rest → n ≡ length before.rest → eqb n 0 ≡ false → delimiters newline stage.rest ≡ 0 → IsLine text
 last_line {before} is text_is size some unbroken = grind (arith, common_steps, open_is_line)
 
--- the work ends with a fault of its own, and the files are removed then
-pub judged_by : {told : Bool} {stage mid next : CsplitState} {reached new old : List Slot} {verdict : Option Fault} {fault : Fault} → Closed told stage old reached mid None → verdict ≡ Some fault → Judges mid.cutter verdict → is_verdict fault ≡ true → Sweeps mid reached new next
-    → Closes told stage old new next (Err fault)
-judged_by {mid = mid} {reached} {fault = fault} closed is verdict_is kind swept = ended_so fault mid reached closed (subst (Judges mid.cutter) is verdict_is) kind swept
+-- the work ends with a verdict, and the files are removed then
+pub judged_by : {told : Bool} {stage mid next : CsplitState} {reached new old : List Slot} {result : Option Verdict} {verdict : Verdict} → Closed told stage old reached mid None → result ≡ Some verdict → Judges mid.cutter result → Sweeps mid reached new next
+    → Closes told stage old new next (Err (fault_is.Verdict verdict))
+judged_by {mid = mid} {reached} {verdict = verdict} closed is judges swept = ended_so verdict mid reached closed (subst (Judges mid.cutter) is judges) swept
 
 -- What the stage that takes in bytes owes.
 
@@ -520,7 +522,7 @@ stands_so told {before} {stage} {x} {now} at = grind (arith, common_steps, settl
 not_verdict : (style : Style) (old new : List Slot) (fault : Fault) {own : Manner} → IsManner (manner_of style) own → Breaks own old new fault → is_verdict fault ≡ false
 not_verdict style old new fault same breaks = grind (arith, common_steps)
 
-met_by : {Lacks : Type 0} → Lacks → (Ends : Fault → Type 0) (style : Style) (old new : List Slot) (fault : Fault) {own : Manner} → IsManner (manner_of style) own → Breaks own old new fault
+met_by : {Lacks : Type 0} → Lacks → (Ends : Verdict → Type 0) (style : Style) (old new : List Slot) (fault : Fault) {own : Manner} → IsManner (manner_of style) own → Breaks own old new fault
     → IsMet (record { output = sizes_wanted style; files = true; feeding = record { memory = true; files = true }; closing = record { memory = true; files = true } }) (record { memory = true; files = true }) Lacks Ends old new fault
 met_by {Lacks} lacks Ends style old new fault same breaks = grind (arith, common_steps)
 
@@ -595,15 +597,15 @@ module _ (stage : CsplitState) (x : List ℕ) (holds : Holds stage x) where
       ∙ all_then (verdict_by (suppress_in stage.cutter) stage.cutter.operands) (λ t. past_verdict t (lines_whole x)) (below_or_not stage.cutter.aim)
 
 module _ (told : Bool) (stage next : CsplitState) (old new : List Slot) where
-  pub judged_then : Closed told stage old new next None → {verdict : Option Fault} → Judges next.cutter verdict → {x : List ℕ} → Holds stage x → verdict ≡ (work stage).verdict x
+  pub judged_then : Closed told stage old new next None → {verdict : Option Verdict} → Judges next.cutter verdict → {x : List ℕ} → Holds stage x → verdict ≡ (work stage).verdict x
   judged_then closed judges {x} holds = judges (whole_lines x ++ stage.rest) (closed.judged (whole_lines x) (lines_whole x) holds.stands) ∙ verdict_then stage x holds closed.keeps
 
   pub whole_out : Closed told stage old new next None → {before : List Slot} {x : List ℕ} → StandsAt Holds Owns stage told before x ((work stage).settled x) old → OutputsAt told before ((work stage).whole x) new
   whole_out closed {before} {x} at =
       subst (λ part. OutputsAt told before part new) (whole_then stage x at.holds) ((closed.reaches (whole_lines x) (lines_whole x) at.holds.stands).there before (stands_so told at)).outputs
 
-  pub ends_there : Closed told stage old new next None → {verdict : Option Fault} → Judges next.cutter verdict → {fault : Fault} → verdict ≡ Some fault → EndsThere Holds work stage fault
-  ends_there closed judges is x holds = sym (judged_then closed judges holds) ∙ is
+  pub ends_there : Closed told stage old new next None → {verdict : Verdict} → Judges next.cutter (Some verdict) → EndsThere Holds work stage verdict
+  ends_there closed judges x holds = sym (judged_then closed judges holds)
 
   pub ends_short : {fault : Fault} → Closed told stage old new next (Some fault) → IsReady stage old → EndsShort Holds Owns work stage told old new fault
   ends_short {fault} stopped ready before x at = engine.cut (not_verdict stage.cutter.style old new fault ready.manner stopped.keeps.writer.slots)
@@ -611,22 +613,19 @@ module _ (told : Bool) (stage next : CsplitState) (old new : List Slot) where
       (subst (λ high. StoppedBetween (work stage).means.output told before (settled_part stage.cutter (whole_lines x)) high fault new) (whole_then stage x at.holds)
       (stopped_in_turn (work stage).means.output told before _ _ fault new (has_settled stage (whole_lines x)) ((stopped.reaches (whole_lines x) (lines_whole x) at.holds.stands).there before (stands_so told at)))))
 
-  -- the fault is the work's own, and the files were cleared away after it
-  pub ends_judged : Closed told stage old new next None → {verdict : Option Fault} → Judges next.cutter verdict → {fault : Fault} → verdict ≡ Some fault → is_verdict fault ≡ true → (cleared : List Slot) → ((first : ℕ) → Owns next first new → Swept (work next).clears first new cleared)
-      → EndsShort Holds Owns work stage told old cleared fault
-  ends_judged closed judges is kind cleared swept before x at =
-      engine.judged kind new (whole_out closed at)
+  -- the work ends with a verdict, and the files were cleared away after it
+  pub ends_judged : Closed told stage old new next None → {verdict : Verdict} → (cleared : List Slot) → ((first : ℕ) → Owns next first new → Swept (work next).clears first new cleared)
+      → EndsShort Holds Owns work stage told old cleared (fault_is.Verdict verdict)
+  ends_judged closed cleared swept before x at =
+      engine.judged refl new (whole_out closed at)
       (subst (λ (style : Style). Swept (not style.keep) (length before) new cleared) closed.keeps.style (swept (length before) (owns_on closed.keeps.writer (length before) at.owns)))
-
-  met_there : (fault : Fault) → is_verdict fault ≡ true → (slots : List Slot) → EndsThere Holds work stage fault → IsMet (work stage).means (work stage).means.closing (Unit {0}) (EndsThere Holds work stage) old slots fault
-  met_there fault kind slots ends = grind (arith, common_steps)
 
 -- what the end owes, however it went
 module _ (told : Bool) (stage next : CsplitState) (old new : List Slot) where
   pub end_same : {result : Result (Unit {0}) Fault} → Closes told stage old new next result → work next ≡ work stage
   end_same (ended_well closed none) = same_by csplit_work closed.keeps
   end_same (ended_short fault stopped) = same_by csplit_work stopped.keeps
-  end_same (ended_so fault mid reached closed some kind swept) = swept.same ∙ same_by csplit_work closed.keeps
+  end_same (ended_so verdict mid reached closed judges swept) = swept.same ∙ same_by csplit_work closed.keeps
 
   pub end_outputs : {result : Result (Unit {0}) Fault} → Closes told stage old new next result → OnOk result (Finishes Holds Owns work stage told old new)
   end_outputs (ended_well closed none) = λ before x at.
@@ -640,7 +639,7 @@ module _ (told : Bool) (stage next : CsplitState) (old new : List Slot) where
   pub end_own : {result : Result (Unit {0}) Fault} → Closes told stage old new next result → KeepsOwn Owns stage next old new
   end_own (ended_well closed none) first own = owns_on closed.keeps.writer first own
   end_own (ended_short fault stopped) first own = owns_on stopped.keeps.writer first own
-  end_own (ended_so fault mid reached closed some kind swept) first own = swept.owns first (owns_on closed.keeps.writer first own)
+  end_own (ended_so verdict mid reached closed judges swept) first own = swept.owns first (owns_on closed.keeps.writer first own)
 
   pub end_there : (result : Result (Unit {0}) Fault) → Closes told stage old new next result → AreThere (files stage) old → AreThere (files next) new
   end_there result fact are = grind (arith, common_steps)
@@ -648,13 +647,12 @@ module _ (told : Bool) (stage next : CsplitState) (old new : List Slot) where
   pub end_cut : {result : Result (Unit {0}) Fault} → Closes told stage old new next result → IsReady stage old → IfErr result (EndsShort Holds Owns work stage told old new)
   end_cut (ended_well closed none) ready = tt
   end_cut (ended_short fault stopped) ready = ends_short told stage next old new stopped ready
-  end_cut (ended_so fault mid reached closed some kind swept) ready = ends_judged told stage mid old reached closed some refl kind new swept.swept
+  end_cut (ended_so verdict mid reached closed judges swept) ready = ends_judged told stage mid old reached closed new swept.swept
 
   pub end_met : {result : Result (Unit {0}) Fault} → Closes told stage old new next result → IsReady stage old → IfErr result (IsMet (work stage).means (work stage).means.closing (Unit {0}) (EndsThere Holds work stage) old new)
   end_met (ended_well closed none) ready = tt
   end_met (ended_short fault stopped) ready = met_by tt (EndsThere Holds work stage) stage.cutter.style old new fault ready.manner stopped.keeps.writer.slots
-  end_met (ended_so fault mid reached closed some kind swept) ready =
-      met_there told stage mid old reached fault kind new (ends_there told stage mid old reached closed some refl)
+  end_met (ended_so verdict mid reached closed judges swept) ready = ends_there told stage mid old reached closed judges
 
 -- where nothing was written yet, the outputs are a new writer's
 none_stands : (told : Bool) (style : Style) {before slots : List Slot} → 2 ≤ length slots → OutputsAt told before nothing slots → At told (writer_for style) before nothing slots

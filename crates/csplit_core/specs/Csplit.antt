@@ -2,8 +2,8 @@
 use Rattle.std.specs.Prelude.{ℕ, Bool, true, false, not, ◌&&◌, List, [], ◌++◌, Option, Some, None, if◌then◌else◌}
 use Rattle.ports_core.specs.Part.{Part}
 use Rattle.ports_core.specs.Work.{Work, Means}
-use Rattle.ports_core.specs.declared.fault.Fault.{Fault}
-use Rattle.ports_core.specs.declared.fault.Fault.TheVariants.{NoMatch, Range}
+use Rattle.ports_core.specs.declared.verdict.Verdict.{Verdict}
+use Rattle.ports_core.specs.declared.verdict.Verdict.TheVariants.{NoMatch, Range}
 use Rattle.csplit_core.specs.Operand.{Operand, Line, is_endless, is_number}
 use Rattle.csplit_core.specs.Plan.{Ending, used_up, missed, above, below}
 use Rattle.csplit_core.specs.Planned.{Plan, plan}
@@ -24,9 +24,9 @@ settled_by style operands x = settled_of style operands (complete_lines x)
 abbrev pub whole_by : Style → List Operand → List ℕ → Part
 whole_by style operands x = whole_of style operands (all_lines x)
 
--- The fault with which the plan ends, where it ends with one. An operand that is repeated without end ends well where
+-- The verdict with which the plan ends, where it ends with one. An operand that is repeated without end ends well where
 -- its pattern matches no line any more, or where its line number is above the last line.
-abbrev pub verdict_of : Ending → Option Fault
+abbrev pub verdict_of : Ending → Option Verdict
 verdict_of used_up = None
 verdict_of (missed operand repetition) = if is_endless operand.times then None
     else Some (NoMatch operand.index repetition)
@@ -34,7 +34,7 @@ verdict_of (above operand repetition matched cut) = if is_endless operand.times 
     else Some (Range operand.index repetition)
 verdict_of (below operand repetition) = Some (Range operand.index repetition)
 
-abbrev pub verdict_by : Bool → List Operand → List ℕ → Option Fault
+abbrev pub verdict_by : Bool → List Operand → List ℕ → Option Verdict
 verdict_by suppress operands x = verdict_of (plan suppress operands (all_lines x)).ending
 
 -- It writes sizes to standard output unless they are not wanted. As it takes in a piece it may open files, and may want

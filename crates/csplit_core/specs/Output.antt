@@ -1,6 +1,6 @@
 -- What `csplit` writes of sections: a file for each that is kept, and its size on standard output (POSIX.1-2017, XCU
 -- csplit; `elide` is GNU's).
-use Rattle.std.specs.Prelude.{true, Bool, ℕ, List, [], map, if◌then◌else◌}
+use Rattle.std.specs.Prelude.{true, Bool, ℕ, List, map, if◌then◌else◌}
 use Rattle.std.specs.List.{flat_map}
 use Rattle.ports_core.specs.Draft.{Manner, Share, share, made_of, part_of as part_by}
 pub use Rattle.ports_core.specs.Draft.{size_of_file}

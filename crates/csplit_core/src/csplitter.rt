@@ -175,8 +175,8 @@ impl<'o> Stage for Csplitter<'o> {
         }
     }
 
-    /// Takes in the open line, if there is one, and ends the last section. Where the work ends with a fault of its own,
-    /// the files are removed then.
+    /// Takes in the open line, if there is one, and ends the last section. Where the work ends with a verdict, the
+    /// files are removed then.
     fn finish<O: Outs>(&mut self, outs: &mut O) -> Result<(), Fault>
         requires { IsReady self.old (O.slots outs.old) }
         ensures bound { self.new.taken ≤ self.old.taken }
@@ -186,9 +186,9 @@ impl<'o> Stage for Csplitter<'o> {
         self.cutter.end(outs)?;
         match self.cutter.verdict() {
             None => Ok(()),
-            Some(fault) => {
+            Some(verdict) => {
                 self.clear(outs);
-                Err(fault)
+                Err(Fault::Verdict(verdict))
             }
         }
     }

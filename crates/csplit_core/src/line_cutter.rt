@@ -2,7 +2,6 @@
 ghost use Rattle.std.specs.Prelude.{◌≡◌, ◌≢◌, ◌⊎◌, ◌+◌, ◌-◌, ◌<◌, ◌≤◌, ◌^◌, ◌++◌, List, ℕ, [], length, drop, take, Some, None, IfOk, IfErr, IfSome, IfNone, OnOk, IsTrue, true, false};
 ghost use Rattle.bre_core.specs.Pattern.{Pattern};
 ghost use Rattle.seg_core.specs.Line.{delimiters, ends_with};
-ghost use Rattle.ports_core.specs.Engine.{is_verdict};
 ghost use Rattle.ports_core.specs.Slot.{is_writable};
 ghost use Rattle.csplit_core.specs.Csplit.{verdict_of};
 ghost use Rattle.csplit_core.specs.Plan.{above, missed};
@@ -25,7 +24,7 @@ use crate::next_operand::{find_matcher, find_window, is_kept, next_operand};
 use crate::progress::{Progress, Turn};
 use crate::{Operand, Style, Target, Times};
 use memchr::memchr;
-use ports_core::{Fault, FileWriter, Outs};
+use ports_core::{Fault, FileWriter, Outs, Verdict};
 use seg_core::line::{NEWLINE, count_delimiters, next_line, reach};
 use seg_core::line_reach::Reach;
 use seg_core::line_window::LineWindow;
@@ -135,18 +134,17 @@ impl<'o> LineCutter<'o> {
         self.writer.end(outs)
     }
 
-    /// The fault with which the work itself ends where the input ends here, if it ends with one.
-    pub(crate) fn verdict(&self) -> Option<Fault>
-        ensures judges { (x : List ℕ) → IsJudged (seen self.now) x
+    /// The verdict with which the work ends where the input ends here, if it ends with one.
+    pub(crate) fn verdict(&self) -> Option<Verdict>
+        ensures { (x : List ℕ) → IsJudged (seen self.now) x
             → result ≡ verdict_of (plan (suppress_in (seen self.now)) (seen self.now).operands (all_lines x)).ending }
-        ensures kind { IfSome result (λ fault. is_verdict fault ≡ true) }
     {
         let operand = self.operands.get(self.progress.done)?;
         let repetition = self.progress.repetition;
         match self.aim {
-            Turn::Missed => fault_of_miss(operand, repetition),
-            Turn::Above(_, _) => fault_of_range(operand, repetition),
-            Turn::Below => Some(Fault::Range(operand.index, repetition)),
+            Turn::Missed => verdict_of_miss(operand, repetition),
+            Turn::Above(_, _) => verdict_of_range(operand, repetition),
+            Turn::Below => Some(Verdict::Range(operand.index, repetition)),
             Turn::UsedUp | Turn::Cuts(_, _) => None,
         }
     }
@@ -643,26 +641,24 @@ fn unfound(size: usize) -> Passed
     Passed { size, found: None }
 }
 
-/// The fault where an operand's pattern matches no line, if that is one.
-fn fault_of_miss(operand: &Operand, repetition: u64) -> Option<Fault>
-    ensures judges { result ≡ verdict_of (missed operand.now repetition) }
-    ensures kind { IfSome result (λ fault. is_verdict fault ≡ true) }
+/// The verdict where an operand's pattern matches no line, if there is one.
+fn verdict_of_miss(operand: &Operand, repetition: u64) -> Option<Verdict>
+    ensures { result ≡ verdict_of (missed operand.now repetition) }
 {
     match operand.times {
         Times::Endless => None,
-        Times::Count(_) => Some(Fault::NoMatch(operand.index, repetition)),
+        Times::Count(_) => Some(Verdict::NoMatch(operand.index, repetition)),
     }
 }
 
-/// The fault where an operand's cut is above the last line, if that is one.
-fn fault_of_range(operand: &Operand, repetition: u64) -> Option<Fault>
-    ensures judges { (matched cut : ℕ) → result ≡ verdict_of (above operand.now repetition matched cut) }
-    ensures kind { IfSome result (λ fault. is_verdict fault ≡ true) }
+/// The verdict where an operand's cut is above the last line, if there is one.
+fn verdict_of_range(operand: &Operand, repetition: u64) -> Option<Verdict>
+    ensures { (matched cut : ℕ) → result ≡ verdict_of (above operand.now repetition matched cut) }
 {
     match (&operand.times, &operand.target) {
         (Times::Endless, Target::Number(_)) => None,
-        (Times::Endless, Target::Search { .. }) => Some(Fault::Range(operand.index, repetition)),
-        (Times::Count(_), _) => Some(Fault::Range(operand.index, repetition)),
+        (Times::Endless, Target::Search { .. }) => Some(Verdict::Range(operand.index, repetition)),
+        (Times::Count(_), _) => Some(Verdict::Range(operand.index, repetition)),
     }
 }
 

@@ -12,6 +12,7 @@ use Rattle.ports_core.specs.Work.{Means, Needs, on_output, IsNeeded, IsSpare}
 use Rattle.ports_core.specs.Engine.{Loads, TakesIn, PutsOut, CutsOff, Finishes, EndsShort, IsMet, cut, MayGet}
 use Rattle.ports_core.specs.inner.Engine.{OwnsNone}
 use Rattle.ports_core.specs.declared.fault.Fault.{Fault}
+use Rattle.ports_core.specs.declared.verdict.Verdict.{Verdict}
 use Rattle.seg_core.specs.declared.unit.Unit.{Unit as Counted}
 use Rattle.seg_core.specs.declared.unit.Unit.TheVariants.{Bytes, Lines}
 use Rattle.ends_core.specs.declared.ends.Ends.{Ends}
@@ -147,7 +148,7 @@ lacks_kept (First count front) lacking = cc
 lacks_kept ends lacking = cc
 
 -- why a call stopped
-pub met : (told : Bool) (ends : Ends) (needs : Means → Needs) (Lacks : Type 0) (Fails : Fault → Type 0)
+pub met : (told : Bool) (ends : Ends) (needs : Means → Needs) (Lacks : Type 0) (Fails : Verdict → Type 0)
     {lacks : Bool} {bytes : List ℕ} {old new : List Slot} {f : Fault}
     → (lacks ≡ true → ((needs (on_output (keeps (stretch_of ends)))).memory ≡ true) × Lacks) → IsTrue (is_writable old 0) → Stops told lacks bytes old new f
     → IsMet (work ends).means (needs (work ends).means) Lacks Fails old new f

@@ -1,7 +1,7 @@
 //! `csplit` as a slow program that sees a whole text at once, to compare the engine with.
 use csplit_core::{Offset, Operand, Style, Target, Times};
 use plain_core::matches_plain;
-use ports_core::Fault;
+use ports_core::{Fault, Verdict};
 use scan_core::Bre;
 use seg_core::line::NEWLINE;
 use std::alloc::{AllocError, Global};
@@ -11,8 +11,8 @@ use std::alloc::{AllocError, Global};
 pub(crate) struct Made<'a> {
     /// What each file gets, in their order.
     pub files: Vec<&'a [u8]>,
-    /// The fault with which the cutting ends, if it ends with one.
-    pub verdict: Option<Fault>,
+    /// The verdict with which the cutting ends, if it ends with one.
+    pub verdict: Option<Verdict>,
 }
 
 /// Cuts a text at these operands.
@@ -57,7 +57,7 @@ pub(crate) fn plain<'a>(
 #[derive(Clone, Copy)]
 enum Next {
     Operand,
-    End(Option<Fault>),
+    End(Option<Verdict>),
 }
 
 /// A text, and how far it is cut. Lines are numbered from 1.
@@ -108,7 +108,7 @@ impl<'a> Cutting<'a> {
                     self.put(true, u64::MAX)?;
                     return Ok(Next::End(None));
                 }
-                self.cut(true, line, Fault::Range(operand.index, repetition))
+                self.cut(true, line, Verdict::Range(operand.index, repetition))
             }
             Target::Search {
                 pattern,
@@ -117,18 +117,18 @@ impl<'a> Cutting<'a> {
             } => {
                 let Some(line) = self.find(alloc, pattern)? else {
                     self.put(*is_kept, u64::MAX)?;
-                    let missed = Fault::NoMatch(operand.index, repetition);
+                    let missed = Verdict::NoMatch(operand.index, repetition);
                     return Ok(Next::End(if is_endless { None } else { Some(missed) }));
                 };
                 self.last_match = line;
-                let range = Fault::Range(operand.index, repetition);
+                let range = Verdict::Range(operand.index, repetition);
                 self.cut(*is_kept, line_at(line, *offset), range)
             }
         }
     }
 
     /// Cuts at a line, unless it is above the last one or below the current one.
-    fn cut(&mut self, is_kept: bool, line: u64, range: Fault) -> Result<Next, Fault> {
+    fn cut(&mut self, is_kept: bool, line: u64, range: Verdict) -> Result<Next, Fault> {
         if line > lines_in(self.text) {
             self.put(is_kept, u64::MAX)?;
             return Ok(Next::End(Some(range)));

@@ -203,7 +203,7 @@ fn agrees_under(
         let mut outs = MemOut::new(alloc)?;
         let end = run(alloc, style, operands, pieces, &mut outs);
         let is_made = has_made(alloc, &outs, &made, style.keep).unwrap_or(false);
-        if end.err() != made.verdict || !is_made {
+        if end.err() != made.verdict.map(Fault::Verdict) || !is_made {
             return Ok(false);
         }
     }

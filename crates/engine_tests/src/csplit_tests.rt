@@ -6,7 +6,7 @@ ghost use Rattle.csplit_core.specs.CsplitState.{IsReady};
 use crate::play::{feed, feed_and_close, has_files};
 use csplit_core::{Csplitter, Operands, Style, read_operands};
 use mem_core::MemOut;
-use ports_core::{Base, Fault, Filling, Form, Guarded, Outs};
+use ports_core::{Base, Fault, Filling, Form, Guarded, Outs, Verdict};
 use std::alloc::{AllocError, Global};
 use std::process::Abort;
 use std::test::Fail;
@@ -230,7 +230,7 @@ const FAULTS: [Row<'static>; 8] = [
         Options::Keep,
         &["/c/-3"],
         b"a\nb\nc\nd\n",
-        Some(Fault::Range(0, 0)),
+        Some(Fault::Verdict(Verdict::Range(0, 0))),
         b"0\n",
         &[b""],
     ),
@@ -238,7 +238,7 @@ const FAULTS: [Row<'static>; 8] = [
         Options::Keep,
         &["2", "{3}"],
         b"1\n2\n3\n4\n5\n",
-        Some(Fault::Range(0, 2)),
+        Some(Fault::Verdict(Verdict::Range(0, 2))),
         b"2\n4\n4\n",
         &[b"1\n", b"2\n3\n", b"4\n5\n"],
     ),
@@ -246,7 +246,7 @@ const FAULTS: [Row<'static>; 8] = [
         Options::Keep,
         &["/x/"],
         b"a\nb\n",
-        Some(Fault::NoMatch(0, 0)),
+        Some(Fault::Verdict(Verdict::NoMatch(0, 0))),
         b"4\n",
         &[b"a\nb\n"],
     ),
@@ -254,7 +254,7 @@ const FAULTS: [Row<'static>; 8] = [
         Options::Keep,
         &["/b/", "{2}"],
         b"a\nb\nc",
-        Some(Fault::NoMatch(0, 1)),
+        Some(Fault::Verdict(Verdict::NoMatch(0, 1))),
         b"2\n3\n",
         &[b"a\n", b"b\nc"],
     ),
@@ -262,7 +262,7 @@ const FAULTS: [Row<'static>; 8] = [
         Options::Keep,
         &["/b/+5"],
         b"a\nb\n",
-        Some(Fault::Range(0, 0)),
+        Some(Fault::Verdict(Verdict::Range(0, 0))),
         b"4\n",
         &[b"a\nb\n"],
     ),
@@ -270,7 +270,7 @@ const FAULTS: [Row<'static>; 8] = [
         Options::Keep,
         &["1", "%x%"],
         b"a\n",
-        Some(Fault::NoMatch(1, 0)),
+        Some(Fault::Verdict(Verdict::NoMatch(1, 0))),
         b"0\n",
         &[b""],
     ),
@@ -278,7 +278,7 @@ const FAULTS: [Row<'static>; 8] = [
         Options::Suppress,
         &["2", "2"],
         b"a\nb\nc\n",
-        Some(Fault::Range(1, 0)),
+        Some(Fault::Verdict(Verdict::Range(1, 0))),
         b"2\n0\n",
         &[],
     ),
@@ -286,7 +286,7 @@ const FAULTS: [Row<'static>; 8] = [
         Options::Plain,
         &["/x/"],
         b"a\nb\n",
-        Some(Fault::NoMatch(0, 0)),
+        Some(Fault::Verdict(Verdict::NoMatch(0, 0))),
         b"4\n",
         &[],
     ),

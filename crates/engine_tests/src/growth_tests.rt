@@ -7,6 +7,7 @@ ghost use Rattle.follow_core.specs.FollowState.{CanLook};
 ghost use Rattle.ports_core.specs.Slot.{is_writable};
 ghost use Rattle.split_core.specs.Ways.{Ready};
 
+use crate::chunk_tests::open as open_chunks;
 use crate::csplit_tests::{Options, open as open_csplitter, style_of};
 use crate::ends_plain::{Asked, Side};
 use crate::play::{close, feed, feed_all, open_ends, open_splitter};
@@ -16,8 +17,8 @@ use csplit_core::{OperandFaultKind, read_operands};
 use ends_core::{Ends, Unit};
 use follow_core::{Follow, Notice, Start, notice_line};
 use mem_core::{Edit, MemOut, MemWatch};
-use ports_core::{Alphabet, Fault, Guarded, Mode, Names, Outs, Stage};
-use split_core::{Cut, Limit, Splitter};
+use ports_core::{Alphabet, Fault, Guarded, Mode, Naming, Numbering, Outs, Stage, Tells};
+use split_core::{Chunks, Cut, Limit, Splitter, Way};
 use std::alloc::Global;
 use std::process::Abort;
 use std::test::Fail;
@@ -30,6 +31,8 @@ enum Job<'a> {
     Split(Cut),
     /// Of files that standard output is told of.
     Told(Cut),
+    /// Chunks, or one turn of lines, of an input that says this of its length.
+    Chunks(Way, u64),
     Csplit(&'a [&'a str]),
 }
 
@@ -110,12 +113,42 @@ const ROWS: &[Row<'static>] = &[
         &[b"a\nc", b"b\n"],
     ),
     (
+        Job::Chunks(Way::Chunks(BYTES), 3),
+        &[b"a", b"bc"],
+        b"",
+        &[b"ab", b"c"],
+    ),
+    (
+        Job::Chunks(Way::Chunks(BYTES), 0),
+        &[b"a", b"bc"],
+        b"",
+        &[b"ab", b"c"],
+    ),
+    (
+        Job::Chunks(Way::Chunk(1, BYTES), 0),
+        &[b"a", b"bc"],
+        b"c",
+        &[],
+    ),
+    (
+        Job::Chunks(Way::Turn(0, 2, b'\n'), 0),
+        &[b"a\nb", b"\nc"],
+        b"a\nc",
+        &[],
+    ),
+    (
         Job::Csplit(&["/c/-1", "/d/"]),
         &[b"a\nb", b"\nc\n", b"d"],
         b"2\n4\n1\n",
         &[b"a\n", b"b\nc\n", b"d"],
     ),
 ];
+
+const BYTES: Chunks = Chunks {
+    count: 2,
+    unit: Unit::Bytes,
+    delim: b'\n',
+};
 
 /// No growth is the test's own.
 #[test]
@@ -168,6 +201,10 @@ fn ends(rt: &impl Abort, alloc: Global, row: &Row<'_>, outs: &mut MemOut) -> Res
             let mut engine = open_telling(alloc, cut, false, outs)?;
             goes(rt, &mut engine, outs, pieces)
         }
+        Job::Chunks(way, said) => {
+            let mut engine = open_chunks(alloc, way, said, false, Tells::Nothing, outs)?;
+            goes(rt, &mut engine, outs, pieces)
+        }
         Job::Csplit(words) => cuts(rt, alloc, words, outs, pieces),
     }
 }
@@ -186,10 +223,10 @@ fn open_cut(alloc: Global, cut: Cut, outs: &mut MemOut) -> Result<Guarded<Splitt
     requires { 2 ≤ length outs.old }
     ensures { IfOk result (λ splitter. Ready splitter.stage outs.new) }
 {
-    let names = Names::new(alloc, "x", Alphabet::Letters, 2, true, "")?;
+    let naming = Naming::new(alloc, "x", Numbering::Widening(Alphabet::Letters, 2), "")?;
     match cut {
-        Cut::Parts(limit) if limit.most() > 0 => open_splitter(alloc, cut, names, false, outs),
-        Cut::Round(count, _) if count > 0 => open_splitter(alloc, cut, names, false, outs),
+        Cut::Parts(limit) if limit.most() > 0 => open_splitter(alloc, cut, naming, false, outs),
+        Cut::Round(count, _) if count > 0 => open_splitter(alloc, cut, naming, false, outs),
         _ => Err(Fault::Failed),
     }
 }

@@ -2,6 +2,12 @@
 #![tactic(auto)]
 
 #[cfg(test)]
+mod chunk_tests;
+#[cfg(test)]
+mod chunks_plain;
+#[cfg(test)]
+mod chunks_plain_tests;
+#[cfg(test)]
 mod csplit_plain;
 #[cfg(test)]
 mod csplit_plain_tests;

@@ -8,7 +8,7 @@ use crate::part_plain::plain_parts;
 use crate::play::{Step, close, feed, has_files, open_splitter, play};
 use crate::test_texts::{DELIMITERS, Short, pieces_of, short_texts};
 use mem_core::MemOut;
-use ports_core::{Alphabet, Fault, Guarded, Names, Outs};
+use ports_core::{Alphabet, Fault, Guarded, Naming, Numbering, Outs, Verdict};
 use split_core::{Cut, Limit, Splitter};
 use std::alloc::Global;
 use std::process::Abort;
@@ -320,7 +320,7 @@ const NAMES: &[NamesRow<'static>] = &[
             TEN_FILES,
             Step::Name(2, "x0"),
             Step::Name(11, "x9"),
-            Step::FeedFails(b"A", Fault::Suffixes),
+            Step::FeedFails(b"A", Fault::Verdict(Verdict::Suffixes)),
             TEN_FILES,
             Step::FeedFails(b"B", Fault::Failed),
             Step::CloseFails(Fault::Failed),
@@ -371,10 +371,14 @@ fn play_names(
     row: &NamesRow<'_>,
 ) -> Result<(), Fault> {
     let (cut, alphabet, auto, steps) = *row;
-    let width = if auto { 2 } else { 1 };
+    let numbering = if auto {
+        Numbering::Widening(alphabet, 2)
+    } else {
+        Numbering::Fixed(alphabet, 1, 0)
+    };
     let mut outs = MemOut::new(alloc)?;
-    let names = Names::new(alloc, "x", alphabet, width, auto, "")?;
-    let mut splitter = open_with(alloc, cut, names, &mut outs)?;
+    let naming = Naming::new(alloc, "x", numbering, "")?;
+    let mut splitter = open_with(alloc, cut, naming, &mut outs)?;
     play(rt, &mut splitter, &mut outs, number, steps);
     Ok(())
 }
@@ -383,14 +387,14 @@ fn play_names(
 fn open_with(
     alloc: Global,
     cut: Cut,
-    names: Names,
+    naming: Naming,
     outs: &mut MemOut,
 ) -> Result<Guarded<Splitter>, Fault>
     requires streams { 2 ≤ length outs.old }
     ensures { IfOk result (λ splitter. Ready splitter.stage outs.new) }
 {
     match cut {
-        Cut::Parts(limit) if limit.most() > 0 => open_splitter(alloc, cut, names, false, outs),
+        Cut::Parts(limit) if limit.most() > 0 => open_splitter(alloc, cut, naming, false, outs),
         _ => Err(Fault::Failed),
     }
 }
@@ -403,8 +407,8 @@ fn open(alloc: Global, limit: Limit, outs: &mut MemOut) -> Result<Guarded<Splitt
     if limit.most() == 0 {
         return Err(Fault::Failed);
     }
-    let names = Names::new(alloc, "x", Alphabet::Letters, 2, true, "")?;
-    open_splitter(alloc, Cut::Parts(limit), names, false, outs)
+    let naming = Naming::new(alloc, "x", Numbering::Widening(Alphabet::Letters, 2), "")?;
+    open_splitter(alloc, Cut::Parts(limit), naming, false, outs)
 }
 
 /// What the number of a limit counts.

@@ -9,8 +9,8 @@ ghost use Rattle.split_core.specs.Ways.{Ready};
 use crate::ends_plain::{Asked, Side};
 use ends_core::{Ends, Head, Tail};
 use mem_core::MemOut;
-use ports_core::{Fault, Guarded, Names, Outs, Stage, Tells};
-use split_core::{Cut, Splitter};
+use ports_core::{Fault, Guarded, Naming, Outs, Stage, Tells};
+use split_core::{Cut, Splitter, Way};
 use std::alloc::Global;
 use std::process::Abort;
 
@@ -91,20 +91,28 @@ pub(crate) fn open_ends(alloc: Global, asked: Asked) -> Result<Guarded<Ends>, Fa
     }
 }
 
-/// Opens an engine of `split`.
+/// Opens an engine of `split` that cuts into files.
 pub(crate) fn open_splitter(
     alloc: Global,
     cut: Cut,
-    names: Names,
+    naming: Naming,
     elide: bool,
     outs: &mut MemOut,
 ) -> Result<Guarded<Splitter>, Fault>
     requires some { IsPositive cut }
-    requires enough { HasNames cut names.naming }
+    requires enough { HasNames cut naming }
     requires streams { 2 ≤ length outs.old }
     ensures { IfOk result (λ splitter. Ready splitter.stage outs.new) }
 {
-    Splitter::open(alloc, cut, names, elide, Tells::Nothing, outs)
+    Splitter::open(
+        alloc,
+        Way::Cut(cut),
+        None,
+        naming,
+        elide,
+        Tells::Nothing,
+        outs,
+    )
 }
 
 /// Feeds an engine a piece, also one that is over.

@@ -7,7 +7,7 @@ use crate::play::{Step, close, feed_all, open_splitter, play};
 use crate::round_plain::plain;
 use crate::test_texts::{DELIMITERS, Short, pieces_of, short_texts};
 use mem_core::MemOut;
-use ports_core::{Alphabet, Fault, Guarded, Names, Outs};
+use ports_core::{Alphabet, Fault, Guarded, Naming, Numbering, Outs};
 use split_core::{Cut, Splitter};
 use std::alloc::Global;
 use std::process::Abort;
@@ -249,7 +249,7 @@ fn has_all(alloc: Global, job: Job, text: &[u8], outs: &MemOut) -> Result<bool, 
 }
 
 /// Whether an output has the name of its place, if that is one of the first.
-fn has_name(outs: &MemOut, slot: usize) -> bool {
+pub(crate) fn has_name(outs: &MemOut, slot: usize) -> bool {
     match NAMES.get(slot.saturating_sub(2)) {
         Some(name) => outs.name(slot) == *name,
         None => true,
@@ -267,6 +267,6 @@ fn start(
     requires streams { 2 ≤ length outs.old }
     ensures ready { IfOk result (λ engine. Ready engine.stage outs.new) }
 {
-    let names = Names::new(alloc, "x", Alphabet::Letters, 2, true, "")?;
-    open_splitter(alloc, Cut::Round(count, delim), names, elide, outs)
+    let naming = Naming::new(alloc, "x", Numbering::Widening(Alphabet::Letters, 2), "")?;
+    open_splitter(alloc, Cut::Round(count, delim), naming, elide, outs)
 }

@@ -2,13 +2,15 @@
 //! text.
 ghost use Rattle.std.specs.Prelude.{◌≡◌, ◌≤◌, false, length, IfOk, IsTrue};
 ghost use Rattle.ports_core.specs.Slot.{is_writable};
+ghost use Rattle.seg_core.specs.Cut.{IsPositive};
+ghost use Rattle.split_core.specs.Split.{HasNames};
 ghost use Rattle.split_core.specs.Ways.{Ready};
 
 use crate::play::{Step, close, feed, has_files, play};
 use crate::test_texts::{DELIMITERS, Short, short_texts};
 use mem_core::MemOut;
-use ports_core::{Alphabet, Fault, Guarded, Names, Outs, Tells};
-use split_core::{Cut, Limit, Splitter};
+use ports_core::{Alphabet, Fault, Guarded, Naming, Numbering, Outs, Tells, Verdict};
+use split_core::{Cut, Limit, Splitter, Way};
 use std::alloc::{AllocError, Global};
 use std::process::Abort;
 use std::test::Fail;
@@ -164,16 +166,37 @@ pub(crate) fn open(
     requires output { IsTrue (is_writable outs.old 0) }
     ensures { IfOk result (λ splitter. Ready splitter.stage outs.new) }
 {
-    let names = Names::new(alloc, "x", Alphabet::Letters, 2, true, "")?;
+    let naming = Naming::new(alloc, "x", Numbering::Widening(Alphabet::Letters, 2), "")?;
     match cut {
-        Cut::Parts(limit) if limit.most() > 0 => {
-            Splitter::open(alloc, cut, names, elide, Tells::Openings, outs)
-        }
-        Cut::Round(count, _) if count > 0 => {
-            Splitter::open(alloc, cut, names, elide, Tells::Openings, outs)
-        }
+        Cut::Parts(limit) if limit.most() > 0 => { open_telling(alloc, cut, naming, elide, outs) }
+        Cut::Round(count, _) if count > 0 => { open_telling(alloc, cut, naming, elide, outs) }
         _ => Err(Fault::Failed),
     }
+}
+
+/// A splitter that tells of its files, which have these names.
+fn open_telling(
+    alloc: Global,
+    cut: Cut,
+    naming: Naming,
+    elide: bool,
+    outs: &mut MemOut,
+) -> Result<Guarded<Splitter>, Fault>
+    requires some { IsPositive cut }
+    requires enough { HasNames cut naming }
+    requires streams { 2 ≤ length outs.old }
+    requires output { IsTrue (is_writable outs.old 0) }
+    ensures { IfOk result (λ splitter. Ready splitter.stage outs.new) }
+{
+    Splitter::open(
+        alloc,
+        Way::Cut(cut),
+        None,
+        naming,
+        elide,
+        Tells::Openings,
+        outs,
+    )
 }
 
 #[test]
@@ -192,11 +215,12 @@ fn refused_lines_leave_files_unopened(rt: HostRuntime) -> Result<(), Fail> {
 #[test]
 fn tells_of_named_files_alone(rt: HostRuntime) -> Result<(), Fail> {
     let mut outs = MemOut::new(rt.alloc())?;
-    let names = Names::new(rt.alloc(), "x", Alphabet::Digits, 1, false, "")?;
+    let numbering = Numbering::Fixed(Alphabet::Digits, 1, 0);
+    let naming = Naming::new(rt.alloc(), "x", numbering, "")?;
     let cut = Cut::Parts(Limit::Bytes(1));
-    let mut splitter = Splitter::open(rt.alloc(), cut, names, false, Tells::Openings, &mut outs)?;
+    let mut splitter = open_telling(rt.alloc(), cut, naming, false, &mut outs)?;
     let end = feed(&mut splitter, &mut outs, b"0123456789a").err();
-    assert!(&rt; end == Some(Fault::Suffixes));
+    assert!(&rt; end == Some(Fault::Verdict(Verdict::Suffixes)));
     assert!(&rt;
         outs.bytes(0)
             .ends_with(b"creating file 'x8'\ncreating file 'x9'\n")

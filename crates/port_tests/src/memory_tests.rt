@@ -8,8 +8,8 @@ use crate::reading::{Call, ask, broken_input, open_and_ask};
 use crate::writing::open_output;
 use mem_core::{MemIn, MemOut};
 use ports_core::{
-    Fault, Inputs, Mode, Outs, Tool, UsageKind, WriteCut, fed_with, memory_exhausted, message,
-    write_whole,
+    Fault, Inputs, Mode, Outs, Tool, UsageKind, Verdict, WriteCut, fed_with, memory_exhausted,
+    message, write_whole,
 };
 use std::alloc::Global;
 use std::process::Abort;
@@ -265,27 +265,33 @@ const MESSAGES: &[(Tool, Fault, &str, &[u8])] = &[
     (Tool::Head, Fault::Open(1), "g", b"head: cannot open 'g'\n"),
     (
         Tool::Split,
-        Fault::Suffixes,
+        Fault::Verdict(Verdict::Suffixes),
         "",
         b"split: output file suffixes exhausted\n",
     ),
     (
         Tool::Csplit,
-        Fault::NoMatch(0, 0),
+        Fault::Verdict(Verdict::NoMatch(0, 0)),
         "/x/",
         b"csplit: '/x/': match not found\n",
     ),
     (
         Tool::Csplit,
-        Fault::NoMatch(0, 3),
+        Fault::Verdict(Verdict::NoMatch(0, 3)),
         "/x/",
         b"csplit: '/x/': match not found on repetition 3\n",
     ),
     (
         Tool::Csplit,
-        Fault::Range(0, 2),
+        Fault::Verdict(Verdict::Range(0, 2)),
         "2",
         b"csplit: '2': line number out of range on repetition 2\n",
+    ),
+    (
+        Tool::Split,
+        Fault::Verdict(Verdict::Changed),
+        "f",
+        b"split: 'f': file changed while it was read\n",
     ),
     (
         Tool::Cutters,

@@ -22,7 +22,8 @@ use Rattle.ports_core.specs.inner.Write as short
 use Rattle.ports_core.specs.inner.Write.{Wrote, WritesShort}
 use Rattle.ports_core.specs.declared.fault.Fault.{Fault}
 use Rattle.ports_core.specs.declared.fault.Fault.TheVariants as fault
-use Rattle.ports_core.specs.declared.fault.Fault.TheVariants.{Memory, Suffixes}
+use Rattle.ports_core.specs.declared.fault.Fault.TheVariants.{Memory, Verdict}
+use Rattle.ports_core.specs.declared.verdict.Verdict.TheVariants.{Suffixes}
 use Rattle.ports_core.specs.declared.file_writer.Current.{Current}
 use Rattle.ports_core.specs.declared.file_writer.Current.TheVariants.{File, Unopened, Skipped, Due}
 use Rattle.ports_core.specs.declared.file_writer.Keeps.{Keeps}
@@ -123,7 +124,7 @@ lacks_memory {told} manner draft named = elim (made_or draft.opening draft.bytes
 -- Outputs that were broken stay broken, and files stay the writer's own.
 
 -- what is so of a call that ended for want of names
-pub where_short : {A B : Type 0} (fault : Option Fault) → IfSome fault (λ fault. fault ≡ Suffixes → A) → (A → B) → IfSome fault (λ fault. fault ≡ Suffixes → B)
+pub where_short : {A B : Type 0} (fault : Option Fault) → IfSome fault (λ fault. fault ≡ Verdict Suffixes → A) → (A → B) → IfSome fault (λ fault. fault ≡ Verdict Suffixes → B)
 where_short None holds follows = tt
 where_short (Some why) holds follows = λ is. follows (holds is)
 
@@ -262,7 +263,7 @@ owned_unopened {writer = writer} {next = next} {old = old} {new} none = let kept
 -- the manner in which files are made may be said otherwise
 pub breaks_as : {manner own : Manner} (old new : List Slot) (fault : Fault) → IsManner manner own → Breaks own old new fault → Breaks manner old new fault
 breaks_as old new (fault.Write slot) same (out, rose) = (λ none. subst (λ output. writes output ≡ true) same.output (out none), rose)
-breaks_as old new Suffixes same (place, few, none) = (place, few, sym (same.has place few) ∙ none)
+breaks_as old new (Verdict Suffixes) same (place, few, none) = (place, few, sym (same.has place few) ∙ none)
 breaks_as old new fault same breaks = breaks
 
 -- standard output breaks where it is told anything alone
@@ -343,7 +344,7 @@ wrote_slots told manner slot bytes old new None at wrote = keeps_write slot _ ol
 wrote_slots told manner slot bytes old new (Some _) at (short.broke n cut) = (λ none. absurd (omega (arith, at.0, none)), write_rose told slot bytes n old new at.1 cut)
 
 -- a write never wants for names
-pub never_short : (P : Type 0) (told : Bool) (slot : ℕ) (bytes : List ℕ) (old new : List Slot) (fault : Option Fault) → Wrote told slot bytes old new fault → IfSome fault (λ fault. fault ≡ Suffixes → P)
+pub never_short : (P : Type 0) (told : Bool) (slot : ℕ) (bytes : List ℕ) (old new : List Slot) (fault : Option Fault) → Wrote told slot bytes old new fault → IfSome fault (λ fault. fault ≡ Verdict Suffixes → P)
 never_short P told slot bytes old new None wrote = tt
 never_short P told slot bytes old new (Some _) (short.broke n cut) = λ is. absurd (cc)
 
@@ -547,12 +548,12 @@ module _ {told : Bool} {writer next : WriterState} {change : Draft → Draft} {o
   unmade_due manner draft so writes (few, has, same) = ((change draft).bytes, rw (due_name so.none writes) (due_part (change draft) few so writes has))
 
   -- names ran out: the part after the change has no file more
-  unmade_short : f ≡ Suffixes → (manner : Manner) (draft : Draft) → Writes manner writer draft → RunsShort told writer change manner draft old new
+  unmade_short : f ≡ Verdict Suffixes → (manner : Manner) (draft : Draft) → Writes manner writer draft → RunsShort told writer change manner draft old new
   unmade_short is manner draft writes = ran (subst (OpensNone told writer.tells writer.names next.names old new) is makes.none) where
     so : Unwritten draft (change draft)
     so = of draft writes.current
 
-    ran : OpensNone told writer.tells writer.names next.names old new Suffixes → RunsShort told writer change manner draft old new
+    ran : OpensNone told writer.tells writer.names next.names old new (Verdict Suffixes) → RunsShort told writer change manner draft old new
     ran (no_name few none same) =
         let lacks : manner.has_name (length (change draft).ended) ≡ false = ap (λ ended. manner.has_name (length ended)) so.same ∙ sym (due_has few so.none writes) ∙ none in record {
           none = lacks;
@@ -762,7 +763,7 @@ is_size Openings bytes size is told old new fault tells = tells
 is_size Sizes bytes size is told old new fault tells = subst (λ n. Wrote told 0 (decimal n ++ 10 ∷ []) old new fault) is tells
 
 -- telling a size wants no names
-told_short : (P : Type 0) (told : Bool) (tells : Tells) (size : ℕ) (old new : List Slot) (fault : Option Fault) → TellsSize told tells size old new fault → IfSome fault (λ fault. fault ≡ Suffixes → P)
+told_short : (P : Type 0) (told : Bool) (tells : Tells) (size : ℕ) (old new : List Slot) (fault : Option Fault) → TellsSize told tells size old new fault → IfSome fault (λ fault. fault ≡ Verdict Suffixes → P)
 told_short P told Nothing size old new fault (well, same) = rw well tt
 told_short P told Openings size old new fault (well, same) = rw well tt
 told_short P told Sizes size old new fault wrote = never_short P told 0 (decimal size ++ 10 ∷ []) old new fault wrote

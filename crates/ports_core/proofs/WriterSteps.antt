@@ -11,7 +11,8 @@ use Rattle.ports_core.specs.FileWriter.{KeepsFiles, Goes, paused}
 use Rattle.ports_core.specs.Turn.{fault_in}
 use Rattle.ports_core.specs.declared.fault.Fault.{Fault}
 use Rattle.ports_core.specs.declared.fault.Fault.TheVariants as fault
-use Rattle.ports_core.specs.declared.fault.Fault.TheVariants.{Memory, Suffixes}
+use Rattle.ports_core.specs.declared.fault.Fault.TheVariants.{Memory, Verdict}
+use Rattle.ports_core.specs.declared.verdict.Verdict.TheVariants.{Suffixes}
 use Rattle.ports_core.specs.declared.file_writer.Current.TheVariants.{Skipped}
 use Rattle.ports_core.specs.declared.file_writer.Opening.{Opening}
 use Rattle.ports_core.specs.declared.file_writer.Opening.TheVariants.{Never}
@@ -41,14 +42,14 @@ GrowsOn low high = (low.ended ≡ high.ended) × (made_of low.opening low.bytes 
 
 -- it was stopped on its way to more, where names didn't run out, or the same file is due
 pub goes_wider : {told : Bool} {writer next : WriterState} {low : Draft → Draft} (high : Draft → Draft) {old new : List Slot} {fault : Fault} → ((manner : Manner) (draft : Draft) → Begins (draft_part manner (low draft)) (draft_part manner (high draft)))
-    → ((fault ≡ Suffixes → ⊥) ⊎ ((draft : Draft) → GrowsOn (low draft) (high draft))) → Goes told writer low old new next (Some fault) → Goes told writer high old new next (Some fault)
+    → ((fault ≡ Verdict Suffixes → ⊥) ⊎ ((draft : Draft) → GrowsOn (low draft) (high draft))) → Goes told writer low old new next (Some fault) → Goes told writer high old new next (Some fault)
 goes_wider {told} {writer} {low = low} high {old} {new} {fault} begins same stopped = record {
   leaves = stopped.leaves;
   reaches = λ manner draft writes. stops_wider (stopped.reaches manner draft writes) (begins manner draft);
   short = λ is manner draft writes. by same is manner draft (stopped.short is manner draft writes);
   writes = tt;
 } where
-  by : ((fault ≡ Suffixes → ⊥) ⊎ ((draft : Draft) → GrowsOn (low draft) (high draft))) → fault ≡ Suffixes → (manner : Manner) (draft : Draft) → RunsShort told writer low manner draft old new → RunsShort told writer high manner draft old new
+  by : ((fault ≡ Verdict Suffixes → ⊥) ⊎ ((draft : Draft) → GrowsOn (low draft) (high draft))) → fault ≡ Verdict Suffixes → (manner : Manner) (draft : Draft) → RunsShort told writer low manner draft old new → RunsShort told writer high manner draft old new
   by (inl other) is manner draft ran = absurd (other is)
   by (inr grows) is manner draft ran =
       let ended = (grows draft).0 in
@@ -59,7 +60,7 @@ goes_wider {told} {writer} {low = low} high {old} {new} {fault} begins same stop
       }
 
 pub next_not_ended : {told : Bool} {writer next : WriterState} (opening : Opening) {old new : List Slot} {f : Fault} → IsWrite f → Goes told writer (with_next Never) old new next (Some f) → Goes told writer (with_next opening) old new next (Some f)
-next_not_ended opening broke ended = goes_wider (with_next opening) (λ manner draft. begun_begins manner opening draft) (inl (λ short. absurd (let e : fault.Write broke.0 ≡ Suffixes = sym broke.1 ∙ short in cc))) ended
+next_not_ended opening broke ended = goes_wider (with_next opening) (λ manner draft. begun_begins manner opening draft) (inl (λ short. absurd (let e : fault.Write broke.0 ≡ Verdict Suffixes = sym broke.1 ∙ short in cc))) ended
 
 -- what is next begins where what was begun has ended
 next_after : (opening : Opening) (draft : Draft) → with_next opening (with_next Never draft) ≡ with_next opening draft

@@ -8,8 +8,9 @@ use Rattle.ports_core.specs.Part.{Part, Output, OutputsAt, StoppedBetween, write
 use Rattle.ports_core.specs.Swept.{Swept, AreThere}
 use Rattle.ports_core.specs.Work.{Work, Means, Needs, IsSettled, IsSpare, Judges}
 use Rattle.ports_core.specs.declared.fault.Fault.{Fault}
-use Rattle.ports_core.specs.declared.fault.Fault.TheVariants.{Memory, Write, Read, Open, Suffixes, NoMatch, Range, Usage, Failed, TooLong}
+use Rattle.ports_core.specs.declared.fault.Fault.TheVariants.{Memory, Write, Open}
 use Rattle.ports_core.specs.declared.fault.Fault.TheVariants as fault_is
+use Rattle.ports_core.specs.declared.verdict.Verdict.{Verdict}
 
 -- whatever the engine was fed before, it was fed this piece after it
 abbrev pub TakesIn : {E : Type 0} → (E → List ℕ → Type 0) → List ℕ → E → E → Type 0
@@ -32,16 +33,8 @@ PutsOut Holds Owns work engine piece told old new = (before : List Slot) (x : Li
 
 -- a fault with which a tool's work itself ends
 abbrev pub is_verdict : Fault → Bool
-is_verdict Memory = false
-is_verdict (Write slot) = false
-is_verdict (Read slot) = false
-is_verdict (Open slot) = false
-is_verdict Suffixes = true
-is_verdict (NoMatch operand repetition) = true
-is_verdict (Range operand repetition) = true
-is_verdict (Usage kind word) = false
-is_verdict Failed = false
-is_verdict TooLong = false
+is_verdict (fault_is.Verdict verdict) = true
+is_verdict fault = false
 
 -- How a fault leaves the outputs: it stopped them between two parts; or they reached all of the second, since the work
 -- ends with this fault, and then files may have been removed.
@@ -62,26 +55,22 @@ CutsOff Holds Owns work engine piece told old new fault = (before : List Slot) (
 
 -- The causes of a fault that meets an engine which isn't over: `Lacks` where it may want memory, `Ends` where its work
 -- ends so.
-abbrev pub IsMet : Means → Needs → Type 0 → (Fault → Type 0) → List Slot → List Slot → Fault → Type 0
+abbrev pub IsMet : Means → Needs → Type 0 → (Verdict → Type 0) → List Slot → List Slot → Fault → Type 0
 IsMet means needs Lacks Ends old new Memory = (needs.memory ≡ true) × Lacks
 IsMet means needs Lacks Ends old new (Write slot) = (slot ≡ 0 → writes means.output ≡ true)
     × (means.files ≡ false → slot ≡ 0) × Rose slot old new
 IsMet means needs Lacks Ends old new (Open slot) = (means.files ≡ true) × (needs.files ≡ true) × Rose slot old new
-IsMet means needs Lacks Ends old new Suffixes = Ends Suffixes
-IsMet means needs Lacks Ends old new (NoMatch operand repetition) = Ends (NoMatch operand repetition)
-IsMet means needs Lacks Ends old new (Range operand repetition) = Ends (Range operand repetition)
-IsMet means needs Lacks Ends old new Failed = ⊥
-IsMet means needs Lacks Ends old new TooLong = ⊥
-IsMet means needs Lacks Ends old new (Read slot) = ⊥
-IsMet means needs Lacks Ends old new (Usage kind word) = ⊥
+IsMet means needs Lacks Ends old new (fault_is.Verdict verdict) = Ends verdict
+IsMet means needs Lacks Ends old new fault = ⊥
 
--- whatever the engine was fed, with this piece its work ends with the fault
-abbrev pub EndsWith : {E : Type 0} → (E → List ℕ → Type 0) → (E → Work) → E → List ℕ → Fault → Type 0
-EndsWith Holds work engine piece fault = (x : List ℕ) → Holds engine x → IsSettled (work engine) (x ++ piece) fault
+-- whatever the engine was fed, with this piece its work ends so
+abbrev pub EndsWith : {E : Type 0} → (E → List ℕ → Type 0) → (E → Work) → E → List ℕ → Verdict → Type 0
+EndsWith Holds work engine piece verdict = (x : List ℕ) → Holds engine x
+    → IsSettled (work engine) (x ++ piece) verdict
 
--- whatever the engine was fed, at its end the work ends with the fault
-abbrev pub EndsThere : {E : Type 0} → (E → List ℕ → Type 0) → (E → Work) → E → Fault → Type 0
-EndsThere Holds work engine fault = (x : List ℕ) → Holds engine x → Judges (work engine) x fault
+-- whatever the engine was fed, at its end the work ends so
+abbrev pub EndsThere : {E : Type 0} → (E → List ℕ → Type 0) → (E → Work) → E → Verdict → Type 0
+EndsThere Holds work engine verdict = (x : List ℕ) → Holds engine x → Judges (work engine) x verdict
 
 -- what causes each fault of a call that takes in `size` bytes, where `Met` causes those of an engine which isn't over
 pub data IsCaused (Met : Fault → Type 0) (is_over : Bool) (fed size : ℕ) (old new : List Slot) : Fault → Type 0 where

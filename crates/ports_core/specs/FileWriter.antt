@@ -9,6 +9,7 @@ use Rattle.ports_core.specs.Swept.{AreThere, is_among}
 use Rattle.ports_core.specs.Turn.{IsThere}
 use Rattle.ports_core.specs.declared.fault.Fault.{Fault}
 use Rattle.ports_core.specs.declared.fault.Fault.TheVariants as why
+use Rattle.ports_core.specs.declared.verdict.Verdict.TheVariants.{Suffixes}
 use Rattle.ports_core.specs.declared.file_writer.Current.{Current}
 use Rattle.ports_core.specs.declared.file_writer.Current.TheVariants.{Skipped, Due, File, Unopened}
 use Rattle.ports_core.specs.declared.file_writer.FileWriter.{FileWriter}
@@ -129,13 +130,8 @@ abbrev pub Breaks : Manner → List Slot → List Slot → Fault → Type 0
 Breaks manner old new why.Memory = Unit {0}
 Breaks manner old new (why.Write slot) = (slot ≡ 0 → writes manner.output ≡ true) × Rose slot old new
 Breaks manner old new (why.Open slot) = Rose slot old new
-Breaks manner old new why.Suffixes = (place : ℕ) × (place < 2 ^ 64) × (manner.has_name place ≡ false)
-Breaks manner old new (why.Read slot) = ⊥
-Breaks manner old new (why.NoMatch operand repetition) = ⊥
-Breaks manner old new (why.Range operand repetition) = ⊥
-Breaks manner old new (why.Usage kind word) = ⊥
-Breaks manner old new why.Failed = ⊥
-Breaks manner old new why.TooLong = ⊥
+Breaks manner old new (why.Verdict Suffixes) = (place : ℕ) × (place < 2 ^ 64) × (manner.has_name place ≡ false)
+Breaks manner old new fault = ⊥
 
 -- an output broke
 abbrev pub IsWrite : Fault → Type 0
@@ -204,7 +200,7 @@ pub record Goes (told : Bool) (writer : WriterState) (change : Draft → Draft) 
   pub reaches : (manner : Manner) (draft : Draft) → Writes manner writer draft
       → Reaches manner.output told writer next (draft_part manner draft) (draft_part manner (change draft)) old new
       fault
-  pub short : IfSome fault (λ fault. fault ≡ why.Suffixes → (manner : Manner) (draft : Draft)
+  pub short : IfSome fault (λ fault. fault ≡ why.Verdict Suffixes → (manner : Manner) (draft : Draft)
       → Writes manner writer draft → RunsShort told writer change manner draft old new)
   pub writes : IfNone fault ((manner : Manner) (draft : Draft) → Writes manner writer draft
       → Writes manner next (change draft))

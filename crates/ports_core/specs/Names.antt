@@ -1,7 +1,8 @@
 -- Names that are drawn one after another, and the files with them.
 use Rattle.std.specs.Prelude.{◌≡◌, ℕ, ◌+◌, ◌<◌, ◌^◌, List, [], ◌∷◌, ◌++◌, ◌⊎◌, length, Bool, false, IsTrue}
 use Rattle.ports_core.specs.declared.fault.Fault.{Fault}
-use Rattle.ports_core.specs.declared.fault.Fault.TheVariants.{Memory, Write, Open, Suffixes}
+use Rattle.ports_core.specs.declared.fault.Fault.TheVariants.{Memory, Write, Open, Verdict}
+use Rattle.ports_core.specs.declared.verdict.Verdict.TheVariants.{Suffixes}
 use Rattle.ports_core.specs.declared.names.Names.{Names}
 use Rattle.ports_core.specs.declared.file_writer.Tells.{Tells}
 use Rattle.ports_core.specs.declared.file_writer.Tells.TheVariants.{Nothing, Sizes, Openings}
@@ -48,4 +49,4 @@ pub data OpensNone (told : Bool) (tells : Tells) (names next : Names) (old new :
   no_number : names.drawn < 2 ^ 64 → IsTrue (has_next names) → new ≡ told_next told tells names old
       → OpensNone told tells names next old new Memory
   no_name : names.drawn < 2 ^ 64 → has_next names ≡ false → new ≡ old
-      → OpensNone told tells names next old new Suffixes
+      → OpensNone told tells names next old new (Verdict Suffixes)

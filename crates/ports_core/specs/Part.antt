@@ -5,7 +5,7 @@ use Rattle.ports_core.specs.declared.slot.Mode.{Mode}
 use Rattle.ports_core.specs.declared.slot.State.{State}
 use Rattle.ports_core.specs.declared.slot.State.TheVariants as state
 use Rattle.ports_core.specs.declared.fault.Fault.{Fault}
-use Rattle.ports_core.specs.declared.fault.Fault.TheVariants.{Memory, Write, Read, Open, Suffixes, NoMatch, Range, Usage, Failed, TooLong}
+use Rattle.ports_core.specs.declared.fault.Fault.TheVariants.{Memory, Write, Open}
 
 pub record File : Type 0 where
   pub name : List ℕ
@@ -78,28 +78,14 @@ Marks IsDue (Write slot) before after = (slot < length before) × (after ≡ wit
 Marks IsDue (Open slot) before after = (slot ≡ length before)
     × ((name : List ℕ) × (kept : List ℕ) × IsDue name × ((kept ≡ name) ⊎ (kept ≡ []))
     × (after ≡ before ++ unopened kept ∷ []))
-Marks IsDue Memory before after = after ≡ before
-Marks IsDue (Read slot) before after = after ≡ before
-Marks IsDue Suffixes before after = after ≡ before
-Marks IsDue (NoMatch operand repetition) before after = after ≡ before
-Marks IsDue (Range operand repetition) before after = after ≡ before
-Marks IsDue (Usage kind word) before after = after ≡ before
-Marks IsDue Failed before after = after ≡ before
-Marks IsDue TooLong before after = after ≡ before
+Marks IsDue fault before after = after ≡ before
 
 -- Where a fault comes from, of a tool whose files are the slots from `first` on: a write fault from standard output or
 -- from the file at this place, an open fault from the next file, when there are `count`.
 abbrev pub IsAt : Fault → ℕ → ℕ → ℕ → Type 0
 IsAt (Write slot) first place count = (slot ≡ 0) ⊎ (slot ≡ first + place)
 IsAt (Open slot) first place count = place ≡ count
-IsAt Memory first place count = Unit {0}
-IsAt (Read slot) first place count = Unit {0}
-IsAt Suffixes first place count = Unit {0}
-IsAt (NoMatch operand repetition) first place count = Unit {0}
-IsAt (Range operand repetition) first place count = Unit {0}
-IsAt (Usage kind word) first place count = Unit {0}
-IsAt Failed first place count = Unit {0}
-IsAt TooLong first place count = Unit {0}
+IsAt fault first place count = Unit {0}
 
 -- The files were reached in their order: those before this place are as they were to become, and those after it as they
 -- were.

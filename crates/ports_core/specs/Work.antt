@@ -1,7 +1,7 @@
 -- What a tool makes of an input, whatever engine does it: what is written once some bytes came in, and what at the end.
 use Rattle.std.specs.Prelude.{◌≡◌, ◌≤◌, ◌⊎◌, Bool, true, false, List, [], ◌++◌, ℕ, length, Option, Some, None}
 use Rattle.ports_core.specs.Part.{Part, Begins, Output, gets_bytes}
-use Rattle.ports_core.specs.declared.fault.Fault.{Fault}
+use Rattle.ports_core.specs.declared.verdict.Verdict.{Verdict}
 
 -- what a call of an engine may need, and so which faults it can give
 pub record Needs : Type 0 where
@@ -41,25 +41,25 @@ pub record Work : Type 0 where
   pub waiting : List ℕ → List ℕ
   -- whatever comes after them, the outputs stay
   pub is_complete : List ℕ → Bool
-  -- the fault with which the work itself ends there: names ran out, no match, a range
-  pub verdict : List ℕ → Option Fault
+  -- what the work itself ends with there, where it doesn't end well
+  pub verdict : List ℕ → Option Verdict
   -- after a fault, and after an input that breaks off, its files are removed
   pub clears : Bool
   pub means : Means
   -- how many bytes more than it uses it may be given, of an input that others read after it
   pub ahead : ℕ
 
--- the work of a tool that ends with no fault of its own
-abbrev pub always_well : List ℕ → Option Fault
+-- the work of a tool that always ends well
+abbrev pub always_well : List ℕ → Option Verdict
 always_well x = None
 
--- the work ends with this fault where the input ends after x
-abbrev pub Judges : Work → List ℕ → Fault → Type 0
-Judges work x fault = work.verdict x ≡ Some fault
+-- the work ends with this verdict where the input ends after x
+abbrev pub Judges : Work → List ℕ → Verdict → Type 0
+Judges work x verdict = work.verdict x ≡ Some verdict
 
--- the work ends with this fault, whatever comes after x
-abbrev pub IsSettled : Work → List ℕ → Fault → Type 0
-IsSettled work x fault = (work.is_complete x ≡ true) × Judges work x fault
+-- the work ends with this verdict, whatever comes after x
+abbrev pub IsSettled : Work → List ℕ → Verdict → Type 0
+IsSettled work x verdict = (work.is_complete x ≡ true) × Judges work x verdict
 
 -- more input changes nothing
 pub record IsComplete (work : Work) (x y : List ℕ) : Type 0 where

@@ -50,9 +50,9 @@ impl<S: Stage> Guarded<S> {
     ///
     /// `Write` where an output broke, `Open` where a file can't be opened, `Memory` where there is no room for bytes
     /// that wait or for a name, `TooLong` where the input has more than 2^63-1 bytes: nothing of this piece is
-    /// written then. After these the outputs have a beginning of what is settled. `Suffixes`, `NoMatch` and `Range`
-    /// where the work ends so whatever comes: then the outputs have all that is settled, and the files are removed if
-    /// the work clears them. After a fault, and after `close`, `Failed`: nothing is changed.
+    /// written then. After these the outputs have a beginning of what is settled. `Verdict` where the work ends so
+    /// whatever comes: then the outputs have all that is settled, and the files are removed if the work clears them.
+    /// After a fault, and after `close`, `Failed`: nothing is changed.
     pub fn feed<O: Outs>(&mut self, piece: &[u8], outs: &mut O) -> Result<(), Fault>
         requires { self.old.is_over ≡ false → S.Ready self.old.stage (O.slots outs.old) }
         ensures same { S.work self.new.stage ≡ S.work self.old.stage }
@@ -121,9 +121,9 @@ impl<S: Stage> Guarded<S> {
     /// # Errors
     ///
     /// `Write` where an output broke. `Open` where a file can't be opened and `Memory` where there is none, each only
-    /// where the work's means say that `close` may need it. `Suffixes`, `NoMatch` and `Range` where the work ends so:
-    /// then the outputs have all of it, and the files are removed if the work clears them. `Failed` after a fault or
-    /// after `close`: nothing is changed.
+    /// where the work's means say that `close` may need it. `Verdict` where the work ends so: then the outputs have all
+    /// of it, and the files are removed if the work clears them. `Failed` after a fault or after `close`: nothing is
+    /// changed.
     pub fn close<O: Outs>(&mut self, outs: &mut O) -> Result<(), Fault>
         requires { self.old.is_over ≡ false → S.Ready self.old.stage (O.slots outs.old) }
         ensures same { S.work self.new.stage ≡ S.work self.old.stage }
@@ -151,7 +151,7 @@ impl<S: Stage> Guarded<S> {
 
     /// Gives the input up, after any fault or where it broke off: removes the files that it made and that are still
     /// there, in order, if its work clears them. One that can't be removed is broken and closed, and the next is tried.
-    /// After `Suffixes`, `NoMatch` or `Range`, or when called again, it tries those whose removal failed before.
+    /// After a verdict, or when called again, it tries those whose removal failed before.
     pub fn abandon<O: Outs>(&mut self, outs: &mut O)
         requires { AreThere (S.files self.old.stage) (O.slots outs.old) }
         ensures same { S.work self.new.stage ≡ S.work self.old.stage }

@@ -28,6 +28,7 @@ mod standard_input;
 mod sweep;
 mod text;
 mod tool;
+mod verdict;
 mod whole;
 
 pub use alphabet::Alphabet;
@@ -53,4 +54,5 @@ pub use stage::Stage;
 pub use sweep::sweep_files;
 pub use text::{header, memory_exhausted, message};
 pub use tool::Tool;
+pub use verdict::Verdict;
 pub use whole::{WriteCut, write_whole};

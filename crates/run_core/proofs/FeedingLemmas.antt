@@ -1,6 +1,6 @@
 -- Lemmas on the loop that feeds an engine, and on what an engine uses of its input.
 use Rattle.std.proofs.lemmas.Grind.{common_steps}
-use Rattle.std.proofs.Common.{◌⊎◌, ◌≡◌, ℕ, ◌+◌, ◌<◌, ◌≤◌, ◌^◌, Bool, true, false, List, [], ◌++◌, length, take, Result, Ok, Err, IfOk, None, arith, length-append, length-take, inl, inr, refl, sym, ◌∙◌, ap, IsTrue, ◌-◌, drop, not, if◌then◌else◌, Some, append_assoc, rules}
+use Rattle.std.proofs.Common.{◌⊎◌, ◌≡◌, ℕ, ◌+◌, ◌<◌, ◌≤◌, ◌^◌, Bool, true, false, List, [], ◌++◌, length, take, Result, Ok, Err, IfOk, None, arith, length-append, length-take, inl, inr, refl, sym, ◌∙◌, ap, IsTrue, ◌-◌, drop, not, if◌then◌else◌, append_assoc, rules}
 use Rattle.std.proofs.lemmas.List.{append-nil, drop_at, length-take}
 use Rattle.std.proofs.lemmas.Bool.{false≢true, or_right}
 use Rattle.ports_core.specs.Slot.{Slot, changed_at}
@@ -11,6 +11,8 @@ use Rattle.ports_core.specs.Work.{Work, Means, Needs, IsLawful, IsComplete, IsNe
 use Rattle.ports_core.specs.Engine.{StandsAt, TakesIn, PutsOut, CutsOff, EndsShort, EndsWith, EndsThere, IsCaused, IsMet, Ended, is_verdict, KeepsOwn, Clears, Loads}
 use Rattle.ports_core.specs.Guard.{GuardState, HoldsIn}
 use Rattle.ports_core.specs.declared.fault.Fault.{Fault}
+use Rattle.ports_core.specs.declared.fault.Fault.TheVariants as fault_is
+use Rattle.ports_core.specs.declared.verdict.Verdict.{Verdict}
 use Rattle.run_core.specs.declared.feeding.Fed.{Fed}
 use Rattle.run_core.specs.declared.feeding.Fed.TheVariants.{Whole, Enough, Broken}
 use Rattle.ports_core.specs.Inputs.{CameFrom, empty, OfContent}
@@ -24,30 +26,34 @@ use Rattle.ports_core.specs.Engine as engine
 -- a change of one input
 
 -- why an engine that is live is stopped
-stops : (work : Work) (read : List ℕ) (low high : Part) {needs : Needs} (ended : Bool) (ahead : ℕ) (Lacks : Type 0) (Ends : Fault → Type 0) {fault : Fault} {taken size : ℕ} {old new : List Slot} → is_verdict fault ≡ false → (2 ^ 63 ≤ taken + size → 2 ^ 63 ≤ length read)
+stops : (work : Work) (read : List ℕ) (low high : Part) {needs : Needs} (ended : Bool) (ahead : ℕ) (Lacks : Type 0) (Ends : Verdict → Type 0) {fault : Fault} {taken size : ℕ} {old new : List Slot} → is_verdict fault ≡ false → (2 ^ 63 ≤ taken + size → 2 ^ 63 ≤ length read)
     → IsCaused (IsMet work.means needs Lacks Ends old new) false taken size old new fault → Stops (record (call_of work needs read low high) { ended = ended; ahead = ahead }) new fault
 stops work read low high ended ahead Lacks Ends is long (engine.over is_over kept) = search rules
 stops work read low high ended ahead Lacks Ends is long (engine.long live many kept) = long many
 stops work read low high {needs} ended ahead Lacks Ends {fault} {old} {new} is long (engine.met _ live why) = grind (arith, common_steps)
 
+-- the fault is a verdict of which this holds
+abbrev pub OfVerdict : Fault → (Verdict → Type 0) → Type 0
+OfVerdict fault P = (verdict : Verdict) × (fault ≡ fault_is.Verdict verdict) × P verdict
+
 -- a verdict comes only where the work ends so
-pub judges : (means : Means) {needs : Needs} (Lacks : Type 0) (Ends : Fault → Type 0) {fault : Fault} {over : Bool} {taken size : ℕ} {old new : List Slot} → is_verdict fault ≡ true → IsCaused (IsMet means needs Lacks Ends old new) over taken size old new fault → Ends fault
-judges means Lacks Ends is (engine.over is_over kept) = absurd (false≢true is)
-judges means Lacks Ends is (engine.long live many kept) = absurd (false≢true is)
-judges means {needs} Lacks Ends {fault} {old} {new} is (engine.met _ live why) = grind (arith, common_steps)
+pub judges : (means : Means) {needs : Needs} (Lacks : Type 0) (Ends : Verdict → Type 0) {fault : Fault} {over : Bool} {taken size : ℕ} {old new : List Slot} → is_verdict fault ≡ true → IsCaused (IsMet means needs Lacks Ends old new) over taken size old new fault → OfVerdict fault Ends
+judges means Lacks Ends is (engine.met (fault_is.Verdict verdict) live why) = (verdict, refl, why)
+judges means Lacks Ends is caused = absurd (false≢true is)
 
 -- what a fault left within an input, and what was made of its files then
 short_of_piece : {told : Bool} {opening : Needs} {most : ℕ} {work : Work} {content : Content} (WasRead : Step → Type 0) {x : List ℕ} (piece rest : List ℕ) {reached new before : List Slot} {fault : Fault} → IsLawful work → content.bytes ≡ (x ++ piece) ++ rest → length piece ≤ most → work.is_complete x ≡ false → WasRead (call_of work work.means.feeding (x ++ piece) (work.settled x) (work.settled (x ++ piece)))
     → Ended work.means.output told before (work.settled x) (work.settled (x ++ piece)) work.clears fault reached
-    → (is_verdict fault ≡ false → Stops (call_of work work.means.feeding (x ++ piece) (work.settled x) (work.settled (x ++ piece))) reached fault) → (is_verdict fault ≡ true → IsSettled work (x ++ piece) fault)
+    → (is_verdict fault ≡ false → Stops (call_of work work.means.feeding (x ++ piece) (work.settled x) (work.settled (x ++ piece))) reached fault) → (is_verdict fault ≡ true → OfVerdict fault (IsSettled work (x ++ piece)))
     → (is_verdict fault ≡ true → new ≡ reached) → (is_verdict fault ≡ false → Swept work.clears (length before) reached new) → FedAs told before work opening most content WasRead new (Err fault)
 short_of_piece WasRead {x} piece rest {reached} {fault} lawful is within going read (engine.cut unjudged stop) why settles kept swept =
     stopped fault unjudged _ (feeds x piece rest is within going) read reached (why unjudged) stop (swept unjudged)
 short_of_piece {work} WasRead {x} piece rest {fault} lawful is within going read (engine.judged judging first at cleared) why settles kept swept =
-    let stays : IsComplete work (x ++ piece) rest = lawful.stays (x ++ piece) rest (settles judging).0 in
-    judged fault judging (or_right _ _ (ap work.is_complete is ∙ stays.still)) (ap work.verdict is ∙ stays.verdict_stays ∙ (settles judging).1) first
+    let settling = settles judging in
+    let stays : IsComplete work (x ++ piece) rest = lawful.stays (x ++ piece) rest settling.2.0 in
+    rw settling.1 (judged settling.0 (or_right _ _ (ap work.is_complete is ∙ stays.still)) (ap work.verdict is ∙ stays.verdict_stays ∙ settling.2.1) first
     (rw (sym stays.whole_stays ∙ ap work.whole (sym is)) at at)
-    (rw (kept judging) cleared)
+    (rw (kept judging) cleared))
 
 -- what is known of an input that the engine has got all of, by what became of it
 abbrev pub HasGot : Work → Content → List ℕ → Fed → Type 0
@@ -95,14 +101,15 @@ fed_all WasRead Broken lawful got well at = absurd got
 -- What a fault left at the end, and what was made of its files then. The engine was fed x, of which z was used.
 short_of_end : {told : Bool} {opening : Needs} {most : ℕ} {work : Work} {content : Content} (WasRead : Step → Type 0) {x z : List ℕ} {reached new before : List Slot} (fed : Fed) {fault : Fault} → IsLawful work → HasGot work content x fed → HasAll work content z → MadeAlike work x z → IsNeeded work.is_complete most z → WasRead (close_of work z)
     → Ended work.means.output told before (work.settled x) (work.whole x) work.clears fault reached
-    → (is_verdict fault ≡ false → Stops (close_of work z) reached fault) → (is_verdict fault ≡ true → Judges work x fault)
+    → (is_verdict fault ≡ false → Stops (close_of work z) reached fault) → (is_verdict fault ≡ true → OfVerdict fault (Judges work x))
     → (is_verdict fault ≡ true → new ≡ reached) → (is_verdict fault ≡ false → Swept work.clears (length before) reached new) → FedAs told before work opening most content WasRead new (Err fault)
 short_of_end WasRead {z} {reached} fed {fault} lawful got all alike needed read (engine.cut unjudged stop) why verdict kept swept =
     stopped fault unjudged _ (closes z all needed) read reached (why unjudged)
     (rw alike.settled at (rw alike.whole at stop))
     (swept unjudged)
 short_of_end WasRead fed {fault} lawful got all alike needed read (engine.judged judging first at cleared) why verdict kept swept =
-    let same = got_alike _ fed lawful got in judged fault judging (got_enough _ _ fed lawful got) (same.verdict ∙ verdict judging) first (rw same.whole at) (rw (kept judging) cleared)
+    let same = got_alike _ fed lawful got in let (given, is, ends) = verdict judging in
+    rw is (judged given (got_enough _ _ fed lawful got) (same.verdict ∙ ends) first (rw same.whole at) (rw (kept judging) cleared))
 
 module _ {S : Type 0} (Holds : S → List ℕ → Type 0) (Owns : S → ℕ → List Slot → Type 0) (work : S → Work) where
   -- the loop has fed the engine x
@@ -136,7 +143,7 @@ module _ {S : Type 0} (Holds : S → List ℕ → Type 0) (Owns : S → ℕ → 
       let why = rw so_far.holds.count at (rw so_far.holds.live at caused) in
       rw (← so_far.same) (short_of_piece WasRead piece rest (laws now.stage) is within going read (cuts before x (stands told so_far own at))
       (λ unjudged. stops (work now.stage) (x ++ piece) ((work now.stage).settled x) ((work now.stage).settled (x ++ piece)) false 0 lack (EndsWith Holds work now.stage piece) unjudged (λ long. let size : length (x ++ piece) ≡ length x + length piece = length-append x piece in omega (arith, long)) why)
-      (λ judging. judges (work now.stage).means lack (EndsWith Holds work now.stage piece) judging caused x so_far.holds.within)
+      (λ judging. let (verdict, is, ends) = judges (work now.stage).means lack (EndsWith Holds work now.stage piece) judging caused in (verdict, is, ends x so_far.holds.within))
       kept
       (λ unjudged. rw same at (cleared unjudged (length before) (owned unjudged (length before) (so_far.owns (length before) own)))))
 
@@ -150,7 +157,7 @@ module _ {S : Type 0} (Holds : S → List ℕ → Type 0) (Owns : S → ℕ → 
       let why = rw so_far.holds.live at caused in
       rw (← so_far.same) (short_of_end WasRead fed (laws now.stage) got all alike needed read (short before x (stands told so_far own at))
       (λ unjudged. stops (work now.stage) z ((work now.stage).settled z) ((work now.stage).whole z) (not ((work now.stage).is_complete z)) (if (work now.stage).is_complete z then (work now.stage).ahead else 0) (Unit {0}) (EndsThere Holds work now.stage) unjudged (λ long. absurd (let bound : now.fed < 2 ^ 63 = so_far.bound in omega (arith, bound, long))) why)
-      (λ judging. judges (work now.stage).means (Unit {0}) (EndsThere Holds work now.stage) judging caused x so_far.holds.within)
+      (λ judging. let (verdict, is, ends) = judges (work now.stage).means (Unit {0}) (EndsThere Holds work now.stage) judging caused in (verdict, is, ends x so_far.holds.within))
       kept (λ unjudged. cleared unjudged (length before) (so_far.owns (length before) own)))
 
   -- an input without bytes: the engine is closed at once
@@ -197,7 +204,7 @@ pub fed_so : {told : Bool} {before : List Slot} {work : Work} {opening : Needs} 
 fed_so more (whole sound going well at) = whole sound going well at
 fed_so more (had_enough complete well at) = had_enough complete well at
 fed_so more (broke_off breaks going reached at swept) = broke_off breaks going reached at swept
-fed_so more (judged fault is all verdict reached at swept) = judged fault is all verdict reached at swept
+fed_so more (judged verdict all ends reached at swept) = judged verdict all ends reached at swept
 fed_so more (stopped fault is call is_call read reached why stop swept) = stopped fault is call is_call (more call read) reached why stop swept
 
 -- an engine that took in a front of its input without a read: the loop that feeds it goes on from there
@@ -247,9 +254,9 @@ needed_within room (inr (before, piece, is, few, going)) = grind (arith, common_
 pub uses_all : {work : Work} {most slot : ℕ} {there : Content} {x : List ℕ} {source : Source} → there.bytes ≡ x ++ source.left.bytes → source.left.bytes ≡ [] → IsNeeded work.is_complete most x → work.is_complete x ≡ false → source.reached ≤ length x → Uses work most slot there source
 uses_all {x} joined none needed going few = grind (arith, common_steps)
 
--- the work ended with a fault within it
-pub uses_judged : {work : Work} {most slot : ℕ} {there : Content} {x : List ℕ} {source : Source} {fault : Fault} → there.bytes ≡ x ++ source.left.bytes → IsNeeded work.is_complete most x → work.is_complete x ≡ true → work.verdict x ≡ Some fault → source.reached ≤ length x → Uses work most slot there source
-uses_judged {x} joined needed complete verdict few = grind (arith, common_steps)
+-- the work ended with a verdict within it
+pub uses_judged : {work : Work} {most slot : ℕ} {there : Content} {x : List ℕ} {source : Source} {verdict : Verdict} → there.bytes ≡ x ++ source.left.bytes → IsNeeded work.is_complete most x → IsSettled work x verdict → source.reached ≤ length x → Uses work most slot there source
+uses_judged {x} joined needed settled few = grind (arith, common_steps)
 
 -- what was given back is no more than may be
 pub read_to_used : {work : Work} {x : List ℕ} {slot n : ℕ} {start sources new : List Source} (spare : IsSpare work x n) → (slot ≡ 0 → n ≤ work.ahead) → HasTaken x slot start sources → IsUnread (source_at start slot) → IsTrue (is_readable sources slot) → new ≡ changed_at slot (gets_back n) sources → slot ≡ 0 → (source_at new slot).reached ≤ length spare.used + work.ahead

@@ -4,7 +4,7 @@ use Rattle.std.proofs.Common.{◌≡◌, ℕ, ◌+◌, ◌<◌, ◌≤◌, suc, 
 use Rattle.std.proofs.lemmas.List.{map-append, append-nil}
 use Rattle.std.proofs.Math.Seq.{take-append-add, drop-append-add}
 use Rattle.ports_core.specs.Slot.{Slot, with_written, told_of, is_open, slot_at, adds, breaks, unopened, with_broken}
-use Rattle.ports_core.specs.Part.{nothing, Part, File, only_out, OutputsAt, IsBeginning, FilesBegin, Begins, IsNext, IsAt, StoppedBetween, file_of, told_file, Marks, Output, gets_none, gets_bytes, gets_lines, gets_openings, lines_for, openings_for, LinesInOrder, AreLines}
+use Rattle.ports_core.specs.Part.{nothing, Part, File, only_out, OutputsAt, IsBeginning, FilesBegin, Begins, IsNext, IsAt, StoppedBetween, file_of, told_file, Marks, Output, gets_none, gets_bytes, gets_lines, gets_openings, lines_for, openings_for, LinesInOrder}
 use Rattle.ports_core.specs.Swept.{Swept, SweptFrom, Cleared}
 use Rattle.ports_core.specs.declared.fault.Fault.{Fault}
 use Rattle.ports_core.specs.declared.fault.Fault.TheVariants.{Write, Open}

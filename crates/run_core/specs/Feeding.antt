@@ -10,7 +10,9 @@ use Rattle.ports_core.specs.Inputs.{CameFrom}
 use Rattle.ports_core.specs.declared.fault.Fault.{Fault}
 use Rattle.run_core.specs.declared.feeding.Fed.{Fed}
 use Rattle.run_core.specs.declared.feeding.Fed.TheVariants.{Whole, Enough, Broken}
-use Rattle.ports_core.specs.declared.fault.Fault.TheVariants.{Memory, Write, Read, Open, Suffixes, NoMatch, Range, Usage, Failed, TooLong}
+use Rattle.ports_core.specs.declared.fault.Fault.TheVariants.{Memory, Write, Open, TooLong}
+use Rattle.ports_core.specs.declared.fault.Fault.TheVariants as fault_is
+use Rattle.ports_core.specs.declared.verdict.Verdict.{Verdict}
 
 -- the input ends, or the output is complete before it breaks off
 abbrev pub is_enough : Work → Content → Bool
@@ -44,12 +46,7 @@ Stops step now (Write slot) = (slot ≡ 0 → writes step.output ≡ true) × (s
     × ((slot_at now slot).is_broken ≡ true)
 Stops step now (Open slot) = (step.files ≡ true) × (step.needs.files ≡ true)
 Stops step now TooLong = 2 ^ 63 ≤ length step.read
-Stops step now (Read slot) = ⊥
-Stops step now Suffixes = ⊥
-Stops step now (NoMatch operand repetition) = ⊥
-Stops step now (Range operand repetition) = ⊥
-Stops step now (Usage kind word) = ⊥
-Stops step now Failed = ⊥
+Stops step now fault = ⊥
 
 -- the engine has got all of an input that it needs: the input ended, or nothing more could follow
 pub data HasAll (work : Work) (content : Content) (x : List ℕ) : Type 0 where
@@ -89,8 +86,8 @@ pub data IsCall (work : Work) (opening : Needs) (most : ℕ) (content : Content)
 
 -- How feeding an input by pieces of at most `most` bytes ends, from the outputs as they were before: it ended, or
 -- nothing more could follow; or it broke off before that, and the files go if the work clears them; or the work itself
--- ends with a fault, and the files go likewise; or a fault stopped one call, no byte was taken after it (`WasRead` says
--- what that leaves), and then the files go.
+-- ends with a verdict, and the files go likewise; or a fault stopped one call, no byte was taken after it (`WasRead`
+-- says what that leaves), and then the files go.
 pub data FedAs (told : Bool) (before : List Slot) (work : Work) (opening : Needs) (most : ℕ) (content : Content)
     (WasRead : Step → Type 0) (new : List Slot) : Result Fed Fault → Type 0 where
   whole : content.breaks_off ≡ false → work.is_complete content.bytes ≡ false → work.verdict content.bytes ≡ None
@@ -102,10 +99,10 @@ pub data FedAs (told : Bool) (before : List Slot) (work : Work) (opening : Needs
   broke_off : content.breaks_off ≡ true → work.is_complete content.bytes ≡ false → (reached : List Slot)
       → OutputsAt told before (work.settled content.bytes) reached → Swept work.clears (length before) reached new
       → FedAs told before work opening most content WasRead new (Ok Broken)
-  judged : (fault : Fault) → is_verdict fault ≡ true → is_enough work content ≡ true → Judges work content.bytes fault
+  judged : (verdict : Verdict) → is_enough work content ≡ true → Judges work content.bytes verdict
       → (reached : List Slot) → OutputsAt told before (work.whole content.bytes) reached
       → Swept work.clears (length before) reached new
-      → FedAs told before work opening most content WasRead new (Err fault)
+      → FedAs told before work opening most content WasRead new (Err (fault_is.Verdict verdict))
   stopped : (fault : Fault) → is_verdict fault ≡ false → (call : Step) → IsCall work opening most content call
       → WasRead call → (reached : List Slot) → Stops call reached fault
       → StoppedBetween call.output told before call.low call.high fault reached
@@ -147,7 +144,7 @@ pub record Uses (work : Work) (most slot : ℕ) (there : Content) (source : Sour
   pub enough : (source.left.bytes ≡ []) ⊎ (work.is_complete read ≡ true)
   -- and it was needed: without its last piece, of at most `most` bytes, the output could still change
   pub needed : IsNeeded work.is_complete most read
-  -- where the work ends without a fault of its own, each byte was: without the last one the output could still change
+  -- where the work ends well, each byte was: without the last one the output could still change
   pub exact : work.verdict read ≡ None → IsNeeded work.is_complete 1 read
   -- of standard input, which others may read after it, reads gave at most this much more, and that was given back
   pub few : slot ≡ 0 → source.reached ≤ length read + work.ahead

@@ -1,13 +1,16 @@
 -- What a run finds at the names that it is to read, one after another.
-use Rattle.std.specs.Prelude.{◌≡◌, ℕ, ◌+◌, Bool, true, false, ◌||◌, List, [], ◌∷◌, Option, Some, None, codes, if◌then◌else◌, bytes_eq}
+use Rattle.std.specs.Prelude.{◌≡◌, ℕ, ◌+◌, Bool, true, false, ◌||◌, List, [], ◌∷◌, Option, Some, None, codes, if◌then◌else◌, bytes_eq, is_some}
+use Rattle.std.specs.Option.{unwrap_or}
 use Rattle.ports_core.specs.Inputs.{empty}
-use Rattle.ports_core.specs.Source.{Content}
+use Rattle.ports_core.specs.Source.{Content, count_left}
 
 pub record Input : Type 0 where
   -- what headers and messages call it
   pub name : List ℕ
   -- its number among the inputs, where it has one
   pub slot : Option ℕ
+  -- how many bytes it says that it has, before it is read; 0 where it doesn't say
+  pub coming : ℕ
   -- what it holds; none where it can't be opened
   pub content : Option Content
 
@@ -19,15 +22,30 @@ abbrev pub has_dash : List (List ℕ) → Bool
 has_dash [] = false
 has_dash (name ∷ names) = is_dash name || has_dash names
 
+-- how many bytes an input says that it has, where inputs tell their bytes: all, if it ends
+abbrev pub coming_of : Option Content → ℕ
+coming_of None = 0
+coming_of (Some content) = unwrap_or (count_left content) 0
+
 abbrev pub standard_input : Content → Input
-standard_input content = record { name = codes "standard input"; slot = Some 0; content = Some content }
+standard_input content = record {
+  name = codes "standard input";
+  slot = Some 0;
+  coming = coming_of (Some content);
+  content = Some content;
+}
 
 -- what came in once doesn't come again: a `-` after the first is an empty input
 abbrev pub read_before : Input
-read_before = record { name = codes "standard input"; slot = None; content = Some empty }
+read_before = record { name = codes "standard input"; slot = None; coming = 0; content = Some empty }
 
 abbrev pub file_input : List ℕ → ℕ → Option Content → Input
-file_input name slot content = record { name = name; slot = Some slot; content = content }
+file_input name slot content = record {
+  name = name;
+  slot = Some slot;
+  coming = coming_of content;
+  content = content;
+}
 
 -- what the inputs are: what lies at a name for a number, and what standard input holds
 pub record World : Type 0 where
@@ -54,9 +72,14 @@ inputs_from world was_read slot (name ∷ names) =
 abbrev pub inputs_at : World → List (List ℕ) → List Input
 inputs_at world names = inputs_from world false 1 names
 
--- the input may be the one for the name, whatever it holds
+-- an input that is read says that it has this many bytes, whatever it holds
+abbrev pub saying : ℕ → Input → Input
+saying coming input = if is_some input.slot then record input { coming = coming } else input
+
+-- the input may be the one for the name, whatever it holds and says
 abbrev pub IsFor : Bool → ℕ → List ℕ → Input → Type 0
-IsFor was_read slot name input = (world : World) × (input ≡ input_of world was_read slot name (is_dash name))
+IsFor was_read slot name input = (world : World) × (coming : ℕ)
+    × (input ≡ saying coming (input_of world was_read slot name (is_dash name)))
 
 abbrev pub AreFrom : Bool → ℕ → List (List ℕ) → List Input → Type 0
 AreFrom was_read slot [] inputs = inputs ≡ []
@@ -65,7 +88,7 @@ AreFrom was_read slot (name ∷ names) (input ∷ inputs) = IsFor was_read slot 
     × AreFrom (was_read || is_dash name) (next_slot slot name) names inputs
 
 -- Inputs that tell their bytes are those that are there; of others it is known only that they are inputs for these
--- names: nothing is said of their bytes.
+-- names: nothing is said of their bytes, nor of how many they say that they have.
 pub record Finds (told : Bool) (world : World) (names : List (List ℕ)) (inputs : List Input) : Type 0 where
   pub are : AreFrom false 1 names inputs
   pub there : told ≡ true → inputs ≡ inputs_at world names

@@ -4,7 +4,7 @@ use Rattle.ports_core.specs.Slot.{Slot}
 use Rattle.ports_core.specs.Source.{Content, Source}
 use Rattle.ports_core.specs.Part.{Part, OutputsAt, StoppedBetween, only_out, gets_none, gets_bytes}
 use Rattle.ports_core.specs.Swept.{Swept}
-use Rattle.ports_core.specs.Work.{no_needs}
+use Rattle.ports_core.specs.Work.{Work, no_needs}
 use Rattle.ports_core.specs.Text.{message_of}
 use Rattle.ports_core.specs.Message.{SaysAll, output_named}
 use Rattle.ports_core.specs.Inputs.{largest_piece}
@@ -46,21 +46,21 @@ header_step so_far header = record {
   ahead = 0;
 }
 
--- One step at an input, after what was written before it: there is no room to open it; or none for its header, where
--- headers are; or that is written; or its engine is called. The input didn't break, and no byte of it was taken but
--- what came in by then; of standard input, none was read but that, and what was given back.
-pub data RunStep (told : Bool) (task : Task) (most : ℕ) (so_far : Part) (header : List ℕ) (slot : Option ℕ)
-    (sources : List Source) : Option Content → Step → Type 0 where
+-- One step at an input, on which this work is done, after what was written before it: there is no room to open it; or
+-- none for its header, where headers are; or that is written; or its engine is called. The input didn't break, and no
+-- byte of it was taken but what came in by then; of standard input, none was read but that, and what was given back.
+pub data RunStep (told : Bool) (task : Task) (work : Work) (most : ℕ) (so_far : Part) (header : List ℕ)
+    (slot : Option ℕ) (sources : List Source) : Option Content → Step → Type 0 where
   unopened : (content : Option Content) (place : ℕ) → slot ≡ Some place → length sources ≤ place
-      → RunStep told task most so_far header slot sources content (memory_step so_far)
+      → RunStep told task work most so_far header slot sources content (memory_step so_far)
   unheaded : (content : Content) → task.with_header ≡ true → Leaves told content slot sources (memory_step so_far)
-      → RunStep told task most so_far header slot sources (Some content) (memory_step so_far)
+      → RunStep told task work most so_far header slot sources (Some content) (memory_step so_far)
   heading : (content : Content) → task.with_header ≡ true
       → Leaves told content slot sources (header_step so_far header)
-      → RunStep told task most so_far header slot sources (Some content) (header_step so_far header)
-  calling : (content : Content) (call : Step) → IsCall task.work task.opening most content call
+      → RunStep told task work most so_far header slot sources (Some content) (header_step so_far header)
+  calling : (content : Content) (call : Step) → IsCall work task.opening most content call
       → Leaves told content slot sources call
-      → RunStep told task most so_far header slot sources (Some content)
+      → RunStep told task work most so_far header slot sources (Some content)
       (step_after (after_part so_far (only_out header)) call)
 
 -- A run ended so: its inputs were done, its outcome is written, its files were removed if that is due, and standard
@@ -81,11 +81,11 @@ pub data EndsAs (told_in told : Bool) (task : Task) (inputs : List Input) (sourc
       (reached : List Slot)
       → inputs ≡ before ++ input ∷ after → AreDone told_in task.work largest_piece before sources
       → AreUntouched after sources
-      → RunStep told_in task largest_piece (made_by task before).part
+      → RunStep told_in task (task.work input.coming) largest_piece (made_by task before).part
       (header_text task.with_header (are_missing before) input.name) input.slot sources input.content step
       → Stops step reached fault
       → StoppedBetween step.output told (streams_with error) step.low step.high fault reached
-      → Swept task.work.clears 2 reached new
+      → Swept (task.work input.coming).clears 2 reached new
       → SaysAll told task.tool ((made_by task before).messages
       ++ message_of task.tool fault (output_named new fault) ∷ []) standard_error error → status ≡ 1
       → EndsAs told_in told task inputs sources new status

@@ -5,20 +5,21 @@ use Rattle.ports_core.specs.Source.{Content}
 use Rattle.ports_core.specs.Work.{Work, Needs}
 use Rattle.ports_core.specs.Text.{message_of, header_of}
 use Rattle.ports_core.specs.declared.tool.Tool.{Tool}
-use Rattle.ports_core.specs.declared.fault.Fault.{Fault}
 use Rattle.ports_core.specs.declared.fault.Fault.TheVariants.{Read, Open}
+use Rattle.ports_core.specs.declared.fault.Fault.TheVariants as fault_is
+use Rattle.ports_core.specs.declared.verdict.Verdict.{Verdict}
 use Rattle.run_core.specs.Feeding.{is_enough, made_of}
 use Rattle.run_core.specs.Input.{Input}
 
 -- what a run does with each of its inputs
 pub record Task : Type 0 where
   pub tool : Tool
-  -- what it makes of one input
-  pub work : Work
+  -- what it makes of an input which says that it has this many bytes; 0 where it doesn't say
+  pub work : ℕ → Work
   -- what opening its engine may need
   pub opening : Needs
-  -- what the message of a fault with which that work ends speaks of
-  pub subject : Fault → List ℕ
+  -- what the message of a verdict with which that work ends speaks of
+  pub subject : Verdict → List ℕ
   -- whether a header goes before each input
   pub with_header : Bool
 
@@ -54,35 +55,35 @@ joined first next = record {
 abbrev pub header_text : Bool → Bool → List ℕ → List ℕ
 header_text with_header is_first name = if with_header then header_of name is_first else []
 
--- the message for the fault with which the work ends, if there is one
-abbrev pub verdict_messages : Task → Option Fault → List (List ℕ)
+-- the message for the verdict with which the work ends, if there is one
+abbrev pub verdict_messages : Task → Option Verdict → List (List ℕ)
 verdict_messages task None = []
-verdict_messages task (Some fault) = message_of task.tool fault (task.subject fault) ∷ []
+verdict_messages task (Some verdict) = message_of task.tool (fault_is.Verdict verdict) (task.subject verdict) ∷ []
 
--- the work ends with a fault of its own, or the input breaks off before it is done
+-- the work ends with a verdict, or the input breaks off before it is done
 abbrev pub ends_badly : Work → Content → Bool
 ends_badly work content = if is_enough work content then is_some (work.verdict content.bytes) else true
 
--- One input: a message where it can't be opened (its number stands in no message); else its header, what the tool makes
--- of it, and a message for the fault with which its work ends, or where the input breaks off. After such a fault the
--- files go if the work clears them.
-abbrev pub of_content : Task → Bool → List ℕ → Option Content → Outcome
-of_content task is_first name None = record {
+-- One input, on which this work is done: a message where it can't be opened (its number stands in no message); else its
+-- header, what the tool makes of it, and a message for the verdict with which its work ends, or where the input breaks
+-- off. After either the files go if the work clears them.
+abbrev pub of_content : Task → Work → Bool → List ℕ → Option Content → Outcome
+of_content task work is_first name None = record {
   part = nothing;
   messages = message_of task.tool (Open 0) name ∷ [];
   failed = true;
   sweeps = false;
 }
-of_content task is_first name (Some content) = record {
-  part = after_part (only_out (header_text task.with_header is_first name)) (made_of task.work content);
-  messages = if is_enough task.work content then verdict_messages task (task.work.verdict content.bytes)
+of_content task work is_first name (Some content) = record {
+  part = after_part (only_out (header_text task.with_header is_first name)) (made_of work content);
+  messages = if is_enough work content then verdict_messages task (work.verdict content.bytes)
       else message_of task.tool (Read 0) name ∷ [];
-  failed = ends_badly task.work content;
-  sweeps = task.work.clears && ends_badly task.work content;
+  failed = ends_badly work content;
+  sweeps = work.clears && ends_badly work content;
 }
 
 abbrev pub of_input : Task → Bool → Input → Outcome
-of_input task is_first input = of_content task is_first input.name input.content
+of_input task is_first input = of_content task (task.work input.coming) is_first input.name input.content
 
 abbrev pub is_missing : Option Content → Bool
 is_missing None = true

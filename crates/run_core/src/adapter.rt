@@ -3,7 +3,7 @@ ghost use Rattle.ports_core.specs.Slot.{is_writable};
 ghost use Rattle.run_core.specs.Task.{Task};
 ghost use Rattle.run_core.specs.RunSteps.{Opens, OpensShort};
 
-use ports_core::{Fault, Guarded, Outs, Stage, Tool};
+use ports_core::{Fault, Guarded, Outs, Stage, Tool, Verdict};
 use std::alloc::Global;
 
 /// What a run knows of a tool that feeds each of its inputs to an engine of its own.
@@ -22,8 +22,8 @@ pub trait Adapter {
     fn with_header(&self) -> bool
         ensures { result ≡ (task self.now).with_header };
 
-    /// The name in the message for a fault with which the work on an input ends.
-    fn subject<'a>(&'a self, verdict: &Fault) -> &'a str
+    /// The name in the message for a verdict with which the work on an input ends.
+    fn subject<'a>(&'a self, verdict: &Verdict) -> &'a str
         ensures { result.now ≡ (task self.now).subject verdict.now };
 
     /// Opens an engine for one input, which says that it has `coming` bytes; 0 where it doesn't say. It may have more or
@@ -42,7 +42,8 @@ pub trait Adapter {
         requires streams { 2 ≤ length (O.slots outs.old) }
         requires output { IsTrue (is_writable (O.slots outs.old) 0) }
         ensures ok { IfOk result (Opens Self.Driven.Holds Self.Driven.Owns Self.Driven.work Self.Driven.Ready
-            (task self.now).work O.told (O.slots outs.old) (O.slots outs.new)) }
+            ((task self.now).work coming) O.told (O.slots outs.old) (O.slots outs.new)) }
         ensures err { IfErr result
-            (OpensShort (task self.now).work (task self.now).opening O.told (O.slots outs.old) (O.slots outs.new)) };
+            (OpensShort ((task self.now).work coming) (task self.now).opening O.told (O.slots outs.old)
+            (O.slots outs.new)) };
 }

@@ -182,18 +182,9 @@ fn given_up<S: Stage, O: Outs>(engine: &mut Guarded<S>, fault: Fault, outs: &mut
     ensures swept { is_verdict fault ≡ false
         → Clears S.Owns S.work engine.old.stage (O.slots outs.old) (O.slots outs.new) }
 {
-    if !is_verdict(&fault) {
+    let Fault::Verdict(_) = fault else {
         engine.abandon(outs);
-    }
+        return fault;
+    };
     fault
-}
-
-/// Whether a fault is one with which a tool's work itself ends.
-pub fn is_verdict(fault: &Fault) -> bool
-    ensures { result ≡ is_verdict fault.now }
-{
-    matches!(
-        fault,
-        Fault::Suffixes | Fault::NoMatch(_, _) | Fault::Range(_, _)
-    )
 }

@@ -7,6 +7,7 @@ ghost use Rattle.seg_core.specs.Line.{joined};
 ghost use Rattle.seg_core.specs.declared.count.Sign.TheVariants.{Plain, Plus};
 ghost use Rattle.seg_core.specs.declared.cut.Cut.TheVariants.{Parts};
 ghost use Rattle.seg_core.specs.declared.cut.Limit.TheVariants.{Bytes};
+ghost use Rattle.seg_core.specs.declared.cut.Way.TheVariants.{Cut};
 ghost use Rattle.ports_core.specs.Slot.{Slot, slot_at, streams};
 ghost use Rattle.ports_core.specs.Source.{source_of};
 ghost use Rattle.tools_core.specs.Promises.{AreCopies, Does, CountAlike, HasInput, IsBare, OnlyGrows, Ran, Run, SkipNothing, counted};
@@ -104,7 +105,7 @@ fn first_and_rest(alloc: Global, bytes: &[u8]) -> Result<Option<Vec<u8>>, Fault>
 
 /// The files into which `split -b` cuts these bytes, if that goes well: joined they are the bytes.
 fn pieces(alloc: Global, words: &[&str], bytes: &[u8]) -> Result<Option<MemOut>, Fault>
-    ensures { (asked : SplitAsked) (n : ℕ) → settings_of (map (λ word. word.now) words.now) ≡ Ok (Split asked) → asked.input ≡ codes "-" → asked.cut ≡ Parts (Bytes n)
+    ensures { (asked : SplitAsked) (n : ℕ) → settings_of (map (λ word. word.now) words.now) ≡ Ok (Split asked) → asked.input ≡ codes "-" → asked.way ≡ Cut (Parts (Bytes n))
         → IfOk result (λ left. IfSome left (λ outs. joined (map (λ (file : Slot). file.written) (drop 2 outs)) ≡ bytes.now)) }
 {
     split_loses_nothing();

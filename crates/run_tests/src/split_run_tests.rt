@@ -116,6 +116,186 @@ const FILES: &[Row<'static>] = &[
     ),
 ];
 
+#[test]
+fn cuts_into_chunks(rt: HostRuntime) -> Result<(), Fail> {
+    for row in CHUNKS {
+        cuts(&rt, rt.alloc(), row)?;
+    }
+    Ok(())
+}
+
+/// A file by its name says its length before it is read, and standard input doesn't.
+const CHUNKS: &[Row<'static>] = &[
+    (
+        &["split", "-n", "3", "f"],
+        b"",
+        &[("xaa", b"1\n"), ("xab", b"2\n"), ("xac", b"3")],
+    ),
+    (
+        &["split", "-n", "4"],
+        LINES,
+        &[
+            ("xaa", b"a\nb"),
+            ("xab", b"\nc"),
+            ("xac", b"\nd"),
+            ("xad", b"\ne"),
+        ],
+    ),
+    (
+        &["split", "-n", "l/2", "f", "p"],
+        b"",
+        &[("paa", b"1\n2\n"), ("pab", b"3")],
+    ),
+    (
+        &["split", "-n", "l/2"],
+        LINES,
+        &[("xaa", b"a\nb\nc\n"), ("xab", b"d\ne")],
+    ),
+    (
+        &["split", "-n", "l/4", "-t", "2", "f"],
+        b"",
+        &[
+            ("xaa", b"1\n2"),
+            ("xab", b""),
+            ("xac", b"\n3"),
+            ("xad", b""),
+        ],
+    ),
+    (
+        &["split", "-n", "6", "f"],
+        b"",
+        &[
+            ("xaa", b"1"),
+            ("xab", b"\n"),
+            ("xac", b"2"),
+            ("xad", b"\n"),
+            ("xae", b"3"),
+            ("xaf", b""),
+        ],
+    ),
+    (
+        &["split", "-n", "3", "-e", "f"],
+        b"",
+        &[("xaa", b"1\n"), ("xab", b"2\n"), ("xac", b"3")],
+    ),
+    (
+        &["split", "-n", "l/4", "-e", "-t", "2", "f"],
+        b"",
+        &[("xaa", b"1\n2"), ("xab", b"\n3")],
+    ),
+    (
+        &["split", "-n", "3"],
+        b"",
+        &[("xaa", b""), ("xab", b""), ("xac", b"")],
+    ),
+    (&["split", "-n", "3", "-e"], b"", &[]),
+];
+
+/// Words, an input, and what is on standard output then.
+type OneRow<'a> = (&'a [&'a str], &'a [u8], &'a [u8]);
+
+#[test]
+fn writes_one_file_to_standard_output(rt: HostRuntime) -> Result<(), Fail> {
+    for row in ONE {
+        writes_one(&rt, rt.alloc(), row)?;
+    }
+    Ok(())
+}
+
+fn writes_one(rt: &impl Abort, alloc: Global, row: &OneRow<'_>) -> Result<(), Fault> {
+    let run = Run {
+        words: row.0,
+        files: LAID,
+        input: row.1,
+        plans: &[],
+        left: Left {
+            output: row.2,
+            ..NOTHING
+        },
+    };
+    check_twice(rt, alloc, &run)
+}
+
+const ONE: &[OneRow<'static>] = &[
+    (&["split", "-n", "2/3", "f"], b"", b"2\n"),
+    (&["split", "-n", "3/3", "f", "p"], b"", b"3"),
+    (&["split", "-n", "6/6", "f"], b"", b""),
+    (&["split", "-n", "2/4"], LINES, b"\nc"),
+    (&["split", "-n", "l/1/2", "-"], LINES, b"a\nb\nc\n"),
+    (&["split", "-n", "l/2/2", "f"], b"", b"3"),
+    (&["split", "-n", "l/2/4", "-t", "2", "f"], b"", b""),
+    (&["split", "-n", "r/2/2", "f"], b"", b"2\n"),
+    (&["split", "-n", "r/1/2"], LINES, b"a\nc\ne"),
+    (&["split", "-n", "1/2"], b"", b""),
+];
+
+#[test]
+fn chunks_end_at_a_fault(rt: HostRuntime) -> Result<(), Fail> {
+    check_runs(&rt, rt.alloc(), CHUNK_FAULTS)
+}
+
+const CHUNK_FAULTS: &[Run<'static>] = &[
+    Run {
+        words: &["split", "-n", "2"],
+        files: LAID,
+        input: b"abcd",
+        plans: &[Plan::Break(0, 3)],
+        left: Left {
+            files: &[("xaa", b"ab")],
+            messages: b"split: cannot read 'standard input'\n",
+            status: 1,
+            ..NOTHING
+        },
+    },
+    Run {
+        words: &["split", "-n", "2/3", "f"],
+        files: LAID,
+        input: b"",
+        plans: &[Plan::Limit(0, 1)],
+        left: Left {
+            output: b"2",
+            messages: b"split: cannot write 'standard output'\n",
+            status: 1,
+            ..NOTHING
+        },
+    },
+    Run {
+        words: &["split", "-n", "3", "f"],
+        files: LAID,
+        input: b"",
+        plans: &[Plan::Limit(3, 1)],
+        left: Left {
+            files: &[("xaa", b"1\n"), ("xab", b"2")],
+            messages: b"split: cannot write 'xab'\n",
+            status: 1,
+            ..NOTHING
+        },
+    },
+    Run {
+        words: &["split", "-n", "3"],
+        files: LAID,
+        input: b"",
+        plans: &[Plan::FailAt(3)],
+        left: Left {
+            files: &[("xaa", b""), ("xab", b"")],
+            messages: b"split: cannot open 'xab'\n",
+            status: 1,
+            ..NOTHING
+        },
+    },
+    Run {
+        words: &["split", "-n", "2", "g"],
+        files: LAID,
+        input: b"",
+        plans: &[],
+        left: Left {
+            messages: b"split: cannot open 'g'\n",
+            status: 1,
+            ..NOTHING
+        },
+    },
+];
+
 /// All files that one digit names, of a byte each.
 const TEN: &[File<'static>] = &[
     ("x0", b"a"),

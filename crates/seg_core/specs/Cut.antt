@@ -2,8 +2,11 @@
 use Rattle.std.specs.Prelude.{ℕ, ◌<◌}
 use Rattle.seg_core.specs.declared.cut.Cut.{Cut}
 use Rattle.seg_core.specs.declared.cut.Cut.TheVariants.{Parts, Round}
+use Rattle.seg_core.specs.declared.cut.Chunks.{Chunks}
 use Rattle.seg_core.specs.declared.cut.Limit.{Limit}
 use Rattle.seg_core.specs.declared.cut.Limit.TheVariants.{Lines, Bytes, LineBytes}
+use Rattle.seg_core.specs.declared.cut.Way.{Way}
+use Rattle.seg_core.specs.declared.cut.Way.TheVariants as way
 
 -- how many lines or bytes a part has at the most
 abbrev pub most : Limit → ℕ
@@ -15,3 +18,10 @@ most (LineBytes n delim) = n
 abbrev pub IsPositive : Cut → Type 0
 IsPositive (Parts limit) = 0 < most limit
 IsPositive (Round n delim) = 0 < n
+
+-- its number is at least 1, and the chunk or the file that is asked for is one of these
+abbrev pub IsWay : Way → Type 0
+IsWay (way.Cut cut) = IsPositive cut
+IsWay (way.Chunks chunks) = 0 < chunks.count
+IsWay (way.Chunk place chunks) = place < chunks.count
+IsWay (way.Turn place count delim) = place < count

@@ -13,7 +13,10 @@ use Rattle.ports_core.specs.Slot.{Slot, is_writable}
 use Rattle.ports_core.specs.Turn.{fault_in}
 use Rattle.ports_core.specs.inner.Shares.{SharesBegin}
 use Rattle.ports_core.specs.declared.fault.Fault.{Fault}
-use Rattle.ports_core.specs.declared.fault.Fault.TheVariants.{Memory, Write, Open, Suffixes}
+use Rattle.ports_core.specs.declared.fault.Fault.TheVariants.{Memory, Write, Open}
+use Rattle.ports_core.specs.declared.fault.Fault.TheVariants as fault_is
+use Rattle.ports_core.specs.declared.verdict.Verdict.{Verdict}
+use Rattle.ports_core.specs.declared.verdict.Verdict.TheVariants.{Suffixes}
 use Rattle.ports_core.specs.declared.file_writer.Current.{Current}
 use Rattle.ports_core.specs.declared.file_writer.Current.TheVariants.{Skipped, Due, File, Unopened}
 use Rattle.ports_core.specs.declared.file_writer.Opening.TheVariants.{Never, Late}
@@ -49,25 +52,25 @@ on_ok (Err f) is = tt
 
 -- Which faults come
 
-pub unjudged : (manner : Manner) (old new : List Slot) (fault : Fault) → Breaks manner old new fault → (fault ≡ Suffixes → ⊥) → is_verdict fault ≡ false
+pub unjudged : (manner : Manner) (old new : List Slot) (fault : Fault) → Breaks manner old new fault → (fault ≡ fault_is.Verdict Suffixes → ⊥) → is_verdict fault ≡ false
 unjudged manner old new Memory breaks named = refl
 unjudged manner old new (Write slot) breaks named = refl
 unjudged manner old new (Open slot) breaks named = refl
-unjudged manner old new Suffixes breaks named = absurd (named refl)
+unjudged manner old new (fault_is.Verdict Suffixes) breaks named = absurd (named refl)
 unjudged manner old new fault breaks named = absurd breaks
 
 -- where all places have names, they don't run out
-pub none_lacks : (verbose : Bool) (old new : List Slot) {fault : Fault} → Breaks (always_named verbose) old new fault → fault ≡ Suffixes → ⊥
+pub none_lacks : (verbose : Bool) (old new : List Slot) {fault : Fault} → Breaks (always_named verbose) old new fault → fault ≡ fault_is.Verdict Suffixes → ⊥
 none_lacks verbose old new breaks is = search rules
 
-pub met_files : (Why : Fault → Type 0) (manner : Manner) (verbose : Bool) (old new : List Slot) (fault : Fault) → manner.output ≡ output_by verbose → Breaks manner old new fault → (fault ≡ Suffixes → Why fault) → IsMet (split_means verbose) (split_means verbose).feeding (true ≡ true) Why old new fault
+pub met_files : (Why : Verdict → Type 0) (manner : Manner) (verbose : Bool) (old new : List Slot) (fault : Fault) → manner.output ≡ output_by verbose → Breaks manner old new fault → (fault ≡ fault_is.Verdict Suffixes → Why Suffixes) → IsMet (split_means verbose) (split_means verbose).feeding (true ≡ true) Why old new fault
 met_files Why manner verbose old new Memory same breaks ends = (refl, refl)
 met_files Why manner verbose old new (Write slot) same (out, rose) ends = (λ none. subst (λ output. writes output ≡ true) same (out none), (λ none. absurd (cc)), rose)
 met_files Why manner verbose old new (Open slot) same breaks ends = (refl, refl, breaks)
-met_files Why manner verbose old new Suffixes same breaks ends = ends refl
+met_files Why manner verbose old new (fault_is.Verdict Suffixes) same breaks ends = ends refl
 met_files Why manner verbose old new fault same breaks ends = absurd breaks
 
-pub met_closing : (verbose : Bool) (Why : Fault → Type 0) (old new : List Slot) {fault : Fault} → CannotClose old new fault → IsMet (split_means verbose) (split_means verbose).closing (Unit {0}) Why old new fault
+pub met_closing : (verbose : Bool) (Why : Verdict → Type 0) (old new : List Slot) {fault : Fault} → CannotClose old new fault → IsMet (split_means verbose) (split_means verbose).closing (Unit {0}) Why old new fault
 met_closing verbose Why old new (slot, is, two, rose) = subst (IsMet (split_means verbose) (split_means verbose).closing (Unit {0}) Why old new) (sym is) (λ none. absurd (omega (arith, none, two)), (λ none. absurd (cc)), rose)
 
 -- sizes aren't counted
@@ -491,16 +494,16 @@ at_writer at = search rules
 
 module _ (told : Bool) (state next : PartsState) (piece : List ℕ) (old new : List Slot) where
   -- names ran out: the files that have a name are written, and nothing can change that
-  settles : (f : Fault) → f ≡ Suffixes → Takes told state piece old new next (Some f) → EndsWith ways.Holds ways.work (way.Parts state) piece f
+  settles : (f : Fault) → f ≡ fault_is.Verdict Suffixes → Takes told state piece old new next (Some f) → EndsWith ways.Holds ways.work (way.Parts state) piece Suffixes
   settles f is stop x stands =
       let none = have_names state (x ++ piece) (stop.short is x stands).none in
-      (ap not none, ap (λ (have : Bool). cond (not have) (Some Suffixes) None) none ∙ ap Some (sym is))
+      (ap not none, ap (λ (have : Bool). cond (not have) (Some Suffixes) None) none)
 
   cut_by : {f : Fault} → is_verdict f ≡ false → Takes told state piece old new next (Some f) → CutsOff ways.Holds ways.Owns ways.work (way.Parts state) piece told old new f
   cut_by {f} kind stop before x at = engine.cut kind (stopped_in_turn (output_by (filing_of state).verbose) told before _ _ f new (has_told _ _) ((stop.reaches x at.holds).there before (at_writer at)))
 
   cut_off : (f : Fault) → Takes told state piece old new next (Some f) → CutsOff ways.Holds ways.Owns ways.work (way.Parts state) piece told old new f
-  cut_off Suffixes stop = λ before x at. engine.judged refl new ((stop.short refl x at.holds).all before (at_writer at)) refl
+  cut_off (fault_is.Verdict Suffixes) stop = λ before x at. engine.judged refl new ((stop.short refl x at.holds).all before (at_writer at)) refl
   cut_off Memory stop = cut_by refl stop
   cut_off (Write slot) stop = cut_by refl stop
   cut_off (Open slot) stop = cut_by refl stop
@@ -509,6 +512,7 @@ module _ (told : Bool) (state next : PartsState) (piece : List ℕ) (old new : L
   pub passes_by : (result : Result (Unit {0}) Fault) → IsReady state old → Takes told state piece old new next (fault_in result) → PassesBy told piece old new result (way.Parts state) (way.Parts next)
   passes_by (Ok done) ready takes = record {
     same = work_by state next takes.limit (filing_same state next takes.leaves);
+    bound = omega arith;
     holds = takes.stands;
     outputs = λ before x at. ((takes.reaches x at.holds).there before (at_writer at)).outputs;
     ready = still_ready ready takes;
@@ -518,6 +522,7 @@ module _ (told : Bool) (state next : PartsState) (piece : List ℕ) (old new : L
   }
   passes_by (Err f) ready takes = record {
     same = work_by state next takes.limit (filing_same state next takes.leaves);
+    bound = omega arith;
     holds = tt;
     outputs = tt;
     ready = tt;
@@ -535,6 +540,7 @@ pub finishes_by : (told : Bool) (state next : PartsState) (old new : List Slot) 
     → FinishesBy told old new result (way.Parts state) (way.Parts next)
 finishes_by told state next old new (Ok done) ready ends = record {
   same = work_by state next ends.limit (filing_same state next ends.leaves);
+  bound = omega arith;
   outputs = λ before x at. (grind (arith, common_steps, all_have_names), ((ends.reaches x at.holds).there before (at_writer at)).outputs);
   writable = λ told_is. (ends.leaves.output (told_writable state.writer.tells old ready.writer.output told_is));
   owns = ends.leaves.owns.owns;
@@ -543,6 +549,7 @@ finishes_by told state next old new (Ok done) ready ends = record {
 }
 finishes_by told state next old new (Err f) ready ends = record {
   same = work_by state next ends.limit (filing_same state next ends.leaves);
+  bound = omega arith;
   outputs = tt;
   writable = tt;
   owns = ends.leaves.owns.owns;

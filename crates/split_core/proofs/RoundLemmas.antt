@@ -12,11 +12,14 @@ use Rattle.seg_core.proofs.Delimiters.{delimiters-append}
 use Rattle.seg_core.proofs.LineCounts.{line_count_near, line_count-front}
 use Rattle.ports_core.specs.Name.{Naming, has_name}
 use Rattle.ports_core.specs.Slot.{Slot}
-use Rattle.ports_core.specs.Part.{Part, OutputsAt, StoppedBetween, nothing}
-use Rattle.ports_core.specs.Work.{Work}
-use Rattle.ports_core.specs.Engine.{TakesIn, EndsWith, EndsThere, StandsAt, is_verdict, cut}
+use Rattle.ports_core.specs.Part.{Part, OutputsAt, StoppedBetween, gets_bytes, nothing}
+use Rattle.ports_core.specs.Work.{IsSpare, Judges, Work}
+use Rattle.ports_core.specs.declared.verdict.Verdict.TheVariants.{Suffixes}
+use Rattle.ports_core.specs.Engine.{MayGet, TakesIn, EndsWith, EndsThere, StandsAt, is_verdict, cut}
+use Rattle.ports_core.proofs.SpareLemmas.{none_spare}
+use Rattle.split_core.specs.laws.WorkLaws.{lawful}
 use Rattle.ports_core.specs.declared.fault.Fault.{Fault}
-use Rattle.ports_core.specs.declared.fault.Fault.TheVariants as fault
+use Rattle.ports_core.specs.declared.verdict.Verdict.TheVariants.{Suffixes}
 use Rattle.ports_core.specs.declared.slot.State.{State}
 use Rattle.ports_core.specs.declared.slot.State.TheVariants.{Open, Closed}
 use Rattle.ports_core.proofs.PartLemmas.{outputs_count}
@@ -43,6 +46,8 @@ use Rattle.split_core.proofs.FilesLemmas.{named_before}
 use Rattle.split_core.proofs.SectionLemmas.{all_dealt}
 use Rattle.std.proofs.lemmas.Grind.{common_steps}
 use Rattle.split_core.specs.declared.splitter.Splitter.{Splitter}
+use Rattle.split_core.specs.ChunkerState.{ChunkerState}
+use Rattle.split_core.proofs.ChunkerWays.{chunks_wait, no_suffixes, open_beside}
 use Rattle.split_core.proofs.PartsLemmas as part
 use Rattle.split_core.specs.PartsState.{PartsState, Stands}
 use Rattle.split_core.specs.PartsState as parts_state
@@ -139,6 +144,7 @@ pub passes_by : (told : Bool) (old new : RoundState) (piece : List ℕ) (before 
     → Deals told old piece before after new result → PassesBy told piece before after result (way.Round old) (way.Round new)
 passes_by told old new piece before after (Ok u) deals = record {
   same = same_work old new deals.delim deals.count deals.elide deals.adds.filing;
+  bound = omega arith;
   holds = takes_in told deals;
   outputs = λ start x at. subst (λ part. OutputsAt told start part after) (made_is told old piece at) (left_by told old piece at (Ok u) deals.adds);
   ready = deals.adds.ready;
@@ -148,6 +154,7 @@ passes_by told old new piece before after (Ok u) deals = record {
 }
 passes_by told old new piece before after (Err why) deals = record {
   same = same_work old new deals.delim deals.count deals.elide deals.adds.filing;
+  bound = omega arith;
   holds = tt;
   outputs = tt;
   ready = tt;
@@ -170,6 +177,7 @@ pub finishes_by : (told : Bool) (round : RoundState) (old new : List Slot) (resu
     → ClosesAll told round.files old new result → FinishesBy told old new result (way.Round round) (way.Round round)
 finishes_by told round old new (Ok u) closes = record {
   same = refl;
+  bound = omega arith;
   outputs = λ before x at. (refl, subst (λ part. OutputsAt told before part new) (closed_part at.holds) (closes.closed before _ (stand_at told round at)));
   writable = part.told_writable round.files.tells new closes.output;
   owns = closes.owned;
@@ -178,6 +186,7 @@ finishes_by told round old new (Ok u) closes = record {
 }
 finishes_by told round old new (Err why) closes = record {
   same = refl;
+  bound = omega arith;
   outputs = tt;
   writable = tt;
   owns = closes.owned;
@@ -226,11 +235,11 @@ does_all delim filing others elide n are same = ap (λ those. round_work (round_
   never = fun_ext (λ x. not_short delim filing elide n x are)
 
   work_by : (List ℕ → Bool) → Work
-  work_by short = record (split_work (round_plan delim n elide filing)) { is_complete = short; verdict = λ x. cond (short x) (Some fault.Suffixes) None }
+  work_by short = record (split_work (round_plan delim n elide filing)) { is_complete = short; verdict = λ x. cond (short x) (Some Suffixes) None }
 
 -- nothing waits
 
-joined_some : (these : List (List ℕ)) → joined (filter is_some these) ≡ joined these
+pub joined_some : (these : List (List ℕ)) → joined (filter is_some these) ≡ joined these
 joined_some [] = refl
 joined_some ([] ∷ these) = joined_some these
 joined_some ((byte ∷ bytes) ∷ these) = ap (λ rest. (byte ∷ bytes) ++ rest) (joined_some these)
@@ -255,10 +264,60 @@ parts_wait {parts} {x} stands = ap length (stands.waits ∙ sym (waiting_is part
     (ap (are_named (parts_state.filing_of parts).names) (sym (length-map (cut.parts parts.limit x) (share Closed))) ∙ part.all_have_names stands)))
 
 -- as long as the engine goes on, all files have names
-pub all_named : (splitter : Splitter) (x : List ℕ) → ways.Holds splitter x → (ways.work splitter).is_complete x ≡ false
-all_named (way.Parts parts) x holds = sym (part.never_done holds)
-all_named (way.Round round) x holds = refl
+pub all_named : (splitter : Splitter) (x : List ℕ) → ways.Holds splitter x → Judges (ways.work splitter) x Suffixes → ⊥
+all_named (way.Parts parts) x holds judged =
+    absurd (let well = ap (λ (has : Bool). cond (not has) (Some Suffixes) None) (part.all_have_names holds) in cc)
+all_named (way.Round round) x holds judged = cc
+all_named (way.Chunks state) x holds judged = no_suffixes state x judged
+all_named (way.Turn turn) x holds judged = cc
+
+-- and unless it writes what one file would have, more can come
+pub goes_on : (splitter : Splitter) (x : List ℕ) → ways.Holds splitter x → ((ways.work splitter).means.output ≡ gets_bytes → ⊥)
+    → (ways.work splitter).is_complete x ≡ false
+goes_on (way.Parts parts) x holds beside = sym (part.never_done holds)
+goes_on (way.Round round) x holds beside = refl
+goes_on (way.Chunks state) x holds beside = open_beside state x (ways.work (way.Chunks state)) refl beside holds
+goes_on (way.Turn turn) x holds beside = refl
+
+-- only one chunk can be complete
+pub never_done : (splitter : Splitter) → ((state : ChunkerState) → splitter ≡ way.Chunks state → ⊥) → (x : List ℕ)
+    → ways.Holds splitter x → (ways.work splitter).is_complete x ≡ false
+never_done (way.Parts parts) other x holds = sym (part.never_done holds)
+never_done (way.Round round) other x holds = refl
+never_done (way.Chunks state) other x holds = absurd (other state refl)
+never_done (way.Turn turn) other x holds = refl
+
+-- a split into parts isn't complete where any engine of it goes on
+told_beside : (verbose : Bool) → output_by verbose ≡ gets_bytes → ⊥
+told_beside true is = cc
+told_beside false is = cc
+
+pub open_after : (those : Work) (verbose : Bool) → those.means.output ≡ output_by verbose → (after : Splitter) (z : List ℕ)
+    → ways.work after ≡ those → ways.Holds after z → those.is_complete z ≡ false
+open_after those verbose told (way.Chunks state) z same holds =
+    open_beside state z those same (λ is. told_beside verbose (sym told ∙ is)) holds
+open_after those verbose told (way.Parts parts) z same holds =
+    ap (λ (those : Work). those.is_complete z) (sym same) ∙ sym (part.never_done holds)
+open_after those verbose told (way.Round round) z same holds = ap (λ (those : Work). those.is_complete z) (sym same)
+open_after those verbose told (way.Turn turn) z same holds = ap (λ (those : Work). those.is_complete z) (sym same)
+
+spares : (splitter after : Splitter) (z : List ℕ) (n : ℕ) → ways.work after ≡ ways.work splitter → (ways.work splitter).is_complete z ≡ false
+    → IsSpare (ways.work splitter) z n → n ≤ (ways.work splitter).ahead
+spares splitter after z n same going spare = omega (arith, none_spare _ z n (lawful splitter) going spare)
+
+pub spares_none : (most : ℕ) (splitter : Splitter) → ((state : ChunkerState) → splitter ≡ way.Chunks state → ⊥)
+    → MayGet ways.Holds ways.work splitter most
+spares_none most (way.Parts parts) other x piece after n holds going within same later spare =
+    spares (way.Parts parts) after (x ++ piece) n same
+    (open_after _ (parts_state.filing_of parts).verbose refl after (x ++ piece) same later) spare
+spares_none most (way.Round round) other x piece after n holds going within same later spare =
+    spares (way.Round round) after (x ++ piece) n same refl spare
+spares_none most (way.Turn turn) other x piece after n holds going within same later spare =
+    spares (way.Turn turn) after (x ++ piece) n same refl spare
+spares_none most (way.Chunks state) other x piece after n holds going within same later spare = absurd (other state refl)
 
 pub held_is : (splitter : Splitter) (x : List ℕ) → ways.Holds splitter x → held splitter ≡ length ((ways.work splitter).waiting x)
 held_is (way.Parts parts) x holds = parts_wait holds
 held_is (way.Round round) x holds = none_waits holds
+held_is (way.Chunks state) x holds = chunks_wait state x holds
+held_is (way.Turn turn) x holds = refl

@@ -1,11 +1,16 @@
 pub mod FilesState
 pub mod Parts
+pub mod Chunks
+pub mod ChunkWork
+pub mod ChunkerState
+pub mod ChunkAgreed
 pub mod PartsState
 pub mod Round
 pub mod RoundState
 pub mod Sections
 pub mod Sharing
 pub mod Split
+pub mod Turn
 pub mod Ways
 pub mod Place
 pub mod inner

@@ -1,7 +1,13 @@
 pub mod Takes
+pub mod Turn
 pub mod Sharing
 pub mod Step
 pub mod Ways
 pub mod Dealt
 pub mod Ahead
 pub mod CutLaws
+pub mod Chunks
+pub mod Sends
+pub mod Seen
+pub mod Cutter
+pub mod Chunker

@@ -1,3 +1,6 @@
+pub mod BegunLaws
+pub mod ChunkLaws
+pub mod ChunkWorkLaws
 pub mod CutLaws
 pub mod DealLaws
 pub mod ShareLaws

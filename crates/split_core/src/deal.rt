@@ -56,6 +56,14 @@ impl Deal {
         &self.gathered[..count]
     }
 
+    /// What was gathered for the file at a place.
+    pub(crate) fn at(&self, place: usize) -> &[u8]
+        requires { place < length self.now.gathered }
+        ensures { result.now ≡ slice_index_or self.now.gathered place [] }
+    {
+        self.gathered[place].bytes()
+    }
+
     /// Gathers the lines of a piece, each for its file, in place of what was gathered before. A line that was open
     /// goes on in its file. It returns a number n: only the first n files got any byte.
     // Compiled by itself: within its caller's code the loop over short lines runs out of registers, and takes a tenth longer.

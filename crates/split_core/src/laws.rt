@@ -2,9 +2,11 @@
 ghost use Rattle.std.specs.Prelude.{◌≡◌, ◌<◌, ◌≤◌, ◌+◌, ◌*◌, ◌++◌, ℕ, List, [], true, get_or, length, map, take, drop, All, false};
 ghost use Rattle.ports_core.specs.Agreed.{ArePlaced, IsAgreed, IsUndecided};
 ghost use Rattle.ports_core.specs.Draft.{opening_line};
-ghost use Rattle.ports_core.specs.Part.{openings_for};
+ghost use Rattle.ports_core.specs.Part.{gets_bytes, openings_for};
 ghost use Rattle.ports_core.specs.Guard.{GuardState, HoldsIn};
+ghost use Rattle.ports_core.specs.Work.{Judges};
 ghost use Rattle.ports_core.specs.declared.slot.State.TheVariants.{Closed};
+ghost use Rattle.ports_core.specs.declared.verdict.Verdict.TheVariants.{Suffixes};
 ghost use Rattle.seg_core.specs.Line.{delimiters, joined, line_count, lines_of};
 ghost use Rattle.seg_core.specs.declared.cut.Limit.TheVariants.{Bytes, LineBytes, Lines};
 ghost use Rattle.seg_core.specs.Cut.{most};
@@ -109,9 +111,12 @@ pub fn lines_are_of_opened_files()
         → (settled_by plan x).out ++ (whole_by plan x).out ≡ [] }
 {}
 
-/// An engine that has returned no fault has named all files that its input needs: names that ran out are always told.
-#[tactic(auto, using(crate::proofs::RoundLemmas::all_named))]
+/// An engine that has returned no fault has named all files that its input needs: names that ran out are always told. And
+/// unless it writes what one file would have, more that comes can still change its output.
+#[tactic(auto, using(crate::proofs::RoundLemmas::all_named, crate::proofs::RoundLemmas::goes_on))]
 pub fn all_files_have_names()
-    ensures { (engine : GuardState Splitter) (x : List ℕ) → HoldsIn Holds engine x
-        → (work engine.stage).is_complete x ≡ false }
+    ensures named { (engine : GuardState Splitter) (x : List ℕ) → HoldsIn Holds engine x
+        → Judges (work engine.stage) x Suffixes → ⊥ }
+    ensures goes_on { (engine : GuardState Splitter) (x : List ℕ) → HoldsIn Holds engine x
+        → ((work engine.stage).means.output ≡ gets_bytes → ⊥) → (work engine.stage).is_complete x ≡ false }
 {}

@@ -1,40 +1,52 @@
 //! The stage of `split`, for all ways to cut.
-ghost use Rattle.std.specs.Prelude.{◌≡◌, ◌^◌, ◌<◌, ◌≤◌, [], List, ℕ, false, true, length, IfOk, IfErr, OnOk};
+ghost use Rattle.std.specs.Prelude.{◌≡◌, ◌+◌, ◌++◌, ◌^◌, ◌<◌, ◌≤◌, [], List, ℕ, false, true, length, IfOk, IfErr, IfSome, OnOk};
 ghost use Rattle.ports_core.specs.Guard.{HoldsIn};
 ghost use Rattle.ports_core.specs.Part.{OutputsAt, StoppedBetween, nothing};
 ghost use Rattle.ports_core.specs.FileWriter.{CanTell};
 ghost use Rattle.ports_core.specs.Slot.{Slot};
-ghost use Rattle.split_core.specs.Sharing.{CannotOpen};
 ghost use Rattle.split_core.specs.Split.{TellsNoSizes, is_verbose, output_by, settled_by, split_work};
-ghost use Rattle.seg_core.specs.Cut.{IsPositive};
+ghost use Rattle.seg_core.specs.Cut.{IsWay};
+ghost use Rattle.split_core.specs.ChunkWork.{CanGive, CannotBegin, HasAllNames, work_by};
 ghost use Rattle.split_core.specs.Split.{HasNames};
-ghost use Rattle.split_core.specs.Ways.{Holds, Owns, Ready, work};
+ghost use Rattle.split_core.specs.Ways.{Holds, Owns, Ready, size, work};
+ghost use Rattle.ports_core.specs.Engine.{MayGet};
+ghost use Rattle.ports_core.specs.Work.{IsSpare};
 ghost use Rattle.split_core.specs.inner.Ways.{FinishesBy, PassesBy, held};
 ghost use Rattle.split_core.specs.laws.WorkLaws.{lawful};
 
-use crate::Cut;
+use crate::chunk_target::Target;
+use crate::chunker::Chunker;
 use crate::parts::Parts;
 use crate::round_splitter::RoundSplitter;
-use ports_core::{Fault, Guarded, Names, Outs, Stage, Tells};
+use crate::turn::Turn;
+use crate::{Cut, Way};
+use ports_core::{Fault, Guarded, Naming, Outs, Stage, Tells};
 use std::alloc::Global;
 
-/// Cuts its input into files (POSIX.1-2017, XCU split; `-C` and `-n r/N` are GNU's). A file is opened with its first
-/// byte, and closed before the next is opened; where lines are dealt, files are closed at the end alone.
+/// Cuts its input into files, or writes what one of them would have (POSIX.1-2017, XCU split; `-C` and `-n` are GNU's). A
+/// file is opened with its first byte, or that of an empty chunk once the chunk has ended, and is closed before the next is
+/// opened; where lines are dealt, files are closed at the end alone.
 ///
-/// It takes memory for names; under `-C` for the open line after whole ones; and where lines are dealt, for one piece and a list of the
-/// files.
+/// It takes memory for names; under `-C` for the open line after whole ones; where lines are dealt, for one piece and a
+/// list of the files; and for chunks of an input that didn't say its length, for all that comes after the first one, or
+/// after what stands before the one that is written.
 #[derive(Drop)]
 pub enum Splitter {
     /// Into parts that follow one another.
     Parts(Parts),
     /// By lines that are dealt in turn.
     Round(RoundSplitter),
+    /// Into chunks, each to a file, or one to standard output.
+    Chunks(Chunker),
+    /// One turn of these lines, to standard output.
+    Turn(Turn),
 }
 
 impl Splitter {
-    /// An engine that cuts in this way, into files with these names, from the first one on. The number of the cut is at
-    /// least 1. Where lines are dealt, there must be a name for each file, and all files are opened now, or with `elide`
-    /// each at its first byte. Standard output is told of each file before it is opened, or nothing.
+    /// An engine of this way to split, for an input that is this long if it said that before, and then not empty. Files are
+    /// named so; where their number is known, there must be a name for each. Where lines are dealt to files, all are opened
+    /// now, or with `elide` each at its first byte. Standard output is told of each file before it is opened, or nothing; or
+    /// it gets what one file would have, and none is made.
     ///
     /// # Errors
     ///
@@ -42,63 +54,54 @@ impl Splitter {
     /// told of one.
     pub fn open<O: Outs>(
         alloc: Global,
-        cut: Cut,
-        names: Names,
+        way: Way,
+        said: Option<u64>,
+        naming: Naming,
         elide: bool,
         tells: Tells,
         outs: &mut O,
     ) -> Result<Guarded<Splitter>, Fault>
-        requires some { IsPositive cut }
-        requires enough { HasNames cut names.naming }
+        requires some { IsWay way }
+        requires enough { HasAllNames way naming }
+        requires long { IfSome said (λ size. 0 < size) }
         requires streams { 2 ≤ length (O.slots outs.old) }
         requires tells { TellsNoSizes tells }
-        requires output { CanTell tells (O.slots outs.old) }
+        requires output { CanGive way tells (O.slots outs.old) }
         ensures holds { IfOk result (λ engine. HoldsIn Holds engine []) }
         ensures bound { IfOk result (λ engine. engine.fed < 2 ^ 63) }
-        ensures does { IfOk result (λ engine. work engine.stage
-            ≡ split_work
-            (record {
-              cut = cut;
-              elide = elide;
-              filing = record { names = names.naming; verbose = is_verbose tells };
-            })) }
+        ensures does { IfOk result (λ engine. work engine.stage ≡ work_by way elide naming tells said) }
         ensures ready { IfOk result (λ engine. Ready engine.stage (O.slots outs.new)) }
         ensures owns { IfOk result (λ engine. Owns engine.stage (length (O.slots outs.old)) (O.slots outs.new)) }
         ensures outputs { OnOk result ((before : List Slot) → OutputsAt O.told before nothing (O.slots outs.old)
-            → OutputsAt O.told before
-            (settled_by (record {
-              cut = cut;
-              elide = elide;
-              filing = record { names = names.naming; verbose = is_verbose tells };
-            }) [])
-            (O.slots outs.new)) }
+            → OutputsAt O.told before ((work_by way elide naming tells said).settled []) (O.slots outs.new)) }
         ensures cut { IfErr result
             (λ fault. (before : List Slot) → OutputsAt O.told before nothing (O.slots outs.old)
-            → StoppedBetween (output_by (is_verbose tells)) O.told before nothing
-            (settled_by (record {
-              cut = cut;
-              elide = elide;
-              filing = record { names = names.naming; verbose = is_verbose tells };
-            }) []) fault
-            (O.slots outs.new)) }
-        ensures refused { IfErr result (CannotOpen (is_verbose tells) (O.slots outs.old) (O.slots outs.new)) }
+            → StoppedBetween (work_by way elide naming tells said).means.output O.told before nothing
+            ((work_by way elide naming tells said).settled []) fault (O.slots outs.new)) }
+        ensures refused { IfErr result
+            (CannotBegin way (is_verbose tells) (O.slots outs.old) (O.slots outs.new)) }
     {
-        match cut {
-            Cut::Parts(limit) => {
-                let parts = Parts::open(alloc, limit, names.naming, tells)?;
+        match way {
+            Way::Cut(Cut::Parts(limit)) => {
+                let parts = Parts::open(alloc, limit, naming, tells)?;
                 Ok(Guarded::new(Splitter::Parts(parts)))
             }
-            Cut::Round(count, delim) => {
-                let round = RoundSplitter::open(
-                    alloc,
-                    count,
-                    names.naming,
-                    elide,
-                    tells,
-                    delim,
-                    outs,
-                )?;
+            Way::Cut(Cut::Round(count, delim)) => {
+                let round = RoundSplitter::open(alloc, count, naming, elide, tells, delim, outs)?;
                 Ok(Guarded::new(Splitter::Round(round)))
+            }
+            Way::Chunks(chunks) => {
+                let target = Target::files(alloc, naming, elide, tells);
+                let chunker = Chunker::open(alloc, chunks, said, target)?;
+                Ok(Guarded::new(Splitter::Chunks(chunker)))
+            }
+            Way::Chunk(place, chunks) => {
+                let chunker = Chunker::open(alloc, chunks, said, Target::output(place))?;
+                Ok(Guarded::new(Splitter::Chunks(chunker)))
+            }
+            Way::Turn(place, count, delim) => {
+                let turn = Turn::open(alloc, place, count, delim)?;
+                Ok(Guarded::new(Splitter::Turn(turn)))
             }
         }
     }
@@ -115,13 +118,20 @@ impl Stage for Splitter {
 
     ghost Owns = { Owns };
 
+    ghost size = { size };
+
+    ghost IsDone = { λ splitter x. (work splitter).is_complete x ≡ true };
+
     fn pass<O: Outs>(&mut self, piece: &[u8], outs: &mut O) -> Result<(), Fault>
-        requires { Ready self.old (O.slots outs.old) }
+        requires fits { size self.old + length piece.now < 2 ^ 63 }
+        requires ready { Ready self.old (O.slots outs.old) }
         ensures { PassesBy O.told piece.now (O.slots outs.old) (O.slots outs.new) result self.old self.new }
     {
         match self {
             Splitter::Parts(parts) => parts.pass(piece, outs),
             Splitter::Round(round) => round.pass(piece, outs),
+            Splitter::Chunks(chunker) => chunker.pass(piece, outs),
+            Splitter::Turn(turn) => turn.pass(piece, outs),
         }
     }
 
@@ -132,6 +142,8 @@ impl Stage for Splitter {
         match self {
             Splitter::Parts(parts) => parts.finish(outs),
             Splitter::Round(round) => round.finish(outs),
+            Splitter::Chunks(chunker) => chunker.finish(outs),
+            Splitter::Turn(_) => Ok(()),
         }
     }
 
@@ -140,10 +152,15 @@ impl Stage for Splitter {
         let _ = outs;
     }
 
-    /// Always false: where the input needs more files than there are names, that is a fault.
-    #[tactic(auto, using(crate::proofs::RoundLemmas::all_named))]
-    fn is_done(&self) -> bool {
-        false
+    /// Where one chunk is written, once it has all that goes with it; else never: that the input needs more files than there
+    /// are names is a fault.
+    fn is_done(&self) -> bool
+        ensures { (x : List ℕ) → Holds self.now x → result ≡ (work self.now).is_complete x }
+    {
+        let Splitter::Chunks(chunker) = self else {
+            return false;
+        };
+        chunker.is_complete()
     }
 
     /// Where lines are dealt, none: each piece is written at once.
@@ -152,17 +169,29 @@ impl Stage for Splitter {
     {
         match self {
             Splitter::Parts(parts) => parts.held(),
-            Splitter::Round(_) => 0,
+            Splitter::Chunks(chunker) => chunker.held(),
+            Splitter::Round(_) | Splitter::Turn(_) => 0,
         }
     }
 
-    fn wanted(&self) -> u64 {
-        u64::MAX
+    /// Where one chunk is written, as many as are missing to its end, and one at least; else any number.
+    fn wanted(&self) -> u64
+        ensures some { 0 < result }
+        ensures few { MayGet Holds work self.now result }
+    {
+        let Splitter::Chunks(chunker) = self else {
+            return u64::MAX;
+        };
+        chunker.most_wanted()
     }
 
-    #[tactic(auto, using(ports_core::proofs::SpareLemmas::all_used, crate::proofs::RoundLemmas::all_named))]
-    fn unused(&self) -> u64 {
-        0
+    fn unused(&self) -> u64
+        ensures { (x : List ℕ) → Holds self.now x → IsSpare (work self.now) x result }
+    {
+        let Splitter::Chunks(chunker) = self else {
+            return 0;
+        };
+        chunker.past()
     }
 
     ghost lawful = { lawful };

@@ -1,6 +1,6 @@
 -- Lemmas on opening a tool's engine.
 use Rattle.std.proofs.lemmas.Grind.{common_steps}
-use Rattle.std.proofs.Common.{◌≡◌, ℕ, ◌-◌, ◌<◌, ◌≤◌, ◌^◌, zero, Bool, true, false, not, if◌then◌else◌, List, [], length, Result, Ok, Err, IfOk, IfErr, OnOk, refl, sym, ◌∙◌, ap, arith}
+use Rattle.std.proofs.Common.{◌≡◌, ℕ, ◌-◌, ◌<◌, ◌≤◌, ◌^◌, zero, Bool, true, false, not, if◌then◌else◌, List, [], length, Result, Ok, Err, IfOk, IfErr, OnOk, refl, sym, ◌∙◌, ap, arith, Option, inl, inr}
 use Rattle.ports_core.specs.Slot.{Slot}
 use Rattle.ports_core.specs.Part.{OutputsAt, StoppedBetween, nothing, only_out}
 use Rattle.csplit_core.specs.Output.{manner_of}
@@ -8,9 +8,15 @@ use Rattle.ports_core.specs.Work.{Work, Needs}
 use Rattle.ports_core.specs.Guard.{GuardState, HoldsIn}
 use Rattle.ports_core.specs.Engine.{is_verdict}
 use Rattle.ports_core.specs.declared.fault.Fault.{Fault}
-use Rattle.ports_core.specs.declared.fault.Fault.TheVariants.{Memory, Write, Open, Suffixes}
+use Rattle.ports_core.specs.declared.fault.Fault.TheVariants.{Memory, Write, Open, Verdict}
+use Rattle.ports_core.specs.declared.verdict.Verdict.TheVariants.{Suffixes}
 use Rattle.ports_core.proofs.PartLemmas.{nothing_out, nothing_begins_part, stopped_here}
 use Rattle.ports_core.proofs.SlotSteps.{none_past, swept_none}
+use Rattle.seg_core.specs.declared.cut.Way.{Way}
+use Rattle.seg_core.specs.declared.cut.Way.TheVariants as way
+use Rattle.ports_core.specs.Name.{Naming}
+use Rattle.ports_core.specs.declared.file_writer.Tells.{Tells}
+use Rattle.split_core.specs.ChunkWork.{CannotBegin, way_work, work_by}
 use Rattle.split_core.specs.Split.{is_verbose, tells_by}
 use Rattle.seg_core.specs.declared.unit.Unit.{Unit as Counted}
 use Rattle.seg_core.specs.declared.unit.Unit.TheVariants.{Lines, Bytes}
@@ -21,7 +27,8 @@ use Rattle.ends_core.specs.Tail.{tail_work}
 use Rattle.run_core.specs.Feeding.{Stops, call_of}
 use Rattle.run_core.specs.RunSteps.{Opens, OpensShort}
 use Rattle.words_core.specs.EndsAsked.{EndsAsked}
-use Rattle.tools_core.specs.Tasks.{is_minus, is_plus, head_task, tail_task}
+use Rattle.words_core.specs.SplitAsked.{SplitAsked}
+use Rattle.tools_core.specs.Tasks.{is_minus, is_plus, head_task, naming_of, said_by, split_task, tail_task}
 use Rattle.std.proofs.lemmas.Bool.{false≢true}
 use Rattle.ports_core.specs.Swept.{Swept}
 use Rattle.csplit_core.specs.Csplit.{csplit_work}
@@ -91,8 +98,29 @@ pub csplit_halts : (style : Style) (operands : List Operand) (old new : List Slo
 csplit_halts style operands old new Memory breaks = (refl, refl)
 csplit_halts style operands old new (Write slot) breaks = (refl, (breaks.0, λ none. absurd (false≢true (sym none)), breaks.1.1))
 csplit_halts style operands old new (Open slot) breaks = (refl, (refl, refl))
-csplit_halts style operands old new Suffixes breaks = absurd (false≢true (sym breaks.2))
+csplit_halts style operands old new (Verdict Suffixes) breaks = absurd (false≢true (sym breaks.2))
 csplit_halts style operands old new fault breaks = absurd breaks
+
+-- the work that is asked of `split`
+pub split_asked : (those asked : SplitAsked) (coming : ℕ) {naming : Naming} {tells : Tells} {said : Option ℕ} → those ≡ asked
+    → naming ≡ naming_of asked → tells ≡ tells_by those.verbose → said ≡ said_by those.input coming
+    → work_by those.way those.elide naming tells said ≡ (split_task asked).work coming
+split_asked those asked coming is named told says =
+    rw (named, told, says, is) (ap (λ verbose. way_work asked.way asked.elide (record { names = naming_of asked; verbose = verbose })
+    (said_by asked.input coming)) (verbose_is asked.verbose))
+
+-- why the work of `split` can't be begun
+pub split_halts : (way : Way) (elide : Bool) (names : Naming) (tells : Tells) (said : Option ℕ) (old new : List Slot) (fault : Fault)
+    → CannotBegin way (is_verbose tells) old new fault
+    → (is_verdict fault ≡ false) × Stops (call_of (work_by way elide names tells said) (record { memory = true; files = true }) [] nothing
+    ((work_by way elide names tells said).settled [])) new fault × Swept (work_by way elide names tells said).clears (length old) new new
+split_halts (way.Cut cut) elide names tells said old new fault (inl is) = rw is (refl, refl, refl)
+split_halts (way.Cut cut) elide names tells said old new fault (inr (inl (told, is, rose))) =
+    rw is (refl, ((λ at. rw told refl), (λ none. refl), rose.1), refl)
+split_halts (way.Cut cut) elide names tells said old new fault (inr (inr (slot, is, rose))) = rw is (refl, (refl, refl), refl)
+split_halts (way.Chunks chunks) elide names tells said old new fault is = rw is (refl, refl, refl)
+split_halts (way.Chunk place chunks) elide names tells said old new fault is = rw is (refl, refl, refl)
+split_halts (way.Turn place count delim) elide names tells said old new fault is = rw is (refl, refl, refl)
 
 pub whatever : {E : Type 0} (P : E → Type 0) (result : Result E Fault) → ((e : E) → P e) → IfOk result P
 whatever P (Ok e) all = all e
@@ -104,10 +132,10 @@ no_memory_for told work opening slots (Err fault) P may two err = no_memory (may
 
 -- the work that is asked for, and what opening it may need
 
-pub head_asked : {those asked : EndsAsked} {minus : Bool} → those ≡ asked → minus ≡ is_minus those.count.sign → (head_work those.delim those.unit minus those.count.amount ≡ (head_task asked).work) × (minus ≡ true → (head_task asked).opening.memory ≡ true)
-head_asked {those} is signed =
-    (ap (λ b. head_work those.delim those.unit b those.count.amount) signed ∙ ap (λ (asked : EndsAsked). (head_task asked).work) is, λ may. sym (ap (λ (asked : EndsAsked). is_minus asked.count.sign) is) ∙ sym signed ∙ may)
+pub head_asked : (coming : ℕ) {those asked : EndsAsked} {minus : Bool} → those ≡ asked → minus ≡ is_minus those.count.sign → (head_work those.delim those.unit minus those.count.amount ≡ (head_task asked).work coming) × (minus ≡ true → (head_task asked).opening.memory ≡ true)
+head_asked coming {those} is signed =
+    (ap (λ b. head_work those.delim those.unit b those.count.amount) signed ∙ ap (λ (asked : EndsAsked). (head_task asked).work coming) is, λ may. sym (ap (λ (asked : EndsAsked). is_minus asked.count.sign) is) ∙ sym signed ∙ may)
 
-pub tail_asked : {those asked : EndsAsked} {plus : Bool} → those ≡ asked → plus ≡ is_plus those.count.sign → (tail_work those.delim those.unit plus those.count.amount ≡ (tail_task asked).work) × (plus ≡ false → (tail_task asked).opening.memory ≡ true)
-tail_asked {those} is signed =
-    (ap (λ b. tail_work those.delim those.unit b those.count.amount) signed ∙ ap (λ (asked : EndsAsked). (tail_task asked).work) is, λ may. ap not (sym (ap (λ (asked : EndsAsked). is_plus asked.count.sign) is) ∙ sym signed ∙ may))
+pub tail_asked : (coming : ℕ) {those asked : EndsAsked} {plus : Bool} → those ≡ asked → plus ≡ is_plus those.count.sign → (tail_work those.delim those.unit plus those.count.amount ≡ (tail_task asked).work coming) × (plus ≡ false → (tail_task asked).opening.memory ≡ true)
+tail_asked coming {those} is signed =
+    (ap (λ b. tail_work those.delim those.unit b those.count.amount) signed ∙ ap (λ (asked : EndsAsked). (tail_task asked).work coming) is, λ may. ap not (sym (ap (λ (asked : EndsAsked). is_plus asked.count.sign) is) ∙ sym signed ∙ may))

@@ -17,13 +17,18 @@ use Rattle.ports_core.specs.Name.{has_suffix, name_count}
 use Rattle.ports_core.proofs.PartLemmas.{nothing_begins, nothing_begins_part, part_begins_itself, part_trans, begins_itself, begins_trans, take_begins_after}
 use Rattle.ports_core.proofs.SlotLemmas.{slot_at-changed, slot_at-elsewhere}
 use Rattle.seg_core.specs.declared.cut.Cut.{Cut}
+use Rattle.seg_core.specs.Cut.{IsWay}
 use Rattle.seg_core.specs.declared.cut.Cut.TheVariants.{Parts, Round}
+use Rattle.seg_core.specs.declared.cut.Way.{Way}
+use Rattle.seg_core.specs.declared.cut.Way.TheVariants as way
+use Rattle.split_core.specs.ChunkWork.{HasAllNames, way_work}
+use Rattle.split_core.specs.laws.ChunkWorkLaws.{chunk_lawful, chunks_lawful, turn_lawful}
 use Rattle.split_core.specs.Split.{Filing, are_named, split_work, whole_by}
 use Rattle.split_core.specs.Round.{round_plan}
 use Rattle.split_core.specs.Split.{HasNames}
 use Rattle.split_core.proofs.RoundLemmas.{not_short}
 use Rattle.words_core.specs.SplitAsked.{SplitAsked}
-use Rattle.words_core.specs.SplitWords.{AreNamed, first_number}
+use Rattle.words_core.specs.SplitWords.{AreNamed, CanSplit, IsInLimits, first_number}
 use Rattle.tools_core.specs.Tasks.{naming_of}
 use Rattle.split_core.specs.laws.WorkLaws.{parts_lawful, round_lawful}
 use Rattle.split_core.proofs.AgreedLemmas.{plan_by}
@@ -133,8 +138,8 @@ abbrev pub ending : List ℕ → Content
 ending bytes = record { bytes = bytes; breaks_off = false }
 
 -- what is made of it, after its header
-abbrev pub part_of : Task → List ℕ → List ℕ → Part
-part_of task name bytes = after_part (only_out (header_text task.with_header true name)) (task.work.whole bytes)
+abbrev pub part_of : Task → ℕ → List ℕ → List ℕ → Part
+part_of task coming name bytes = after_part (only_out (header_text task.with_header true name)) ((task.work coming).whole bytes)
 
 -- What a step has written is a beginning of what is made of its input.
 
@@ -154,44 +159,44 @@ begins_more first next = rw nothing_after at (begins_after first (nothing_begins
 begins_longer : (part longer next : Part) → Begins part longer → Begins part (after_part longer next)
 begins_longer part longer next begins = part_trans part longer (after_part longer next) begins (begins_more longer next)
 
-step_begins : {task : Task} (is_first : Bool) (name : List ℕ) {so_far : Part} {there : Option Content} {slot : Option ℕ} {sources : List Source} {step : Step} → ((content : Content) → IsGrowing task.work content)
-    → RunStep true task largest_piece so_far (header_text task.with_header is_first name) slot sources there step → Begins step.high (after_part so_far (of_content task is_first name there).part)
-step_begins {task} is_first name {so_far} grows (unopened_step content place at past) = begins_more so_far (of_content task is_first name content).part
-step_begins {task} is_first name {so_far} grows (unheaded content headed leaves) = begins_more so_far (of_content task is_first name (Some content)).part
-step_begins {task} is_first name {so_far} grows (heading content headed leaves) = begins_after so_far (begins_more (only_out (header_text task.with_header is_first name)) (made_of task.work content))
-step_begins {task} is_first name {so_far} grows (calling content call is leaves) =
+step_begins : {task : Task} {work : Work} (is_first : Bool) (name : List ℕ) {so_far : Part} {there : Option Content} {slot : Option ℕ} {sources : List Source} {step : Step} → ((content : Content) → IsGrowing work content)
+    → RunStep true task work largest_piece so_far (header_text task.with_header is_first name) slot sources there step → Begins step.high (after_part so_far (of_content task work is_first name there).part)
+step_begins {task} {work} is_first name {so_far} grows (unopened_step content place at past) = begins_more so_far (of_content task work is_first name content).part
+step_begins {task} {work} is_first name {so_far} grows (unheaded content headed leaves) = begins_more so_far (of_content task work is_first name (Some content)).part
+step_begins {task} {work} is_first name {so_far} grows (heading content headed leaves) = begins_after so_far (begins_more (only_out (header_text task.with_header is_first name)) (made_of work content))
+step_begins {task} {work} is_first name {so_far} grows (calling content call is leaves) =
     let header = only_out (header_text task.with_header is_first name) in
     rw (after_assoc so_far header call.high) (begins_after so_far (begins_after header (call_begins (grows content) is)))
 
 -- What is made of inputs is what is made of the first of them, of one, and of those after it.
 
 made_after : (task : Task) (is_first : Bool) (before : List Input) (input : Input) (after : List Input) → (of_inputs task is_first (before ++ input ∷ after)).part
-    ≡ after_part (of_inputs task is_first before).part (after_part (of_content task (is_first && are_missing before) input.name input.content).part (of_inputs task (is_first && are_missing before && is_missing input.content) after).part)
+    ≡ after_part (of_inputs task is_first before).part (after_part (of_content task (task.work input.coming) (is_first && are_missing before) input.name input.content).part (of_inputs task (is_first && are_missing before && is_missing input.content) after).part)
 made_after task is_first [] input after = grind (arith, common_steps)
 made_after task is_first (first ∷ before) input after =
     let now = is_first && is_missing first.content in
     let here = (of_input task is_first first).part in
     let front = (of_inputs task now before).part in
-    let back = λ (b : Bool). after_part (of_content task b input.name input.content).part (of_inputs task (b && is_missing input.content) after).part in
+    let back = λ (b : Bool). after_part (of_content task (task.work input.coming) b input.name input.content).part (of_inputs task (b && is_missing input.content) after).part in
     ap (after_part here) (made_after task now before input after) ∙ sym (after_assoc here front (back (now && are_missing before)))
     ∙ ap (λ (b : Bool). after_part (after_part here front) (back b)) (and_assoc is_first (is_missing first.content) (are_missing before))
 
-step_in_all : {task : Task} {inputs : List Input} (before : List Input) (input : Input) (after : List Input) {sources : List Source} {step : Step} → ((content : Content) → IsGrowing task.work content) → inputs ≡ before ++ input ∷ after
-    → RunStep true task largest_piece (made_by task before).part (header_text task.with_header (are_missing before) input.name) input.slot sources input.content step → Begins step.high (made_by task inputs).part
+step_in_all : {task : Task} {inputs : List Input} (before : List Input) (input : Input) (after : List Input) {sources : List Source} {step : Step} → ((coming : ℕ) (content : Content) → IsGrowing (task.work coming) content) → inputs ≡ before ++ input ∷ after
+    → RunStep true task (task.work input.coming) largest_piece (made_by task before).part (header_text task.with_header (are_missing before) input.name) input.slot sources input.content step → Begins step.high (made_by task inputs).part
 step_in_all {task} before input after {step = step} grows are at =
     let so_far = (made_by task before).part in
-    let here = (of_content task (are_missing before) input.name input.content).part in
+    let here = (of_content task (task.work input.coming) (are_missing before) input.name input.content).part in
     let rest = (of_inputs task (are_missing before && is_missing input.content) after).part in
     rw (are, made_after task true before input after, sym (after_assoc so_far here rest))
-    (begins_longer step.high (after_part so_far here) rest (step_begins (are_missing before) input.name grows at))
+    (begins_longer step.high (after_part so_far here) rest (step_begins (are_missing before) input.name (grows input.coming) at))
 
 -- A run over any inputs
 
-pub begins_whole : {task : Task} {inputs : List Input} {sources : List Source} {new : List Slot} {status : ℕ} {place : ℕ} → ((content : Content) → IsGrowing task.work content) → (place ≡ 1 → ⊥)
+pub begins_whole : {task : Task} {inputs : List Input} {sources : List Source} {new : List Slot} {status : ℕ} {place : ℕ} → ((coming : ℕ) (content : Content) → IsGrowing (task.work coming) content) → (place ≡ 1 → ⊥)
     → EndsAs true true task inputs sources new status → BeginsAs (slot_at new place) (slot_at (slots_of (made_by task inputs).part) place)
 begins_whole {new} grows differs (as_defined error reached says outputs swept done status_is) = left_begins _ new (part_begins_itself _) differs outputs swept
 begins_whole {task} {new} grows differs (stopped fault before input after error step reached are done untouched at stops between swept says status_is) =
-    stopped_begins task.work.clears new (step_in_all before input after grows are at) differs between swept
+    stopped_begins (task.work input.coming).clears new (step_in_all before input after grows are at) differs between swept
 begins_whole {place} grows differs (no_room error says slots untouched count status_is) = still_begins place slots (bare_begins error place differs)
 
 -- Works grow.
@@ -218,21 +223,43 @@ named_up_to : (asked : SplitAsked) (count : ℕ) → first_number asked.from + c
 named_up_to asked zero all = refl
 named_up_to asked (suc last) all = cond_both asked.auto _ _ (λ numbering. has_suffix numbering last ≡ true) (λ is. refl) (λ is. lt-ltb _ _ (omega (arith, all)))
 
-pub all_have_names : (asked : SplitAsked) → AreNamed asked.cut asked.alphabet asked.from asked.width → HasNames asked.cut (naming_of asked)
-all_have_names asked named = by asked.cut named where
-  by : (cut : Cut) → AreNamed cut asked.alphabet asked.from asked.width → HasNames cut (naming_of asked)
-  by (Parts limit) all = tt
-  by (Round n delim) all = named_up_to asked n all
+pub all_have_names : (asked : SplitAsked) → AreNamed asked.way asked.alphabet asked.from asked.width
+    → HasAllNames asked.way (naming_of asked)
+all_have_names asked named = by asked.way named where
+  by : (way : Way) → AreNamed way asked.alphabet asked.from asked.width → HasAllNames way (naming_of asked)
+  by (way.Cut (Parts limit)) all = tt
+  by (way.Cut (Round n delim)) all = named_up_to asked n all
+  by (way.Chunks chunks) all = named_up_to asked chunks.count all
+  by (way.Chunk place chunks) all = tt
+  by (way.Turn place n delim) all = tt
+
+-- what can be asked is a way
+pub is_way : (asked : SplitAsked) → CanSplit asked → IsWay asked.way
+is_way asked can = by asked.way can.way where
+  by : (way : Way) → IsInLimits way → IsWay way
+  by (way.Cut (Parts limit)) is = is
+  by (way.Cut (Round n delim)) is = is.0
+  by (way.Chunks chunks) is = is.0
+  by (way.Chunk place chunks) is = is.1
+  by (way.Turn place n delim) is = is.1
 
 dealt_closed : (delim n : ℕ) (elide : Bool) (filing : Filing) (content : Content) → are_named filing.names n ≡ true
     → (x : List ℕ) → HasAll (split_work (round_plan delim n elide filing)) content x → Begins (whole_by (round_plan delim n elide filing) x) (made_of (split_work (round_plan delim n elide filing)) content)
 dealt_closed delim n elide filing content all x (to_end ends is) = rw (ends, is) (part_begins_itself _)
 dealt_closed delim n elide filing content all x (enough rest is complete) = absurd (false≢true (not_short delim filing elide n x all ∙ complete))
 
-pub split_grows : (cut : Cut) (elide : Bool) (filing : Filing) → HasNames cut filing.names → (content : Content) → IsGrowing (split_work (plan_by cut elide filing)) content
+split_grows : (cut : Cut) (elide : Bool) (filing : Filing) → HasNames cut filing.names → (content : Content) → IsGrowing (split_work (plan_by cut elide filing)) content
 split_grows (Parts limit) elide filing all = lawful_grows (parts_lawful limit filing)
 split_grows (Round n delim) elide filing all = λ content.
     let law = round_lawful delim n elide filing in record { settled = settled_made (split_work (round_plan delim n elide filing)) content law.grows law.ends; closed = dealt_closed delim n elide filing content all }
+
+pub way_grows : (way : Way) (elide : Bool) (filing : Filing) (said : Option ℕ) → IsWay way → HasAllNames way filing.names
+    → (content : Content) → IsGrowing (way_work way elide filing said) content
+way_grows (way.Cut cut) elide filing said is all = split_grows cut elide filing all
+way_grows (way.Chunks chunks) elide filing said is all =
+    lawful_grows (chunks_lawful (record { chunks = chunks; elide = elide; filing = filing }) said is)
+way_grows (way.Chunk place chunks) elide filing said is all = lawful_grows (chunk_lawful place chunks said is)
+way_grows (way.Turn place n delim) elide filing said is all = lawful_grows (turn_lawful place n delim)
 
 -- Each line is such a line, where those are that tell of outputs that broke, each in its call, and of the input.
 

@@ -20,7 +20,7 @@ use Rattle.ports_core.specs.declared.slot.Mode.{Mode}
 use Rattle.ports_core.specs.declared.tool.Tool.{Tool}
 use Rattle.ports_core.specs.declared.tool.Tool.TheVariants as tool
 use Rattle.run_core.proofs.FeedingLemmas.{needed_within}
-use Rattle.run_core.specs.Input.{World, input_of, inputs_at, inputs_from, is_dash, standard_input}
+use Rattle.run_core.specs.Input.{World, coming_of, input_of, inputs_at, inputs_from, is_dash, standard_input}
 use Rattle.run_core.specs.Reading.{AreDone, IsLeft}
 use Rattle.run_core.specs.RunEnds.{EndsAs, as_defined}
 use Rattle.run_core.specs.Task.{Task, made_by, status_of}
@@ -62,10 +62,10 @@ record LeftFor (work : Work) (there : Option Content) : Type 0 where
   pub source : Source
   pub is : (slot : ℕ) → IsLeft true work largest_piece slot there source
 
-left_for : (work : Work) (there : Option Content) → LeftFor work there
+left_for : (work : ℕ → Work) (there : Option Content) → LeftFor (work (coming_of there)) there
 left_for work None = record { source = missing; is = λ slot. refl }
 left_for work (Some content) =
-    let front = front_from work [] content.bytes (inl refl) in record {
+    let front = front_from (work (coming_of (Some content))) [] content.bytes (inl refl) in record {
       source = record (source_of content) { left = record { bytes = front.rest; breaks_off = content.breaks_off }; taken = front.read; reached = length front.read; ended = true };
       is = λ slot. (
         λ told. record { read = front.read; joined = front.joined; enough = front.enough; needed = needed_within (omega arith) front.needed; exact = λ well. front.needed; few = λ standard. omega arith },
@@ -76,19 +76,19 @@ left_for work (Some content) =
 
 -- The sources of all inputs: that of standard input, and those of the files in their order.
 
-abbrev files_for : Work → World → ℕ → List (List ℕ) → List Source
+abbrev files_for : (ℕ → Work) → World → ℕ → List (List ℕ) → List Source
 files_for work world slot [] = []
 files_for work world slot (name ∷ names) = cond (is_dash name) (files_for work world slot names) ((left_for work (world.laid slot name)).source ∷ files_for work world (slot + 1) names)
 
 -- the sources when the names before these were taken
-abbrev sources_for : Work → World → List Source → ℕ → List (List ℕ) → List Source
+abbrev sources_for : (ℕ → Work) → World → List Source → ℕ → List (List ℕ) → List Source
 sources_for work world more slot names = ((left_for work (Some world.standard)).source ∷ more) ++ files_for work world slot names
 
 -- the names after one are done, whatever that is
-abbrev AreDoneFrom : Work → World → List (List ℕ) → Type 0
+abbrev AreDoneFrom : (ℕ → Work) → World → List (List ℕ) → Type 0
 AreDoneFrom work world names = (was_read : Bool) (slot : ℕ) (more : List Source) → slot ≡ suc (length more) → AreDone true work largest_piece (inputs_from world was_read slot names) (sources_for work world more slot names)
 
-file_done : (work : Work) (world : World) (was_read : Bool) (slot : ℕ) (name : List ℕ) (names : List (List ℕ)) (more : List Source) → slot ≡ suc (length more) → AreDoneFrom work world names
+file_done : (work : ℕ → Work) (world : World) (was_read : Bool) (slot : ℕ) (name : List ℕ) (names : List (List ℕ)) (more : List Source) → slot ≡ suc (length more) → AreDoneFrom work world names
     → AreDone true work largest_piece (input_of world was_read slot name false ∷ inputs_from world was_read (slot + 1) names) (((left_for work (Some world.standard)).source ∷ more) ++ (left_for work (world.laid slot name)).source ∷ files_for work world (slot + 1) names)
 file_done work world was_read slot name names more is again =
     let first = (left_for work (Some world.standard)).source in
@@ -101,7 +101,7 @@ file_done work world was_read slot name names more is again =
       subst (AreDone true work largest_piece (inputs_from world was_read (slot + 1) names)) (append_assoc (first ∷ more) (here.source ∷ []) rest) (again was_read (slot + 1) (more ++ here.source ∷ []) (omega (arith, is, next))),
     )
 
-name_done : (dash : Bool) (work : Work) (world : World) (was_read : Bool) (slot : ℕ) (name : List ℕ) (names : List (List ℕ)) (more : List Source) → slot ≡ suc (length more) → AreDoneFrom work world names
+name_done : (dash : Bool) (work : ℕ → Work) (world : World) (was_read : Bool) (slot : ℕ) (name : List ℕ) (names : List (List ℕ)) (more : List Source) → slot ≡ suc (length more) → AreDoneFrom work world names
     → AreDone true work largest_piece (input_of world was_read slot name dash ∷ inputs_from world (was_read || dash) (cond dash slot (slot + 1)) names)
     (((left_for work (Some world.standard)).source ∷ more) ++ cond dash (files_for work world slot names) ((left_for work (world.laid slot name)).source ∷ files_for work world (slot + 1) names))
 name_done true work world true slot name names more is again = (tt, again true slot more is)
@@ -109,7 +109,7 @@ name_done true work world false slot name names more is again = ((omega arith, (
 name_done false work world true slot name names more is again = file_done work world true slot name names more is again
 name_done false work world false slot name names more is again = file_done work world false slot name names more is again
 
-all_done : (work : Work) (world : World) (names : List (List ℕ)) → AreDoneFrom work world names
+all_done : (work : ℕ → Work) (world : World) (names : List (List ℕ)) → AreDoneFrom work world names
 all_done work world [] = λ was_read slot more is. tt
 all_done work world (name ∷ names) = λ was_read slot more is. name_done (is_dash name) work world was_read slot name names more is (all_done work world names)
 

@@ -9,18 +9,24 @@ use Rattle.ports_core.specs.Source.{Content, Source}
 use Rattle.ports_core.specs.Streams.{standard_error, standard_output, streams_with}
 use Rattle.ports_core.specs.Inputs.{largest_piece}
 use Rattle.ports_core.specs.Draft as made
-use Rattle.ports_core.specs.Draft.{Manner}
+use Rattle.ports_core.specs.Draft.{Draft, Manner, shares_of}
 use Rattle.ports_core.specs.Name.{has_name}
 use Rattle.ports_core.specs.Part.{File, FilesBegin, Part, nothing, only_out, OutputsAt, file_of, told_file}
 use Rattle.ports_core.specs.Text.{message_of}
 use Rattle.ports_core.specs.Work.{Judges, Needs, Work}
 use Rattle.ports_core.specs.declared.fault.Fault.{Fault}
 use Rattle.ports_core.specs.declared.fault.Fault.TheVariants.{Open as CannotOpen, Read, Write}
+use Rattle.ports_core.specs.declared.fault.Fault.TheVariants as fault_is
+use Rattle.ports_core.specs.declared.verdict.Verdict.{Verdict}
 use Rattle.ports_core.specs.declared.slot.State.{State}
 use Rattle.ports_core.specs.declared.slot.State.TheVariants.{Open, Closed}
 use Rattle.ports_core.specs.declared.tool.Tool.{Tool}
 use Rattle.seg_core.specs.declared.cut.Cut.{Cut}
 use Rattle.seg_core.specs.declared.cut.Cut.TheVariants.{Parts, Round}
+use Rattle.seg_core.specs.declared.cut.Way.{Way}
+use Rattle.seg_core.specs.declared.cut.Way.TheVariants as way
+use Rattle.split_core.specs.ChunkWork.{ChunksPlan, chunks_work, draft_by, way_work}
+use Rattle.split_core.specs.Chunks.{decided}
 use Rattle.seg_core.specs.declared.unit.Unit.{Unit as Counted}
 use Rattle.ends_core.specs.Head.{head_work}
 use Rattle.ends_core.specs.Tail.{tail_work}
@@ -38,7 +44,7 @@ use Rattle.csplit_core.specs.Planned.{plan}
 use Rattle.run_core.specs.Feeding.{IsCall, Step, closes as ends_call, feeds, is_enough, opens}
 use Rattle.run_core.specs.Input.{Input, inputs_at, standard_input}
 use Rattle.run_core.specs.RunEnds.{RunStep, calling, heading, unheaded, unopened, EndsAs, as_defined}
-use Rattle.run_core.specs.Task.{Outcome, Task, after_part, header_text, is_missing, joined, of_content, of_inputs, verdict_messages, made_by, status_of}
+use Rattle.run_core.specs.Task.{Outcome, Task, after_part, header_text, is_missing, joined, of_content, of_input, of_inputs, verdict_messages, made_by, status_of}
 use Rattle.tools_core.specs.Promises.{SaysLines, Completes, FindAlike, IsCopied, IsFound, IsGone, IsMet, IsTask, IsUnstopped, LeaveAlike, Ran, Run, TellsMet, Unstopped, broken_off, failing, judged, missing, removes_files}
 use Rattle.ports_core.specs.Message.{SaysAll}
 use Rattle.ports_core.specs.Swept.{Cleared, Swept}
@@ -59,7 +65,7 @@ use Rattle.words_core.specs.declared.settings.Settings.TheVariants.{Head, Tail, 
 use Rattle.words_core.specs.Help.{text_about}
 use Rattle.tools_core.specs.About.{TellsText, no_text, text_cut, text_whole}
 use Rattle.tools_core.specs.Outcome.{DoesAsked, RefusesOperands}
-use Rattle.tools_core.specs.Tasks.{csplit_task, head_task, is_minus, is_plus, names_of, plan_of, split_task, tail_task, tool_of}
+use Rattle.tools_core.specs.Tasks.{csplit_task, filing_of, head_task, is_minus, is_plus, names_of, said_by, split_task, tail_task, tool_of}
 
 -- One of the lines
 
@@ -137,10 +143,10 @@ pub record IsLiving (work : Work) : Type 0 where
   pub settled : (x : List ℕ) → AreLive (work.settled x).files
   pub whole : (x : List ℕ) → AreLive (work.whole x).files
 
-pub head_living : (delim : ℕ) (unit : Counted) (but_last : Bool) (n : ℕ) → IsLiving (head_work delim unit but_last n)
+head_living : (delim : ℕ) (unit : Counted) (but_last : Bool) (n : ℕ) → IsLiving (head_work delim unit but_last n)
 head_living delim unit but_last n = grind (arith, common_steps)
 
-pub tail_living : (delim : ℕ) (unit : Counted) (from_nth : Bool) (n : ℕ) → IsLiving (tail_work delim unit from_nth n)
+tail_living : (delim : ℕ) (unit : Counted) (from_nth : Bool) (n : ℕ) → IsLiving (tail_work delim unit from_nth n)
 tail_living delim unit from_nth n = grind (arith, common_steps)
 
 abbrev IsThere : Share → Type 0
@@ -159,8 +165,31 @@ settled_there (Round n delim) elide x = shares_there Open refl (dealt_files deli
 files_there : (filing : Filing) (shares : List Share) → All IsThere shares → AreLive (named filing 0 shares)
 files_there filing shares all = search (rules, named_each)
 
-pub split_living : (plan : Plan) → IsLiving (split_work plan)
+split_living : (plan : Plan) → IsLiving (split_work plan)
 split_living plan = grind (arith, common_steps, files_there, settled_there, shares_there)
+
+drafts_there : (draft : Draft) → All IsThere (shares_of draft)
+drafts_there draft = grind (arith, common_steps, All-append, shares_there)
+
+chunks_living : (plan : ChunksPlan) (said : Option ℕ) → IsLiving (chunks_work plan said)
+chunks_living plan said = record {
+  settled = λ x. files_there plan.filing _ (drafts_there (draft_by plan.elide (decided plan.chunks 1 said x)));
+  whole = λ x. files_there plan.filing _ (shares_there Closed refl _);
+}
+
+way_living : (way : Way) (elide : Bool) (filing : Filing) (said : Option ℕ) → IsLiving (way_work way elide filing said)
+way_living (way.Cut cut) elide filing said = split_living (record { cut = cut; elide = elide; filing = filing })
+way_living (way.Chunks chunks) elide filing said =
+    chunks_living (record { chunks = chunks; elide = elide; filing = filing }) said
+way_living (way.Chunk place chunks) elide filing said = grind (arith, common_steps)
+way_living (way.Turn place n delim) elide filing said = grind (arith, common_steps)
+
+way_clears : (way : Way) (elide : Bool) (filing : Filing) (said : Option ℕ)
+    → (way_work way elide filing said).clears ≡ false
+way_clears (way.Cut cut) elide filing said = refl
+way_clears (way.Chunks chunks) elide filing said = refl
+way_clears (way.Chunk place chunks) elide filing said = refl
+way_clears (way.Turn place n delim) elide filing said = refl
 
 section_has : (is_closed : Bool) → has_file (cond is_closed Closed Open) ≡ true
 section_has true = refl
@@ -177,7 +206,7 @@ sections_there : (style : Style) (sections : List Section) → AreLive (made.fil
 sections_there style sections = each_made (λ file. IsLive (slot_of file)) (manner_of style) 0 (shares_in style sections)
     (each_section (λ one. (place : ℕ) → IsLive (slot_of (made.file_at (manner_of style) place one))) style sections (λ k other within bytes place. (refl, section_has _)))
 
-pub csplit_living : (style : Style) (operands : List Operand) → IsLiving (csplit_work style operands)
+csplit_living : (style : Style) (operands : List Operand) → IsLiving (csplit_work style operands)
 csplit_living style operands = record {
   settled = λ x. sections_there style (settled_sections (complete_lines x) (plan style.suppress operands (complete_lines x)));
   whole = λ x. sections_there style (whole_sections (all_lines x) (plan style.suppress operands (all_lines x)));
@@ -222,39 +251,48 @@ fits_joined {Line} first next one other = record {
 }
 
 -- the lines that tell what is wrong with an input are such ones
-pub record TellsInput (Line : List ℕ → Type 0) (task : Task) (name : List ℕ) (there : Option Content) : Type 0 where
+pub record TellsInput (Line : List ℕ → Type 0) (task : Task) (work : Work) (name : List ℕ) (there : Option Content) : Type 0 where
   pub missing : there ≡ None → Line (message_of task.tool (CannotOpen 0) name)
-  pub broken_off : (content : Content) → there ≡ Some content → is_enough task.work content ≡ false → Line (message_of task.tool (Read 0) name)
-  pub judged : (content : Content) (fault : Fault) → there ≡ Some content → is_enough task.work content ≡ true → Judges task.work content.bytes fault → Line (message_of task.tool fault (task.subject fault))
+  pub broken_off : (content : Content) → there ≡ Some content → is_enough work content ≡ false → Line (message_of task.tool (Read 0) name)
+  pub judged : (content : Content) (verdict : Verdict) → there ≡ Some content → is_enough work content ≡ true → Judges work content.bytes verdict → Line (message_of task.tool (fault_is.Verdict verdict) (task.subject verdict))
 
-given_fits : {Line : List ℕ → Type 0} (task : Task) (header name bytes : List ℕ) (enough : Bool) (verdict : Option Fault)
-    → (enough ≡ false → Line (message_of task.tool (Read 0) name)) → ((fault : Fault) → enough ≡ true → verdict ≡ Some fault → Line (message_of task.tool fault (task.subject fault))) → IsLiving task.work → Fits Line task.work.clears (record {
-      part = after_part (only_out header) (cond enough (task.work.whole bytes) (task.work.settled bytes));
+given_fits : {Line : List ℕ → Type 0} (task : Task) (work : Work) (header name bytes : List ℕ) (enough : Bool) (verdict : Option Verdict)
+    → (enough ≡ false → Line (message_of task.tool (Read 0) name)) → ((given : Verdict) → enough ≡ true → verdict ≡ Some given → Line (message_of task.tool (fault_is.Verdict given) (task.subject given))) → IsLiving work → Fits Line work.clears (record {
+      part = after_part (only_out header) (cond enough (work.whole bytes) (work.settled bytes));
       messages = cond enough (verdict_messages task verdict) (message_of task.tool (Read 0) name ∷ []);
       failed = cond enough (is_some verdict) true;
-      sweeps = task.work.clears && cond enough (is_some verdict) true;
+      sweeps = work.clears && cond enough (is_some verdict) true;
     })
-given_fits task header name bytes true None breaks judges living = fits_well _ _ (grind (arith, common_steps)) (grind (arith, common_steps))
-given_fits task header name bytes true (Some fault) breaks judges living = fits_fault _ _ (judges fault refl refl) (λ is. (and_parts task.work.clears true is).0) (living.whole bytes)
-given_fits task header name bytes false verdict breaks judges living = fits_fault _ _ (breaks refl) (λ is. (and_parts task.work.clears true is).0) (living.settled bytes)
+given_fits task work header name bytes true None breaks judges living = fits_well _ _ (grind (arith, common_steps)) (grind (arith, common_steps))
+given_fits task work header name bytes true (Some verdict) breaks judges living = fits_fault _ _ (judges verdict refl refl) (λ is. (and_parts work.clears true is).0) (living.whole bytes)
+given_fits task work header name bytes false verdict breaks judges living = fits_fault _ _ (breaks refl) (λ is. (and_parts work.clears true is).0) (living.settled bytes)
 
 breaks_short : (work : Work) (content : Content) → is_enough work content ≡ false → content.breaks_off ≡ true
 breaks_short work content short = not-false content.breaks_off (or_parts (not content.breaks_off) (work.is_complete content.bytes) short).0
 
-content_fits : {Line : List ℕ → Type 0} (task : Task) (is_first : Bool) (name : List ℕ) (there : Option Content) → TellsInput Line task name there → IsLiving task.work → Fits Line task.work.clears (of_content task is_first name there)
-content_fits task is_first name None tells living = fits_fault nothing false (tells.missing refl) (λ is. absurd (false≢true is)) no_live
-content_fits task is_first name (Some content) tells living =
-    given_fits task (header_text task.with_header is_first name) name content.bytes (is_enough task.work content) (task.work.verdict content.bytes)
-    (λ short. tells.broken_off content refl short) (λ fault enough is. tells.judged content fault refl enough is) living
+content_fits : {Line : List ℕ → Type 0} (task : Task) (work : Work) (is_first : Bool) (name : List ℕ) (there : Option Content) → TellsInput Line task work name there → IsLiving work → Fits Line work.clears (of_content task work is_first name there)
+content_fits task work is_first name None tells living = fits_fault nothing false (tells.missing refl) (λ is. absurd (false≢true is)) no_live
+content_fits task work is_first name (Some content) tells living =
+    given_fits task work (header_text task.with_header is_first name) name content.bytes (is_enough work content) (work.verdict content.bytes)
+    (λ short. tells.broken_off content refl short) (λ verdict enough is. tells.judged content verdict refl enough is) living
+
+abbrev pub TellsAt : (List ℕ → Type 0) → Task → Input → Type 0
+TellsAt Line task input = TellsInput Line task (task.work input.coming) input.name input.content
 
 abbrev pub TellsAll : (List ℕ → Type 0) → Task → List Input → Type 0
-TellsAll Line task inputs = All (λ (input : Input). TellsInput Line task input.name input.content) inputs
+TellsAll Line task inputs = All (TellsAt Line task) inputs
 
-pub inputs_fit : {Line : List ℕ → Type 0} (task : Task) (is_first : Bool) (inputs : List Input) → TellsAll Line task inputs → IsLiving task.work → Fits Line task.work.clears (of_inputs task is_first inputs)
+-- whatever length an input says, files are live, and are removed or kept alike
+pub record AreLiving (work : ℕ → Work) (clears : Bool) : Type 0 where
+  pub each : (coming : ℕ) → IsLiving (work coming)
+  pub clears_all : (coming : ℕ) → (work coming).clears ≡ clears
+
+pub inputs_fit : {Line : List ℕ → Type 0} {clears : Bool} (task : Task) (is_first : Bool) (inputs : List Input) → TellsAll Line task inputs → AreLiving task.work clears → Fits Line clears (of_inputs task is_first inputs)
 inputs_fit task is_first [] tells living = search rules
 inputs_fit {Line} task is_first (input ∷ inputs) tells living =
-    let P = λ (input : Input). TellsInput Line task input.name input.content in
-    fits_joined _ (of_inputs task (is_first && is_missing input.content) inputs) (content_fits task is_first input.name input.content (All-head P input inputs tells) living)
+    let P = TellsAt Line task in
+    fits_joined (of_input task is_first input) (of_inputs task (is_first && is_missing input.content) inputs)
+    (subst (λ clears. Fits Line clears (of_input task is_first input)) (living.clears_all input.coming) (content_fits task (task.work input.coming) is_first input.name input.content (All-head P input inputs tells) (living.each input.coming)))
     (inputs_fit task (is_first && is_missing input.content) inputs (All-tail P input inputs tells) living)
 
 -- what a run found is told so
@@ -278,18 +316,18 @@ one_task (Split asked) one other is is_too = is ∙ sym is_too
 one_task (Tee asked) one other is is_too = absurd is
 one_task (About which topic) one other is is_too = absurd is
 
-found_tells : {run : Run} (asked : Settings) {task : Task} (input : Input) → IsTask asked task → IsFound run asked input → TellsInput (TellsMet run asked) task input.name input.content
+found_tells : {run : Run} (asked : Settings) {task : Task} (input : Input) → IsTask asked task → IsFound run asked input → TellsAt (TellsMet run asked) task input
 found_tells asked {task} input of found = record {
   missing = λ none. met_line asked task (CannotOpen 0) input.name of (inr (missing input found none));
-  broken_off = λ content is short. met_line asked task (Read 0) input.name of (inr (broken_off input content found is (breaks_short task.work content short) (λ other of_too. rw (one_task asked other task of_too of) short)));
-  judged = λ content fault is enough judges. met_line asked task fault (task.subject fault) of (inr (judged input content task fault found is of enough judges));
+  broken_off = λ content is short. met_line asked task (Read 0) input.name of (inr (broken_off input content found is (breaks_short (task.work input.coming) content short) (λ other of_too. rw (one_task asked other task of_too of) short)));
+  judged = λ content verdict is enough judges. met_line asked task (fault_is.Verdict verdict) (task.subject verdict) of (inr (judged input content task verdict found is of enough judges));
 }
 
 -- these inputs, which the run found after others and before others
 pub all_tell : (run : Run) (asked : Settings) (task : Task) (done inputs after : List Input) → IsTask asked task → inputs_at run.world (names_of asked) ≡ done ++ (inputs ++ after) → TellsAll (TellsMet run asked) task inputs
-all_tell run asked task done [] after of are = All-nil (λ (input : Input). TellsInput (TellsMet run asked) task input.name input.content)
+all_tell run asked task done [] after of are = All-nil (TellsAt (TellsMet run asked) task)
 all_tell run asked task done (input ∷ inputs) after of are =
-    All-cons (λ (input : Input). TellsInput (TellsMet run asked) task input.name input.content) input inputs (found_tells asked input of (done, inputs ++ after, are))
+    All-cons (TellsAt (TellsMet run asked) task) input inputs (found_tells asked input of (done, inputs ++ after, are))
     (all_tell run asked task (done ++ input ∷ []) inputs after of (are ∙ sym (append_assoc done (input ∷ []) (inputs ++ after))))
 
 -- what each step of it does
@@ -299,8 +337,8 @@ call_live living opens = living.settled []
 call_live living (feeds x piece rest is few going) = search rules
 call_live living (ends_call x has needed) = living.whole x
 
-pub step_live : {told : Bool} {task : Task} {before : Part} {header : List ℕ} {slot : Option ℕ} {sources : List Source} {content : Option Content} {step : Step} → IsLiving task.work → AreLive before.files
-    → RunStep told task largest_piece before header slot sources content step → AreLive step.high.files
+pub step_live : {told : Bool} {task : Task} {work : Work} {before : Part} {header : List ℕ} {slot : Option ℕ} {sources : List Source} {content : Option Content} {step : Step} → IsLiving work → AreLive before.files
+    → RunStep told task work largest_piece before header slot sources content step → AreLive step.high.files
 step_live living live (unopened content place at past) = live
 step_live living live (unheaded content headed leaves) = live
 step_live {before} living live (heading content headed leaves) = search rules
@@ -541,22 +579,34 @@ pub record LeftBy (run : Run) (asked : Settings) : Type 0 where
   pub fits : Fits (TellsMet run asked) (removes_files asked) made
   pub left : IsLeft (tool_of asked) made run.outputs run.status
 
-ends_left : {run : Run} {asked : Settings} {task : Task} → IsTask asked task → task.work.clears ≡ removes_files asked → IsLiving task.work → Makes asked (inputs_at run.world (names_of asked)) (made_by task (inputs_at run.world (names_of asked)))
+-- what each tool does with its inputs is so
+pub task_lives : (asked : Settings) (task : Task) → IsTask asked task → AreLiving task.work (removes_files asked)
+task_lives (Head asked) task is = rw is (record { each = λ coming. head_living asked.delim asked.unit (is_minus asked.count.sign) asked.count.amount; clears_all = λ coming. refl })
+task_lives (Tail asked) task is = rw is (record { each = λ coming. tail_living asked.ends.delim asked.ends.unit (is_plus asked.ends.count.sign) asked.ends.count.amount; clears_all = λ coming. refl })
+task_lives (Split asked) task is = rw is (record {
+  each = λ coming. way_living asked.way asked.elide (filing_of asked) (said_by asked.input coming);
+  clears_all = λ coming. way_clears asked.way asked.elide (filing_of asked) (said_by asked.input coming);
+})
+task_lives (Csplit asked) task (operands, asks, is) = rw is (record { each = λ coming. csplit_living asked.style operands; clears_all = λ coming. refl })
+task_lives (Tee asked) task is = absurd is
+task_lives (About which topic) task is = absurd is
+
+ends_left : {run : Run} {asked : Settings} {task : Task} → IsTask asked task → Makes asked (inputs_at run.world (names_of asked)) (made_by task (inputs_at run.world (names_of asked)))
     → (ends : EndsAs true true task (inputs_at run.world (names_of asked)) run.inputs run.outputs run.status) → IsUnstopped ends → LeftBy run asked
-ends_left {run} {asked} {task} of clears living makes (as_defined error reached says outputs swept done is) unstopped =
+ends_left {run} {asked} {task} of makes (as_defined error reached says outputs swept done is) unstopped =
     let found = inputs_at run.world (names_of asked) in record {
       made = made_by task found;
       of = makes;
-      fits = subst (λ clears. Fits (TellsMet run asked) clears (made_by task found)) clears (inputs_fit task true found (all_tell run asked task [] found [] of (sym (append-nil found))) living);
+      fits = inputs_fit task true found (all_tell run asked task [] found [] of (sym (append-nil found))) (task_lives asked task of);
       left = record { error = error; says = subst (λ which. SaysAll true which (made_by task found).messages standard_error error) (tool_is asked task of) says; swept = rw (slots_at outputs) at swept; is = is };
     }
-ends_left of clears living makes ends unstopped = absurd unstopped
+ends_left of makes ends unstopped = absurd unstopped
 
 does_left : (run : Run) (asked : Settings) (does : DoesAsked true true asked (inputs_at run.world (names_of asked)) run.inputs run.outputs run.status) → Unstopped asked (inputs_at run.world (names_of asked)) run.inputs run.outputs run.status does → LeftBy run asked
-does_left run (Head asked) does unstopped = ends_left {asked = Head asked} refl refl (head_living asked.delim asked.unit (is_minus asked.count.sign) asked.count.amount) refl does unstopped
-does_left run (Tail asked) does unstopped = ends_left {asked = Tail asked} refl refl (tail_living asked.ends.delim asked.ends.unit (is_plus asked.ends.count.sign) asked.ends.count.amount) refl does unstopped
-does_left run (Split asked) does unstopped = ends_left {asked = Split asked} refl refl (split_living (plan_of asked)) refl does unstopped
-does_left run (Csplit asked) does unstopped = ends_left {asked = Csplit asked} (does.operands, does.asks, refl) refl (csplit_living asked.style does.operands) (does.operands, does.asks, refl) does.ends unstopped
+does_left run (Head asked) does unstopped = ends_left {asked = Head asked} refl refl does unstopped
+does_left run (Tail asked) does unstopped = ends_left {asked = Tail asked} refl refl does unstopped
+does_left run (Split asked) does unstopped = ends_left {asked = Split asked} refl refl does unstopped
+does_left run (Csplit asked) does unstopped = ends_left {asked = Csplit asked} (does.operands, does.asks, refl) (does.operands, does.asks, refl) does.ends unstopped
 does_left run (Tee asked) does unstopped = record {
   made = tee_made asked does.content;
   of = (does.content, does.input, refl);

@@ -1,14 +1,14 @@
 -- What a run that met no fault leaves: just its part, as its definition says, and nothing on standard error; so what `head`, `tail` and
 -- `tee` leave of one input, and that what any run leaves is a beginning of it.
 use Rattle.std.proofs.lemmas.Grind.{common_steps}
-use Rattle.std.proofs.Common.{◌≡◌, ℕ, Bool, true, false, if◌then◌else◌, List, [], ◌∷◌, Option, Some, None, inl, inr, refl, sym, ◌∙◌, ap, arith, ◌+◌, ◌-◌, ◌++◌, map, drop, subst}
+use Rattle.std.proofs.Common.{◌≡◌, ℕ, Bool, true, false, if◌then◌else◌, List, [], ◌∷◌, Option, Some, None, inl, inr, refl, sym, ◌∙◌, ap, arith, ◌+◌, ◌-◌, ◌++◌, length, map, drop, subst}
 use Rattle.ports_core.specs.Slot.{Slot, slot_at}
-use Rattle.run_core.specs.Input.{Input, World, input_of, inputs_at, is_dash}
+use Rattle.run_core.specs.Input.{Input, World, coming_of, input_of, inputs_at, is_dash}
 use Rattle.run_core.specs.Task.{Outcome, Task, made_by}
 use Rattle.words_core.specs.declared.settings.Settings.{Settings}
-use Rattle.tools_core.specs.Tasks.{filing_of, names_of, is_minus, is_plus}
+use Rattle.tools_core.specs.Tasks.{filing_of, names_of, is_minus, is_plus, said_by}
 use Rattle.tools_core.specs.Promises.{Completes, Does, FindAlike, HasInput, Ran, Run, IsHead, IsTail, IsBare, CountAlike, output_of, AreCopies, IsSound, files_of, BeginsAs, BeginsEach}
-use Rattle.tools_core.proofs.BeginLemmas.{all_have_names, ending, part_of, bare_begins, begins_kept, begins_whole, lawful_grows, split_grows, still_begins, tee_begins, text_begins}
+use Rattle.tools_core.proofs.BeginLemmas.{all_have_names, ending, is_way, part_of, bare_begins, begins_kept, begins_whole, lawful_grows, way_grows, still_begins, tee_begins, text_begins}
 use Rattle.tools_core.proofs.LeftLemmas.{Makes, completes_left, left_whole, same_made, slots_of, copies_are, copy, tee_made, left_at, ran_over}
 use Rattle.tools_core.proofs.StoppedPromises.{completes_or}
 use Rattle.seg_core.specs.declared.count.Sign.{Sign}
@@ -44,16 +44,25 @@ leave_same one other asked does does_too same =
 pub record HasOne (run : Run) (asked : Settings) (bytes : List ℕ) : Type 0 where
   pub input : Input
   pub content : input.content ≡ Some (ending bytes)
+  pub coming : input.coming ≡ length bytes
   pub only : inputs_at run.world (names_of asked) ≡ input ∷ []
 
 lies_there : (world : World) (name : List ℕ) (dash : Bool) → (input_of world false 1 name dash).content ≡ (if dash then Some world.standard else world.laid 1 name)
 lies_there world name true = refl
 lies_there world name false = refl
 
+-- it says how many bytes it has
+says_all : (world : World) (name : List ℕ) (dash : Bool)
+    → (input_of world false 1 name dash).coming ≡ coming_of (input_of world false 1 name dash).content
+says_all world name true = refl
+says_all world name false = refl
+
 pub has_one : {run : Run} {asked : Settings} {bytes : List ℕ} → Ran run asked → HasInput run bytes → HasOne run asked bytes
 has_one {run} ran has = record {
   input = input_of run.world false 1 has.name (is_dash has.name);
   content = lies_there run.world has.name (is_dash has.name) ∙ has.holds;
+  coming = says_all run.world has.name (is_dash has.name)
+      ∙ ap coming_of (lies_there run.world has.name (is_dash has.name) ∙ has.holds);
   only = ap (inputs_at run.world) (sym (ap names_at ran.read) ∙ has.only);
 }
 
@@ -61,6 +70,7 @@ has_one {run} ran has = record {
 pub record DidOne (run : Run) (asked : Settings) (bytes : List ℕ) : Type 0 where
   pub input : Input
   pub content : input.content ≡ Some (ending bytes)
+  pub coming : input.coming ≡ length bytes
   pub made : Outcome
   pub makes : Makes asked (input ∷ []) made
   pub sound : made.failed ≡ false
@@ -71,13 +81,13 @@ did_one does has =
     let one = has_one does.ran has in
     let all = completes_left (completes does) in
     let whole = left_whole all.fits all.left does.well in
-    record { input = one.input; content = one.content; made = all.made; makes = rw one.only at all.of; sound = whole.sound; slots = whole.slots }
+    record { input = one.input; content = one.content; coming = one.coming; made = all.made; makes = rw one.only at all.of; sound = whole.sound; slots = whole.slots }
 
-pub record IsMade (task : Task) (name bytes : List ℕ) (new : List Slot) : Type 0 where
-  pub unjudged : task.work.verdict bytes ≡ None
-  pub slots : new ≡ slots_of (part_of task name bytes)
+pub record IsMade (task : Task) (coming : ℕ) (name bytes : List ℕ) (new : List Slot) : Type 0 where
+  pub unjudged : (task.work coming).verdict bytes ≡ None
+  pub slots : new ≡ slots_of (part_of task coming name bytes)
 
-pub one_made : {run : Run} {asked : Settings} {bytes : List ℕ} (one : DidOne run asked bytes) (task : Task) → one.made ≡ made_by task (one.input ∷ []) → IsMade task one.input.name bytes run.outputs
+pub one_made : {run : Run} {asked : Settings} {bytes : List ℕ} (one : DidOne run asked bytes) (task : Task) → one.made ≡ made_by task (one.input ∷ []) → IsMade task one.input.coming one.input.name bytes run.outputs
 one_made {bytes} one task is = grind (arith, common_steps)
 
 -- What `head` and `tail` leave of one input.
@@ -97,7 +107,8 @@ first_meet head tail first rest n input alike one other has has_too =
       same k = omega arith
 
 pub last_meet : (head tail : Run) (first rest : EndsAsked) (n : ℕ) (input : List ℕ) → CountAlike first rest → IsHead head first Minus n → IsTail tail rest Plain n → HasInput head input → HasInput tail input → output_of head ++ output_of tail ≡ input
-last_meet head tail first rest n input alike one other has has_too = grind (arith, common_steps, head_output, tail_alike, ends_together)
+last_meet head tail first rest n input alike one other has has_too =
+    rw (head_output first alike.bare.0 one has, tail_alike alike other has_too) (ends_together first.delim first.unit n input)
 
 -- What `tee` leaves of its input.
 
@@ -130,10 +141,10 @@ abbrev BeginsMade : Settings → List Input → List Slot → Type 0
 BeginsMade asked inputs new = (made : Outcome) × Makes asked inputs made × ((place : ℕ) → (place ≡ 1 → ⊥) → BeginsAs (slot_at new place) (slot_at (slots_of made.part) place))
 
 begins_made : (asked : Settings) (inputs : List Input) (sources : List Source) (new : List Slot) (status : ℕ) → CanRun asked → DoesAsked true true asked inputs sources new status → BeginsMade asked inputs new
-begins_made (Head asked) inputs sources new status can does = (_, refl, λ place differs. begins_whole (lawful_grows (head_lawful _ _ _ _)) differs does)
-begins_made (Tail asked) inputs sources new status can does = (_, refl, λ place differs. begins_whole (lawful_grows (tail_lawful _ _ _ _)) differs does)
-begins_made (Split asked) inputs sources new status can does = (_, refl, λ place differs. begins_whole (split_grows asked.cut asked.elide (filing_of asked) (all_have_names asked can.named)) differs does)
-begins_made (Csplit asked) inputs sources new status can does = (_, (does.operands, does.asks, refl), λ place differs. begins_whole (lawful_grows (csplit_law.lawful asked.style does.operands)) differs does.ends)
+begins_made (Head asked) inputs sources new status can does = (_, refl, λ place differs. begins_whole (λ coming. lawful_grows (head_lawful _ _ _ _)) differs does)
+begins_made (Tail asked) inputs sources new status can does = (_, refl, λ place differs. begins_whole (λ coming. lawful_grows (tail_lawful _ _ _ _)) differs does)
+begins_made (Split asked) inputs sources new status can does = (_, refl, λ place differs. begins_whole (λ coming. way_grows asked.way asked.elide (filing_of asked) (said_by asked.input coming) (is_way asked can) (all_have_names asked can.named)) differs does)
+begins_made (Csplit asked) inputs sources new status can does = (_, (does.operands, does.asks, refl), λ place differs. begins_whole (λ coming. lawful_grows (csplit_law.lawful asked.style does.operands)) differs does.ends)
 begins_made (Tee asked) inputs sources new status can does = (_, (does.content, does.input, refl), λ place differs. tee_begins place differs does.ends)
 begins_made (About which topic) inputs sources new status can does = (_, refl, λ place differs. text_begins place differs does)
 

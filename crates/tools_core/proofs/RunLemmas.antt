@@ -114,7 +114,7 @@ ends_names same is = cc (same, is)
 -- the name that it reads finds standard input
 finds_standard : {told : Bool} {laid : ℕ → List ℕ → Option Content} (sources : List Source) {content : Content} → (told ≡ true → content ≡ (source_at sources 0).left) → Finds told (world_of laid sources) (codes "-" ∷ []) (standard_input content ∷ [])
 finds_standard {laid} sources {content} there = record {
-  are = ((record { laid = laid; standard = content }, refl), refl);
+  are = ((record { laid = laid; standard = content }, _, refl), refl);
   there = λ t. ap (λ (those : Content). standard_input those ∷ []) (there t);
 }
 

@@ -2,16 +2,18 @@
 use Rattle.std.proofs.lemmas.Grind.{common_steps}
 use Rattle.std.proofs.Common.{◌≡◌, ℕ, ◌+◌, ◌-◌, ◌/◌, ◌%◌, ◌^◌, ◌<◌, ◌≤◌, zero, suc, List, [], ◌∷◌, ◌++◌, length, inl, inr, refl, sym, ◌∙◌, ap, arith, append_assoc, length-append, Less, nat_cmp, append-nil, div-add-mod', rules, ◌*◌, min, Bool, true, false, IsTrue, not, cond, map, take, drop, subst, filter, get_or, Some, None, All, suc-mul}
 use Rattle.std.specs.Cmp.Lexicographic.{slice_cmp}
-use Rattle.std.proofs.lemmas.Bool.{cases_lt, cond_both, false≢true, lt-ltb}
+use Rattle.std.specs.List.{flat_map, range_with_len}
+use Rattle.std.specs.Prelude.{Option, ◌==◌, ◌||◌, nat_lt}
+use Rattle.std.proofs.lemmas.Bool.{cases_lt, cond_both, eq-eqb, false≢true, lt-ltb, ltb-false, ltb-true}
 use Rattle.ports_core.specs.Name.{ordered_count, IsWide, keeps_order, Naming, has_name, name_at}
 use Rattle.ports_core.specs.declared.numbering.Numbering.TheVariants.{Formatted}
 use Rattle.ports_core.specs.declared.form.Form.{Form}
 use Rattle.ports_core.proofs.OrderLemmas.{in_order}
-use Rattle.tools_core.specs.Promises.{AreInOrder, text_at, Run, Does, HasInput, AreListed, ArePieces, AreLinePieces, AreUncut, AreDealt, EndsLine, IsFilled, IsSound, contents_of, files_of, lines_telling, output_of}
-use Rattle.std.proofs.lemmas.List.{length-map, length-take, length-take-le, length-drop, get_or-take, get_or_past, take-append-drop, take-append-le, take_all}
+use Rattle.tools_core.specs.Promises.{AreChunks, AreEven, AreInOrder, KeepLines, WritesChunk, makes_files, text_at, Run, Does, HasInput, AreListed, ArePieces, AreLinePieces, AreUncut, AreDealt, EndsLine, IsFilled, IsSound, contents_of, files_of, lines_telling, output_of}
+use Rattle.std.proofs.lemmas.List.{get_or_append_left, length-map, length-take, length-take-le, length-drop, get_or-take, get_or_past, take-append-drop, take-append-le, take_all}
 use Rattle.std.proofs.lemmas.List.FromFn.{get_or-map-range_with_len, length-map-range_with_len}
 use Rattle.std.proofs.lemmas.Nat.{mod_below}
-use Rattle.std.proofs.lemmas.List.Elements.{All-cons, All-map}
+use Rattle.std.proofs.lemmas.List.Elements.{All-cons, All-map, All-nil}
 use Rattle.seg_core.specs.Line.{joined, lines_of, line_count, delimiters, ends_with, first_lines, after_lines}
 use Rattle.seg_core.proofs.Delimiters.{delimiters-append, delimiters-le-length}
 use Rattle.seg_core.proofs.LastLines.{first_lines-whole}
@@ -19,11 +21,21 @@ use Rattle.std.proofs.Math.Seq.{take-append_seam, drop-append_seam, take-append-
 use Rattle.seg_core.proofs.LinesOf.{joined-lines_of}
 use Rattle.seg_core.proofs.FirstLines.{delimiters-first_lines, first_lines-append, first_lines-full, first_lines-more, first_lines-short, length-first_lines-le, lines_of-first_lines, lines_of-after_lines}
 use Rattle.seg_core.proofs.LineCounts.{line_count-open, line_count_near}
-use Rattle.seg_core.specs.declared.cut.Cut.{Cut}
-use Rattle.ports_core.specs.Draft.{opening_line, told_of_files}
-use Rattle.ports_core.specs.Part.{File}
+use Rattle.seg_core.specs.declared.cut.Chunks.{Chunks}
+use Rattle.seg_core.specs.declared.cut.Cut.TheVariants.{Round}
+use Rattle.seg_core.specs.declared.cut.Way.{Way}
+use Rattle.seg_core.specs.declared.cut.Way.TheVariants as way
+use Rattle.seg_core.specs.declared.unit.Unit.TheVariants.{Bytes, Lines}
+use Rattle.run_core.specs.Input.{is_dash}
+use Rattle.run_core.specs.Task.{after_part}
+use Rattle.split_core.specs.Chunks.{chunks_in, chunks_of, in_the_end, is_as_said, size_by}
+use Rattle.split_core.specs.ChunkWork.{files_by, kept, piece_at, way_work}
+use Rattle.split_core.specs.laws.ChunkLaws.{rest_none}
+use Rattle.split_core.proofs.ChunkLemmas.{all_pieces, count_chunks, join_chunks, lines_in_chunks, longer_chunk, shorter_chunk}
+use Rattle.ports_core.specs.Draft.{opening_line, part_of, told_of_files}
+use Rattle.ports_core.specs.Part.{File, only_out}
 use Rattle.ports_core.specs.Slot.{Slot, slot_at}
-use Rattle.ports_core.specs.declared.fault.Fault.TheVariants.{Suffixes}
+use Rattle.ports_core.specs.declared.verdict.Verdict.TheVariants.{Suffixes}
 use Rattle.ports_core.specs.declared.slot.Mode.TheVariants.{Fresh}
 use Rattle.ports_core.specs.declared.slot.State.TheVariants.{Closed}
 use Rattle.seg_core.specs.declared.cut.Limit.TheVariants as limit
@@ -31,22 +43,23 @@ use Rattle.split_core.specs.Parts.{parts, round_robin, whole_lines}
 use Rattle.split_core.specs.Sections.{AreLineByteParts}
 use Rattle.split_core.specs.Sections as piece
 use Rattle.split_core.specs.inner.CutLaws.{named}
-use Rattle.split_core.specs.Split.{Filing, output_by, Share, share, are_named, is_some, dealt_files, pieces_of}
+use Rattle.split_core.specs.Split.{Filing, manner_of, output_by, Share, share, are_named, is_some, dealt_files, pieces_of}
 use Rattle.split_core.specs.inner.Sharing.{file_at}
 use Rattle.split_core.specs.inner.Dealt.{share_of}
 use Rattle.split_core.specs.laws.CutLaws.{whole_of_lines, whole_of_none}
 use Rattle.split_core.specs.laws.DealLaws.{share_none}
 use Rattle.split_core.proofs.CutLaws.{first_then_after, bytes_of_shares}
 use Rattle.split_core.proofs.AgreedLemmas.{bytes_named, each_named}
-use Rattle.split_core.proofs.RoundLemmas.{joined_files}
+use Rattle.split_core.proofs.RoundLemmas.{joined_files, joined_some, named_fewer}
 use Rattle.split_core.proofs.SectionLemmas.{line_at, all_dealt, first_files, joined_parts, part_lines, part_bytes, lines_count, bytes_count, line_bytes_are_parts, line_bytes_once, line_bytes_within}
 use Rattle.words_core.specs.declared.settings.Settings.TheVariants.{Split}
 use Rattle.words_core.specs.SplitAsked.{SplitAsked}
-use Rattle.words_core.specs.SplitWords.{CanSplit, IsInLimits}
-use Rattle.tools_core.specs.Tasks.{filing_of, naming_of, split_task}
+use Rattle.words_core.specs.SplitWords.{AreNamed as HasNumbers, CanSplit, IsInLimits}
+use Rattle.tools_core.specs.Tasks.{filing_of, naming_of, said_by, split_task}
+use Rattle.tools_core.proofs.BeginLemmas.{all_have_names}
 use Rattle.tools_core.proofs.RunLemmas.{can_run}
-use Rattle.tools_core.proofs.LeftLemmas.{named_each, slot_of}
-use Rattle.tools_core.proofs.PromiseLemmas.{did_one, one_made}
+use Rattle.tools_core.proofs.LeftLemmas.{named_each, slot_of, slots_of}
+use Rattle.tools_core.proofs.PromiseLemmas.{DidOne, IsMade, did_one, one_made}
 
 by_places : (names : List (List ℕ)) → ((k : ℕ) → k + 1 < length names → slice_cmp nat_cmp (text_at names k) (text_at names (suc k)) ≡ Less) → AreInOrder names
 by_places (name ∷ next ∷ names) each = (each 0 (omega arith), by_places (next ∷ names) (λ k within. each (suc k) (omega (arith, within))))
@@ -111,22 +124,92 @@ told_lines true (file ∷ files) = ap (λ lines. opening_line file.name ++ lines
 
 -- What a run leaves
 
+-- what the files have
+abbrev pub pieces_by : Way → Bool → List ℕ → List (List ℕ)
+pieces_by (way.Cut cut) elide x = pieces_of cut elide x
+pieces_by (way.Chunks chunks) elide x = kept elide (chunks_in chunks x)
+pieces_by (way.Chunk place chunks) elide x = []
+pieces_by (way.Turn place n delim) elide x = []
+
+-- and what standard output has, where it gets what one file would have
+abbrev pub alone_by : Way → List ℕ → List ℕ
+alone_by (way.Cut cut) x = []
+alone_by (way.Chunks chunks) x = []
+alone_by (way.Chunk place chunks) x = get_or (chunks_in chunks x) place []
+alone_by (way.Turn place n delim) x = share_of delim n x place
+
+-- an input that tells its bytes says how many it has, if it says that
+said_so : (input x : List ℕ) → (is_as_said (said_by input (length x)) x ≡ true) × (size_by (said_by input (length x)) x ≡ length x)
+said_so input x = cond_both (is_dash input || length x == 0) None (Some (length x)) (λ said. (is_as_said said x ≡ true) × (size_by said x ≡ length x))
+    (λ is. (refl, refl)) (λ is. (eq-eqb (length x) (length x) refl, refl))
+
+-- no more are kept than there are
+few_kept : (elide : Bool) (pieces : List (List ℕ)) → length (kept elide pieces) ≤ length pieces
+few_kept false pieces = omega arith
+few_kept true [] = omega arith
+few_kept true ([] ∷ pieces) = let few = few_kept true pieces in omega (arith, few)
+few_kept true ((byte ∷ bytes) ∷ pieces) = let few = few_kept true pieces in omega (arith, few)
+
+-- in the end a text is cut up into its chunks, and nothing is left
+ends_cut : (chunks : Chunks) (said : Option ℕ) (x : List ℕ) → 0 < chunks.count → size_by said x ≡ length x
+    → in_the_end chunks said x ≡ record { full = chunks_in chunks x; rest = [] }
+ends_cut chunks said x some long = ap (λ size. chunks_of chunks size x) long
+    ∙ ap (λ rest. record { full = chunks_in chunks x; rest = rest }) (rest_none chunks (length x) x some (omega arith))
+
+-- what the work makes of the whole
+module _ (asked : SplitAsked) (x : List ℕ) (coming : ℕ) (is : coming ≡ length x) (can : CanSplit asked)
+    (well : ((split_task asked).work coming).verdict x ≡ None) where
+  whole_is : (way : Way) → IsInLimits way → makes_files way ≡ true
+      → (way_work way asked.elide (filing_of asked) (said_by asked.input coming)).whole x
+      ≡ part_of (manner_of (filing_of asked)) (map (share Closed) (pieces_by way asked.elide x))
+  whole_is (way.Cut cut) limits makes = refl
+  whole_is (way.Chunks chunks) limits makes =
+      ap (λ cut. part_of (manner_of (filing_of asked)) (map (share Closed) (files_by asked.elide cut)))
+      (ends_cut chunks (said_by asked.input coming) x limits.0 (rw is (said_so asked.input x).1))
+      ∙ ap (λ those. part_of (manner_of (filing_of asked)) (map (share Closed) those)) (append-nil _)
+  whole_is way limits makes = absurd (false≢true makes)
+
+  alone_is : (way : Way) → IsInLimits way → makes_files way ≡ false
+      → (way_work way asked.elide (filing_of asked) (said_by asked.input coming)).whole x ≡ only_out (alone_by way x)
+  alone_is (way.Chunk place chunks) limits makes =
+      ap (λ cut. piece_at place cut) (ends_cut chunks (said_by asked.input coming) x limits.0.0 (rw is (said_so asked.input x).1))
+      ∙ ap only_out (get_or_append_left (chunks_in chunks x) ([] ∷ []) [] place (omega (arith, limits.1, count_chunks chunks x limits.0.0)))
+  alone_is (way.Turn place n delim) limits makes = refl
+  alone_is way limits makes = absurd (false≢true (sym makes))
+
+  -- each piece has a name
+  named_all : (way : Way) → IsInLimits way → HasNumbers way asked.alphabet asked.from asked.width
+      → ((way_work way asked.elide (filing_of asked) (said_by asked.input coming)).verdict x ≡ None)
+      → are_named (naming_of asked) (length (map (share Closed) (pieces_by way asked.elide x))) ≡ true
+  named_all (way.Cut cut) limits named none = not_short _ none
+  named_all (way.Chunks chunks) limits named none =
+      named_fewer (naming_of asked) _ chunks.count (all_have_names (record asked { way = way.Chunks chunks }) named)
+      (omega (arith, length-map (kept asked.elide (chunks_in chunks x)) (share Closed), few_kept asked.elide (chunks_in chunks x), count_chunks chunks x limits.0))
+  named_all (way.Chunk place chunks) limits named none = refl
+  named_all (way.Turn place n delim) limits named none = refl
+
 pub record IsSplit (run : Run) (asked : SplitAsked) (input : List ℕ) : Type 0 where
   pub can : CanSplit asked
   pub listed : AreListed asked (files_of run)
-  pub contents : contents_of run ≡ pieces_of asked.cut asked.elide input
-  pub told : output_of run ≡ cond asked.verbose (lines_telling (files_of run)) []
+  pub contents : contents_of run ≡ pieces_by asked.way asked.elide input
+  pub told : makes_files asked.way ≡ true → output_of run ≡ cond asked.verbose (lines_telling (files_of run)) []
+  pub none : makes_files asked.way ≡ false → files_of run ≡ []
+  pub alone : makes_files asked.way ≡ false → output_of run ≡ alone_by asked.way input
 
-pub is_split : {run : Run} {asked : SplitAsked} {input : List ℕ} → Does run (Split asked) → HasInput run input → IsSplit run asked input
-is_split {run} {asked} {input} does has =
-    let one = did_one does has in
-    let made = one_made one (split_task asked) one.makes in
-    let can = can_run run.words does.ran.read in
+-- where the input went to files
+record IsFiled (run : Run) (asked : SplitAsked) (pieces : List (List ℕ)) : Type 0 where
+  listed : AreListed asked (files_of run)
+  contents : contents_of run ≡ pieces
+  told : output_of run ≡ cond asked.verbose (lines_telling (files_of run)) []
+
+is_filed : (run : Run) (asked : SplitAsked) (pieces : List (List ℕ)) → CanSplit asked
+    → are_named (naming_of asked) (length (map (share Closed) pieces)) ≡ true
+    → run.outputs ≡ slots_of (after_part (only_out []) (part_of (manner_of (filing_of asked)) (map (share Closed) pieces)))
+    → IsFiled run asked pieces
+is_filed run asked pieces can are left =
     let names = naming_of asked in
     let filing = filing_of asked in
-    let pieces = pieces_of asked.cut asked.elide input in
-    let files : files_of run ≡ map slot_of (named filing 0 (map (share Closed) pieces)) = ap (drop 2) made.slots in
-    let are : are_named names (length (map (share Closed) pieces)) ≡ true = not_short _ made.unjudged in
+    let files : files_of run ≡ map slot_of (named filing 0 (map (share Closed) pieces)) = ap (drop 2) left in
     let slots = map slot_of (named filing 0 (map (share Closed) pieces)) in
     let size : length (map (λ (file : Slot). file.name) slots) ≡ length slots = length-map slots (λ (file : Slot). file.name) in
     let count : length slots ≡ length (map (share Closed) pieces) = sym (length-map slots (λ (file : Slot). file.written)) ∙ ap length (all_named filing are) ∙ sym (length-map pieces (share Closed)) in
@@ -134,7 +217,6 @@ is_split {run} {asked} {input} does has =
     λ place within. have_names filing 0 (map (share Closed) pieces) place (omega (arith, size, within)) ∙ ap (name_at names) (omega arith) in
     let IsMade = λ (file : File). IsSound Fresh (slot_of file) in
     record {
-      can = can;
       listed = rw files (record {
         named = λ place within. called place (omega (arith, size, within));
         in_order = order_by (name_at names) _ called (λ k next.
@@ -142,8 +224,53 @@ is_split {run} {asked} {input} does has =
         sound = All-map (IsSound Fresh) slot_of _ (named_each IsMade filing 0 (map (share Closed) pieces) (All-map (λ one. (place : ℕ) → IsMade (file_at filing place one)) (share Closed) pieces (λ k bytes within place. (refl, refl, refl))));
       });
       contents = rw (files, all_named filing are);
-      told = rw files (ap (λ slots. (slot_at slots 0).written) made.slots ∙ told_lines asked.verbose (named filing 0 (map (share Closed) pieces)));
+      told = rw files (ap (λ slots. (slot_at slots 0).written) left ∙ told_lines asked.verbose (named filing 0 (map (share Closed) pieces)));
     }
+
+-- and where standard output got it
+none_listed : (asked : SplitAsked) → AreListed asked []
+none_listed asked = record { named = λ place within. absurd (omega (arith, within)); in_order = tt; sound = All-nil (IsSound Fresh) }
+
+no_pieces : (way : Way) (elide : Bool) (x : List ℕ) → makes_files way ≡ false → pieces_by way elide x ≡ []
+no_pieces (way.Chunk place chunks) elide x makes = refl
+no_pieces (way.Turn place n delim) elide x makes = refl
+no_pieces way elide x makes = absurd (false≢true (sym makes))
+
+pub is_split : {run : Run} {asked : SplitAsked} {input : List ℕ} → Does run (Split asked) → HasInput run input → IsSplit run asked input
+is_split {run} {asked} {input} does has = by (makes_files asked.way) refl where
+  one : DidOne run (Split asked) input
+  one = did_one does has
+
+  made : IsMade (split_task asked) one.input.coming one.input.name input run.outputs
+  made = one_made one (split_task asked) one.makes
+
+  can : CanSplit asked
+  can = can_run run.words does.ran.read
+
+  by : (makes : Bool) → makes_files asked.way ≡ makes → IsSplit run asked input
+  by true makes =
+      let filed = is_filed run asked (pieces_by asked.way asked.elide input) can
+      (named_all asked input one.input.coming one.coming can made.unjudged asked.way can.way can.named made.unjudged)
+      (made.slots ∙ ap (λ whole. slots_of (after_part (only_out []) whole)) (whole_is asked input one.input.coming one.coming can made.unjudged asked.way can.way makes)) in
+      record {
+        can = can;
+        listed = filed.listed;
+        contents = filed.contents;
+        told = λ is. filed.told;
+        none = λ is. absurd (false≢true (sym is ∙ makes));
+        alone = λ is. absurd (false≢true (sym is ∙ makes));
+      }
+  by false makes =
+      let left = made.slots ∙ ap (λ whole. slots_of (after_part (only_out []) whole)) (alone_is asked input one.input.coming one.coming can made.unjudged asked.way can.way makes) in
+      let files : files_of run ≡ [] = ap (drop 2) left in
+      record {
+        can = can;
+        listed = rw files (none_listed asked);
+        contents = ap (map (λ (file : Slot). file.written)) files ∙ sym (no_pieces asked.way asked.elide input makes);
+        told = λ is. absurd (false≢true (sym makes ∙ is));
+        none = λ is. files;
+        alone = λ is. ap (λ slots. (slot_at slots 0).written) left;
+      }
 
 -- Pieces of n lines or bytes
 
@@ -389,10 +516,83 @@ dealt_lines {delim} {n} {elide} {x} some = record {
   left_out = λ is. rw is (all_some (round_robin delim n x));
 }
 
+-- Chunks
+
+pub chunk_files : (chunks : Chunks) (elide : Bool) (x : List ℕ) → 0 < chunks.count
+    → AreChunks chunks.count elide x (kept elide (chunks_in chunks x))
+chunk_files chunks elide x some = record {
+  all = joined_kept elide (chunks_in chunks x) ∙ join_chunks chunks x some;
+  count = λ is. ap (λ those. length (kept those (chunks_in chunks x))) is ∙ count_chunks chunks x some;
+  left_out = λ is. rw is (all_some (chunks_in chunks x));
+} where
+  joined_kept : (elide : Bool) (pieces : List (List ℕ)) → joined (kept elide pieces) ≡ joined pieces
+  joined_kept true pieces = joined_some pieces
+  joined_kept false pieces = refl
+
+pub even_files : (chunks : Chunks) (x : List ℕ) → chunks.unit ≡ Bytes → AreEven chunks.count x (chunks_in chunks x)
+even_files chunks x unit place within = cond_both (nat_lt place (length x % chunks.count)) 1 0
+    (λ more. length (text_at (chunks_in chunks x) place) ≡ length x / chunks.count + more)
+    (λ is. longer_chunk chunks x place within unit (ltb-true _ _ is))
+    (λ is. shorter_chunk chunks x place within unit (ltb-false _ _ is) ∙ omega arith)
+
+-- empty files have no lines
+pub whole_line_files : (chunks : Chunks) (elide : Bool) (x : List ℕ) → 0 < chunks.count → chunks.unit ≡ Lines
+    → KeepLines chunks.delim x (kept elide (chunks_in chunks x))
+whole_line_files chunks elide x some unit = lines_kept elide (chunks_in chunks x) ∙ lines_in_chunks chunks x some unit where
+  lines_kept : (elide : Bool) (pieces : List (List ℕ)) → flat_map (lines_of chunks.delim) (kept elide pieces) ≡ flat_map (lines_of chunks.delim) pieces
+  lines_kept false pieces = refl
+  lines_kept true [] = refl
+  lines_kept true ([] ∷ pieces) = lines_kept true pieces
+  lines_kept true ((byte ∷ bytes) ∷ pieces) = ap (λ rest. lines_of chunks.delim (byte ∷ bytes) ++ rest) (lines_kept true pieces)
+
 -- By the way to split
 
 -- what is true of the pieces, where they are within limits, is true of the files
-pub by_cut : {run : Run} {asked : SplitAsked} {cut : Cut} {input : List ℕ} (P : List (List ℕ) → Type 0) → (IsInLimits cut → P (pieces_of cut asked.elide input)) → Does run (Split asked) → HasInput run input → asked.cut ≡ cut → P (contents_of run)
-by_cut {asked} {cut} {input} P holds does has is =
+pub by_way : {run : Run} {asked : SplitAsked} {way : Way} {input : List ℕ} (P : List (List ℕ) → Type 0)
+    → (IsInLimits way → P (pieces_by way asked.elide input)) → Does run (Split asked) → HasInput run input
+    → asked.way ≡ way → P (contents_of run)
+by_way {asked} {way} {input} P holds does has is =
     let split = is_split does has in
-    rw (split.contents ∙ ap (λ those. pieces_of those asked.elide input) is) (holds (rw is at split.can.cut))
+    rw (split.contents ∙ ap (λ those. pieces_by those asked.elide input) is) (holds (rw is at split.can.way))
+
+-- what a run wrote to standard output alone
+pub wrote_alone : {run : Run} {asked : SplitAsked} {way : Way} {input : List ℕ} → Does run (Split asked) → HasInput run input
+    → asked.way ≡ way → makes_files way ≡ false → output_of run ≡ alone_by way input
+wrote_alone {input = input} does has is makes =
+    (is_split does has).alone (ap makes_files is ∙ makes) ∙ ap (λ way. alone_by way input) is
+
+-- One file alone
+
+pub chunk_alone : {one split : Run} {alone asked : SplitAsked} {place : ℕ} {chunks : Chunks} {input : List ℕ}
+    → WritesChunk one alone place chunks input → Does split (Split asked) → HasInput split input
+    → asked.way ≡ way.Chunks chunks → asked.elide ≡ false → output_of one ≡ text_at (contents_of split) place
+chunk_alone {asked = asked} {place} {chunks} {input} writes does has is elide =
+    wrote_alone writes.does writes.has writes.way refl
+    ∙ sym (by_way (λ contents. text_at contents place ≡ get_or (chunks_in chunks input) place []) (λ some. rw elide refl) does has is)
+
+pub turn_alone : {one split : Run} {alone asked : SplitAsked} {place n delim : ℕ} {input : List ℕ}
+    → Does one (Split alone) → HasInput one input → alone.way ≡ way.Turn place n delim → Does split (Split asked)
+    → HasInput split input → asked.way ≡ way.Cut (Round n delim) → asked.elide ≡ false
+    → output_of one ≡ text_at (contents_of split) place
+turn_alone {alone = alone} {asked} {place} {n} {delim} {input} does has is does_too has_too is_too elide =
+    let limits : IsInLimits (way.Turn place n delim) = rw is at (is_split does has).can.way in
+    wrote_alone does has is refl
+    ∙ sym (by_way (λ contents. text_at contents place ≡ share_of delim n input place)
+    (λ some. rw elide (get_or-map-range_with_len (share_of delim n input) 0 n place place [] limits.1 (omega arith))) does_too has_too is_too)
+
+flat_alike : (f g : ℕ → List ℕ) (start n : ℕ) → ((place : ℕ) → place < start + n → f place ≡ g place)
+    → flat_map f (range_with_len start n) ≡ flat_map g (range_with_len start n)
+flat_alike f g start zero same = refl
+flat_alike f g start (suc n) same =
+    ap (λ front. front ++ flat_map f (range_with_len (start + 1) n)) (same start (omega arith))
+    ∙ ap (λ rest. g start ++ rest) (flat_alike f g (start + 1) n (λ place within. same place (omega (arith, within))))
+
+pub all_alone : (runs : ℕ → Run) (asked : ℕ → SplitAsked) (chunks : Chunks) (input : List ℕ) → 0 < chunks.count
+    → ((place : ℕ) → place < chunks.count → WritesChunk (runs place) (asked place) place chunks input)
+    → flat_map (λ place. output_of (runs place)) (range_with_len 0 chunks.count) ≡ input
+all_alone runs asked chunks input some each =
+    flat_alike (λ place. output_of (runs place)) (λ place. get_or (chunks_in chunks input) place []) 0 chunks.count
+    (λ place within. let writes = each place (omega (arith, within)) in wrote_alone writes.does writes.has writes.way refl)
+    ∙ ap (λ n. flat_map (λ place. get_or (chunks_in chunks input) place []) (range_with_len 0 n)) (sym (count_chunks chunks input some))
+    ∙ all_pieces (chunks_in chunks input) 0 (chunks_in chunks input) (λ i. ap (λ at. get_or (chunks_in chunks input) at []) (omega arith))
+    ∙ join_chunks chunks input some

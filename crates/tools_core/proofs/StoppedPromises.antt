@@ -34,10 +34,10 @@ use Rattle.words_core.specs.Help.{text_about}
 use Rattle.ports_core.specs.declared.tool.Tool.{Tool}
 use Rattle.tools_core.specs.About.{TellsText, no_text, text_cut, text_whole}
 use Rattle.tools_core.specs.Outcome.{DoesAsked, word_of}
-use Rattle.tools_core.specs.Tasks.{is_minus, is_plus, names_of, plan_of, tool_of}
+use Rattle.tools_core.specs.Tasks.{names_of, tool_of}
 use Rattle.tools_core.specs.Promises.{BrokeAt, Completes, HasLong, IsCalled, IsCopied, IsGone, IsStopped, IsTask, IsUnstopped, Ran, Run, SaysLines, SaysWhy, StopsRun, Tells, TellsMet, Unstopped, WhyBroken, broken_off, failing, named, removes_files}
 use Rattle.tools_core.proofs.BeginLemmas.{IsMarked, TellsOfInput, failing_stops, marked_at, tee_lines, tee_tells, unsound_broke}
-use Rattle.tools_core.proofs.LeftLemmas.{LeftBy, all_tell, completes_left, left_at, left_says, one_line, ran_over, slots_at, swept_gone, swept_kept, tool_is, AreLive, IsLiving, IsSoundAt, csplit_living, has_after, has_before, head_living, inputs_fit, live_begin, outputs_live, says_line, split_living, step_live, tail_living}
+use Rattle.tools_core.proofs.LeftLemmas.{LeftBy, all_tell, completes_left, left_at, left_says, one_line, ran_over, slots_at, swept_gone, swept_kept, tool_is, AreLive, IsSoundAt, has_after, has_before, inputs_fit, live_begin, outputs_live, says_line, step_live, task_lives}
 use Rattle.tools_core.proofs.RunLemmas.{runs_as_named}
 
 -- What was read of an input is a beginning of it.
@@ -51,7 +51,7 @@ call_long (ends_call x (enough rest is complete) needed) long = grind (arith, co
 abbrev IsLong : Option Content → Type 0
 IsLong there = (content : Content) × (there ≡ Some content) × (2 ^ 63 ≤ length content.bytes)
 
-step_long : {task : Task} {most : ℕ} {so_far : Part} {header : List ℕ} {slot : Option ℕ} {sources : List Source} {there : Option Content} {step : Step} → RunStep true task most so_far header slot sources there step → 2 ^ 63 ≤ length step.read → IsLong there
+step_long : {task : Task} {work : Work} {most : ℕ} {so_far : Part} {header : List ℕ} {slot : Option ℕ} {sources : List Source} {there : Option Content} {step : Step} → RunStep true task work most so_far header slot sources there step → 2 ^ 63 ≤ length step.read → IsLong there
 step_long (calling content call is leaves) long = (content, refl, call_long is long)
 step_long at long = search rules
 
@@ -149,18 +149,20 @@ stopped_broke {clears} {run} asked {error} {high} {fault} {reached} lines live b
           inl ((slot_at new place).name, inl refl, (lines, [], rw (ap (λ what. message_of (tool_of asked) what (slot_at new place).name) (kept.fails place ∙ why.is) ∙ ap (message_of (tool_of asked) fault) (why.named new)) says))
     ]
 
-ends_or : {run : Run} {asked : Settings} {task : Task} → IsTask asked task → IsLiving task.work → (ends : EndsAs true true task (inputs_at run.world (names_of asked)) run.inputs run.outputs run.status) → IsUnstopped ends ⊎ IsStop task.work.clears run asked
-ends_or of living (as_defined error reached says outputs swept done is) = inl tt
-ends_or {run} {asked} {task} of living (stopped fault before input after error step reached are done untouched at stops between swept says is) =
+ends_or : {run : Run} {asked : Settings} {task : Task} → IsTask asked task → (ends : EndsAs true true task (inputs_at run.world (names_of asked)) run.inputs run.outputs run.status) → IsUnstopped ends ⊎ IsStop (removes_files asked) run asked
+ends_or of (as_defined error reached says outputs swept done is) = inl tt
+ends_or {run} {asked} {task} of (stopped fault before input after error step reached are done untouched at stops between swept_as says is) =
+    let living = task_lives asked task of in
+    let swept = rw (living.clears_all input.coming) at swept_as in
     let slots = ap length (slots_at between.outputs) in
     let lines = (made_by task before).messages in
     let name = output_named run.outputs fault in
     let fits = inputs_fit task true before (all_tell run asked task [] before (input ∷ after) of are) living in
-    let live = step_live living fits.live at in
-    let stop = stops_run run asked (IsNext between.part step.high) step task.work.clears between.place (length between.part.files) between.reached reached fault
+    let live = step_live (living.each input.coming) fits.live at in
+    let stop = stops_run run asked (IsNext between.part step.high) step (removes_files asked) between.place (length between.part.files) between.reached reached fault
     (λ many. let (content, there, long) = step_long at many in (input, content, (before, after, are), there, long)) (sound_before live between) (omega (arith, slots)) between.from stops between.marks swept in
     let told : SaysLines run asked (lines ++ message_of (tool_of asked) fault name ∷ []) =
-    record { are = All-append (TellsMet run asked) lines _ fits.are (one_line (TellsMet run asked) (message_of (tool_of asked) fault name) (fault, name, inl stop, refl)); said = rw (stopped_error task.work.clears run.outputs between swept) (subst (λ which. SaysAll true which (lines ++ message_of which fault name ∷ []) standard_error error) (tool_is asked task of) says) } in inr (record {
+    record { are = All-append (TellsMet run asked) lines _ fits.are (one_line (TellsMet run asked) (message_of (tool_of asked) fault name) (fault, name, inl stop, refl)); said = rw (stopped_error (removes_files asked) run.outputs between swept) (subst (λ which. SaysAll true which (lines ++ message_of which fault name ∷ []) standard_error error) (tool_is asked task of) says) } in inr (record {
       failed = is;
       why = fault;
       name = name;
@@ -168,7 +170,7 @@ ends_or {run} {asked} {task} of living (stopped fault before input after error s
       line = (lines, [], told);
       broke = stopped_broke asked lines live between swept told;
     })
-ends_or {asked = asked} {task = task} of living (no_room error says slots untouched count is) = inr (stop_early Memory [] tt (subst (λ which. SaysAll true which (message_of which Memory [] ∷ []) standard_error error) (tool_is asked task of) says) slots is)
+ends_or {asked = asked} {task = task} of (no_room error says slots untouched count is) = inr (stop_early Memory [] tt (subst (λ which. SaysAll true which (message_of which Memory [] ∷ []) standard_error error) (tool_is asked task of) says) slots is)
 
 -- `tee`
 
@@ -254,10 +256,10 @@ about_or (no_text error says slots is) = inr (stop_early Memory [] tt (error, sa
 
 does_or : {run : Run} (asked : Settings) (does : DoesAsked true true asked (inputs_at run.world (names_of asked)) run.inputs run.outputs run.status)
     → Unstopped asked (inputs_at run.world (names_of asked)) run.inputs run.outputs run.status does ⊎ IsStop (removes_files asked) run asked
-does_or (Head asked) does = ends_or {asked = Head asked} refl (head_living asked.delim asked.unit (is_minus asked.count.sign) asked.count.amount) does
-does_or (Tail asked) does = ends_or {asked = Tail asked} refl (tail_living asked.ends.delim asked.ends.unit (is_plus asked.ends.count.sign) asked.ends.count.amount) does
-does_or (Split asked) does = ends_or {asked = Split asked} refl (split_living (plan_of asked)) does
-does_or (Csplit asked) does = ends_or {asked = Csplit asked} (does.operands, does.asks, refl) (csplit_living asked.style does.operands) does.ends
+does_or (Head asked) does = ends_or {asked = Head asked} refl does
+does_or (Tail asked) does = ends_or {asked = Tail asked} refl does
+does_or (Split asked) does = ends_or {asked = Split asked} refl does
+does_or (Csplit asked) does = ends_or {asked = Csplit asked} (does.operands, does.asks, refl) does.ends
 does_or (Tee asked) does = tee_or asked does.input does.ends
 does_or (About which topic) does = about_or does
 

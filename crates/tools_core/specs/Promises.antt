@@ -1,11 +1,11 @@
 -- What people rest on, in a manual's words: what a run leaves, over inputs and outputs that tell their bytes, as those
 -- in memory do.
-use Rattle.std.specs.Prelude.{◌≡◌, ℕ, ◌+◌, ◌^◌, ◌/◌, ◌%◌, ◌<◌, ◌≤◌, ◌==◌, suc, Bool, true, false, not, List, [], ◌∷◌, ◌++◌, length, map, drop, All, slice_index_or, ◌⊎◌, Option, Some, None, Ok, if◌then◌else◌}
+use Rattle.std.specs.Prelude.{◌≡◌, ℕ, ◌+◌, ◌^◌, ◌/◌, ◌%◌, ◌<◌, ◌≤◌, ◌==◌, suc, nat_lt, Bool, true, false, not, List, [], ◌∷◌, ◌++◌, length, map, drop, All, slice_index_or, ◌⊎◌, Option, Some, None, Ok, if◌then◌else◌}
 use Rattle.std.specs.List.{concat, flat_map}
 use Rattle.std.specs.declared.cmp.Ordering.TheVariants.{Less}
 use Rattle.std.specs.Ordering.{nat_cmp}
 use Rattle.std.specs.Cmp.Lexicographic.{slice_cmp}
-use Rattle.seg_core.specs.Line.{delimiters, ends_with, first_lines, joined, lines_of}
+use Rattle.seg_core.specs.Line.{delimiters, ends_with, first_lines, joined, line_count, lines_of}
 use Rattle.ports_core.specs.Draft.{opening_line}
 use Rattle.ports_core.specs.Inputs.{largest_piece}
 use Rattle.ports_core.specs.Message.{SaysAll}
@@ -17,6 +17,7 @@ use Rattle.ports_core.specs.Streams.{standard_error}
 use Rattle.ports_core.specs.Text.{message_of}
 use Rattle.ports_core.specs.Work.{Judges}
 use Rattle.ports_core.specs.declared.fault.Fault.{Fault}
+use Rattle.ports_core.specs.declared.verdict.Verdict.{Verdict}
 use Rattle.ports_core.specs.declared.fault.Fault.TheVariants as fault
 use Rattle.ports_core.specs.declared.on_broken.OnBroken.{OnBroken}
 use Rattle.ports_core.specs.declared.slot.Mode.{Mode}
@@ -44,6 +45,10 @@ use Rattle.words_core.specs.declared.settings.Settings.{Settings}
 use Rattle.words_core.specs.declared.settings.Settings.TheVariants.{Head, Tail, Split, Csplit, Tee, About}
 use Rattle.words_core.specs.EndsAsked.{EndsAsked}
 use Rattle.words_core.specs.declared.value.Followed.{Followed}
+use Rattle.seg_core.specs.declared.cut.Chunks.{Chunks}
+use Rattle.seg_core.specs.declared.cut.Way.{Way}
+use Rattle.seg_core.specs.declared.cut.Way.TheVariants as way
+use Rattle.split_core.specs.Chunks.{IsInChunk, IsInPiece}
 use Rattle.words_core.specs.SplitAsked.{SplitAsked}
 use Rattle.words_core.specs.Words.{HasBadOperands, settings_of}
 use Rattle.watch_core.specs.Snapshot.{Snapshot}
@@ -218,6 +223,40 @@ pub record AreDealt (delim n : ℕ) (elide : Bool) (input : List ℕ) (contents 
   pub count : elide ≡ false → length contents ≡ n
   pub left_out : elide ≡ true → All (λ bytes. 0 < length bytes) contents
 
+-- The files of chunks are joined the input. There are n, or those that have a byte, where the others are left out.
+pub record AreChunks (n : ℕ) (elide : Bool) (input : List ℕ) (contents : List (List ℕ)) : Type 0 where
+  pub all : joined contents ≡ input
+  pub count : elide ≡ false → length contents ≡ n
+  pub left_out : elide ≡ true → All (λ bytes. 0 < length bytes) contents
+
+-- each has as many bytes as any other, or one more: the first ones do
+abbrev pub AreEven : ℕ → List ℕ → List (List ℕ) → Type 0
+AreEven n input contents = (place : ℕ) → place < n
+    → length (text_at contents place) ≡ length input / n + (if nat_lt place (length input % n) then 1 else 0)
+
+-- their lines are those of the input, in their order, so none is cut
+abbrev pub KeepLines : ℕ → List ℕ → List (List ℕ) → Type 0
+KeepLines delim input contents = flat_map (lines_of delim) contents ≡ lines_of delim input
+
+-- each line is in the file in whose chunk its first byte is
+abbrev pub BeginInChunks : ℕ → ℕ → List ℕ → List (List ℕ) → Type 0
+BeginInChunks delim n input contents = (place i : ℕ) → place < n → i < line_count delim input
+    → IsInChunk n (length input) place (length (first_lines delim i input))
+    → IsInPiece contents place (length (first_lines delim i input))
+
+-- the input goes to files, and not what one of them would have to standard output
+abbrev pub makes_files : Way → Bool
+makes_files (way.Cut cut) = true
+makes_files (way.Chunks chunks) = true
+makes_files (way.Chunk place chunks) = false
+makes_files (way.Turn place n delim) = false
+
+-- a run wrote the chunk at this place, of the input, to standard output
+pub record WritesChunk (run : Run) (asked : SplitAsked) (place : ℕ) (chunks : Chunks) (input : List ℕ) : Type 0 where
+  pub does : Does run (Split asked)
+  pub has : HasInput run input
+  pub way : asked.way ≡ way.Chunk place chunks
+
 -- This operand begins with `%` (37). One that does so is a pattern whose section is skipped, where the operands of a
 -- `csplit` are right.
 abbrev pub skips : List ℕ → Bool
@@ -315,11 +354,7 @@ StopsRun run asked name (fault.Usage kind word) = HasBadOperands asked (fault.Us
     × (name ≡ text_at run.words word)
 StopsRun run asked name (fault.Write place) = BrokeAt run place name (fault.Write place)
 StopsRun run asked name (fault.Open place) = BrokeAt run place name (fault.Open place)
-StopsRun run asked name (fault.Read slot) = ⊥
-StopsRun run asked name fault.Suffixes = ⊥
-StopsRun run asked name (fault.NoMatch operand repetition) = ⊥
-StopsRun run asked name (fault.Range operand repetition) = ⊥
-StopsRun run asked name fault.Failed = ⊥
+StopsRun run asked name why = ⊥
 
 -- what a tool does with each of its inputs; `tee` has no such task, nor have help and the version
 abbrev pub IsTask : Settings → Task → Type 0
@@ -331,22 +366,24 @@ IsTask (Csplit asked) task = (operands : List Operand) × Asks asked.operands op
 IsTask (Tee asked) task = ⊥
 IsTask (About tool topic) task = ⊥
 
--- the tool has not enough of what an input gives before it breaks off, and `tee` never has
-abbrev pub WantsMore : Settings → Content → Type 0
-WantsMore asked content = (task : Task) → IsTask asked task → is_enough task.work content ≡ false
+-- the tool has not enough of what an input gives, which says that it has this many bytes, before it breaks off, and
+-- `tee` never has
+abbrev pub WantsMore : Settings → ℕ → Content → Type 0
+WantsMore asked coming content = (task : Task) → IsTask asked task → is_enough (task.work coming) content ≡ false
 
 -- A fault after which a run goes on, and the name that its line has: an input of this name is missing, or breaks off
--- before the tool has enough of it; or the tool has, and its own work over that input ends with the fault, as where
+-- before the tool has enough of it; or the tool has, and its own work over that input ends with this verdict, as where
 -- names run out or no line matches. The number of an input stands in no line.
 pub data GoesOnAfter (run : Run) (asked : Settings) : Fault → List ℕ → Type 0 where
   missing : (input : Input) → IsFound run asked input → input.content ≡ None
       → GoesOnAfter run asked (fault.Open 0) input.name
   broken_off : (input : Input) (content : Content) → IsFound run asked input → input.content ≡ Some content
-      → content.breaks_off ≡ true → WantsMore asked content → GoesOnAfter run asked (fault.Read 0) input.name
-  judged : (input : Input) (content : Content) (task : Task) (why : Fault) → IsFound run asked input
-      → input.content ≡ Some content → IsTask asked task → is_enough task.work content ≡ true
-      → Judges task.work content.bytes why
-      → GoesOnAfter run asked why (task.subject why)
+      → content.breaks_off ≡ true → WantsMore asked input.coming content
+      → GoesOnAfter run asked (fault.Read 0) input.name
+  judged : (input : Input) (content : Content) (task : Task) (verdict : Verdict) → IsFound run asked input
+      → input.content ≡ Some content → IsTask asked task → is_enough (task.work input.coming) content ≡ true
+      → Judges (task.work input.coming) content.bytes verdict
+      → GoesOnAfter run asked (fault.Verdict verdict) (task.subject verdict)
 
 -- a fault that the run met, and the name that its line has
 abbrev pub IsMet : Run → Settings → Fault → List ℕ → Type 0

@@ -1,19 +1,21 @@
 -- What each tool does with its inputs, where words ask for it: POSIX.1-2017, XCU head, tail, split and csplit; several
 -- files for tail, headers and their options, bytes, and all but the last are GNU's, and so is what split does where an
 -- input breaks off.
-use Rattle.std.specs.Prelude.{ℕ, nat_lt, Bool, true, false, not, List, [], ◌∷◌, length, slice_index_or, codes}
+use Rattle.std.specs.Prelude.{ℕ, ◌==◌, ◌||◌, nat_lt, Bool, true, false, not, List, [], ◌∷◌, length, slice_index_or, codes, Option, Some, None, if◌then◌else◌}
 use Rattle.ports_core.specs.Name.{Naming, numbering_of}
-use Rattle.ports_core.specs.declared.fault.Fault.{Fault}
-use Rattle.ports_core.specs.declared.fault.Fault.TheVariants.{NoMatch, Range}
+use Rattle.ports_core.specs.declared.verdict.Verdict.{Verdict}
+use Rattle.ports_core.specs.declared.verdict.Verdict.TheVariants.{Changed, NoMatch, Range}
 use Rattle.ports_core.specs.declared.tool.Tool.{Tool}
 use Rattle.ports_core.specs.declared.tool.Tool.TheVariants as tool
 use Rattle.seg_core.specs.declared.count.Sign.{Sign}
 use Rattle.seg_core.specs.declared.count.Sign.TheVariants.{Plain, Minus, Plus}
 use Rattle.ends_core.specs.Head.{head_work}
 use Rattle.ends_core.specs.Tail.{tail_work}
-use Rattle.split_core.specs.Split.{Filing, Plan, split_work}
+use Rattle.split_core.specs.ChunkWork.{way_work}
+use Rattle.split_core.specs.Split.{Filing}
 use Rattle.csplit_core.specs.Csplit.{csplit_work}
 use Rattle.operand_core.specs.declared.operand.Operand.{Operand}
+use Rattle.run_core.specs.Input.{is_dash}
 use Rattle.run_core.specs.Task.{Task}
 use Rattle.words_core.specs.declared.settings.Headers.{Headers}
 use Rattle.words_core.specs.declared.settings.Headers.TheVariants.{ForSeveral, Never, Always}
@@ -40,15 +42,15 @@ has_headers ForSeveral names = nat_lt 1 (length names)
 has_headers Never names = false
 has_headers Always names = true
 
--- a fault that speaks of nothing but the tool
-abbrev pub of_nothing : Fault → List ℕ
-of_nothing fault = []
+-- a verdict that speaks of nothing but the tool
+abbrev pub of_nothing : Verdict → List ℕ
+of_nothing verdict = []
 
 -- `head`: the first lines or bytes, and with `-` before the count all but the last
 abbrev pub head_task : EndsAsked → Task
 head_task asked = record {
   tool = tool.Head;
-  work = head_work asked.delim asked.unit (is_minus asked.count.sign) asked.count.amount;
+  work = λ coming. head_work asked.delim asked.unit (is_minus asked.count.sign) asked.count.amount;
   opening = record { memory = is_minus asked.count.sign; files = false };
   subject = of_nothing;
   with_header = has_headers asked.headers asked.names;
@@ -58,7 +60,7 @@ head_task asked = record {
 abbrev pub tail_task : EndsAsked → Task
 tail_task asked = record {
   tool = tool.Tail;
-  work = tail_work asked.delim asked.unit (is_plus asked.count.sign) asked.count.amount;
+  work = λ coming. tail_work asked.delim asked.unit (is_plus asked.count.sign) asked.count.amount;
   opening = record { memory = not (is_plus asked.count.sign); files = false };
   subject = of_nothing;
   with_header = has_headers asked.headers asked.names;
@@ -76,30 +78,37 @@ naming_of asked = record {
 abbrev pub filing_of : SplitAsked → Filing
 filing_of asked = record { names = naming_of asked; verbose = asked.verbose }
 
-abbrev pub plan_of : SplitAsked → Plan
-plan_of asked = record { cut = asked.cut; elide = asked.elide; filing = filing_of asked }
+-- The length of the input, if it says that before it is read: a file by its name does, unless it says 0. Standard input
+-- doesn't.
+abbrev pub said_by : List ℕ → ℕ → Option ℕ
+said_by input coming = if is_dash input || coming == 0 then None else Some coming
 
--- `split`: the input cut into files
+-- a verdict that the input changed speaks of its name
+abbrev pub changed_of : List ℕ → Verdict → List ℕ
+changed_of input Changed = input
+changed_of input verdict = []
+
+-- `split`: the input cut into files, or what one of them would have
 abbrev pub split_task : SplitAsked → Task
 split_task asked = record {
   tool = tool.Split;
-  work = split_work (plan_of asked);
+  work = λ coming. way_work asked.way asked.elide (filing_of asked) (said_by asked.input coming);
   opening = record { memory = true; files = true };
-  subject = of_nothing;
+  subject = changed_of asked.input;
   with_header = false;
 }
 
 -- the word of the operand with which the work of `csplit` ends
-abbrev pub operand_of : List (List ℕ) → Fault → List ℕ
+abbrev pub operand_of : List (List ℕ) → Verdict → List ℕ
 operand_of operands (NoMatch operand repetition) = slice_index_or operands operand []
 operand_of operands (Range operand repetition) = slice_index_or operands operand []
-operand_of operands fault = []
+operand_of operands verdict = []
 
 -- `csplit`: the input cut into files where these operands, which its words ask for, find lines
 abbrev pub csplit_task : CsplitAsked → List Operand → Task
 csplit_task asked operands = record {
   tool = tool.Csplit;
-  work = csplit_work asked.style operands;
+  work = λ coming. csplit_work asked.style operands;
   opening = record { memory = true; files = true };
   subject = operand_of asked.operands;
   with_header = false;

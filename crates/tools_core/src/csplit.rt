@@ -2,7 +2,7 @@
 ghost use Rattle.tools_core.specs.Tasks.{csplit_task};
 
 use csplit_core::{Csplitter, Operands};
-use ports_core::{Fault, Guarded, Outs, Tool};
+use ports_core::{Fault, Guarded, Outs, Tool, Verdict};
 use run_core::Adapter;
 use std::alloc::Global;
 use words_core::CsplitSettings;
@@ -30,9 +30,11 @@ impl<'a, 'b> Adapter for CsplitAdapter<'a, 'b> {
     }
 
     /// The word of the operand that finds no line.
-    fn subject<'c>(&'c self, verdict: &Fault) -> &'c str {
+    fn subject<'c>(&'c self, verdict: &Verdict) -> &'c str {
         match verdict {
-            Fault::NoMatch(operand, _) | Fault::Range(operand, _) => self.settings.word(*operand),
+            Verdict::NoMatch(operand, _) | Verdict::Range(operand, _) => {
+                self.settings.word(*operand)
+            }
             _ => "",
         }
     }

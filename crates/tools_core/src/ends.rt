@@ -4,7 +4,7 @@ ghost use Rattle.std.specs.Prelude.{◌≡◌, map};
 ghost use Rattle.tools_core.specs.Tasks.{has_headers, head_task, is_minus, is_plus, tail_task};
 
 use ends_core::{Ends, Head, Tail};
-use ports_core::{Fault, Guarded, Outs, Tool};
+use ports_core::{Fault, Guarded, Outs, Tool, Verdict};
 use run_core::Adapter;
 use seg_core::count::{Count, Sign};
 use std::alloc::Global;
@@ -37,7 +37,7 @@ impl<'a, 'b> Adapter for HeadAdapter<'a, 'b> {
         has_headers(self.settings)
     }
 
-    fn subject<'c>(&'c self, verdict: &Fault) -> &'c str {
+    fn subject<'c>(&'c self, verdict: &Verdict) -> &'c str {
         let _ = verdict;
         ""
     }
@@ -69,7 +69,7 @@ impl<'a, 'b> Adapter for TailAdapter<'a, 'b> {
         has_headers(self.settings)
     }
 
-    fn subject<'c>(&'c self, verdict: &Fault) -> &'c str {
+    fn subject<'c>(&'c self, verdict: &Verdict) -> &'c str {
         let _ = verdict;
         ""
     }

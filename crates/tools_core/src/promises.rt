@@ -12,10 +12,15 @@ ghost use Rattle.seg_core.specs.Line.{joined, line_count};
 ghost use Rattle.seg_core.specs.declared.count.Sign.TheVariants.{Minus, Plain, Plus};
 ghost use Rattle.seg_core.specs.declared.cut.Cut.TheVariants.{Parts, Round};
 ghost use Rattle.seg_core.specs.declared.cut.Limit.TheVariants.{Bytes, LineBytes, Lines};
+ghost use Rattle.seg_core.specs.declared.cut.Way.TheVariants.{Cut};
+ghost use Rattle.seg_core.specs.declared.cut.Way.TheVariants as way;
+ghost use Rattle.seg_core.specs.declared.cut.Chunks.{Chunks};
+ghost use Rattle.seg_core.specs.declared.unit.Unit.TheVariants as unit;
+ghost use Rattle.std.specs.List.{flat_map, range_with_len};
 ghost use Rattle.operand_core.specs.Reading.{Asks};
 ghost use Rattle.operand_core.specs.declared.operand.Operand.{Operand};
 ghost use Rattle.tools_core.specs.Following.{is_name};
-ghost use Rattle.tools_core.specs.Promises.{AreCopies, AreDealt, AreLinePieces, AreListed, AreNumbered, ArePieces, AreSections, AreUncut, BeginsEach, Completes, CountAlike, Does, AsksToFollow, EndsWithBreak, FindAlike, Follows, HasInput, HasLong, IsBare, IsHead, IsOfProgram, IsStopped, IsTail, SaysWhy, LeaveAlike, OnlyGrows, Ran, Run, SkipNothing, WhyBroken, contents_of, files_of, lines_telling, output_of};
+ghost use Rattle.tools_core.specs.Promises.{AreChunks, AreCopies, AreDealt, AreEven, AreLinePieces, AreListed, AreNumbered, ArePieces, AreSections, AreUncut, BeginInChunks, BeginsEach, Completes, CountAlike, Does, AsksToFollow, EndsWithBreak, FindAlike, Follows, HasInput, HasLong, IsBare, IsHead, IsOfProgram, IsStopped, IsTail, KeepLines, SaysWhy, LeaveAlike, OnlyGrows, Ran, Run, SkipNothing, WhyBroken, WritesChunk, contents_of, files_of, lines_telling, makes_files, output_of, text_at};
 ghost use Rattle.tools_core.specs.Tasks.{is_plus};
 ghost use Rattle.words_core.specs.CsplitAsked.{CsplitAsked};
 ghost use Rattle.words_core.specs.EndsAsked.{EndsAsked};
@@ -82,26 +87,59 @@ pub fn cutting_changes_nothing()
 /// `-l N` and `-b N` they are joined the input, and each but the last has N lines or bytes; `-l` cuts no line. With `-C N`
 /// they are joined the input, each has as many lines as fit into N bytes, where an open last line counts with its delimiter,
 /// and a line is cut only where it is longer than that; an input has just one such list of pieces. With `-n r/N` each line is
-/// in just one file, in turn. Standard output has nothing; with `--verbose` it has a line for each file, in their order.
+/// in just one file, in turn. With `-n N` and `-n l/N` there are N files, or with `-e` those that have a byte, and they are
+/// joined the input; `-n l/N` cuts no line. Without `-e`, with `-n N` each has as many bytes as any other, or one more, the
+/// first ones; and with `-n l/N` each line is where its first byte's chunk is. Standard output has nothing; with `--verbose`
+/// it has a line for each file, in their order. With K, as in `-n K/N`, there is no file, and standard output has what file
+/// K has without `-e`; so `split -n K/N`, for K from 1 to N, writes the input.
 pub fn split_loses_nothing()
     ensures listed { (split : Run) (asked : SplitAsked) (input : List ℕ) → Does split (Split asked)
         → HasInput split input → AreListed asked (files_of split) }
     ensures told { (split : Run) (asked : SplitAsked) (input : List ℕ) → Does split (Split asked)
-        → HasInput split input → output_of split ≡ (if asked.verbose then lines_telling (files_of split) else []) }
+        → HasInput split input → makes_files asked.way ≡ true
+        → output_of split ≡ (if asked.verbose then lines_telling (files_of split) else []) }
     ensures lines { (split : Run) (asked : SplitAsked) (n delim : ℕ) (input : List ℕ) → Does split (Split asked)
-        → HasInput split input → asked.cut ≡ Parts (Lines n delim)
+        → HasInput split input → asked.way ≡ Cut (Parts (Lines n delim))
         → ArePieces (line_count delim) n input (contents_of split) }
     ensures uncut { (split : Run) (asked : SplitAsked) (n delim : ℕ) (input : List ℕ) → Does split (Split asked)
-        → HasInput split input → asked.cut ≡ Parts (Lines n delim) → AreUncut delim (contents_of split) }
+        → HasInput split input → asked.way ≡ Cut (Parts (Lines n delim)) → AreUncut delim (contents_of split) }
     ensures bytes { (split : Run) (asked : SplitAsked) (n : ℕ) (input : List ℕ) → Does split (Split asked)
-        → HasInput split input → asked.cut ≡ Parts (Bytes n) → ArePieces length n input (contents_of split) }
+        → HasInput split input → asked.way ≡ Cut (Parts (Bytes n))
+        → ArePieces length n input (contents_of split) }
     ensures line_bytes { (split : Run) (asked : SplitAsked) (n delim : ℕ) (input : List ℕ) → Does split (Split asked)
-        → HasInput split input → asked.cut ≡ Parts (LineBytes n delim)
+        → HasInput split input → asked.way ≡ Cut (Parts (LineBytes n delim))
         → AreLinePieces delim n input (contents_of split) }
     ensures one_list { (delim n : ℕ) (input : List ℕ) (some other : List (List ℕ)) → 0 < n
         → AreLinePieces delim n input some → AreLinePieces delim n input other → some ≡ other }
     ensures dealt { (split : Run) (asked : SplitAsked) (n delim : ℕ) (input : List ℕ) → Does split (Split asked)
-        → HasInput split input → asked.cut ≡ Round n delim → AreDealt delim n asked.elide input (contents_of split) }
+        → HasInput split input → asked.way ≡ Cut (Round n delim)
+        → AreDealt delim n asked.elide input (contents_of split) }
+    ensures chunks { (split : Run) (asked : SplitAsked) (chunks : Chunks) (input : List ℕ) → Does split (Split asked)
+        → HasInput split input → asked.way ≡ way.Chunks chunks
+        → AreChunks chunks.count asked.elide input (contents_of split) }
+    ensures even { (split : Run) (asked : SplitAsked) (chunks : Chunks) (input : List ℕ) → Does split (Split asked)
+        → HasInput split input → asked.way ≡ way.Chunks chunks → chunks.unit ≡ unit.Bytes → asked.elide ≡ false
+        → AreEven chunks.count input (contents_of split) }
+    ensures whole_lines { (split : Run) (asked : SplitAsked) (chunks : Chunks) (input : List ℕ)
+        → Does split (Split asked) → HasInput split input → asked.way ≡ way.Chunks chunks → chunks.unit ≡ unit.Lines
+        → KeepLines chunks.delim input (contents_of split) }
+    ensures first_bytes { (split : Run) (asked : SplitAsked) (chunks : Chunks) (input : List ℕ)
+        → Does split (Split asked) → HasInput split input → asked.way ≡ way.Chunks chunks → chunks.unit ≡ unit.Lines
+        → asked.elide ≡ false → BeginInChunks chunks.delim chunks.count input (contents_of split) }
+    ensures alone { (one : Run) (asked : SplitAsked) (input : List ℕ) → Does one (Split asked) → HasInput one input
+        → makes_files asked.way ≡ false → files_of one ≡ [] }
+    ensures chunk { (one split : Run) (alone asked : SplitAsked) (place : ℕ) (chunks : Chunks) (input : List ℕ)
+        → WritesChunk one alone place chunks input → Does split (Split asked) → HasInput split input
+        → asked.way ≡ way.Chunks chunks → asked.elide ≡ false
+        → output_of one ≡ text_at (contents_of split) place }
+    ensures turn { (one split : Run) (alone asked : SplitAsked) (place n delim : ℕ) (input : List ℕ)
+        → Does one (Split alone) → HasInput one input → alone.way ≡ way.Turn place n delim → Does split (Split asked)
+        → HasInput split input → asked.way ≡ Cut (Round n delim) → asked.elide ≡ false
+        → output_of one ≡ text_at (contents_of split) place }
+    ensures together { (runs : ℕ → Run) (asked : ℕ → SplitAsked) (chunks : Chunks) (input : List ℕ)
+        → 0 < chunks.count
+        → ((place : ℕ) → place < chunks.count → WritesChunk (runs place) (asked place) place chunks input)
+        → flat_map (λ place. output_of (runs place)) (range_with_len 0 chunks.count) ≡ input }
 {}
 
 /// `csplit` loses nothing. Its files are numbered in their order, and no two have one name. Their order is that of their names,

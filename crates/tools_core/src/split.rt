@@ -2,11 +2,11 @@
 ghost use Rattle.std.specs.Prelude.{◌≡◌, IfErr, IfOk};
 ghost use Rattle.split_core.specs.Split.{tells_by};
 ghost use Rattle.tools_core.specs.laws.Props.{CanSplit-prop};
-ghost use Rattle.tools_core.specs.Tasks.{naming_of, split_task};
+ghost use Rattle.tools_core.specs.Tasks.{naming_of, said_by, split_task};
 ghost use Rattle.words_core.specs.SplitWords.{CanSplit, IsWidth};
 
-use ports_core::{Fault, Guarded, Names, Naming, Numbering, Outs, Tells, Tool};
-use run_core::Adapter;
+use ports_core::{Fault, Guarded, Naming, Numbering, Outs, Tells, Tool, Verdict};
+use run_core::{Adapter, is_dash};
 use split_core::Splitter;
 use std::alloc::Global;
 use words_core::SplitSettings;
@@ -32,9 +32,13 @@ impl<'a, 'b> Adapter for SplitAdapter<'a, 'b> {
         false
     }
 
-    fn subject<'c>(&'c self, verdict: &Fault) -> &'c str {
-        let _ = verdict;
-        ""
+    /// The input's name, if it changed.
+    fn subject<'c>(&'c self, verdict: &Verdict) -> &'c str {
+        let settings = self.settings;
+        match verdict {
+            Verdict::Changed => settings.input,
+            _ => "",
+        }
     }
 
     fn open<O: Outs>(
@@ -43,12 +47,31 @@ impl<'a, 'b> Adapter for SplitAdapter<'a, 'b> {
         coming: u64,
         outs: &mut O,
     ) -> Result<Guarded<Splitter>, Fault> {
-        let _ = coming;
         let settings = self.settings;
-        let names = names_for(alloc, settings)?;
+        let naming = naming_for(alloc, settings)?;
         let tells = tells_for(settings.verbose);
-        Splitter::open(alloc, settings.cut, names, settings.elide, tells, outs)
+        let said = said_by(settings.input, coming);
+        Splitter::open(
+            alloc,
+            settings.way,
+            said,
+            naming,
+            settings.elide,
+            tells,
+            outs,
+        )
     }
+}
+
+/// The length of the input, if it says that before it is read: a file by its name does, unless it says 0. Standard input
+/// doesn't.
+fn said_by(input: &str, coming: u64) -> Option<u64>
+    ensures { result ≡ said_by input.now coming }
+{
+    if is_dash(input) || coming == 0 {
+        return None;
+    }
+    Some(coming)
 }
 
 /// What standard output is told of its files.
@@ -61,10 +84,10 @@ fn tells_for(verbose: bool) -> Tells
     Tells::Nothing
 }
 
-/// The names of its files, of which none was drawn.
-fn names_for(alloc: Global, settings: &SplitSettings<'_>) -> Result<Names, Fault>
+/// The names of its files.
+fn naming_for(alloc: Global, settings: &SplitSettings<'_>) -> Result<Naming, Fault>
     requires { IsWidth settings.now.width }
-    ensures ok { IfOk result (λ names. names ≡ record { naming = naming_of settings.now; drawn = 0 }) }
+    ensures ok { IfOk result (λ naming. naming ≡ naming_of settings.now) }
     ensures err { IfErr result (λ fault. fault ≡ Fault.Memory) }
 {
     let numbering = if settings.auto {
@@ -73,8 +96,5 @@ fn names_for(alloc: Global, settings: &SplitSettings<'_>) -> Result<Names, Fault
         let from = settings.from.unwrap_or(0);
         Numbering::Fixed(settings.alphabet, settings.width, from)
     };
-    Ok(Names {
-        naming: Naming::new(alloc, settings.prefix, numbering, settings.ending)?,
-        drawn: 0,
-    })
+    Naming::new(alloc, settings.prefix, numbering, settings.ending)
 }

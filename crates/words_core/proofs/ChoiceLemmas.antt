@@ -13,7 +13,7 @@ use Rattle.ports_core.specs.declared.tool.Tool.TheVariants as tool
 use Rattle.ports_core.specs.declared.slot.Mode.{Mode}
 use Rattle.ports_core.specs.declared.slot.Mode.TheVariants as mode
 use Rattle.ports_core.specs.declared.slot.Mode.TheVariants.{Fresh}
-use Rattle.seg_core.specs.declared.cut.Cut.{Cut}
+use Rattle.seg_core.specs.declared.cut.Way.{Way}
 use Rattle.words_core.specs.declared.table.Choice.{Choice}
 use Rattle.words_core.specs.declared.table.Choice.TheVariants.{Lines, Bytes, SuffixLength, AdditionalSuffix, Separator, Prefix, Digits, SuffixFormat, Append, Follow, NoEffect, OutputError, Looks as HowOften, Pause as HowLong, Process as WaitsFor}
 use Rattle.words_core.specs.declared.tail_words.FollowOptions.{FollowOptions}
@@ -185,13 +185,13 @@ ways_around : (before after : List GivenOption) (option : GivenOption) → is_wa
     → filter is_way (before ++ option ∷ after) ≡ filter is_way before ++ option ∷ filter is_way after
 ways_around before after option is = grind (arith, common_steps)
 
-way_among : (delim : ℕ) (front rest : List GivenOption) (option : GivenOption) (cut : Cut) → only_way delim (front ++ option ∷ rest) ≡ Ok cut → cut ≡ way_in delim option.value option.choice
+way_among : (delim : ℕ) (front rest : List GivenOption) (option : GivenOption) (way : Way) → only_way delim (front ++ option ∷ rest) ≡ Ok way → way ≡ way_in delim option.value option.choice
 way_among delim [] [] option cut is = cc
 way_among delim (way ∷ []) rest option cut is = absurd (cc)
 way_among delim front rest option cut is = absurd (cc)
 
-pub way_is : (before after : List GivenOption) (option : GivenOption) (cut : Cut) → is_way option ≡ true
-    → way_of (before ++ option ∷ after) ≡ Ok cut → cut ≡ way_in (separator_in (before ++ option ∷ after)) option.value option.choice
+pub way_is : (before after : List GivenOption) (option : GivenOption) (way : Way) → is_way option ≡ true
+    → way_of (before ++ option ∷ after) ≡ Ok way → way ≡ way_in (separator_in (before ++ option ∷ after)) option.value option.choice
 way_is before after option cut is splits_so = grind (arith, common_steps, way_among, ways_around)
 
 second_among : (delim : ℕ) (front rest : List GivenOption) (option : GivenOption) → length front ≡ 1 → only_way delim (front ++ option ∷ rest) ≡ Err (Usage TwoWays option.word)
@@ -203,7 +203,7 @@ pub second_told : (before after : List GivenOption) (option : GivenOption) → l
 second_told before after option one is = grind (arith, common_steps, ways_around, second_among)
 
 -- the way that is so far, if there is one, and ways after it
-abbrev pub way_then : ℕ → Option Cut → List GivenOption → Result Cut Fault
+abbrev pub way_then : ℕ → Option Way → List GivenOption → Result Way Fault
 way_then delim None ways = only_way delim ways
 way_then delim (Some cut) [] = Ok cut
 way_then delim (Some cut) (second ∷ more) = Err (Usage TwoWays second.word)

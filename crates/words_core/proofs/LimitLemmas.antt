@@ -10,8 +10,9 @@ use Rattle.ports_core.specs.Name.{name_count}
 use Rattle.ports_core.proofs.CounterLemmas.{power_positive}
 use Rattle.ports_core.specs.declared.tool.Tool.{Tool}
 use Rattle.ports_core.specs.declared.tool.Tool.TheVariants as tool
-use Rattle.seg_core.specs.declared.cut.Cut.{Cut}
 use Rattle.seg_core.specs.declared.cut.Cut.TheVariants as cut
+use Rattle.seg_core.specs.declared.cut.Way.{Way}
+use Rattle.seg_core.specs.declared.cut.Way.TheVariants as way
 use Rattle.words_core.specs.declared.table.Choice.{Choice}
 use Rattle.words_core.specs.declared.table.Choice.TheVariants as choice
 use Rattle.words_core.specs.declared.spelling.State.{State}
@@ -24,7 +25,7 @@ use Rattle.words_core.specs.Given.{asked_by, Given, GivenOption, GivenOperand}
 use Rattle.words_core.specs.CsplitWords.{csplit_asked}
 use Rattle.words_core.specs.Spelling.{Meaning, meaning_of, given_before, onward, spelled, start_of, given_by}
 use Rattle.words_core.specs.SplitAsked.{SplitAsked}
-use Rattle.words_core.specs.SplitWords.{AreNamed, CanSplit, IsInLimits, IsWidth, is_way, only_way, way_of, split_by, no_options, suffix_for, files_in, split_asked, separator_in, dealt, first_number, fixed, free, least_width, wide_enough}
+use Rattle.words_core.specs.SplitWords.{AreNamed, CanSplit, IsInLimits, IsWidth, is_way, only_way, way_of, split_by, no_options, suffix_for, files_in, split_asked, separator_in, for_all, first_number, fixed, free, least_width, or_two, wide_enough}
 use Rattle.words_core.specs.declared.split_words.Suffix.{Suffix}
 use Rattle.words_core.specs.Laws.{AreAmong, none, passed, taken}
 use Rattle.words_core.specs.Words.{CanRun, about_or, settings_for, topic_in, work_for}
@@ -72,10 +73,10 @@ asked-keeps by P keeps (option ∷ options) asked holds are =
 
 -- what the options of `split` ask for
 
-abbrev AreFew : SplitAsked → Type 0
-AreFew asked = (asked.width ≤ 255) × (first_number asked.from ≤ 2 ^ 63 - 1)
+abbrev HasFew : SplitAsked → Type 0
+HasFew asked = (asked.width ≤ 255) × (first_number asked.from ≤ 2 ^ 63 - 1)
 
-split_by-few : (asked : SplitAsked) (choice : Choice) (value : Meant) → AreFew asked → IsSound value → AreFew (split_by asked choice value)
+split_by-few : (asked : SplitAsked) (choice : Choice) (value : Meant) → HasFew asked → IsSound value → HasFew (split_by asked choice value)
 split_by-few asked choice.SuffixLength (Width width) few is = (is, few.1)
 split_by-few asked choice.NumericSuffixes (Number from) few is = (few.0, is)
 split_by-few asked choice.NumericSuffixes value few is = (few.0, omega arith)
@@ -99,8 +100,8 @@ then_check-kept P Q (Err fault) next is goes = tt
 
 -- the names of files
 
-abbrev Serves : Cut → Alphabet → Option ℕ → Suffix → Type 0
-Serves cut alphabet from suffix = AreNamed cut alphabet from suffix.width × IsWidth suffix.width
+abbrev Serves : Way → Alphabet → Option ℕ → Suffix → Type 0
+Serves way alphabet from suffix = AreNamed way alphabet from suffix.width × IsWidth suffix.width
 
 wide_enough-can : (alphabet : Alphabet) (count width : ℕ) → 1 ≤ width → width ≤ 255 → IfOk (wide_enough alphabet count width) (λ suffix. (count ≤ name_count alphabet suffix.width) × IsWidth suffix.width)
 wide_enough-can alphabet count width some most = grind (arith, common_steps)
@@ -122,7 +123,7 @@ some_if : (width : ℕ) → (width == 0) ≡ false → 1 ≤ width
 some_if zero given = absurd (cc)
 some_if (suc width) given = omega arith
 
-given_or : (width : ℕ) → width ≤ 255 → IsWidth (if width == 0 then 2 else width)
+given_or : (width : ℕ) → width ≤ 255 → IsWidth (or_two width)
 given_or width most = grind (arith, common_steps)
 
 some_names : (alphabet : Alphabet) (width : ℕ) → 1 ≤ name_count alphabet width
@@ -131,38 +132,62 @@ some_names alphabet width = power_positive alphabet width
 free-wide : (width : ℕ) → width ≤ 255 → IsWidth (free width).width
 free-wide width most = grind (arith, common_steps)
 
-suffix-can : (cut : Cut) (alphabet : Alphabet) (from : Option ℕ) (width : ℕ) → IsInLimits cut → width ≤ 255 → first_number from ≤ 2 ^ 63 - 1 → IfOk (suffix_for cut alphabet from width) (Serves cut alphabet from)
-suffix-can (cut.Round files delim) alphabet from width is_in most least =
-    cond_both (width == 0) (Ok (fixed (least_width alphabet (first_number from + files)))) (wide_enough alphabet (first_number from + files) width) (λ result. IfOk result (Serves (cut.Round files delim) alphabet from))
-    (λ _. least-can alphabet (omega (arith, is_in.1, least)))
-    (λ given. wide_enough-can alphabet (first_number from + files) width (some_if width given) most)
-suffix-can (cut.Parts limit) alphabet (Some from) width is most least =
-    let wide = given_or width most in wide_enough-can alphabet (from + 1) (if width == 0 then 2 else width) wide.0 wide.1
-suffix-can (cut.Parts limit) alphabet None width is most least = (some_names alphabet _, free-wide width most)
+-- where the number of files is known
+all-can : (alphabet : Alphabet) (count width : ℕ) → count ≤ 10 ^ 20 → width ≤ 255
+    → IfOk (for_all alphabet count width) (λ suffix. (count ≤ name_count alphabet suffix.width) × IsWidth suffix.width)
+all-can alphabet count width few most =
+    cond_both (width == 0) (Ok (fixed (least_width alphabet count))) (wide_enough alphabet count width)
+    (λ result. IfOk result (λ suffix. (count ≤ name_count alphabet suffix.width) × IsWidth suffix.width))
+    (λ _. least-can alphabet few) (λ given. wide_enough-can alphabet count width (some_if width given) most)
+
+suffix-can : (way : Way) (alphabet : Alphabet) (from : Option ℕ) (width : ℕ) → IsInLimits way → width ≤ 255
+    → first_number from ≤ 2 ^ 63 - 1 → IfOk (suffix_for way alphabet from width) (Serves way alphabet from)
+suffix-can (way.Cut (cut.Round files delim)) alphabet from width few most least =
+    all-can alphabet (first_number from + files) width (omega (arith, few.1, least)) most
+suffix-can (way.Chunks chunks) alphabet from width few most least =
+    all-can alphabet (first_number from + chunks.count) width (omega (arith, few.1, least)) most
+suffix-can (way.Cut (cut.Parts limit)) alphabet (Some from) width is most least =
+    let wide = given_or width most in
+    wide_enough-can alphabet (from + 1) (or_two width) wide.0 wide.1
+suffix-can (way.Cut (cut.Parts limit)) alphabet None width is most least =
+    (some_names alphabet _, free-wide width most)
+suffix-can (way.Chunk place chunks) alphabet from width is most least =
+    (omega arith, given_or width most)
+suffix-can (way.Turn place files delim) alphabet from width is most least =
+    (omega arith, given_or width most)
 
 -- names whose first number an option gives don't widen
 
 wide_enough-fixed : (alphabet : Alphabet) (count width : ℕ) → IfOk (wide_enough alphabet count width) (λ suffix. suffix.auto ≡ false)
 wide_enough-fixed alphabet count width = grind (arith, common_steps)
 
-dealt-fixed : (alphabet : Alphabet) (count width : ℕ) → IfOk (dealt alphabet count width) (λ suffix. suffix.auto ≡ false)
-dealt-fixed alphabet count width = cond_both (width == 0) (Ok (fixed (least_width alphabet count))) (wide_enough alphabet count width) (λ result. IfOk result (λ suffix. suffix.auto ≡ false))
-    (λ _. refl) (λ _. wide_enough-fixed alphabet count width)
+all-fixed : (alphabet : Alphabet) (count width : ℕ)
+    → IfOk (for_all alphabet count width) (λ suffix. suffix.auto ≡ false)
+all-fixed alphabet count width =
+    cond_both (width == 0) (Ok (fixed (least_width alphabet count))) (wide_enough alphabet count width)
+    (λ result. IfOk result (λ suffix. suffix.auto ≡ false)) (λ _. refl) (λ _. wide_enough-fixed alphabet count width)
 
 whatever_first : (from : Option ℕ) (first : ℕ) (result : Result Suffix Fault) → IfOk result (λ suffix. suffix.auto ≡ false) → IfOk result (λ suffix. from ≡ Some first → suffix.auto ≡ false)
 whatever_first from first (Ok suffix) is = λ _. is
 whatever_first from first (Err fault) is = tt
 
-suffix-fixed : (cut : Cut) (alphabet : Alphabet) (from : Option ℕ) (width first : ℕ) → IfOk (suffix_for cut alphabet from width) (λ suffix. from ≡ Some first → suffix.auto ≡ false)
-suffix-fixed (cut.Round files delim) alphabet from width first = whatever_first from first _ (dealt-fixed alphabet (first_number from + files) width)
-suffix-fixed (cut.Parts limit) alphabet (Some from) width first = whatever_first (Some from) first _ (wide_enough-fixed alphabet (from + 1) (if width == 0 then 2 else width))
-suffix-fixed (cut.Parts limit) alphabet None width first = λ is. absurd (cc)
+suffix-fixed : (way : Way) (alphabet : Alphabet) (from : Option ℕ) (width first : ℕ)
+    → IfOk (suffix_for way alphabet from width) (λ suffix. from ≡ Some first → suffix.auto ≡ false)
+suffix-fixed (way.Cut (cut.Round files delim)) alphabet from width first =
+    whatever_first from first _ (all-fixed alphabet (first_number from + files) width)
+suffix-fixed (way.Chunks chunks) alphabet from width first =
+    whatever_first from first _ (all-fixed alphabet (first_number from + chunks.count) width)
+suffix-fixed (way.Cut (cut.Parts limit)) alphabet (Some from) width first =
+    whatever_first (Some from) first _ (wide_enough-fixed alphabet (from + 1) (or_two width))
+suffix-fixed (way.Cut (cut.Parts limit)) alphabet None width first = λ is. absurd (cc)
+suffix-fixed (way.Chunk place chunks) alphabet from width first = λ is. refl
+suffix-fixed (way.Turn place files delim) alphabet from width first = λ is. refl
 
 asked-fixed : (given : Given) (first : ℕ) → IfOk (split_asked given) (λ asked. asked.from ≡ Some first → asked.auto ≡ false)
 asked-fixed given first =
     let asked = asked_by split_by no_options given.options in
-    then_check-kept (λ _. ⊤) _ (way_of given.options) _ (anything (way_of given.options)) (λ cut _.
-    then_check-kept (λ suffix. asked.from ≡ Some first → suffix.auto ≡ false) _ (suffix_for cut asked.alphabet asked.from asked.width) _ (suffix-fixed cut asked.alphabet asked.from asked.width first) (λ suffix fixed.
+    then_check-kept (λ _. ⊤) _ (way_of given.options) _ (anything (way_of given.options)) (λ way _.
+    then_check-kept (λ suffix. asked.from ≡ Some first → suffix.auto ≡ false) _ (suffix_for way asked.alphabet asked.from asked.width) _ (suffix-fixed way asked.alphabet asked.from asked.width first) (λ suffix fixed.
     then_check-kept (λ _. ⊤) _ (files_in given.operands) _ (anything (files_in given.operands)) (λ files _. fixed)))
 
 pub never_widen : (given : Given) (asked : SplitAsked) (from : ℕ) → split_asked given ≡ Ok asked → asked.from ≡ Some from → asked.auto ≡ false
@@ -173,12 +198,12 @@ never_widen given asked from is first = (rw is at (asked-fixed given from)) firs
 asked-can : (given : Given) → AreSound given.options → IfOk (split_asked given) CanSplit
 asked-can given sound =
     let asked = asked_by split_by no_options given.options in
-    then_check-kept IsInLimits CanSplit (way_of given.options) _ (only_way-limits (separator_in given.options) (filter is_way given.options) (ways-sound given.options sound)) (λ cut is.
-    let few : AreFew asked = asked-keeps split_by AreFew split_by-few given.options no_options (omega arith, omega arith) sound in
-    then_check-kept (Serves cut asked.alphabet asked.from) CanSplit (suffix_for cut asked.alphabet asked.from asked.width) _
-    (suffix-can cut asked.alphabet asked.from asked.width is few.0 few.1) (λ suffix those.
+    then_check-kept IsInLimits CanSplit (way_of given.options) _ (only_way-limits (separator_in given.options) (filter is_way given.options) (ways-sound given.options sound)) (λ way is.
+    let few : HasFew asked = asked-keeps split_by HasFew split_by-few given.options no_options (omega arith, omega arith) sound in
+    then_check-kept (Serves way asked.alphabet asked.from) CanSplit (suffix_for way asked.alphabet asked.from asked.width) _
+    (suffix-can way asked.alphabet asked.from asked.width is few.0 few.1) (λ suffix those.
     then_check-kept (λ _. ⊤) CanSplit (files_in given.operands) _ (anything (files_in given.operands)) (λ files _.
-    record { cut = is; width = those.1; named = those.0 })))
+    record { way = is; width = those.1; named = those.0 })))
 
 work-can : (which : Tool) (given : Given) → AreSound given.options → IfOk (work_for which given) CanRun
 work-can tool.Tail given sound = grind (arith, common_steps)

@@ -1,30 +1,40 @@
 -- What a word means: options whose values are within their limits, and no operand but the word itself; its fault stands at it.
 use Rattle.std.proofs.lemmas.Grind.{common_steps}
-use Rattle.std.proofs.Common.{◌≡◌, refl, ℕ, ◌-◌, ◌^◌, ◌==◌, ◌&&◌, ◌≤◌, arith, List, [], ◌∷◌, ◌++◌, Option, Some, None, Result, Ok, Err, IfOk, inl, inr, ◌⊎◌}
-use Rattle.std.specs.Prelude.{⊤}
+use Rattle.std.proofs.Common.{◌≡◌, refl, ℕ, ◌-◌, ◌^◌, ◌==◌, ◌&&◌, ◌≤◌, ◌<◌, arith, List, [], ◌∷◌, ◌++◌, Option, Some, None, Result, Ok, Err, IfOk, inl, inr, ◌⊎◌}
+use Rattle.std.specs.Prelude.{⊤, length, nat_lt}
 use Rattle.seg_core.specs.Count.{after_digits, is_number, leading_digits}
 use Rattle.seg_core.specs.declared.count.Count.{Count}
 use Rattle.ports_core.specs.declared.fault.Fault.{Fault}
 use Rattle.ports_core.specs.declared.fault.UsageKind.{UsageKind}
+use Rattle.ports_core.specs.declared.fault.UsageKind.TheVariants.{BadNumber}
 use Rattle.words_core.specs.declared.table.Choice.{Choice}
 use Rattle.words_core.specs.declared.table.Kind.{Kind}
+use Rattle.words_core.specs.declared.table.Kind.TheVariants as kind
 use Rattle.words_core.specs.declared.table.Takes.{Takes}
 use Rattle.words_core.specs.declared.table.Takes.TheVariants as takes
 use Rattle.words_core.specs.declared.spelling.State.{State}
 use Rattle.words_core.specs.declared.spelling.State.TheVariants.{First, Reading, Awaiting, OnlyOperands, Ended}
 use Rattle.words_core.specs.Table.{OptionRow}
-use Rattle.words_core.specs.Value.{Meant, Size, Files, Width, Number}
+use Rattle.words_core.specs.Value.{Meant, Size, Divided, Width, Number, as_value, value_in}
+use Rattle.words_core.specs.Division.{all_in, division_in, numbers_in, one_in}
+use Rattle.words_core.specs.declared.division.Dealing.{Dealing}
+use Rattle.words_core.specs.SplitWords.{AreFew}
 use Rattle.words_core.specs.Given.{Given, GivenOption, GivenOperand, bare, joined}
 use Rattle.words_core.specs.Lettered.{counted_with, is_lettered, is_unit, letter_named, switched, switches, times, unit_in, with_letters}
-use Rattle.words_core.specs.Spelling.{Meaning, before, valued, lettered, option_lettered, cluster, after_equals, named, dashed, foremost, given_at, mixed, meaning_of}
+use Rattle.words_core.specs.Spelling.{Meaning, before, said, valued, lettered, option_lettered, cluster, after_equals, named, dashed, foremost, given_at, mixed, meaning_of}
 use Rattle.ports_core.specs.declared.fault.Fault.TheVariants.{Usage}
 use Rattle.words_core.proofs.SpellingLemmas.{either}
 
 -- a value, and all of them, within their limits
 
+-- the one that is asked for is one of this many
+abbrev pub IsAmong : ℕ → Option ℕ → Type 0
+IsAmong files None = ⊤
+IsAmong files (Some place) = place < files
+
 abbrev pub IsSound : Meant → Type 0
 IsSound (Size size) = 1 ≤ size
-IsSound (Files files) = (1 ≤ files) × (files ≤ 65535)
+IsSound (Divided division) = AreFew division.files × IsAmong division.files division.only
 IsSound (Width width) = width ≤ 255
 IsSound (Number number) = number ≤ 2 ^ 63 - 1
 IsSound value = ⊤
@@ -71,8 +81,43 @@ options_alone : (place : ℕ) (word : List ℕ) (meant : Result Meaning Fault) �
 options_alone place word (Ok meaning) is = (is.0, inl is.1, is.2)
 options_alone place word (Err fault) is = is
 
-valued-gives : (choice : Choice) (kind : Kind) (option place : ℕ) (text : List ℕ) → GivesOptions place (valued choice kind option place text)
-valued-gives choice kind option place text = grind (arith, common_steps)
+-- what `-n` says
+
+all-sound : (dealing : Dealing) (files : List ℕ) → IfOk (all_in dealing files) (λ division. IsSound (Divided division))
+all-sound dealing files = grind (arith, common_steps)
+
+one-sound : (dealing : Dealing) (number files : List ℕ)
+    → IfOk (one_in dealing number files) (λ division. IsSound (Divided division))
+one-sound dealing number files = grind (arith, common_steps)
+
+numbers-sound : (dealing : Dealing) (front rest : List ℕ)
+    → IfOk (numbers_in dealing front rest) (λ division. IsSound (Divided division))
+numbers-sound dealing front [] = all-sound dealing front
+numbers-sound dealing front (byte ∷ rest) =
+    either (λ division. IfOk division (λ division. IsSound (Divided division)))
+    (byte == 47 && nat_lt 0 (length front)) (one_in dealing front rest) (Err BadNumber) (one-sound dealing front rest) tt
+
+division-sound : (text : List ℕ) → IfOk (division_in text) (λ division. IsSound (Divided division))
+division-sound text = grind (arith, common_steps, numbers-sound)
+
+-- a value is within its limits
+as-sound : {A : Type 0} (make : A → Meant) (value : Result A UsageKind) → IfOk value (λ value. IsSound (make value))
+    → IfOk (as_value make value) IsSound
+as-sound make (Ok value) is = is
+as-sound make (Err fault) is = tt
+
+value-sound : (kind : Kind) (text : List ℕ) → IfOk (value_in kind text) IsSound
+value-sound kind.Division text = as-sound (λ division. Divided division) (division_in text) (division-sound text)
+value-sound which text = grind (arith, common_steps)
+
+said-gives : (choice : Choice) (option place : ℕ) (value : Result Meant UsageKind) → IfOk value IsSound
+    → GivesOptions place (said choice option place value)
+said-gives choice option place (Ok value) is = ((is, tt), refl, tt)
+said-gives choice option place (Err fault) is = omega arith
+
+valued-gives : (choice : Choice) (kind : Kind) (option place : ℕ) (text : List ℕ)
+    → GivesOptions place (valued choice kind option place text)
+valued-gives choice kind option place text = said-gives choice option place (value_in kind text) (value-sound kind text)
 
 bare-gives : (choice : Choice) (place : ℕ) (meant : Result Meaning Fault) → GivesOptions place meant → GivesOptions place (before (bare choice place) meant)
 bare-gives choice place (Ok meaning) is = ((tt, is.0), is.1, is.2)

@@ -10,7 +10,7 @@ use Rattle.ports_core.specs.declared.form.Filling.TheVariants.{BlanksBefore}
 use Rattle.ports_core.specs.declared.fault.Fault.{Fault}
 use Rattle.ports_core.specs.declared.on_broken.OnBroken.{OnBroken}
 use Rattle.ports_core.specs.declared.on_broken.OnBroken.TheVariants.{GoOn}
-use Rattle.seg_core.specs.declared.cut.Cut.{Cut}
+use Rattle.seg_core.specs.declared.cut.Way.{Way}
 use Rattle.operand_core.specs.Style.{Style}
 use Rattle.words_core.specs.declared.table.Choice.{Choice}
 use Rattle.words_core.specs.declared.table.Choice.TheVariants.{Lines, Bytes, Quiet, Verbose, ZeroTerminated, SuffixLength, NumericSuffixes, HexSuffixes, ElideEmptyFiles, AdditionalSuffix, Separator, Prefix, Digits, SuffixFormat, KeepFiles, SuppressMatched, Append, Follow, FollowNames, Retry, OutputError, Looks as HowOften, Pause as HowLong, Process as WaitsFor}
@@ -272,9 +272,9 @@ following_as followed looks = record {
   process = None;
 }
 
-abbrev pub split_as : Cut → Alphabet → ℕ → Bool → Bool → SplitAsked
-split_as cut alphabet width auto elide = record {
-  cut = cut;
+abbrev pub split_as : Way → Alphabet → ℕ → Bool → Bool → SplitAsked
+split_as way alphabet width auto elide = record {
+  way = way;
   alphabet = alphabet;
   width = width;
   auto = auto;

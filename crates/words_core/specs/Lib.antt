@@ -1,5 +1,6 @@
 pub mod CsplitAsked
 pub mod CsplitWords
+pub mod Division
 pub mod EndsAsked
 pub mod EndsWords
 pub mod Format
@@ -8,6 +9,7 @@ pub mod Help
 pub mod Laws
 pub mod Lettered
 pub mod Spelling
+pub mod Number
 pub mod SplitAsked
 pub mod SplitWords
 pub mod Table

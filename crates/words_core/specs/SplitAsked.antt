@@ -1,10 +1,10 @@
 -- What words ask of `split`.
 use Rattle.std.specs.Prelude.{ℕ, Bool, List, Option}
-use Rattle.seg_core.specs.declared.cut.Cut.{Cut}
+use Rattle.seg_core.specs.declared.cut.Way.{Way}
 use Rattle.ports_core.specs.declared.alphabet.Alphabet.{Alphabet}
 
 pub record SplitAsked : Type 0 where
-  pub cut : Cut
+  pub way : Way
   pub alphabet : Alphabet
   -- how many characters a suffix has; with `auto` suffixes widen, and this is the first width
   pub width : ℕ

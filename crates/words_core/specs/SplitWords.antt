@@ -1,5 +1,5 @@
 -- What options and operands ask of `split`, or what is wrong with them.
-use Rattle.std.specs.Prelude.{ℕ, zero, suc, ◌+◌, ◌==◌, ◌≤◌, nat_le, Bool, true, false, List, [], ◌∷◌, filter, codes, Option, Some, None, Result, Ok, Err, if◌then◌else◌}
+use Rattle.std.specs.Prelude.{ℕ, zero, suc, ◌+◌, ◌==◌, ◌≤◌, ◌<◌, nat_le, Bool, true, false, List, [], ◌∷◌, filter, codes, Option, Some, None, Result, Ok, Err, if◌then◌else◌}
 use Rattle.std.specs.Option.{unwrap_or}
 use Rattle.ports_core.specs.Name.{name_count}
 use Rattle.ports_core.specs.declared.alphabet.Alphabet.{Alphabet}
@@ -7,25 +7,27 @@ use Rattle.ports_core.specs.declared.alphabet.Alphabet.TheVariants.{Letters, Dig
 use Rattle.ports_core.specs.declared.fault.Fault.{Fault}
 use Rattle.ports_core.specs.declared.fault.Fault.TheVariants.{Usage}
 use Rattle.ports_core.specs.declared.fault.UsageKind.TheVariants.{TwoWays, SuffixTooShort, ExtraOperand}
-use Rattle.seg_core.specs.declared.cut.Cut.{Cut}
 use Rattle.seg_core.specs.Cut.{most}
 use Rattle.seg_core.specs.declared.cut.Cut.TheVariants.{Parts, Round}
 use Rattle.seg_core.specs.declared.cut.Limit.TheVariants.{Lines, Bytes, LineBytes}
+use Rattle.seg_core.specs.declared.cut.Way.{Way}
+use Rattle.seg_core.specs.declared.cut.Way.TheVariants.{Cut, Chunk, Chunks, Turn}
 use Rattle.words_core.specs.declared.table.Choice.{Choice}
 use Rattle.words_core.specs.declared.table.Choice.TheVariants as choice
 use Rattle.words_core.specs.declared.split_words.Suffix.{Suffix}
-use Rattle.words_core.specs.Value.{Meant, Size, Files, Width, Number, Text, Byte, then_check}
+use Rattle.words_core.specs.Division.{way_of_division}
+use Rattle.words_core.specs.Value.{Meant, Size, Divided, Width, Number, Text, Byte, then_check}
 use Rattle.words_core.specs.Given.{asked_by, Given, GivenOption, GivenOperand}
 use Rattle.words_core.specs.SplitAsked.{SplitAsked}
 
 -- files are of 1,000 lines, where no way is given
-abbrev pub thousand_lines : ℕ → Cut
-thousand_lines delim = Parts (Lines 1000 delim)
+abbrev pub thousand_lines : ℕ → Way
+thousand_lines delim = Cut (Parts (Lines 1000 delim))
 
 -- without words: files of 1,000 lines, which end with the newline, and names of letters with no width
 abbrev pub no_options : SplitAsked
 no_options = record {
-  cut = thousand_lines 10;
+  way = thousand_lines 10;
   alphabet = Letters;
   width = 0;
   auto = false;
@@ -74,27 +76,28 @@ splits choice = false
 abbrev pub is_way : GivenOption → Bool
 is_way option = splits option.choice
 
-abbrev pub way_in : ℕ → Meant → Choice → Cut
-way_in delim (Size size) choice.Bytes = Parts (Bytes size)
-way_in delim (Size size) choice.LineBytes = Parts (LineBytes size delim)
-way_in delim (Size size) choice = Parts (Lines size delim)
-way_in delim (Files files) choice = Round files delim
+abbrev pub way_in : ℕ → Meant → Choice → Way
+way_in delim (Size size) choice.Bytes = Cut (Parts (Bytes size))
+way_in delim (Size size) choice.LineBytes = Cut (Parts (LineBytes size delim))
+way_in delim (Size size) choice = Cut (Parts (Lines size delim))
+way_in delim (Divided division) choice = way_of_division delim division
 way_in delim value choice = thousand_lines delim
 
 -- The way that options give. A second one is refused, and told by its word; files have 1,000 lines where none is given.
 
-abbrev pub only_way : ℕ → List GivenOption → Result Cut Fault
+abbrev pub only_way : ℕ → List GivenOption → Result Way Fault
 only_way delim [] = Ok (thousand_lines delim)
 only_way delim (way ∷ []) = Ok (way_in delim way.value way.choice)
 only_way delim (way ∷ second ∷ more) = Err (Usage TwoWays second.word)
 
-abbrev pub way_of : List GivenOption → Result Cut Fault
+abbrev pub way_of : List GivenOption → Result Way Fault
 way_of options = only_way (separator_in options) (filter is_way options)
 
 -- The suffixes. A width of 0 stands for none. With a width all suffixes have it. Without one they widen from 2
--- characters on, unless lines are dealt to files, or an option says which number the first file has: then they never
--- widen. Where lines are dealt, the width must write the numbers of all files, and without one it is the least from 2
--- on that does. Where files come one after another, it must write the first one's number, and without one it is 2.
+-- characters on, unless the number of files is known, or an option says which number the first file has: then they never
+-- widen. Where that number is known, the width must write the numbers of all files, and without one it is the least from
+-- 2 on that does. Where files come one after another, it must write the first one's number, and without one it is 2. Where
+-- no file is made, it writes nothing.
 
 abbrev pub fixed : ℕ → Suffix
 fixed width = record { width = width; auto = false }
@@ -106,11 +109,11 @@ free width = if width == 0 then (record { width = 2; auto = true }) else fixed w
 abbrev pub first_number : Option ℕ → ℕ
 first_number from = unwrap_or from 0
 
--- whether a width writes as many numbers, from 0 on
+-- whether a width writes this many numbers, from 0 on
 abbrev pub names_all : Alphabet → ℕ → ℕ → Bool
 names_all alphabet count width = nat_le count (name_count alphabet width)
 
--- the least width that does, from this one on, of so many and the next
+-- the least width that does, of this one and as many that follow as the third argument says
 abbrev pub least_from : Alphabet → ℕ → ℕ → ℕ → ℕ
 least_from alphabet count zero width = width
 least_from alphabet count (suc more) width =
@@ -120,22 +123,28 @@ least_from alphabet count (suc more) width =
 unfoldable pub least_width : Alphabet → ℕ → ℕ
 least_width alphabet count = least_from alphabet count 21 2
 
--- this width, if it writes as many numbers
+-- this width, if it writes this many numbers
 abbrev pub wide_enough : Alphabet → ℕ → ℕ → Result Suffix Fault
 wide_enough alphabet count width =
     if names_all alphabet count width then Ok (fixed width) else Err (Usage SuffixTooShort 0)
 
-abbrev pub dealt : Alphabet → ℕ → ℕ → Result Suffix Fault
-dealt alphabet count width =
+abbrev pub for_all : Alphabet → ℕ → ℕ → Result Suffix Fault
+for_all alphabet count width =
     if width == 0 then Ok (fixed (least_width alphabet count)) else wide_enough alphabet count width
 
-abbrev pub numbered : Alphabet → ℕ → ℕ → Result Suffix Fault
-numbered alphabet from width = wide_enough alphabet (from + 1) (if width == 0 then 2 else width)
+abbrev pub or_two : ℕ → ℕ
+or_two width = if width == 0 then 2 else width
 
-abbrev pub suffix_for : Cut → Alphabet → Option ℕ → ℕ → Result Suffix Fault
-suffix_for (Round files delim) alphabet from width = dealt alphabet (first_number from + files) width
-suffix_for (Parts limit) alphabet (Some from) width = numbered alphabet from width
-suffix_for (Parts limit) alphabet None width = Ok (free width)
+abbrev pub numbered : Alphabet → ℕ → ℕ → Result Suffix Fault
+numbered alphabet from width = wide_enough alphabet (from + 1) (or_two width)
+
+abbrev pub suffix_for : Way → Alphabet → Option ℕ → ℕ → Result Suffix Fault
+suffix_for (Cut (Round files delim)) alphabet from width = for_all alphabet (first_number from + files) width
+suffix_for (Cut (Parts limit)) alphabet (Some from) width = numbered alphabet from width
+suffix_for (Cut (Parts limit)) alphabet None width = Ok (free width)
+suffix_for (Chunks chunks) alphabet from width = for_all alphabet (first_number from + chunks.count) width
+suffix_for (Chunk place chunks) alphabet from width = Ok (fixed (or_two width))
+suffix_for (Turn place files delim) alphabet from width = Ok (fixed (or_two width))
 
 -- the operands: the name of the input, and what the names of files begin with
 abbrev pub files_in : List GivenOperand → Result (List ℕ × List ℕ) Fault
@@ -148,31 +157,41 @@ files_in (input ∷ prefix ∷ extra ∷ more) = Err (Usage ExtraOperand extra.w
 abbrev pub split_asked : Given → Result SplitAsked Fault
 split_asked given =
     let asked = asked_by split_by no_options given.options in
-    then_check (way_of given.options) (λ cut.
-    then_check (suffix_for cut asked.alphabet asked.from asked.width) (λ suffix.
+    then_check (way_of given.options) (λ way.
+    then_check (suffix_for way asked.alphabet asked.from asked.width) (λ suffix.
     then_check (files_in given.operands) (λ files.
-    Ok (record asked { cut = cut; width = suffix.width; auto = suffix.auto; input = files.0; prefix = files.1 }))))
+    Ok (record asked { way = way; width = suffix.width; auto = suffix.auto; input = files.0; prefix = files.1 }))))
 
--- A file has at least one line or byte, and lines are dealt to 1 to 65,535 files; a suffix has 1 to 255 characters.
+-- A part has at least one line or byte, and an input is divided among 1 to 65,535 files; a suffix has 1 to 255
+-- characters.
 
-abbrev pub IsInLimits : Cut → Type 0
-IsInLimits (Parts limit) = 1 ≤ most limit
-IsInLimits (Round files delim) = (1 ≤ files) × (files ≤ 65535)
+abbrev pub AreFew : ℕ → Type 0
+AreFew files = (1 ≤ files) × (files ≤ 65535)
+
+abbrev pub IsInLimits : Way → Type 0
+IsInLimits (Cut (Parts limit)) = 1 ≤ most limit
+IsInLimits (Cut (Round files delim)) = AreFew files
+IsInLimits (Chunks chunks) = AreFew chunks.count
+IsInLimits (Chunk place chunks) = AreFew chunks.count × (place < chunks.count)
+IsInLimits (Turn place files delim) = AreFew files × (place < files)
 
 abbrev pub IsWidth : ℕ → Type 0
 IsWidth width = (1 ≤ width) × (width ≤ 255)
 
--- files that lines are dealt to all have names, and so has the first of those that come one after another
+-- Where the number of files is known, all have names; the first of those that come one after another has one. How many
+-- numbers a width must write for that, from 0 on, where the first file has this number.
+abbrev pub numbers_needed : Way → ℕ → ℕ
+numbers_needed (Cut (Parts limit)) first = first + 1
+numbers_needed (Cut (Round files delim)) first = first + files
+numbers_needed (Chunks chunks) first = first + chunks.count
+numbers_needed (Chunk place chunks) first = 0
+numbers_needed (Turn place files delim) first = 0
 
-abbrev pub least_files : Cut → ℕ
-least_files (Round files delim) = files
-least_files (Parts limit) = 1
-
-abbrev pub AreNamed : Cut → Alphabet → Option ℕ → ℕ → Type 0
-AreNamed cut alphabet from width = first_number from + least_files cut ≤ name_count alphabet width
+abbrev pub AreNamed : Way → Alphabet → Option ℕ → ℕ → Type 0
+AreNamed way alphabet from width = numbers_needed way (first_number from) ≤ name_count alphabet width
 
 -- what can be asked of `split`: words that ask for anything else are refused
 pub record CanSplit (asked : SplitAsked) : Type 0 where
-  pub cut : IsInLimits asked.cut
+  pub way : IsInLimits asked.way
   pub width : IsWidth asked.width
-  pub named : AreNamed asked.cut asked.alphabet asked.from asked.width
+  pub named : AreNamed asked.way asked.alphabet asked.from asked.width

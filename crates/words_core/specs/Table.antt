@@ -12,7 +12,7 @@ use Rattle.ports_core.specs.declared.tool.Tool.TheVariants.{Head, Tail, Split, C
 use Rattle.words_core.specs.declared.table.Choice.{Choice}
 use Rattle.words_core.specs.declared.table.Choice.TheVariants.{Lines, Bytes, LineBytes, Files, Quiet, Verbose, SuffixLength, NumericSuffixes, HexSuffixes, ElideEmptyFiles, ZeroTerminated, Separator, AdditionalSuffix, Prefix, Digits, SuffixFormat, KeepFiles, SuppressMatched, Append, Follow, FollowNames, Retry, Looks, Help, Version, Pause, OutputError, NoEffect, Process as WaitsFor}
 use Rattle.words_core.specs.declared.table.Kind.{Kind}
-use Rattle.words_core.specs.declared.table.Kind.TheVariants.{Count, Size, Round, Width, Text, Byte, Ending, Following, Number, HexNumber, OnBroken, Seconds, Looks as number_of_looks, Process as process_number, Format}
+use Rattle.words_core.specs.declared.table.Kind.TheVariants.{Count, Size, Division, Width, Text, Byte, Ending, Following, Number, HexNumber, OnBroken, Seconds, Looks as number_of_looks, Process as process_number, Format}
 use Rattle.words_core.specs.declared.table.Letters.{Letters}
 use Rattle.words_core.specs.declared.table.Letters.TheVariants.{Never, OfHead, OfTail}
 use Rattle.words_core.specs.declared.table.OptionRow.{OptionRow as WrittenOption}
@@ -123,8 +123,8 @@ split_table =
     (codes "put this many bytes in each file")
     ∷ option (codes "-C" ∷ codes "--line-bytes" ∷ []) LineBytes (Value Size) (codes "BYTES")
     (codes "put whole lines of at most BYTES in each file")
-    ∷ option (codes "-n" ∷ codes "--number" ∷ []) Files (Value Round) (codes "r/FILES")
-    (codes "deal lines to this many files in turn")
+    ∷ option (codes "-n" ∷ codes "--number" ∷ []) Files (Value Division) (codes "CHUNKS")
+    (codes "into N files: N, l/N, r/N; the Kth alone: K/N")
     ∷ option (codes "-a" ∷ codes "--suffix-length" ∷ []) SuffixLength (Value Width) (codes "WIDTH")
     (codes "names have WIDTH characters after the prefix")
     ∷ option (codes "-d" ∷ codes "--numeric-suffixes" ∷ []) NumericSuffixes (Optional Number) (codes "FROM")

@@ -6,13 +6,14 @@ use Rattle.std.specs.List.{list_all, list_any}
 use Rattle.std.specs.Str.Parse.{digits_value}
 use Rattle.seg_core.specs.Count.{after_digits, count_of, digits_of, leading_digits, value_of}
 use Rattle.seg_core.specs.declared.count.Count.{Count}
-use Rattle.seg_core.specs.declared.count.CountFault.{CountFault}
-use Rattle.seg_core.specs.declared.count.CountFault.TheVariants.{TooLarge}
 use Rattle.ports_core.specs.declared.on_broken.OnBroken.{OnBroken}
 use Rattle.ports_core.specs.declared.on_broken.OnBroken.TheVariants as on_broken
 use Rattle.ports_core.specs.declared.fault.UsageKind.{UsageKind}
 use Rattle.ports_core.specs.declared.fault.UsageKind.TheVariants.{BadNumber, NumberTooLarge, Zero, BadSeparator, BadSuffix, BadFollow, BadMode, BadFormat}
+use Rattle.words_core.specs.Division.{division_in}
 use Rattle.words_core.specs.Format.{Format, format_in, format_seen}
+pub use Rattle.words_core.specs.Number.{counted, not_zero, number_fault, then_check, up_to}
+use Rattle.words_core.specs.declared.division.Division.{Division}
 use Rattle.words_core.specs.declared.table.Kind.{Kind}
 use Rattle.words_core.specs.declared.table.Kind.TheVariants as kind
 use Rattle.words_core.specs.declared.value.Followed.{Followed}
@@ -25,7 +26,7 @@ pub data Meant : Type 0 where
   Nothing : Meant
   Counted : Count → Meant
   Size : ℕ → Meant
-  Files : ℕ → Meant
+  Divided : Division → Meant
   Width : ℕ → Meant
   Text : List ℕ → Meant
   Byte : ℕ → Meant
@@ -41,7 +42,7 @@ abbrev pub seen : Value → Meant
 seen value.Nothing = Nothing
 seen (value.Count count) = Counted count
 seen (value.Size size) = Size size
-seen (value.Files files) = Files files
+seen (value.Divided division) = Divided division
 seen (value.Width width) = Width width
 seen (value.Text text) = Text text.now
 seen (value.Byte byte) = Byte byte
@@ -52,24 +53,6 @@ seen (value.Pause pause) = Pause pause
 seen (value.Process process) = Process process
 seen (value.OnBroken on_broken) = Breaking on_broken
 seen (value.Format format) = Formatted (format_seen format)
-
--- one check, and those after it where nothing is wrong so far
-abbrev pub then_check : {A B E : Type 0} → Result A E → (A → Result B E) → Result B E
-then_check (Ok value) next = next value
-then_check (Err fault) next = Err fault
-
-abbrev pub number_fault : CountFault → UsageKind
-number_fault TooLarge = NumberTooLarge
-number_fault fault = BadNumber
-
--- a number that was read
-abbrev pub counted : {A : Type 0} → Result A CountFault → Result A UsageKind
-counted (Ok number) = Ok number
-counted (Err fault) = Err (number_fault fault)
-
--- a number that has a limit
-abbrev pub up_to : ℕ → Result ℕ CountFault → Result ℕ UsageKind
-up_to limit number = then_check (counted number) (λ those. if nat_le those limit then Ok those else Err NumberTooLarge)
 
 -- a number in hexadecimal: one or more digits, `A` to `F` as `a` to `f`, and nothing else; 2^63-1 at most
 
@@ -82,10 +65,6 @@ hex_in text =
     then (if nat_le (digits_value 16 text) (2 ^ 63 - 1) then Ok (digits_value 16 text) else Err NumberTooLarge)
     else Err BadNumber
 
--- a number that is at least 1
-abbrev pub not_zero : ℕ → Result ℕ UsageKind
-not_zero number = if number == 0 then Err Zero else Ok number
-
 abbrev pub some_amount : List ℕ → Result ℕ UsageKind
 some_amount text = then_check (counted (count_of text)) (λ count. not_zero count.amount)
 
@@ -93,12 +72,6 @@ some_amount text = then_check (counted (count_of text)) (λ count. not_zero coun
 abbrev pub size_in : List ℕ → Result ℕ UsageKind
 size_in [] = some_amount []
 size_in (byte ∷ text) = if byte == 45 then Err BadNumber else some_amount (byte ∷ text)
-
--- how many files the lines are dealt to: `r/` (114, 47) and digits
-abbrev pub round_in : List ℕ → Result ℕ UsageKind
-round_in (byte ∷ next ∷ digits) =
-    if byte == 114 && next == 47 then then_check (up_to 65535 (digits_of digits)) not_zero else Err BadNumber
-round_in text = Err BadNumber
 
 -- the byte that lines end with: one byte, or `\0` for byte 0
 abbrev pub byte_in : List ℕ → Result ℕ UsageKind
@@ -168,7 +141,7 @@ as_value make (Err fault) = Err fault
 abbrev pub value_in : Kind → List ℕ → Result Meant UsageKind
 value_in kind.Count text = as_value (λ count. Counted count) (counted (count_of text))
 value_in kind.Size text = as_value (λ size. Size size) (size_in text)
-value_in kind.Round text = as_value (λ files. Files files) (round_in text)
+value_in kind.Division text = as_value (λ division. Divided division) (division_in text)
 value_in kind.Width text = as_value (λ width. Width width) (up_to 255 (digits_of text))
 value_in kind.Text text = Ok (Text text)
 value_in kind.Byte text = as_value (λ byte. Byte byte) (byte_in text)

@@ -7,6 +7,7 @@ ghost use Rattle.words_core.specs.declared.spelling.State.TheVariants.{Reading};
 ghost use Rattle.seg_core.specs.Count.{count_of, digits_of, is_number, sized, value_of};
 ghost use Rattle.std.specs.Char.{is_ascii_digit};
 ghost use Rattle.words_core.specs.Given.{Given, GivenOperand, GivenOption, bare, joined, one_operand, one_option};
+ghost use Rattle.words_core.specs.Division.{division_in, way_of_division};
 ghost use Rattle.words_core.specs.CsplitWords.{chosen_by, decimal_form, style_of};
 ghost use Rattle.words_core.specs.Format.{Format, format_in};
 ghost use Rattle.words_core.specs.Laws.{AreAmong, Gives, IsLast, IsLetter, IsName, IsSwitch, LastDecides, LeaveTheRest, amount_of, appends, as_operands, counts, counts_digits, counts_looks, counts_pause, csplit_as, drops_sizes, elides_files, tells_of_files, ends_as, ends_of, ends_with_zero, follow_of, following_as, gives_ending, gives_format, has, heads, is_plain, keeps_files, leaves_lines_out, names_prefix, names_process, on_broken_of, plain_style, retries, says_followed, says_on_broken, separates, spells, split_as, split_of, tail_as, widens};
@@ -18,16 +19,17 @@ ghost use Rattle.words_core.specs.SplitWords.{is_way, least_width, split_asked, 
 ghost use Rattle.words_core.specs.Table.{OptionRow, beginning, head_table, option_called, option_named, tail_table};
 ghost use Rattle.words_core.specs.declared.table.Letters.TheVariants.{OfHead, OfTail};
 ghost use Rattle.words_core.specs.TeeWords.{tee_asked};
-ghost use Rattle.words_core.specs.Value.{Counted, Meant, counted, hex_in, round_in, size_in, up_to, value_in};
+ghost use Rattle.words_core.specs.Value.{Counted, Meant, counted, hex_in, size_in, up_to, value_in};
 ghost use Rattle.words_core.specs.Words.{settings_for, settings_of};
 
+use crate::division::Division;
 use crate::settings::{Headers, Settings, Topic};
 use crate::spelling::State;
 use crate::table::{Choice, Kind, Letters, Takes};
 use crate::value::Followed;
 use ports_core::{Alphabet, Fault, Mode, OnBroken, Tool};
 use seg_core::count::{Count, Sign};
-use seg_core::cut::{Cut, Limit};
+use seg_core::cut::{Cut, Limit, Way};
 use seg_core::unit::Unit;
 
 /// Of several counts for `head` or `tail` the last decides, as if it stood alone, whatever options stand before it;
@@ -108,9 +110,9 @@ pub fn options_stand_anywhere()
 /// second way is told by the word in which it stands, whatever follows it.
 pub fn one_way_at_most()
     ensures accepted { (options : List GivenOption) → IsOk (way_of options) ↔ (length (filter is_way options) ≤ 1) }
-    ensures way { (before after : List GivenOption) (option : GivenOption) (cut : Cut) → is_way option ≡ true
-        → way_of (before ++ option ∷ after) ≡ Ok cut
-        → cut ≡ way_in (separator_in (before ++ option ∷ after)) option.value option.choice }
+    ensures way { (before after : List GivenOption) (option : GivenOption) (way : Way) → is_way option ≡ true
+        → way_of (before ++ option ∷ after) ≡ Ok way
+        → way ≡ way_in (separator_in (before ++ option ∷ after)) option.value option.choice }
     ensures second { (before after : List GivenOption) (option : GivenOption) → length (filter is_way before) ≡ 1
         → is_way option ≡ true → way_of (before ++ option ∷ after) ≡ Err (Fault.Usage TwoWays option.word) }
 {}
@@ -319,17 +321,20 @@ pub fn tail_options_ask()
 pub fn split_options_ask()
     ensures lines { (value : List ℕ) (size : ℕ) → size_in value ≡ Ok size
         → settings_of (codes "split" ∷ codes "-l" ∷ value ∷ [])
-        ≡ Ok (Settings.Split (split_as (Cut.Parts (Limit.Lines size 10)) Alphabet.Letters 2 true false)) }
+        ≡ Ok (Settings.Split (split_as (Way.Cut (Cut.Parts (Limit.Lines size 10))) Alphabet.Letters 2 true false)) }
     ensures bytes { (value : List ℕ) (size : ℕ) → size_in value ≡ Ok size
         → settings_of (codes "split" ∷ codes "-b" ∷ value ∷ [])
-        ≡ Ok (Settings.Split (split_as (Cut.Parts (Limit.Bytes size)) Alphabet.Letters 2 true false)) }
+        ≡ Ok (Settings.Split (split_as (Way.Cut (Cut.Parts (Limit.Bytes size))) Alphabet.Letters 2 true false)) }
     ensures line_bytes { (value : List ℕ) (size : ℕ) → size_in value ≡ Ok size
         → settings_of (codes "split" ∷ codes "-C" ∷ value ∷ [])
-        ≡ Ok (Settings.Split (split_as (Cut.Parts (Limit.LineBytes size 10)) Alphabet.Letters 2 true false)) }
-    ensures files { (value : List ℕ) (files : ℕ) → round_in value ≡ Ok files
+        ≡ Ok (Settings.Split (split_as (Way.Cut (Cut.Parts (Limit.LineBytes size 10))) Alphabet.Letters 2 true false)) }
+    ensures files { (value : List ℕ) (division : Division) → division_in value ≡ Ok division → division.only ≡ None
         → settings_of (codes "split" ∷ codes "-n" ∷ value ∷ [])
-        ≡ Ok (Settings.Split
-        (split_as (Cut.Round files 10) Alphabet.Letters (least_width Alphabet.Letters files) false false)) }
+        ≡ Ok (Settings.Split (split_as (way_of_division 10 division) Alphabet.Letters
+        (least_width Alphabet.Letters division.files) false false)) }
+    ensures one { (value : List ℕ) (division : Division) (place : ℕ) → division_in value ≡ Ok division
+        → division.only ≡ Some place → settings_of (codes "split" ∷ codes "-n" ∷ value ∷ [])
+        ≡ Ok (Settings.Split (split_as (way_of_division 10 division) Alphabet.Letters 2 false false)) }
     ensures digits { settings_of (codes "split" ∷ codes "-d" ∷ [])
         ≡ Ok (Settings.Split (split_as (thousand_lines 10) Alphabet.Digits 2 true false)) }
     ensures hexadecimal { settings_of (codes "split" ∷ codes "-x" ∷ [])

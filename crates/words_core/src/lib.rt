@@ -4,6 +4,7 @@
 mod args;
 mod csplit_settings;
 mod csplit_words;
+mod division;
 mod ends_words;
 mod format;
 mod help;
@@ -21,6 +22,7 @@ mod words;
 
 pub use args::{ArgsFault, read_args};
 pub use csplit_settings::CsplitSettings;
+pub use division::{Dealing, Division};
 pub use format::{Format, read_format};
 pub use help::text_about;
 pub use laws::{

@@ -8,7 +8,7 @@ use crate::csplit_settings::CsplitSettings;
 use crate::value::Followed;
 use ports_core::{Alphabet, Mode, OnBroken, Tool};
 use seg_core::count::Count;
-use seg_core::cut::Cut;
+use seg_core::cut::Way;
 use seg_core::unit::Unit;
 use std::marker::Model;
 
@@ -95,8 +95,8 @@ pub enum Headers {
 /// What `split` is to do with its input. The suffixes of its files' names have 1 to 255 characters.
 #[derive(Drop)]
 pub struct SplitSettings<'a> {
-    /// How the input is cut into files.
-    pub cut: Cut,
+    /// What becomes of the input.
+    pub way: Way,
     /// The characters of the suffixes.
     pub alphabet: Alphabet,
     /// How many characters a suffix has; of suffixes that widen, the first ones.
@@ -121,7 +121,7 @@ impl<'a> Model for SplitSettings<'a> {
     ghost Value = { SplitAsked };
 
     ghost view = { λ s. record {
-      cut = s.cut;
+      way = s.way;
       alphabet = s.alphabet;
       width = s.width;
       auto = s.auto;

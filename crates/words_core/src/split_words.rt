@@ -3,23 +3,27 @@
 ghost use Rattle.std.specs.Prelude.{◌≡◌, ℕ, ◌+◌, ◌^◌, ◌<◌, ◌≤◌, filter, map, IfOk, IfErr};
 ghost use Rattle.ports_core.specs.Name.{name_count};
 ghost use Rattle.words_core.specs.Given.{asked_by, operand_seen, option_seen};
-ghost use Rattle.words_core.specs.SplitWords.{dealt, files_in, first_number, fixed, free, from_in, least_width, names_all, no_options, numbered, separator_in, split_by, split_asked, suffix_for, thousand_lines, way_in, is_way, only_way, wide_enough};
+ghost use Rattle.words_core.specs.SplitWords.{files_in, first_number, fixed, for_all, free, from_in, least_width, names_all, no_options, numbered, or_two, separator_in, split_by, split_asked, suffix_for, thousand_lines, way_in, is_way, only_way, wide_enough};
+ghost use Rattle.words_core.specs.Division.{dealt_by, way_of_division};
+ghost use Rattle.words_core.specs.declared.division.Dealing.TheVariants.{Turns};
 ghost use Rattle.words_core.specs.inner.SplitWords.{with_way};
 ghost use Rattle.words_core.specs.Value.{seen};
 
+use crate::division::{Dealing, Division};
 use crate::settings::SplitSettings;
 use crate::spelled::{Chosen, Operand, Spelled};
 use crate::table::Choice;
 use crate::value::Value;
 use ports_core::{Alphabet, Fault, STANDARD_INPUT, UsageKind};
-use seg_core::cut::{Cut, Limit};
+use seg_core::cut::{Chunks, Cut, Limit, Way};
 use seg_core::line::NEWLINE;
+use seg_core::unit::Unit;
 
 /// How files are cut where no way is given.
-fn thousand_lines(delim: u8) -> Cut
+fn thousand_lines(delim: u8) -> Way
     ensures { result ≡ thousand_lines delim }
 {
-    Cut::Parts(Limit::Lines(1000, delim))
+    Way::Cut(Cut::Parts(Limit::Lines(1000, delim)))
 }
 
 /// What the names of files begin with where no operand says so.
@@ -30,7 +34,7 @@ fn no_options<'a>() -> SplitSettings<'a>
     ensures { result ≡ no_options }
 {
     SplitSettings {
-        cut: thousand_lines(NEWLINE),
+        way: thousand_lines(NEWLINE),
         alphabet: Alphabet::Letters,
         width: 0,
         auto: false,
@@ -111,11 +115,11 @@ pub fn settle_split<'a>(spelled: &Spelled<'a>) -> Result<SplitSettings<'a>, Faul
     ensures { result ≡ split_asked spelled.now }
 {
     let options = choose_split(&spelled.options);
-    let cut = choose_way(separator_in(&spelled.options), &spelled.options)?;
-    let suffix = choose_suffix(cut, options.alphabet, options.from, options.width)?;
+    let way = choose_way(separator_in(&spelled.options), &spelled.options)?;
+    let suffix = choose_suffix(way, options.alphabet, options.from, options.width)?;
     let (input, prefix) = take_files(&spelled.operands)?;
     Ok(SplitSettings {
-        cut,
+        way,
         width: suffix.width,
         auto: suffix.auto,
         input,
@@ -153,7 +157,7 @@ fn separator_in(options: &[Chosen<'_>]) -> u8
 /// # Errors
 ///
 /// `Usage` with the place of the second one's word, where two ways are given.
-fn choose_way(delim: u8, options: &[Chosen<'_>]) -> Result<Cut, Fault>
+fn choose_way(delim: u8, options: &[Chosen<'_>]) -> Result<Way, Fault>
     ensures { result ≡ only_way delim (filter is_way (map option_seen options.now)) }
 {
     let mut way = None;
@@ -166,7 +170,7 @@ fn choose_way(delim: u8, options: &[Chosen<'_>]) -> Result<Cut, Fault>
 }
 
 /// The way to split, with one more option.
-fn with_way(delim: u8, way: Option<Cut>, option: &Chosen<'_>) -> Result<Option<Cut>, Fault>
+fn with_way(delim: u8, way: Option<Way>, option: &Chosen<'_>) -> Result<Option<Way>, Fault>
     ensures { result ≡ with_way delim way (option_seen option.now) }
 {
     match option.choice {
@@ -179,37 +183,66 @@ fn with_way(delim: u8, way: Option<Cut>, option: &Chosen<'_>) -> Result<Option<C
 }
 
 /// The way to split that an option gives with its value.
-fn way_in(delim: u8, value: Value<'_>, choice: Choice) -> Cut
+fn way_in(delim: u8, value: Value<'_>, choice: Choice) -> Way
     ensures { result ≡ way_in delim (seen value.entry) choice }
 {
     match value {
-        Value::Size(size) => Cut::Parts(match choice {
+        Value::Size(size) => Way::Cut(Cut::Parts(match choice {
             Choice::Bytes => Limit::Bytes(size),
             Choice::LineBytes => Limit::LineBytes(size, delim),
             _ => Limit::Lines(size, delim),
-        }),
-        Value::Files(files) => Cut::Round(files, delim),
+        })),
+        Value::Divided(division) => way_of_division(delim, division),
         _ => thousand_lines(delim),
+    }
+}
+
+/// What becomes of an input that is divided so, if its lines end with this byte.
+fn way_of_division(delim: u8, division: Division) -> Way
+    ensures { result ≡ way_of_division delim division }
+{
+    let unit = match division.dealing {
+        Dealing::Bytes => Unit::Bytes,
+        Dealing::Lines => Unit::Lines,
+        Dealing::Turns => return way_of_turns(delim, division.files, division.only),
+    };
+    let chunks = Chunks {
+        count: division.files,
+        unit,
+        delim,
+    };
+    match division.only {
+        None => Way::Chunks(chunks),
+        Some(place) => Way::Chunk(place, chunks),
+    }
+}
+
+/// What becomes of an input whose lines are dealt in turn to so many files, or if only one of these is written.
+fn way_of_turns(delim: u8, files: u64, only: Option<u64>) -> Way
+    ensures { result ≡ dealt_by delim Turns files only }
+{
+    match only {
+        None => Way::Cut(Cut::Round(files, delim)),
+        Some(place) => Way::Turn(place, files, delim),
     }
 }
 
 /// The suffixes of files that are cut in this way, if this is the number of the first one and this width is given; a width
 /// of 0 stands for none.
 fn choose_suffix(
-    cut: Cut,
+    way: Way,
     alphabet: Alphabet,
     from: Option<u64>,
     width: u32,
 ) -> Result<Suffix, Fault>
-    ensures { result ≡ suffix_for cut alphabet from width }
+    ensures { result ≡ suffix_for way alphabet from width }
 {
-    match (cut, from) {
-        (Cut::Round(files, _), _) => {
-            let count = u128::from(first_number(from)) + u128::from(files);
-            suffix_of_dealt(alphabet, count, width)
-        }
-        (Cut::Parts(_), Some(from)) => suffix_from(alphabet, from, width),
-        (Cut::Parts(_), None) => Ok(free(width)),
+    match (way, from) {
+        (Way::Cut(Cut::Round(files, _)), _) => suffix_for_all(alphabet, from, files, width),
+        (Way::Chunks(chunks), _) => suffix_for_all(alphabet, from, chunks.count, width),
+        (Way::Cut(Cut::Parts(_)), Some(from)) => suffix_from(alphabet, from, width),
+        (Way::Cut(Cut::Parts(_)), None) => Ok(free(width)),
+        (Way::Chunk(_, _) | Way::Turn(_, _, _), _) => Ok(fixed(or_two(width))),
     }
 }
 
@@ -233,11 +266,16 @@ fn free(width: u32) -> Suffix
     fixed(width)
 }
 
-/// The suffixes of files that lines are dealt to, of this width, or of the least that writes all of their numbers where it
-/// is 0; these are as many as `count`, from 0 on.
-fn suffix_of_dealt(alphabet: Alphabet, count: u128, width: u32) -> Result<Suffix, Fault>
-    ensures { result ≡ dealt alphabet count width }
+/// The suffixes of this many files, of this width, or of the least that writes all of their numbers where it is 0.
+fn suffix_for_all(
+    alphabet: Alphabet,
+    from: Option<u64>,
+    files: u64,
+    width: u32,
+) -> Result<Suffix, Fault>
+    ensures { result ≡ for_all alphabet (first_number from + files) width }
 {
+    let count = u128::from(first_number(from)) + u128::from(files);
     if width == 0 {
         return Ok(fixed(least_width(alphabet, count)));
     }
@@ -248,8 +286,14 @@ fn suffix_of_dealt(alphabet: Alphabet, count: u128, width: u32) -> Result<Suffix
 fn suffix_from(alphabet: Alphabet, from: u64, width: u32) -> Result<Suffix, Fault>
     ensures { result ≡ numbered alphabet from width }
 {
-    let width = if width == 0 { 2 } else { width };
-    wide_enough(alphabet, u128::from(from) + 1, width)
+    wide_enough(alphabet, u128::from(from) + 1, or_two(width))
+}
+
+/// This width, or 2 where it is 0.
+fn or_two(width: u32) -> u32
+    ensures { result ≡ or_two width }
+{
+    if width == 0 { 2 } else { width }
 }
 
 /// Suffixes of this width, which must write as many numbers, from 0 on.

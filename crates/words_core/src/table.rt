@@ -78,8 +78,8 @@ pub enum Kind {
     Count,
     /// A count, at least 1, without a `-`.
     Size,
-    /// `r/` and how many files lines are dealt to: digits, 1 to 65,535.
-    Round,
+    /// `N` or `K/N`, with `l/` or `r/` before it or nothing: digits, N from 1 to 65,535, K from 1 to N.
+    Division,
     /// How many characters a name's number has: digits, 0 to 255.
     Width,
     /// Any text.
@@ -331,9 +331,9 @@ const SPLIT: &[OptionRow] = &[
     OptionRow {
         names: &["-n", "--number"],
         choice: Choice::Files,
-        takes: Takes::Value(Kind::Round),
-        value: "r/FILES",
-        does: "deal lines to this many files in turn",
+        takes: Takes::Value(Kind::Division),
+        value: "CHUNKS",
+        does: "into N files: N, l/N, r/N; the Kth alone: K/N",
     },
     OptionRow {
         names: &["-a", "--suffix-length"],

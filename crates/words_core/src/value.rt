@@ -4,9 +4,10 @@ ghost use Rattle.std.specs.Prelude.{◌≡◌, ◌≤◌, ◌+◌, ◌-◌, ◌*
 ghost use Rattle.std.specs.Char.{is_ascii_digit};
 ghost use Rattle.std.specs.List.{list_all};
 ghost use Rattle.seg_core.specs.Count.{count_of, digits_of};
-ghost use Rattle.words_core.specs.Value.{byte_in, counted, ending_in, followed_in, fraction_in, fraction_of, hex_in, is_zero, milliseconds, not_zero, number_fault, on_broken_in, process_in, pause_in, round_in, size_in, up_to, value_in};
+ghost use Rattle.words_core.specs.Value.{byte_in, counted, ending_in, followed_in, fraction_in, fraction_of, hex_in, is_zero, milliseconds, not_zero, number_fault, on_broken_in, process_in, pause_in, size_in, up_to, value_in};
 ghost use Rattle.words_core.specs.inner.Value.{seen_in};
 
+use crate::division::{Division, read_division};
 use crate::format::{Format, read_format};
 use crate::table::Kind;
 use ports_core::{OnBroken, UsageKind};
@@ -22,8 +23,8 @@ pub enum Value<'a> {
     Count(Count),
     /// The size of a file, 1 to 2^63-1.
     Size(u64),
-    /// How many files lines are dealt to, 1 to 65,535.
-    Files(u64),
+    /// Among how many files an input is divided, and how.
+    Divided(Division),
     /// A width in characters, 0 to 255.
     Width(u8),
     /// A text.
@@ -55,9 +56,6 @@ pub enum Followed {
     Name,
 }
 
-/// The greatest number of files that lines are dealt to.
-const MOST_FILES: u64 = 65_535;
-
 /// The greatest width of a suffix.
 const WIDEST: u64 = 255;
 
@@ -80,7 +78,7 @@ pub fn read_value(kind: Kind, text: &str) -> Result<Value<'_>, UsageKind>
     match kind {
         Kind::Count => Ok(Value::Count(read_amount(bytes)?)),
         Kind::Size => Ok(Value::Size(read_size(bytes)?)),
-        Kind::Round => Ok(Value::Files(read_round(bytes)?)),
+        Kind::Division => Ok(Value::Divided(read_division(bytes)?)),
         Kind::Width => Ok(Value::Width(read_number(bytes, WIDEST)? as u8)),
         Kind::Text => Ok(Value::Text(text)),
         Kind::Byte => Ok(Value::Byte(read_byte(bytes)?)),
@@ -116,18 +114,8 @@ fn read_size(text: &[u8]) -> Result<u64, UsageKind>
     }
 }
 
-/// Reads `r/` and the number of files.
-fn read_round(text: &[u8]) -> Result<u64, UsageKind>
-    ensures { result ≡ round_in text.now }
-{
-    match text {
-        [b'r', b'/', digits @ ..] => not_zero(read_number(digits, MOST_FILES)?),
-        _ => Err(UsageKind::BadNumber),
-    }
-}
-
 /// Reads digits alone, a number up to a limit.
-fn read_number(text: &[u8], limit: u64) -> Result<u64, UsageKind>
+pub(crate) fn read_number(text: &[u8], limit: u64) -> Result<u64, UsageKind>
     ensures value { result ≡ up_to limit (digits_of text.now) }
     ensures bound { IfOk result (λ number. number ≤ limit) }
 {
@@ -290,7 +278,8 @@ fn fraction_of(unit: u64, digits: &[u8]) -> u64
     }
 }
 
-fn not_zero(number: u64) -> Result<u64, UsageKind>
+/// A number that is at least 1.
+pub(crate) fn not_zero(number: u64) -> Result<u64, UsageKind>
     ensures { result ≡ not_zero number }
 {
     if number == 0 {

@@ -2,7 +2,8 @@
 //! no memory for them.
 use crate::refused::{Refused, refuse};
 use ports_core::{Alphabet, UsageKind};
-use seg_core::cut::{Cut, Limit};
+use seg_core::cut::{Chunks, Cut, Limit, Way};
+use seg_core::unit::Unit;
 use std::alloc::Global;
 use std::process::Abort;
 use words_core::{Settings, SplitSettings, read_words};
@@ -10,8 +11,8 @@ use words_core::{Settings, SplitSettings, read_words};
 /// What words are to ask of `split`.
 #[derive(Clone, Copy)]
 enum Wanted<'a> {
-    /// The way to split.
-    Cut(Cut),
+    /// What becomes of the input.
+    Way(Way),
     /// The characters of names, how many there are, and whether names widen.
     Names(Alphabet, u32, bool),
     /// The characters of names, how many there are, and the number of the first; names don't widen where there is one.
@@ -26,7 +27,7 @@ enum Wanted<'a> {
 
 fn has(found: &SplitSettings<'_>, wanted: Wanted<'_>) -> bool {
     match wanted {
-        Wanted::Cut(cut) => found.cut == cut,
+        Wanted::Way(way) => found.way == way,
         Wanted::Names(alphabet, width, auto) => {
             found.alphabet == alphabet && found.width == width && found.auto == auto
         }
@@ -40,18 +41,19 @@ fn has(found: &SplitSettings<'_>, wanted: Wanted<'_>) -> bool {
             found.elide == elide && found.input == input && found.prefix == prefix
         }
         Wanted::Ends(delim, ending) => {
-            delim_of(found.cut) == Some(delim) && found.ending == ending
+            delim_of(found.way) == Some(delim) && found.ending == ending
         }
         Wanted::Told(verbose) => found.verbose == verbose,
     }
 }
 
 /// The byte that lines end with, where they matter.
-fn delim_of(cut: Cut) -> Option<u8> {
-    match cut {
-        Cut::Parts(Limit::Lines(_, delim) | Limit::LineBytes(_, delim)) => Some(delim),
-        Cut::Parts(Limit::Bytes(_)) => None,
-        Cut::Round(_, delim) => Some(delim),
+fn delim_of(way: Way) -> Option<u8> {
+    match way {
+        Way::Cut(Cut::Parts(Limit::Lines(_, delim) | Limit::LineBytes(_, delim))) => Some(delim),
+        Way::Cut(Cut::Parts(Limit::Bytes(_))) => None,
+        Way::Cut(Cut::Round(_, delim)) | Way::Turn(_, _, delim) => Some(delim),
+        Way::Chunks(chunks) | Way::Chunk(_, chunks) => Some(chunks.delim),
     }
 }
 
@@ -74,7 +76,7 @@ type CutRow<'a> = (&'a [&'a str], Cut);
 #[test]
 fn reads_the_way_to_split(rt: HostRuntime) {
     for row in WAYS {
-        check(&rt, rt.alloc(), row.0, Wanted::Cut(row.1));
+        check(&rt, rt.alloc(), row.0, Wanted::Way(Way::Cut(row.1)));
     }
 }
 
@@ -138,6 +140,79 @@ const WAYS: &[CutRow<'static>] = &[
     ),
 ];
 
+/// Words, how many chunks there are, of what, the byte that lines end with, which of them is written to standard output if
+/// just one is, and how many characters names have.
+type ChunkRow<'a> = (&'a [&'a str], u64, Unit, u8, Option<u64>, u32);
+
+#[test]
+fn reads_chunks(rt: HostRuntime) {
+    for row in CHUNKS {
+        check_chunks(&rt, rt.alloc(), row);
+    }
+    let words = &["split", "-n", "r/65535/65535", "-t", "\\0"];
+    check(
+        &rt,
+        rt.alloc(),
+        words,
+        Wanted::Way(Way::Turn(65_534, 65_535, 0)),
+    );
+}
+
+fn check_chunks(rt: &impl Abort, alloc: Global, row: &ChunkRow<'_>) {
+    let (words, count, unit, delim, only, width) = *row;
+    let chunks = Chunks { count, unit, delim };
+    let way = match only {
+        None => Way::Chunks(chunks),
+        Some(place) => Way::Chunk(place, chunks),
+    };
+    check(rt, alloc, words, Wanted::Way(way));
+    check(
+        rt,
+        alloc,
+        words,
+        Wanted::Names(Alphabet::Letters, width, false),
+    );
+}
+
+const CHUNKS: &[ChunkRow<'static>] = &[
+    (&["split", "-n", "4"], 4, Unit::Bytes, b'\n', None, 2),
+    (&["split", "-n01"], 1, Unit::Bytes, b'\n', None, 2),
+    (
+        &["split", "--number=65535"],
+        65_535,
+        Unit::Bytes,
+        b'\n',
+        None,
+        4,
+    ),
+    (
+        &["split", "-n", "l/677", "-t", ":"],
+        677,
+        Unit::Lines,
+        b':',
+        None,
+        3,
+    ),
+    (&["split", "-n", "4/4"], 4, Unit::Bytes, b'\n', Some(3), 2),
+    (
+        &["split", "-n", "1/1", "-a", "9"],
+        1,
+        Unit::Bytes,
+        b'\n',
+        Some(0),
+        9,
+    ),
+    (
+        &["split", "-n", "1/700", "-a", "1"],
+        700,
+        Unit::Bytes,
+        b'\n',
+        Some(0),
+        1,
+    ),
+    (&["split", "-nl/2/3"], 3, Unit::Lines, b'\n', Some(1), 2),
+];
+
 type NameRow<'a> = (&'a [&'a str], Cut, Alphabet, u32, bool);
 
 #[test]
@@ -149,7 +224,7 @@ fn reads_what_names_are_made_of(rt: HostRuntime) {
 
 fn names_are(rt: &impl Abort, alloc: Global, row: &NameRow<'_>) {
     let (words, cut, alphabet, width, auto) = *row;
-    check(rt, alloc, words, Wanted::Cut(cut));
+    check(rt, alloc, words, Wanted::Way(Way::Cut(cut)));
     check(rt, alloc, words, Wanted::Names(alphabet, width, auto));
 }
 
@@ -532,8 +607,32 @@ const BAD_VALUES: &[Refused<'static>] = &[
         UsageKind::NumberTooLarge,
         1,
     ),
-    (&["split", "-n", "3"], UsageKind::BadNumber, 2),
-    (&["split", "-n", "l/3"], UsageKind::BadNumber, 2),
+    (&["split", "-n", ""], UsageKind::BadNumber, 2),
+    (&["split", "-n", "/4"], UsageKind::BadNumber, 2),
+    (&["split", "-n", "4/"], UsageKind::BadNumber, 2),
+    (&["split", "-n", "x/4"], UsageKind::BadNumber, 2),
+    (&["split", "-n", "1/2/3"], UsageKind::BadNumber, 2),
+    (&["split", "-n", "-3"], UsageKind::BadNumber, 2),
+    (&["split", "-n", "l/"], UsageKind::BadNumber, 2),
+    (&["split", "-n", "l/x/4"], UsageKind::BadNumber, 2),
+    (
+        &["split", "-n", "99999999999999999999/x"],
+        UsageKind::BadNumber,
+        2,
+    ),
+    (&["split", "-n", "/70000"], UsageKind::BadNumber, 2),
+    (&["split", "-n", "65536"], UsageKind::NumberTooLarge, 2),
+    (&["split", "-n", "5/4"], UsageKind::NumberTooLarge, 2),
+    (
+        &["split", "-n", "l/99999999999999999999/4"],
+        UsageKind::NumberTooLarge,
+        2,
+    ),
+    (&["split", "-n", "r/3/0"], UsageKind::NumberTooLarge, 2),
+    (&["split", "-n", "0"], UsageKind::Zero, 2),
+    (&["split", "-n", "l/0"], UsageKind::Zero, 2),
+    (&["split", "-n", "0/4"], UsageKind::Zero, 2),
+    (&["split", "-n", "r/0/0"], UsageKind::Zero, 2),
     (&["split", "-n", "r/"], UsageKind::BadNumber, 2),
     (&["split", "-n", "r"], UsageKind::BadNumber, 2),
     (&["split", "-n", "r/+3"], UsageKind::BadNumber, 2),

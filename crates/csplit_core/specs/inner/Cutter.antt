@@ -15,6 +15,8 @@ use Rattle.ports_core.specs.Slot.{Slot, is_writable}
 use Rattle.ports_core.specs.Swept.{Removes, AreThere, RemovesIf, HasNoFiles}
 use Rattle.ports_core.specs.declared.fault.Fault.{Fault}
 use Rattle.ports_core.specs.declared.fault.Fault.TheVariants.{Memory}
+use Rattle.ports_core.specs.declared.fault.Fault.TheVariants as fault_is
+use Rattle.ports_core.specs.declared.verdict.Verdict.{Verdict}
 use Rattle.csplit_core.specs.Csplit.{settled_of, whole_of, verdict_of}
 use Rattle.ports_core.specs.Draft.{draft_part}
 use Rattle.ports_core.specs.FileWriter.{WriterState, OwnsFiles, IsManner, IsReady, Breaks, manner_in, size_of}
@@ -32,7 +34,7 @@ use Rattle.csplit_core.specs.declared.line_cutter.Cut.{Cut}
 use Rattle.csplit_core.specs.declared.line_cutter.LineCutter.{LineCutter}
 use Rattle.csplit_core.specs.declared.line_cutter.Passed.{Passed}
 use Rattle.csplit_core.specs.Cutter.{CutterState, AimHolds, seen, suppress_in, state_in, kept_by, IsFit, IsSound, load, draft_by, IsAt, EndsNow, IsLive, Stands}
-use Rattle.ports_core.specs.Engine.{Clears as EngineClears, KeepsOwn, is_verdict}
+use Rattle.ports_core.specs.Engine.{Clears as EngineClears, KeepsOwn}
 use Rattle.csplit_core.specs.CsplitState.{CsplitState, Owns, files, whole_lines, work}
 
 -- There are `total` lines; of the next operand it is known whether it matches the last one, if its search reaches that
@@ -457,8 +459,8 @@ pub record Closed (told : Bool) (stage : CsplitState) (old new : List Slot) (nex
       (settled_part stage.cutter x) (whole_part stage.cutter (x ++ stage.rest)) old new fault
   pub judged : IfNone fault ((x : List ℕ) → IsWhole x → Stands stage.cutter x → IsJudged next.cutter (x ++ stage.rest))
 
--- what the cutter says of the fault, once the last section ended, is where the plan over all lines ends
-abbrev pub Judges : CutterState → Option Fault → Type 0
+-- the cutter's verdict, once the last section ended, is that with which the plan over all lines ends
+abbrev pub Judges : CutterState → Option Verdict → Type 0
 Judges cutter verdict = (x : List ℕ) → IsJudged cutter x
     → verdict ≡ verdict_of (plan (suppress_in cutter) cutter.operands (all_lines x)).ending
 
@@ -470,12 +472,12 @@ pub record Sweeps (stage : CsplitState) (old new : List Slot) (next : CsplitStat
   pub owns : KeepsOwn Owns stage next old new
   pub there : AreThere (files next) new
 
--- How the end went: well; or a fault came before it; or it came, and the work ends with a fault.
+-- How the end went: well; or a fault came before it; or it came, and the work ends with a verdict.
 pub data Closes (told : Bool) (stage : CsplitState) (old new : List Slot) (next : CsplitState) : Result (Unit {0}) Fault
     → Type 0 where
   ended_well : Closed told stage old new next None → Judges next.cutter None → Closes told stage old new next (Ok tt)
   ended_short : (fault : Fault) → Closed told stage old new next (Some fault)
       → Closes told stage old new next (Err fault)
-  ended_so : (fault : Fault) (mid : CsplitState) (reached : List Slot) → Closed told stage old reached mid None
-      → Judges mid.cutter (Some fault) → is_verdict fault ≡ true → Sweeps mid reached new next
-      → Closes told stage old new next (Err fault)
+  ended_so : (verdict : Verdict) (mid : CsplitState) (reached : List Slot) → Closed told stage old reached mid None
+      → Judges mid.cutter (Some verdict) → Sweeps mid reached new next
+      → Closes told stage old new next (Err (fault_is.Verdict verdict))

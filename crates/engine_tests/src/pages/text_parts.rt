@@ -1,7 +1,7 @@
 ghost use Rattle.std.specs.Prelude.{◌<◌, ◌≤◌, length};
 
-use ports_core::{Alphabet, Fault, Names, Outs, Tells};
-use split_core::{Cut, Limit, Splitter};
+use ports_core::{Alphabet, Fault, Naming, Numbering, Outs, Tells};
+use split_core::{Cut, Limit, Splitter, Way};
 use std::alloc::Global;
 
 /// Writes a text to the files xaa, xab and so on, `most` lines to each.
@@ -14,16 +14,9 @@ pub(crate) fn write_parts<O: Outs>(
     requires some { 0 < most }
     requires streams { 2 ≤ length (O.slots outs.old) }
 {
-    let limit = Limit::Lines(most, b'\n');
-    let names = Names::new(alloc, "x", Alphabet::Letters, 2, true, "")?;
-    let mut splitter = Splitter::open(
-        alloc,
-        Cut::Parts(limit),
-        names,
-        false,
-        Tells::Nothing,
-        outs,
-    )?;
+    let way = Way::Cut(Cut::Parts(Limit::Lines(most, b'\n')));
+    let naming = Naming::new(alloc, "x", Numbering::Widening(Alphabet::Letters, 2), "")?;
+    let mut splitter = Splitter::open(alloc, way, None, naming, false, Tells::Nothing, outs)?;
     splitter.feed(text, outs)?;
     splitter.close(outs)
 }

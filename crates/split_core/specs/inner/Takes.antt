@@ -5,7 +5,8 @@ use Rattle.ports_core.specs.FileWriter.{WriterState, Goes, Leaves, Reaches, At, 
 use Rattle.ports_core.specs.Part.{Part, OutputsAt}
 use Rattle.ports_core.specs.Slot.{Slot}
 use Rattle.ports_core.specs.declared.fault.Fault.{Fault}
-use Rattle.ports_core.specs.declared.fault.Fault.TheVariants.{Suffixes}
+use Rattle.ports_core.specs.declared.fault.Fault.TheVariants.{Verdict}
+use Rattle.ports_core.specs.declared.verdict.Verdict.TheVariants.{Suffixes}
 use Rattle.ports_core.specs.declared.file_writer.Opening.TheVariants.{Late}
 use Rattle.seg_core.specs.Cut.{most}
 use Rattle.split_core.specs.Split.{are_named, draft_of, manner_of, output_by, settled_parts}
@@ -68,7 +69,7 @@ pub record Takes (told : Bool) (parts : PartsState) (bytes : List ℕ) (old new 
   pub stands : IfNone fault ((x : List ℕ) → Stands parts x → Stands next (x ++ bytes))
   pub reaches : (x : List ℕ) → Stands parts x → Reaches (output_by (filing_of parts).verbose) told parts.writer
       next.writer (settled_part parts x) (settled_part parts (x ++ bytes)) old new fault
-  pub short : IfSome fault (λ why. why ≡ Suffixes → (x : List ℕ) → Stands parts x
+  pub short : IfSome fault (λ why. why ≡ Verdict Suffixes → (x : List ℕ) → Stands parts x
       → LacksNames told parts x bytes old new)
 
 -- a stretch of the piece was taken in, or a fault came

@@ -1,12 +1,12 @@
--- What private calls say: the two ways to cut, as one stage.
-use Rattle.std.specs.Prelude.{◌≡◌, ℕ, ◌+◌, ◌%◌, Bool, true, List, [], length, slice_index_or, IsTrue, Result, OnOk, IfErr}
+-- What private calls say: the ways to cut, as one stage.
+use Rattle.std.specs.Prelude.{◌≡◌, ℕ, ◌+◌, ◌%◌, ◌≤◌, Bool, true, List, [], length, slice_index_or, IsTrue, Result, OnOk, IfErr}
 use Rattle.seg_core.specs.Line.{delimiters}
 use Rattle.ports_core.specs.Part.{writes}
 use Rattle.ports_core.specs.Slot.{Slot, is_writable}
 use Rattle.ports_core.specs.declared.fault.Fault.{Fault}
 use Rattle.split_core.specs.declared.splitter.Splitter.{Splitter}
-use Rattle.split_core.specs.declared.splitter.Splitter.TheVariants.{Parts, Round}
-use Rattle.split_core.specs.Ways.{Holds, Owns, Ready, work}
+use Rattle.split_core.specs.declared.splitter.Splitter.TheVariants.{Parts, Round, Chunks, Turn}
+use Rattle.split_core.specs.Ways.{Holds, Owns, Ready, size, work}
 use Rattle.ports_core.specs.Engine.{TakesIn, PutsOut, CutsOff, EndsShort, EndsWith, EndsThere, IsMet, KeepsOwn}
 use Rattle.ports_core.specs.Engine as engine
 use Rattle.split_core.specs.RoundState.{RoundState}
@@ -27,6 +27,7 @@ pub record Deals (told : Bool) (old : RoundState) (piece : List ℕ) (before aft
 pub record PassesBy (told : Bool) (piece : List ℕ) (before after : List Slot) (result : Result (Unit {0}) Fault)
     (old new : Splitter) : Type 0 where
   pub same : work new ≡ work old
+  pub bound : size new ≤ size old + length piece
   pub holds : OnOk result (TakesIn Holds piece old new)
   pub outputs : OnOk result (PutsOut Holds Owns work old piece told before after)
   pub ready : OnOk result (Ready new after)
@@ -39,6 +40,7 @@ pub record PassesBy (told : Bool) (piece : List ℕ) (before after : List Slot) 
 pub record FinishesBy (told : Bool) (before after : List Slot) (result : Result (Unit {0}) Fault)
     (old new : Splitter) : Type 0 where
   pub same : work new ≡ work old
+  pub bound : size new ≤ size old
   pub outputs : OnOk result (engine.Finishes Holds Owns work old told before after)
   pub writable : OnOk result (writes (work old).means.output ≡ true → IsTrue (is_writable after 0))
   pub owns : KeepsOwn Owns old new before after
@@ -50,3 +52,5 @@ pub record FinishesBy (told : Bool) (before after : List Slot) (result : Result 
 abbrev pub held : Splitter → ℕ
 held (Parts state) = length state.waiting
 held (Round state) = 0
+held (Chunks state) = length state.waiting
+held (Turn state) = 0

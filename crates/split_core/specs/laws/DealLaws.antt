@@ -79,7 +79,7 @@ each_step : (ends : Bool) (byte : ℕ) (lines : List (List ℕ)) → EachSome li
 each_step true byte lines each = (omega arith, each)
 each_step false byte lines each = search rules
 
-each_line : (delim : ℕ) (x : List ℕ) → EachSome (lines_of delim x)
+pub each_line : (delim : ℕ) (x : List ℕ) → EachSome (lines_of delim x)
 each_line delim [] = tt
 each_line delim (byte ∷ x) = each_step (eqb byte delim) byte (lines_of delim x) (each_line delim x)
 

@@ -51,7 +51,8 @@ named_short filing place front rest none = files_stop (manner_of filing) place f
 
 -- the parts of whole texts
 
-first_lines_begin : (delim k n : ℕ) (x : List ℕ) → k ≤ n → IsBeginning (first_lines delim k x) (first_lines delim n x)
+pub first_lines_begin : (delim k n : ℕ) (x : List ℕ) → k ≤ n
+    → IsBeginning (first_lines delim k x) (first_lines delim n x)
 first_lines_begin delim k n x less = (
   joined (drop k (lines_of delim (first_lines delim n x))),
   sym (first_lines_then_rest delim k (first_lines delim n x))

@@ -1,14 +1,14 @@
--- Laws that traits cite: those of the work of `split`, in each of its two ways to cut.
+-- Laws that traits cite: those of the work of `split`, in each way to cut.
 use Rattle.std.proofs.lemmas.Grind.{common_steps}
-use Rattle.std.proofs.Common.{◌≡◌, ℕ, ◌+◌, ◌≤◌, zero, suc, List, [], ◌∷◌, ◌++◌, map, Bool, true, false, cond, refl, arith, length, sym, ◌∙◌, ap, rules}
+use Rattle.std.proofs.Common.{◌≡◌, ℕ, ◌+◌, ◌≤◌, zero, suc, List, [], ◌∷◌, ◌++◌, map, Bool, true, false, cond, refl, Option, arith, length, sym, ◌∙◌, ap, rules}
 use Rattle.std.specs.List.{range_with_len}
-use Rattle.std.proofs.lemmas.Bool.{false≢true, not-true}
+use Rattle.std.proofs.lemmas.Bool.{false≢true, ltb-true, not-true}
 use Rattle.ports_core.specs.Name.{has_name}
-use Rattle.ports_core.specs.Part.{File, IsBeginning, FilesBegin, Begins}
-use Rattle.ports_core.specs.Work.{IsLawful, IsComplete}
+use Rattle.ports_core.specs.Part.{File, IsBeginning, FilesBegin, Begins, nothing}
+use Rattle.ports_core.specs.Work.{IsLawful, IsComplete, Work}
 use Rattle.ports_core.specs.declared.slot.State.{State}
 use Rattle.ports_core.specs.declared.slot.State.TheVariants.{Open, Closed}
-use Rattle.ports_core.proofs.PartLemmas.{begins_itself}
+use Rattle.ports_core.proofs.PartLemmas.{begins_itself, part_begins_itself}
 use Rattle.ports_core.specs.Draft.{part_of}
 use Rattle.split_core.specs.inner.CutLaws.{named}
 use Rattle.split_core.specs.Split.{Filing, share, manner_of, dealt_files, are_named, settled_parts}
@@ -23,7 +23,10 @@ use Rattle.split_core.specs.laws.ShareLaws.{part_begins, told_begins, settled_gr
 use Rattle.split_core.specs.PartsState.{filing_of, parts_work}
 use Rattle.split_core.specs.FilesState.{filing_in}
 use Rattle.split_core.specs.declared.splitter.Splitter.{Splitter}
-use Rattle.split_core.specs.declared.splitter.Splitter.TheVariants.{Parts, Round}
+use Rattle.split_core.specs.declared.splitter.Splitter.TheVariants.{Parts, Round, Chunks, Turn}
+use Rattle.seg_core.specs.declared.cut.Chunks.{Chunks as Chunking}
+use Rattle.split_core.specs.ChunkerState.{Course, can_cut, course, in_files, in_output, made_if, work_on}
+use Rattle.split_core.specs.laws.ChunkWorkLaws.{chunk_lawful, chunks_lawful, turn_lawful}
 use Rattle.split_core.specs.Ways.{work}
 
 begin_step : (is : Bool) (file high : File) (files wholes : List File) → file.name ≡ high.name → file.mode ≡ high.mode
@@ -86,8 +89,33 @@ stays limit filing x y short = grind (arith, common_steps, none, more, here, fil
 pub parts_lawful : (limit : Limit) (filing : Filing) → IsLawful (parts_work limit filing)
 parts_lawful limit filing = search (rules, part_begins, settled_grow, settled_end, stays)
 
--- Both ways
+-- Chunks
+
+-- where there are none nothing is made
+none_lawful : (work : Work) → IsLawful (made_if false work)
+none_lawful work = record {
+  grows = λ x y. part_begins_itself nothing;
+  ends = λ x. part_begins_itself nothing;
+  stays = λ x y never. absurd (false≢true never);
+}
+
+work_lawful : (on : Course) (chunks : Chunking) (said : Option ℕ) → can_cut on chunks.count ≡ true
+    → IsLawful (work_on on chunks said)
+work_lawful (in_files filing elide) chunks said can =
+    chunks_lawful (record { chunks = chunks; elide = elide; filing = filing }) said (ltb-true _ _ can)
+work_lawful (in_output chunk) chunks said can = chunk_lawful chunk chunks said (ltb-true _ _ can)
+
+chunks_so : (on : Course) (chunks : Chunking) (said : Option ℕ)
+    → IsLawful (made_if (can_cut on chunks.count) (work_on on chunks said))
+chunks_so on chunks said = by (can_cut on chunks.count) refl where
+  by : (can : Bool) → can_cut on chunks.count ≡ can → IsLawful (made_if can (work_on on chunks said))
+  by true can = work_lawful on chunks said can
+  by false can = none_lawful (work_on on chunks said)
+
+-- All ways
 
 pub lawful : (way : Splitter) → IsLawful (work way)
 lawful (Parts state) = parts_lawful state.limit (filing_of state)
+lawful (Chunks state) = chunks_so (course state.cutter) state.cutter.chunks state.said
+lawful (Turn state) = turn_lawful state.place state.count state.delim
 lawful (Round state) = round_lawful state.delim state.count state.elide (filing_in state.files)

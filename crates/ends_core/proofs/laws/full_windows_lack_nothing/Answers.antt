@@ -6,24 +6,23 @@ use Rattle.ports_core.specs.Work.{Means, on_output}
 use Rattle.ports_core.specs.Engine.{EndsWith, IsCaused, IsMet, over, long, met}
 use Rattle.ports_core.specs.Guard.{GuardState, HoldsIn}
 use Rattle.ports_core.specs.declared.fault.Fault.{Fault}
-use Rattle.ports_core.specs.declared.fault.Fault.TheVariants.{Memory, Write, Read, Open, Usage, Failed, TooLong}
+use Rattle.ports_core.specs.declared.fault.Fault.TheVariants.{Memory, Write, Open, TooLong}
+use Rattle.ports_core.specs.declared.fault.Fault.TheVariants as fault_is
+use Rattle.ports_core.specs.declared.verdict.Verdict.{Verdict}
 use Rattle.ends_core.specs.declared.ends.Ends.{Ends}
 use Rattle.ends_core.specs.Stage.{Holds, IsRefused, count_of, delim_of, keeps, may_lack, stretch_of, unit_of, work}
 use Rattle.ends_core.proofs.EndsLemmas.{always_well, on_means}
 
 -- of what writes to standard output alone, lacks no memory and has no fault of its own
-only_writes : (memory : Bool) {lacks : Bool} (Ends : Fault → Type 0) (old new : List Slot) (fault : Fault) → lacks ≡ false → ((other : Fault) → Ends other → ⊥)
+only_writes : (memory : Bool) {lacks : Bool} (Ends : Verdict → Type 0) (old new : List Slot) (fault : Fault) → lacks ≡ false → ((verdict : Verdict) → Ends verdict → ⊥)
     → IsMet (on_output memory) (on_output memory).feeding (lacks ≡ true) Ends old new fault → (fault ≡ Write 0) ⊎ (fault ≡ TooLong)
 only_writes memory Ends old new Memory enough well cause = absurd (false≢true (sym enough ∙ cause.1))
 only_writes memory Ends old new (Write slot) enough well cause = inl (ap Write (cause.1 refl))
 only_writes memory Ends old new (Open slot) enough well cause = absurd (false≢true cause.0)
-only_writes memory Ends old new Failed enough well cause = absurd cause
-only_writes memory Ends old new TooLong enough well cause = absurd cause
-only_writes memory Ends old new (Read slot) enough well cause = absurd cause
-only_writes memory Ends old new (Usage kind word) enough well cause = absurd cause
-only_writes memory Ends old new verdict enough well cause = absurd (well verdict cause)
+only_writes memory Ends old new (fault_is.Verdict verdict) enough well cause = absurd (well verdict cause)
+only_writes memory Ends old new fault enough well cause = absurd cause
 
-only_these : (memory : Bool) {lacks is_over : Bool} (Ends : Fault → Type 0) {fed size : ℕ} {old new : List Slot} {fault : Fault} → is_over ≡ false → lacks ≡ false → ((other : Fault) → Ends other → ⊥)
+only_these : (memory : Bool) {lacks is_over : Bool} (Ends : Verdict → Type 0) {fed size : ℕ} {old new : List Slot} {fault : Fault} → is_over ≡ false → lacks ≡ false → ((verdict : Verdict) → Ends verdict → ⊥)
     → IsCaused (IsMet (on_output memory) (on_output memory).feeding (lacks ≡ true) Ends old new) is_over fed size old new fault → (fault ≡ Write 0) ⊎ (fault ≡ TooLong)
 only_these memory Ends live enough well (over ended same) = absurd (false≢true (sym live ∙ ended))
 only_these memory Ends live enough well (long going much same) = inr refl
@@ -37,5 +36,5 @@ fails engine x piece old new fault holds enough refused =
     let unit = unit_of engine.stage in
     let n = count_of engine.stage in
     only_these (keeps s) (EndsWith Holds work engine.stage piece) holds.live enough
-    (λ other ends. none-some other (sym (always_well s delim unit n (x ++ piece)) ∙ (ends x holds.within).1))
+    (λ verdict ends. none-some verdict (sym (always_well s delim unit n (x ++ piece)) ∙ (ends x holds.within).1))
     (subst (λ (means : Means). IsCaused (IsMet means means.feeding (may_lack engine.stage ≡ true) (EndsWith Holds work engine.stage piece) old new) engine.is_over engine.fed (length piece) old new fault) (on_means s delim unit n) refused)

@@ -7,7 +7,7 @@ use Rattle.ports_core.specs.Work.{Work, IsSettled}
 use Rattle.ports_core.specs.Engine.{EndsWith, is_verdict}
 use Rattle.ports_core.proofs.SpareLemmas.{complete_used, spare_within, none_spare}
 use Rattle.run_core.specs.Feeding.{IsUnread, enough, is_stop, to_end, broke_off}
-use Rattle.run_core.proofs.FeedingLemmas.{of_more, of_read, read_to_used, told_by_complete, alike_after, alike_itself, judges, goes_on, stopped_feeding, ended, needed_more, piece_within, ends_sound, needed_within, read_used, takes_more, uses_all, uses_judged, uses_part, needed_front}
+use Rattle.run_core.proofs.FeedingLemmas.{OfVerdict, of_more, of_read, read_to_used, told_by_complete, alike_after, alike_itself, judges, goes_on, stopped_feeding, ended, needed_more, piece_within, ends_sound, needed_within, read_used, takes_more, uses_all, uses_judged, uses_part, needed_front}
 use Rattle.ports_core.proofs.InputsLemmas.{came_broken, came_sound, changed_source, ended_now, sound_at, read_none_more, keeps_again, keeps_others, read_broken, still_readable, read_more, read_failed, read_to_end, asked_again, asked_at_end, broken_now}
 use Rattle.run_core.proofs.feeding.feed_input.Goals as goal
 
@@ -145,8 +145,8 @@ pub returns-in-Err-feed : goal.returns-in-Err-feed
 returns-in-Err-feed g c =
     let so_far = c.pieces.invariant in
     let going : (g.S.Stage.work c.pieces.engine.stage).is_complete so_far.fed ≡ false = sym (c.done.ensures.complete so_far.fed so_far.feeds.holds) ∙ c.pieces-test.true in
-    let settles : is_stop (Err c.given_up.result) ≡ false → IsSettled (g.S.Stage.work c.pieces.engine.stage) (so_far.fed ++ take c.in-Ok.n c.read_part.new.buffer) c.in-Err-feed.fault
-    = λ ends. judges (g.S.Stage.work c.pieces.engine.stage).means _ (EndsWith g.S.Stage.Holds g.S.Stage.work c.pieces.engine.stage (take c.in-Ok.n c.read_part.new.buffer)) (ap is_verdict (sym c.given_up.ensures.same) ∙ not-false (is_verdict c.given_up.result) ends) c.in-Err-feed.ensures.refused so_far.fed so_far.feeds.holds.within in record {
+    let settles : is_stop (Err c.given_up.result) ≡ false → OfVerdict c.in-Err-feed.fault (IsSettled (g.S.Stage.work c.pieces.engine.stage) (so_far.fed ++ take c.in-Ok.n c.read_part.new.buffer))
+    = λ ends. let (verdict, is, settled) = judges (g.S.Stage.work c.pieces.engine.stage).means _ (EndsWith g.S.Stage.Holds g.S.Stage.work c.pieces.engine.stage (take c.in-Ok.n c.read_part.new.buffer)) (ap is_verdict (sym c.given_up.ensures.same) ∙ not-false (is_verdict c.given_up.result) ends) c.in-Err-feed.ensures.refused in (verdict, is, settled so_far.fed so_far.feeds.holds.within) in record {
       ends = λ before opening own at.
           let within : length (take c.in-Ok.n c.read_part.new.buffer) ≤ length c.args.buffer.now = piece_within c.read_part.new.buffer (omega (arith, c.in-Ok.ensures.bound, c.piece_size-size.ensures.within, so_far.room)) in
           let more = λ (told : g.I.Inputs.told ≡ true). (read_more _ _ _ _ _ _ _ _ _ (so_far.read told) so_far.readable (c.in-Ok.ensures.bytes told) c.in-Ok.ensures.rest).bytes in
@@ -162,7 +162,7 @@ returns-in-Err-feed g c =
               λ told unread standard. omega (arith, (takes_more _ (so_far.took told) so_far.readable (c.in-Ok.ensures.bytes told) c.in-Ok.ensures.rest).far unread),
             )
                 c.in-Err-feed.ensures.cut c.in-Err-feed.ensures.refused c.feed.ensures.same (λ unjudged. c.feed.ensures.owns) c.given_up.ensures.judged c.given_up.ensures.swept),
-            λ ends. rw (← so_far.feeds.same) (told_by_complete (source_at (g.I.Inputs.sources c.read_part.new.inputs) c.args.slot) rest (g.met.S.Stage.lawful _) (settles ends).0 bytes),
+            λ ends. rw (← so_far.feeds.same) (told_by_complete (source_at (g.I.Inputs.sources c.read_part.new.inputs) c.args.slot) rest (g.met.S.Stage.lawful _) (settles ends).2.0 bytes),
           ));
       others = keeps_again _ _ _ _ so_far.others (keeps_others _ _ _ _ c.in-Ok.ensures.rest);
       reads = λ told. (
@@ -176,7 +176,7 @@ returns-in-Err-feed g c =
           (uses_judged
           (read_more _ _ _ _ _ _ _ _ _ (so_far.read told) so_far.readable gave c.in-Ok.ensures.rest).bytes
           (needed_more so_far.fed c.read_part.new.buffer going (omega (arith, c.in-Ok.ensures.bound, c.piece_size-size.ensures.within, so_far.room)))
-          (settles ends).0 (settles ends).1 ((takes_more _ (so_far.took told) so_far.readable gave c.in-Ok.ensures.rest).far unread));
+          (settles ends).2 ((takes_more _ (so_far.took told) so_far.readable gave c.in-Ok.ensures.rest).far unread));
       asked = λ within. asked_again _ _ _ _ _ _ so_far.readable c.in-Ok.ensures.rest (omega (arith, c.piece_size-size.ensures.within, so_far.room)) (so_far.asked within);
       broke = tt;
       laid = c.read_part.ensures.kept ∙ so_far.laid;

@@ -1,10 +1,11 @@
-use Rattle.std.proofs.Common.{not, ap, inl, inr, sym, refl, rules}
+use Rattle.std.proofs.Common.{ap, Err, inl, inr, refl, rules}
 use Rattle.ports_core.proofs.HandedOn.{handed_on}
+use Rattle.run_core.specs.Feeding.{is_stop}
 use Rattle.run_core.proofs.InputLemmas.{of_source_too, from_source, part_two, headed, headed_count, stopped_in_header, took_well, took_broken, took_verdict, took_stopped, fed_open, unread_source}
 use Rattle.run_core.proofs.inputs.take_input.Goals as goal
 
 pub returns-in_err-put_header-clause-took : goal.returns-in_err-put_header-clause-took
-returns-in_err-put_header-clause-took g c so_far error opened at = search (rules, handed_on, unread_source, stopped_in_header)
+returns-in_err-put_header-clause-took g c so_far error opened at = (_, c.coming_from-coming.ensures, search (rules, handed_on, unread_source, stopped_in_header))
 
 pub say-requires : goal.say-requires
 say-requires g c =
@@ -18,20 +19,28 @@ say-requires-in-Err g c =
 
 pub returns-in-Ok-Whole-clause-took : goal.returns-in-Ok-Whole-clause-took
 returns-in-Ok-Whole-clause-took g c so_far error opened at =
-    of_source_too _ _ _ _ _ _ (λ content fed done. took_well _ _ _ _ _ _ _ _ so_far error _ _ _ _ (headed_count g.O.Outs.told _ _ c.in_ok-put_header.ensures.ok) (part_two at) (headed _ at c.in_ok-put_header.ensures.ok) (done refl) (inl c.in-Ok-Whole.field-0-is) fed) c.in-Ok-Whole.ensures.fed
+    (_, c.coming_from-coming.ensures, of_source_too _ _ _ _ _ _ (λ content fed done. took_well _ _ _ _ _ _ _ _ so_far error _ _ _ _ _ (headed_count g.O.Outs.told _ _ c.in_ok-put_header.ensures.ok) (part_two at) (headed _ at c.in_ok-put_header.ensures.ok) (done refl) (inl c.in-Ok-Whole.field-0-is) fed) c.in-Ok-Whole.ensures.fed)
 
 pub returns-in-Ok-Enough-clause-took : goal.returns-in-Ok-Enough-clause-took
 returns-in-Ok-Enough-clause-took g c so_far error opened at =
-    of_source_too _ _ _ _ _ _ (λ content fed done. took_well _ _ _ _ _ _ _ _ so_far error _ _ _ _ (headed_count g.O.Outs.told _ _ c.in_ok-put_header.ensures.ok) (part_two at) (headed _ at c.in_ok-put_header.ensures.ok) (done refl) (inr c.in-Ok-Enough.field-0-is) fed) c.in-Ok-Enough.ensures.fed
+    (_, c.coming_from-coming.ensures, of_source_too _ _ _ _ _ _ (λ content fed done. took_well _ _ _ _ _ _ _ _ so_far error _ _ _ _ _ (headed_count g.O.Outs.told _ _ c.in_ok-put_header.ensures.ok) (part_two at) (headed _ at c.in_ok-put_header.ensures.ok) (done refl) (inr c.in-Ok-Enough.field-0-is) fed) c.in-Ok-Enough.ensures.fed)
 
 pub returns-in-Ok-Broken-clause-took : goal.returns-in-Ok-Broken-clause-took
 returns-in-Ok-Broken-clause-took g c so_far error opened at =
-    of_source_too _ _ _ _ _ _ (λ content fed done. took_broken _ _ _ _ _ _ _ _ so_far error _ _ _ _ (headed_count g.O.Outs.told _ _ c.in_ok-put_header.ensures.ok) (part_two at) (headed _ at c.in_ok-put_header.ensures.ok) (done refl) c.in-Ok-Broken.field-0-is fed (rw c.tool.ensures at c.say.ensures)) c.in-Ok-Broken.ensures.fed
+    (_, c.coming_from-coming.ensures, of_source_too _ _ _ _ _ _ (λ content fed done. took_broken _ _ _ _ _ _ _ _ so_far error _ _ _ _ _ (headed_count g.O.Outs.told _ _ c.in_ok-put_header.ensures.ok) (part_two at) (headed _ at c.in_ok-put_header.ensures.ok) (done refl) c.in-Ok-Broken.field-0-is fed (rw c.tool.ensures at c.say.ensures)) c.in-Ok-Broken.ensures.fed)
 
-pub returns-then-not-is_verdict-clause-took : goal.returns-then-not-is_verdict-clause-took
-returns-then-not-is_verdict-clause-took g c so_far error opened at =
-    of_source_too _ _ _ _ _ _ (λ content fed done. took_stopped _ _ _ _ _ _ _ _ so_far error _ _ _ _ (headed_count g.O.Outs.told _ _ c.in_ok-put_header.ensures.ok) (part_two at) (headed _ at c.in_ok-put_header.ensures.ok) (sym c.if-not-is_verdict.ensures) fed) c.in-Err.ensures.fed
+pub returns-in_default : goal.returns-in_default
+returns-in_default g c = record {
+  took = λ so_far error opened at. (
+    _,
+    c.coming_from-coming.ensures,
+    of_source_too _ _ _ _ _ _ (λ content fed done. took_stopped _ _ _ _ _ _ _ _ so_far error _ _ _ _ _ (headed_count g.O.Outs.told _ _ c.in_ok-put_header.ensures.ok) (part_two at) (headed _ at c.in_ok-put_header.ensures.ok) c.in_default.not-Verdict fed) c.in-Err.ensures.fed,
+  );
+  asked = c.in-Err.ensures.asked;
+  others = c.in-Err.ensures.others;
+  laid = c.in-Err.ensures.laid;
+}
 
-pub returns-else-not-is_verdict-clause-took : goal.returns-else-not-is_verdict-clause-took
-returns-else-not-is_verdict-clause-took g c so_far error opened at =
-    of_source_too _ _ _ _ _ _ (λ content fed done. took_verdict _ _ _ _ _ _ _ _ so_far error _ _ _ _ (headed_count g.O.Outs.told _ _ c.in_ok-put_header.ensures.ok) (part_two at) (headed _ at c.in_ok-put_header.ensures.ok) (done (ap not (sym c.if-not-is_verdict.ensures))) (sym c.if-not-is_verdict.ensures) fed (rw (c.tool-in-Err.ensures, c.subject-subject.ensures) at c.say-in-Err.ensures)) c.in-Err.ensures.fed
+pub returns-in-Verdict-clause-took : goal.returns-in-Verdict-clause-took
+returns-in-Verdict-clause-took g c so_far error opened at =
+    (_, c.coming_from-coming.ensures, of_source_too _ _ _ _ _ _ (λ content fed done. took_verdict _ _ _ _ _ _ _ _ so_far error _ _ _ _ _ (headed_count g.O.Outs.told _ _ c.in_ok-put_header.ensures.ok) (part_two at) (headed _ at c.in_ok-put_header.ensures.ok) (done (ap (λ fault. is_stop (Err fault)) c.in-Verdict.is)) (rw c.in-Verdict.is at fed) (rw (c.tool-in-Err.ensures, c.subject-subject.ensures) at c.say-in-Err.ensures)) c.in-Err.ensures.fed)

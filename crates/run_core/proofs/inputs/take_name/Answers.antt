@@ -20,20 +20,22 @@ returns-in-Ok-clause-takes g c = takes_file (sym c.is_dash.ensures ∙ c.if-is_d
 
 -- it can't be opened
 
-pub returns-else-not-is_unopened-clause-took : goal.returns-else-not-is_unopened-clause-took
-returns-else-not-is_unopened-clause-took g c so_far error opened at =
-    of_missing (sym c.is_dash.ensures ∙ c.if-is_dash.false) c.in-Err.ensures.err (sym c.if-not-is_unopened.ensures) at (rw c.tool.ensures at c.say.ensures)
+pub returns-in-Open-clause-took : goal.returns-in-Open-clause-took
+returns-in-Open-clause-took g c so_far error opened at =
+    of_missing (sym c.is_dash.ensures ∙ c.if-is_dash.false) c.in-Err.ensures.err c.in-Open.is at (rw c.tool.ensures at c.say.ensures)
 
-pub returns-else-not-is_unopened-clause-takes : goal.returns-else-not-is_unopened-clause-takes
-returns-else-not-is_unopened-clause-takes g c = takes_missing (sym c.is_dash.ensures ∙ c.if-is_dash.false) c.requires.some c.in-Err.ensures.err
+pub returns-in-Open-clause-takes : goal.returns-in-Open-clause-takes
+returns-in-Open-clause-takes g c = takes_missing (sym c.is_dash.ensures ∙ c.if-is_dash.false) c.requires.some c.in-Err.ensures.err
 
 -- there is no room for it
 
-pub returns-then-not-is_unopened-clause-took : goal.returns-then-not-is_unopened-clause-took
-returns-then-not-is_unopened-clause-took g c so_far error opened at = grind (arith, common_steps, of_no_room)
-
-pub returns-then-not-is_unopened-clause-takes : goal.returns-then-not-is_unopened-clause-takes
-returns-then-not-is_unopened-clause-takes g c = takes_missing (sym c.is_dash.ensures ∙ c.if-is_dash.false) c.requires.some c.in-Err.ensures.err
+pub returns-in_default : goal.returns-in_default
+returns-in_default g c = record {
+  took = λ so_far error opened at. of_no_room c.args.progress.was_read (sym c.is_dash.ensures ∙ c.if-is_dash.false) c.in-Err.ensures.err c.in_default.not-Open at;
+  takes = takes_missing (sym c.is_dash.ensures ∙ c.if-is_dash.false) c.requires.some c.in-Err.ensures.err;
+  opens = tt;
+  laid = c.open.ensures.kept;
+}
 
 pub take_input-requires-in-Ok-clause-unread : goal.take_input-requires-in-Ok-clause-unread
 take_input-requires-in-Ok-clause-unread g c = grind (arith, common_steps)
@@ -44,5 +46,5 @@ take_input-requires-in-Ok-clause-input g c = grind (arith, common_steps)
 pub returns-in-Ok-clause-opens : goal.returns-in-Ok-clause-opens
 returns-in-Ok-clause-opens g c = grind (arith, common_steps)
 
-pub returns-else-not-is_unopened-clause-opens : goal.returns-else-not-is_unopened-clause-opens
-returns-else-not-is_unopened-clause-opens g c = grind (arith, common_steps)
+pub returns-in-Open-clause-opens : goal.returns-in-Open-clause-opens
+returns-in-Open-clause-opens g c = grind (arith, common_steps)

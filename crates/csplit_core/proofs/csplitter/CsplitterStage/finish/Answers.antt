@@ -15,11 +15,11 @@ returns-in_err-end-clause-closes g c = rw (handed_on _ _ c.from_residual-in_err-
 
 pub returns-in-None-clause-closes : goal.returns-in-None-clause-closes
 returns-in-None-clause-closes g c =
-    ended_well (closed_on c.take_last.new.self (ap (λ (stage : CsplitState). stage.cutter) c.self.view_is) c.in_ok-take_last.ensures.takes c.in_ok-end.ensures) (subst (Judges (seen c.end.new.self)) c.in-None.is c.verdict.ensures.judges)
+    ended_well (closed_on c.take_last.new.self (ap (λ (stage : CsplitState). stage.cutter) c.self.view_is) c.in_ok-take_last.ensures.takes c.in_ok-end.ensures) (subst (Judges (seen c.end.new.self)) c.in-None.is c.verdict.ensures)
 
 pub returns-in-Some-clause-closes : goal.returns-in-Some-clause-closes
 returns-in-Some-clause-closes g c =
-    judged_by {stage = c.args.self.now} {mid = record { cutter = seen c.end.new.self; rest = c.self.inside.rest.items; taken = c.self.inside.taken }} {next = c.clear.new.self} {verdict = c.verdict.result} {fault = c.in-Some.fault}
+    judged_by {stage = c.args.self.now} {mid = record { cutter = seen c.end.new.self; rest = c.self.inside.rest.items; taken = c.self.inside.taken }} {next = c.clear.new.self} {result = c.verdict.result} {verdict = c.in-Some.verdict}
     (closed_on c.take_last.new.self (ap (λ (stage : CsplitState). stage.cutter) c.self.view_is) c.in_ok-take_last.ensures.takes c.in_ok-end.ensures)
-    c.in-Some.is c.verdict.ensures.judges c.in-Some.ensures.kind
+    c.in-Some.is c.verdict.ensures
     (record { same = c.clear.ensures.same; removes = c.clear.ensures.removes; swept = c.clear.ensures.swept; owns = c.clear.ensures.owns; there = c.clear.ensures.there })

@@ -1,5 +1,5 @@
 use Rattle.std.proofs.lemmas.Grind.{common_steps}
-use Rattle.std.proofs.Common.{◌∙◌, ap, arith}
+use Rattle.std.proofs.Common.{◌∙◌, ap, arith, sym}
 use Rattle.ports_core.specs.Source.{Source, count_left}
 use Rattle.seg_core.specs.declared.unit.Unit.TheVariants.{Bytes}
 use Rattle.ports_core.proofs.LoadLemmas.{looked_none, looked_once, looked_readable}
@@ -19,7 +19,7 @@ pub skip-requires-clause-input : goal.skip-requires-clause-input
 skip-requires-clause-input g c = looked_readable (looked_once {most = 1} c.requires.input (grind (arith, common_steps)) c.read_at.ensures.rest) c.requires.input
 
 pub skip-requires-clause-left : goal.skip-requires-clause-left
-skip-requires-clause-left g c tells = ap (λ (source : Source). count_left source.left) (looked_once {most = 1} c.requires.input (grind (arith, common_steps)) c.read_at.ensures.rest).looked ∙ c.in-Some.ensures tells
+skip-requires-clause-left g c tells = ap (λ (source : Source). count_left source.left) (looked_once {most = 1} c.requires.input (grind (arith, common_steps)) c.read_at.ensures.rest).looked ∙ sym (c.left.ensures tells) ∙ c.in-Some.is
 
 pub returns-then-not-skip-clause-passes : goal.returns-then-not-skip-clause-passes
 returns-then-not-skip-clause-passes g c =
@@ -27,6 +27,6 @@ returns-then-not-skip-clause-passes g c =
 
 pub returns-clause-passes : goal.returns-clause-passes
 returns-clause-passes g c =
-    passes_front _ _ c.requires.input c.in-Some.ensures (omega (arith, c.min-count.ensures))
+    passes_front _ _ c.requires.input (λ tells. sym (c.left.ensures tells) ∙ c.in-Some.is) (omega (arith, c.min-count.ensures))
     (λ x long. fewer_left c.args.self.now c.min-count.result x (omega (arith, c.min-count.ensures)) long)
     (looked_once c.requires.input (grind (arith, common_steps)) c.read_at.ensures.rest) (c.skip.ensures.rest c.if-not-skip.false)

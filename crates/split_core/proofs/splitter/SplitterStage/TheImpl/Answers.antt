@@ -1,5 +1,5 @@
 use Rattle.std.proofs.lemmas.Grind.{common_steps}
-use Rattle.std.proofs.Common.{◌∙◌, arith}
+use Rattle.std.proofs.Common.{◌∙◌, arith, sym}
 use Rattle.split_core.proofs.RoundLemmas.{held_is}
 use Rattle.split_core.proofs.splitter.SplitterStage.TheImpl.Goals as goal
 
@@ -11,3 +11,15 @@ finish-tells g c = grind (arith, common_steps)
 
 pub waits-tells : goal.waits-tells
 waits-tells c x few holds = c.ensures ∙ held_is c.args.self.now x holds
+
+pub is_done-tells : goal.is_done-tells
+is_done-tells c = record {
+  complete = c.ensures;
+  exact = λ x holds. (λ done. sym (c.ensures x holds) ∙ done, λ done. c.ensures x holds ∙ done);
+}
+
+pub wanted-tells : goal.wanted-tells
+wanted-tells c = record {
+  some = λ x holds going. c.ensures.some;
+  few = c.ensures.few;
+}

@@ -1,0 +1,708 @@
+-- What is settled of chunks is what all continuations agree on.
+use Rattle.std.proofs.Common.{◌≡◌, ◌≢◌, ℕ, ◌+◌, ◌-◌, ◌*◌, ◌/◌, ◌%◌, ◌<◌, ◌≤◌, max, zero, suc, Bool, true, false, cond, List, [], ◌∷◌, ◌++◌, length, take, drop, map, get_or, replicate, Option, Some, None, inl, inr, refl, sym, ◌∙◌, ap, subst, arith}
+use Rattle.std.proofs.lemmas.Bool.{cases_lt, eq-eqb, ltb-false}
+use Rattle.std.proofs.lemmas.List.{append-nil, drop-append-le, length-append, length-replicate, map-append, take_all}
+use Rattle.std.proofs.lemmas.Nat.{div-add-mod', le-div}
+use Rattle.std.proofs.Math.Nat.{one-mul, zero-mul}
+use Rattle.std.specs.List.{filter, range_with_len}
+use Rattle.seg_core.specs.Line.{joined}
+use Rattle.seg_core.proofs.FirstLines.{joined-append}
+use Rattle.seg_core.specs.declared.cut.Chunks.{Chunks}
+use Rattle.seg_core.specs.declared.unit.Unit.{Unit as Which}
+use Rattle.seg_core.specs.declared.unit.Unit.TheVariants.{Bytes, Lines}
+use Rattle.ports_core.specs.Agreed.{file_bytes, output_at}
+use Rattle.ports_core.specs.Draft.{part_of, told_of_files}
+use Rattle.ports_core.specs.Part.{IsBeginning, Part}
+use Rattle.ports_core.specs.Work.{Work}
+use Rattle.ports_core.specs.declared.slot.State.TheVariants.{Open, Closed}
+use Rattle.split_core.specs.Parts.{CutUp, unless_empty}
+use Rattle.split_core.specs.Place.{beside_output}
+use Rattle.split_core.specs.Split.{Filing, Share, are_named, is_some, manner_of, output_by, share}
+use Rattle.split_core.specs.Chunks.{before_chunk, begun_before, chunk_at, chunk_start, chunks_of, decided, ended, in_the_end, is_longer, open_from, pieces_in, size_by}
+use Rattle.split_core.specs.ChunkAgreed.{AgreeAt, CanFollow}
+use Rattle.split_core.specs.ChunkWork.{ChunksPlan, chunk_work, chunks_settled, chunks_whole, chunks_work, files_by, kept}
+use Rattle.split_core.specs.inner.Chunks.{HaveEnded}
+use Rattle.split_core.specs.laws.ChunkWorkLaws.{chunk_lawful, chunks_lawful, first_kept, kept-append}
+use Rattle.ports_core.proofs.AgreedLemmas.{common, copies_come, none_comes}
+use Rattle.split_core.proofs.AgreedLemmas.{bytes_named, each_named, named_bytes}
+use Rattle.split_core.proofs.CutLaws.{bytes_of_shares}
+use Rattle.split_core.proofs.ChunkLemmas.{bytes_filed, few_files, made_few, same_pieces}
+use Rattle.split_core.proofs.RoundLemmas.{named_fewer}
+use Rattle.split_core.specs.laws.BegunLaws.{begin_short, begun_begins, begun_first, begun_first_place, begun_monotone, begun_on, begun_within, open_within}
+use Rattle.split_core.specs.laws.ChunkLaws.{all_joined, before_stays, chunks_are, cut_all, cut_before, ended_is, full_stays, map_parts, passed_open, start_first, start_grows, start_past}
+
+-- Bytes that are all the same
+
+abbrev pub IsRun : ℕ → List ℕ → Type 0
+IsRun c [] = Unit {0}
+IsRun c (byte ∷ bytes) = (byte ≡ c) × IsRun c bytes
+
+abbrev pub AreRuns : ℕ → List (List ℕ) → Type 0
+AreRuns c [] = Unit {0}
+AreRuns c (piece ∷ pieces) = IsRun c piece × AreRuns c pieces
+
+run_front : (c : ℕ) (front rest : List ℕ) → IsRun c (front ++ rest) → IsRun c front
+run_front c [] rest run = tt
+run_front c (byte ∷ front) rest (same, run) = (same, run_front c front rest run)
+
+run_begins : (c : ℕ) (low high : List ℕ) → IsBeginning low high → IsRun c high → IsRun c low
+run_begins c low high (rest, is) run = run_front c low rest (subst (IsRun c) is run)
+
+pub run_of : (c n : ℕ) → IsRun c (replicate n c)
+run_of c zero = tt
+run_of c (suc n) = (refl, run_of c n)
+
+run_drop : (c n : ℕ) (bytes : List ℕ) → IsRun c bytes → IsRun c (drop n bytes)
+run_drop c zero bytes run = run
+run_drop c (suc n) [] run = tt
+run_drop c (suc n) (byte ∷ bytes) (same, run) = run_drop c n bytes run
+
+-- two runs of different bytes have nothing in common
+apart : (a b : ℕ) → a ≢ b → (front one other : List ℕ) → IsBeginning front one → IsBeginning front other → IsRun a one
+    → IsRun b other → length front ≤ 0
+apart a b differ [] one other first second run also = omega arith
+apart a b differ (byte ∷ front) one other first second run also =
+    absurd (differ (sym (run_begins a (byte ∷ front) one first run).0
+    ∙ (run_begins b (byte ∷ front) other second also).0))
+
+begins_tail : (byte next : ℕ) (front x : List ℕ) → IsBeginning (byte ∷ front) (next ∷ x) → IsBeginning front x
+begins_tail byte next front x (rest, is) = (rest, ap (drop 1) is)
+
+apart_after : (a b : ℕ) → a ≢ b → (r front one other : List ℕ) → IsBeginning front (r ++ one)
+    → IsBeginning front (r ++ other) → IsRun a one → IsRun b other → length front ≤ length r
+apart_after a b differ [] front one other first second run also = apart a b differ front one other first second run also
+apart_after a b differ (byte ∷ r) [] one other first second run also = omega arith
+apart_after a b differ (byte ∷ r) (next ∷ front) one other first second run also =
+    omega (
+      arith,
+      apart_after a b differ r front one other (begins_tail next byte front (r ++ one) first)
+          (begins_tail next byte front (r ++ other) second) run also,
+    )
+
+-- Files, of which the first that goes on has r, and then only this byte, and so have all after it
+
+abbrev pub IsTail : ℕ → List ℕ → List (List ℕ) → Type 0
+IsTail c r [] = r ≡ []
+IsTail c r (piece ∷ pieces) = ((more : List ℕ) × (piece ≡ r ++ more) × IsRun c more) × AreRuns c pieces
+
+tail_of_runs : (c : ℕ) (pieces : List (List ℕ)) → AreRuns c pieces → IsTail c [] pieces
+tail_of_runs c [] runs = refl
+tail_of_runs c (piece ∷ pieces) (run, runs) = ((piece, refl, run), runs)
+
+no_front : (r more : List ℕ) → is_some (r ++ more) ≡ false → r ≡ []
+no_front [] more none = refl
+no_front (byte ∷ r) more none = cc
+
+some_runs : (c : ℕ) (pieces : List (List ℕ)) → AreRuns c pieces → AreRuns c (filter is_some pieces)
+some_runs c [] runs = tt
+some_runs c (piece ∷ pieces) (run, runs) = by (is_some piece) (some_runs c pieces runs) where
+  by : (some : Bool) → AreRuns c (filter is_some pieces)
+      → AreRuns c (cond some (piece ∷ filter is_some pieces) (filter is_some pieces))
+  by true rest = (run, rest)
+  by false rest = rest
+
+tail_kept : (elide : Bool) (c : ℕ) (r : List ℕ) (pieces : List (List ℕ)) → IsTail c r pieces
+    → IsTail c r (kept elide pieces)
+tail_kept false c r pieces tail = tail
+tail_kept true c r [] tail = tail
+tail_kept true c r (piece ∷ pieces) ((more, is, run), runs) = by (is_some piece) refl where
+  rest : AreRuns c (filter is_some pieces)
+  rest = some_runs c pieces runs
+
+  by : (some : Bool) → is_some piece ≡ some
+      → IsTail c r (cond some (piece ∷ filter is_some pieces) (filter is_some pieces))
+  by true some = ((more, is, run), rest)
+  by false none = rw (no_front r more (sym (ap is_some is) ∙ none)) (tail_of_runs c (filter is_some pieces) rest)
+
+runs_at : (c : ℕ) (pieces : List (List ℕ)) (i : ℕ) → AreRuns c pieces → IsRun c (get_or pieces i [])
+runs_at c [] i runs = tt
+runs_at c (piece ∷ pieces) zero (run, runs) = run
+runs_at c (piece ∷ pieces) (suc i) (run, runs) = runs_at c pieces i runs
+
+first_made : (r : List ℕ) → get_or (unless_empty r) 0 [] ≡ r
+first_made [] = refl
+first_made (byte ∷ r) = refl
+
+-- two that go on with different bytes have no more in common than what is there
+pub tails_apart : (a b : ℕ) → a ≢ b → (front : List (List ℕ)) (r : List ℕ) (one other : List (List ℕ)) → IsTail a r one
+    → IsTail b r other → (place : ℕ) (bytes : List ℕ) → IsBeginning bytes (get_or (front ++ one) place [])
+    → IsBeginning bytes (get_or (front ++ other) place [])
+    → length bytes ≤ length (get_or (front ++ unless_empty r) place [])
+tails_apart a b differ [] r [] other tail also place bytes first second =
+    omega (arith, begin_short bytes (get_or [] place []) first)
+tails_apart a b differ [] r (piece ∷ one) [] tail also place bytes first second =
+    omega (arith, begin_short bytes (get_or [] place []) second)
+tails_apart a b differ [] r (piece ∷ one) (next ∷ other) ((more, is, run), runs) ((rest, are, also), too) zero bytes
+    first second = omega (
+      arith,
+      ap length (first_made r),
+      apart_after a b differ r bytes more rest (subst (IsBeginning bytes) is first)
+          (subst (IsBeginning bytes) are second) run also,
+    )
+tails_apart a b differ [] r (piece ∷ one) (next ∷ other) tail also (suc place) bytes first second =
+    omega (arith, apart a b differ bytes _ _ first second (runs_at a one place tail.1) (runs_at b other place also.1))
+tails_apart a b differ (piece ∷ front) r one other tail also zero bytes first second = begin_short bytes piece first
+tails_apart a b differ (piece ∷ front) r one other tail also (suc place) bytes first second =
+    tails_apart a b differ front r one other tail also place bytes first second
+
+-- A text that goes on with one byte alone
+
+drop_none : (c n : ℕ) → IsRun c (drop n [])
+drop_none c zero = tt
+drop_none c (suc n) = tt
+
+drop_run : (c : ℕ) (x y : List ℕ) (n : ℕ) (front : List ℕ) → IsBeginning front (x ++ y) → length x ≤ n → IsRun c y
+    → IsRun c (drop n front)
+drop_run c [] y n front begins past run = run_drop c n front (run_begins c front y begins run)
+drop_run c (byte ∷ x) y n [] begins past run = drop_none c n
+drop_run c (byte ∷ x) y zero (next ∷ front) begins past run = absurd (omega (arith, past))
+drop_run c (byte ∷ x) y (suc n) (next ∷ front) begins past run =
+    drop_run c x y n front (begins_tail next byte front (x ++ y) begins) (omega (arith, past)) run
+
+runs_from : (c : ℕ) (f : ℕ → List ℕ) (a n : ℕ) → ((i : ℕ) → a ≤ i → IsRun c (f i))
+    → AreRuns c (map f (range_with_len a n))
+runs_from c f a zero run = tt
+runs_from c f a (suc n) run = (run a (omega arith), runs_from c f (a + 1) n (λ i from. run i (omega (arith, from))))
+
+-- the chunk that is begun has what is left, and then that byte, and so have all after it
+tail_is : (chunks : Chunks) (size : ℕ) (x y : List ℕ) (c p m : ℕ) → IsRun c y
+    → before_chunk chunks size p (x ++ y) ≡ before_chunk chunks size p x
+    → open_from chunks.unit chunks.delim x < chunk_start chunks.count size (p + 1)
+    → IsTail c (drop (length (before_chunk chunks size p x)) x)
+    (map (chunk_at chunks size (x ++ y)) (range_with_len p (suc m)))
+tail_is chunks size x y c p m run same past =
+    ((more, first, run_begins c more y begins run), runs_from c f (p + 1) m later)
+  where
+    end : ℕ
+    end = chunk_start chunks.count size (p + 1)
+
+    f : ℕ → List ℕ
+    f = chunk_at chunks size (x ++ y)
+
+    more : List ℕ
+    more = begun_before chunks.unit chunks.delim (max (end - length x) 1) y
+
+    begins : IsBeginning more y
+    begins = begun_begins chunks.unit chunks.delim (max (end - length x) 1) y
+
+    all : before_chunk chunks size (p + 1) (x ++ y) ≡ x ++ more
+    all = begun_on chunks.unit chunks.delim end x y past
+
+    first : f p ≡ drop (length (before_chunk chunks size p x)) x ++ more
+    first = ap (λ low. drop (length low) (before_chunk chunks size (p + 1) (x ++ y))) same
+        ∙ ap (drop (length (before_chunk chunks size p x))) all
+        ∙ drop-append-le (length (before_chunk chunks size p x)) x more
+        (begun_within chunks.unit chunks.delim _ x)
+
+    later : (i : ℕ) → p + 1 ≤ i → IsRun c (f i)
+    later i from = drop_run c x y _ (before_chunk chunks size (i + 1) (x ++ y))
+        (begun_begins chunks.unit chunks.delim _ (x ++ y))
+        (omega (
+          arith,
+          ap length all,
+          length-append x more,
+          begin_short _ _ (begun_monotone chunks.unit chunks.delim
+              (x ++ y) (start_grows chunks.count size (p + 1) i from)),
+        )) run
+
+parts_split : (f : ℕ → List ℕ) (p m : ℕ)
+    → map f (range_with_len 0 (p + suc m)) ≡ map f (range_with_len 0 p) ++ map f (range_with_len p (suc m))
+parts_split f p m = let e : 0 + p ≡ p = omega arith in
+    map_parts f 0 p m ∙ ap (λ n. map f (range_with_len 0 p) ++ f n ∷ map f (range_with_len (n + 1) m)) e
+
+-- the files of a whole text, by a place
+files_split : (elide : Bool) (chunks : Chunks) (size : ℕ) (w : List ℕ) (p m : ℕ) → 0 < chunks.count → length w ≡ size
+    → p + suc m ≡ chunks.count → files_by elide (chunks_of chunks size w)
+    ≡ kept elide (map (chunk_at chunks size w) (range_with_len 0 p))
+    ++ kept elide (map (chunk_at chunks size w) (range_with_len p (suc m)))
+files_split elide chunks size w p m some long is = let f = chunk_at chunks size w in
+    ap (files_by elide) (cut_all chunks size w some (omega (arith, long)))
+    ∙ append-nil (kept elide (map (chunk_at chunks size (take size w)) (range_with_len 0 chunks.count)))
+    ∙ ap (λ z. kept elide (map (chunk_at chunks size z) (range_with_len 0 chunks.count)))
+    (take_all size w (omega (arith, long)))
+    ∙ ap (λ n. kept elide (map f (range_with_len 0 n))) (sym is)
+    ∙ ap (kept elide) (parts_split f p m)
+    ∙ kept-append elide (map f (range_with_len 0 p)) (map f (range_with_len p (suc m)))
+
+-- Where the size was said
+
+said_files : (elide : Bool) (chunks : Chunks) (size : ℕ) (x y : List ℕ) (c : ℕ) → 0 < chunks.count → length x < size
+    → length (x ++ y) ≡ size → IsRun c y → (tail : List (List ℕ)) × IsTail c (chunks_of chunks size x).rest tail
+    × (files_by elide (chunks_of chunks size (x ++ y)) ≡ kept elide (chunks_of chunks size x).full ++ tail)
+said_files elide chunks size x y c some short long run = (
+  kept elide (map f (range_with_len p (suc m))),
+  tail_kept elide c (chunks_of chunks size x).rest (map f (range_with_len p (suc m)))
+      (subst (λ r. IsTail c r (map f (range_with_len p (suc m)))) (sym (ap (λ cut. cut.rest) cut_x))
+      (tail_is chunks size x y c p m run (before_stays chunks size p x y (omega (arith, long)) here.before)
+      (omega (arith, here.next less, passed_open chunks size x short)))),
+  files_split elide chunks size (x ++ y) p m some long is
+      ∙ ap (λ front. kept elide front ++ kept elide (map f (range_with_len p (suc m))))
+      (full_stays chunks size p x y (omega (arith, long)) here.before ∙ sym (ap (λ cut. cut.full) cut_x)),
+) where
+  p : ℕ
+  p = ended chunks size x
+
+  here : HaveEnded chunks size x p
+  here = ended_is chunks size x
+
+  less : p < chunks.count
+  less = elim (cases_lt p chunks.count) [
+    | inl before ↦ before
+    | inr last ↦ absurd (omega (
+      arith,
+      short,
+      start_past chunks.count size p some last,
+      here.before,
+      passed_open chunks size x short,
+      open_within chunks.unit chunks.delim x,
+    ))
+  ]
+
+  m : ℕ
+  m = chunks.count - p - 1
+
+  is : p + suc m ≡ chunks.count
+  is = omega (arith, less)
+
+  f : ℕ → List ℕ
+  f = chunk_at chunks size (x ++ y)
+
+  cut_x : chunks_of chunks size x ≡ cut_before chunks size x p
+  cut_x = chunks_are chunks size x some (omega (arith, short)) here
+
+-- two continuations that have no more in common in any file than what is decided
+pub record AreFiles (elide : Bool) (chunks : Chunks) (said : Option ℕ) (x : List ℕ) (place : ℕ) : Type 0 where
+  pub y : List ℕ
+  pub z : List ℕ
+  pub comes : CanFollow said x y
+  pub also : CanFollow said x z
+  pub longest : (front : List ℕ)
+      → IsBeginning front (get_or (files_by elide (in_the_end chunks said (x ++ y))) place [])
+      → IsBeginning front (get_or (files_by elide (in_the_end chunks said (x ++ z))) place [])
+      → length front ≤ length (get_or (files_by elide (decided chunks 1 said x)) place [])
+
+abbrev fill : ℕ → List ℕ → ℕ → List ℕ
+fill size x c = replicate (size - length x) c
+
+fills : (size : ℕ) (x : List ℕ) (c : ℕ) → length x ≤ size → length (x ++ fill size x c) ≡ size
+fills size x c within = omega (arith, length-append x (fill size x c), length-replicate (size - length x) c)
+
+said_longest : (elide : Bool) (chunks : Chunks) (size : ℕ) (x : List ℕ) (place : ℕ) → 0 < chunks.count
+    → length x ≤ size → AreFiles elide chunks (Some size) x place
+said_longest elide chunks size x place some within = elim (cases_lt (length x) size) [
+  | inl short ↦ (
+      let one = said_files elide chunks size x (fill size x 0) 0 some short (fills size x 0 within)
+      (run_of 0 (size - length x)) in
+      let two = said_files elide chunks size x (fill size x 1) 1 some short (fills size x 1 within)
+      (run_of 1 (size - length x)) in record {
+        y = fill size x 0;
+        z = fill size x 1;
+        comes = (copies_come (size - length x) 0 (omega arith), eq-eqb _ _ (fills size x 0 within));
+        also = (copies_come (size - length x) 1 (omega arith), eq-eqb _ _ (fills size x 1 within));
+        longest = λ front first second. tails_apart 0 1 (λ same. omega (arith, same))
+            (kept elide (chunks_of chunks size x).full) (chunks_of chunks size x).rest one.0 two.0 one.1 two.1 place
+            front
+            (subst (λ files. IsBeginning front (get_or files place [])) one.2 first)
+            (subst (λ files. IsBeginning front (get_or files place [])) two.2 second);
+      })
+  | inr full ↦ record {
+    y = [];
+    z = [];
+    comes = (none_comes, eq-eqb _ _ (omega (arith, length-append x [], within, full)));
+    also = (none_comes, eq-eqb _ _ (omega (arith, length-append x [], within, full)));
+    longest = λ front first second. begin_short _ _ (subst (λ z. IsBeginning front
+        (get_or (files_by elide (chunks_of chunks size z)) place [])) (append-nil x) first);
+  }
+]
+
+-- Where it wasn't
+
+joined_kept : (elide : Bool) (pieces : List (List ℕ)) → joined (kept elide pieces) ≡ joined pieces
+joined_kept false pieces = refl
+joined_kept true [] = refl
+joined_kept true ([] ∷ pieces) = joined_kept true pieces
+joined_kept true ((byte ∷ piece) ∷ pieces) = ap (λ rest. (byte ∷ piece) ++ rest) (joined_kept true pieces)
+
+joined_made : (r : List ℕ) → joined (unless_empty r) ≡ r
+joined_made [] = refl
+joined_made (byte ∷ r) = append-nil (byte ∷ r)
+
+-- the files have all that the pieces have
+pub joined_files : (elide : Bool) (cut : CutUp) → joined (files_by elide cut) ≡ joined (pieces_in cut)
+joined_files elide cut = joined-append (kept elide cut.full) (unless_empty cut.rest)
+    ∙ ap (λ front. front ++ joined (unless_empty cut.rest)) (joined_kept elide cut.full)
+    ∙ ap (λ rest. joined cut.full ++ rest) (joined_made cut.rest ∙ sym (append-nil cut.rest))
+    ∙ sym (joined-append cut.full (cut.rest ∷ []))
+
+at_within : (pieces : List (List ℕ)) (place : ℕ) → length (get_or pieces place []) ≤ length (joined pieces)
+at_within [] place = omega arith
+at_within (piece ∷ pieces) zero = omega (arith, length-append piece (joined pieces))
+at_within (piece ∷ pieces) (suc place) =
+    omega (arith, at_within pieces place, length-append piece (joined pieces))
+
+-- once enough came in, all that came before it stands in the first chunk
+pub far : (n size : ℕ) → 0 < n → size < chunk_start n (size + suc size * n) (0 + 1)
+far n size some =
+    let enough : suc size ≤ (size + suc size * n) / n = le-div (suc size) (size + suc size * n) n some (omega arith) in
+    let one : (0 + 1) * ((size + suc size * n) / n) ≡ (size + suc size * n) / n = one-mul _ in
+    omega (arith, enough, one)
+
+pub none_before_first : (chunks : Chunks) (size : ℕ) (x : List ℕ) → before_chunk chunks size 0 x ≡ []
+none_before_first chunks size x = ap (λ at. begun_before chunks.unit chunks.delim at x) (start_first chunks.count size)
+    ∙ begun_first_place chunks.unit chunks.delim x
+
+none_kept : (elide : Bool) → kept elide [] ≡ []
+none_kept true = refl
+none_kept false = refl
+
+pub none_files : (elide : Bool) (chunks : Chunks) (x y : List ℕ) (c : ℕ) → 0 < chunks.count → IsRun c y
+    → length y ≡ suc (length x) * chunks.count
+    → IsTail c x (files_by elide (chunks_of chunks (length (x ++ y)) (x ++ y)))
+none_files elide chunks x y c some run long = by chunks.count refl where
+  size : ℕ
+  size = length (x ++ y)
+
+  f : ℕ → List ℕ
+  f = chunk_at chunks size (x ++ y)
+
+  past : open_from chunks.unit chunks.delim x < chunk_start chunks.count size (0 + 1)
+  past = omega (
+    arith,
+    open_within chunks.unit chunks.delim x,
+    far chunks.count (length x) some,
+    ap (λ n. chunk_start chunks.count n (0 + 1)) (length-append x y ∙ ap (λ n. length x + n) long),
+  )
+
+  same : before_chunk chunks size 0 (x ++ y) ≡ before_chunk chunks size 0 x
+  same = none_before_first chunks size (x ++ y) ∙ sym (none_before_first chunks size x)
+
+  by : (n : ℕ) → chunks.count ≡ n → IsTail c x (files_by elide (chunks_of chunks size (x ++ y)))
+  by zero is = absurd (omega (arith, some, is))
+  by (suc m) is = subst (IsTail c x) (sym (files_split elide chunks size (x ++ y) 0 m some refl (omega (arith, is))
+      ∙ ap (λ front. front ++ kept elide (map f (range_with_len 0 (suc m)))) (none_kept elide)))
+      (tail_kept elide c x (map f (range_with_len 0 (suc m)))
+      (subst (λ low. IsTail c (drop (length low) x) (map f (range_with_len 0 (suc m))))
+      (none_before_first chunks size x) (tail_is chunks size x y c 0 m run same past)))
+
+tail_runs : (c : ℕ) (r : List ℕ) (pieces : List (List ℕ)) (place : ℕ) → IsTail c r pieces
+    → IsRun c (get_or pieces (suc place) [])
+tail_runs c r [] place tail = tt
+tail_runs c r (piece ∷ pieces) place tail = runs_at c pieces place tail.1
+
+-- another byte
+abbrev other_than : ℕ → ℕ
+other_than zero = 1
+other_than (suc byte) = 0
+
+other_is : (byte : ℕ) → byte ≢ other_than byte
+other_is zero same = omega (arith, same)
+other_is (suc byte) same = omega (arith, same)
+
+other_small : (byte : ℕ) → other_than byte < 256
+other_small zero = omega arith
+other_small (suc byte) = omega arith
+
+begun_some : (unit : Which) (delim place byte : ℕ) (x : List ℕ) → 0 < place
+    → is_some (begun_before unit delim place (byte ∷ x)) ≡ true
+begun_some Bytes delim zero byte x some = absurd (omega (arith, some))
+begun_some Bytes delim (suc place) byte x some = refl
+begun_some Lines delim place byte x some = ap is_some (begun_first delim byte place x some)
+
+first_some : (n size : ℕ) → 0 < n → 0 < size → 0 < chunk_start n size 1
+first_some n size some has = by (size % n) refl where
+  whole : size / n * n + size % n ≡ size
+  whole = div-add-mod' size n
+
+  by : (rest : ℕ) → size % n ≡ rest → 0 < chunk_start n size 1
+  by (suc rest) is = omega (arith, is)
+  by zero is = by_count (size / n) refl where
+    by_count : (q : ℕ) → size / n ≡ q → 0 < chunk_start n size 1
+    by_count zero none = absurd (omega (arith, whole, is, has, ap (λ q. q * n) none, zero-mul n))
+    by_count (suc q) more = omega (arith, more, one-mul (size / n))
+
+-- the first file has all that begins before the second chunk
+pub first_file : (elide : Bool) (chunks : Chunks) (byte : ℕ) (x : List ℕ) → 0 < chunks.count
+    → let all = byte ∷ x in (more : List (List ℕ)) × (files_by elide (chunks_of chunks (length all) all)
+    ≡ before_chunk chunks (length all) 1 all ∷ more)
+first_file elide chunks byte x some = by chunks.count refl where
+  all : List ℕ
+  all = byte ∷ x
+
+  f : ℕ → List ℕ
+  f = chunk_at chunks (length all) all
+
+  one : f 0 ≡ before_chunk chunks (length all) 1 all
+  one = ap (λ low. drop (length low) (before_chunk chunks (length all) (0 + 1) all))
+      (none_before_first chunks (length all) all)
+
+  later : 0 < chunk_start chunks.count (length all) 1
+  later = first_some chunks.count (length all) some (omega arith)
+
+  filled : is_some (f 0) ≡ true
+  filled = ap is_some one ∙ begun_some chunks.unit chunks.delim (chunk_start chunks.count (length all) 1) byte x later
+
+  by : (n : ℕ) → chunks.count ≡ n → (more : List (List ℕ))
+      × (files_by elide (chunks_of chunks (length all) all) ≡ before_chunk chunks (length all) 1 all ∷ more)
+  by zero is = absurd (omega (arith, some, is))
+  by (suc m) is = (
+    kept elide (map f (range_with_len (0 + 1) m)),
+    files_split elide chunks (length all) all 0 m some refl (omega (arith, is))
+        ∙ ap (λ front. front ++ kept elide (map f (range_with_len 0 (suc m)))) (none_kept elide)
+        ∙ first_kept elide (f 0) (map f (range_with_len (0 + 1) m)) filled
+        ∙ ap (λ piece. piece ∷ kept elide (map f (range_with_len (0 + 1) m))) one,
+  )
+
+none_longest : (elide : Bool) (chunks : Chunks) (x : List ℕ) (place : ℕ) → 0 < chunks.count
+    → AreFiles elide chunks None x place
+none_longest elide chunks [] place some = record {
+  y = [];
+  z = [];
+  comes = (none_comes, refl);
+  also = (none_comes, refl);
+  longest = λ front first second. omega (
+    arith,
+    begin_short _ _ first,
+    at_within (files_by elide (chunks_of chunks 0 [])) place,
+    ap length (joined_files elide (chunks_of chunks 0 []) ∙ all_joined chunks 0 [] some),
+  );
+}
+none_longest elide chunks (byte ∷ x) zero some =
+    let file = first_file elide chunks byte x some in
+    let r = before_chunk chunks (length (byte ∷ x)) 1 (byte ∷ x) in record {
+      y = [];
+      z = [];
+      comes = (none_comes, refl);
+      also = (none_comes, refl);
+      longest = λ front first second. omega (
+        arith,
+        ap (λ before. length (get_or (before ++ unless_empty r) 0 [])) (none_kept elide),
+        ap length (first_made r),
+        begin_short front r
+            (subst (λ files. IsBeginning front (get_or files 0 []))
+            (ap (λ z. files_by elide (chunks_of chunks (length z) z)) (append-nil (byte ∷ x)) ∙ file.1) first),
+      );
+    }
+none_longest elide chunks (byte ∷ x) (suc place) some =
+    by (get_or (files_by elide (chunks_of chunks (length (byte ∷ x)) (byte ∷ x))) (suc place) []) refl where
+      here : (front : List ℕ)
+          → IsBeginning front (get_or (files_by elide (in_the_end chunks None ((byte ∷ x) ++ []))) (suc place) [])
+          → IsBeginning front (get_or (files_by elide (chunks_of chunks (length (byte ∷ x)) (byte ∷ x))) (suc place) [])
+      here front first = subst (λ z. IsBeginning front
+          (get_or (files_by elide (chunks_of chunks (length z) z)) (suc place) [])) (append-nil (byte ∷ x)) first
+
+      far_on : ℕ → List ℕ
+      far_on c = replicate (suc (length (byte ∷ x)) * chunks.count) c
+
+      apart_by : (first : ℕ) (piece front : List ℕ) → IsBeginning front (first ∷ piece)
+          → IsRun (other_than first) front → length front ≤ 0
+      apart_by first piece [] begins run = omega arith
+      apart_by first piece (next ∷ front) (rest, is) run =
+          absurd (other_is first (ap (λ z. get_or z 0 0) is ∙ run.0))
+
+      by : (piece : List ℕ)
+          → get_or (files_by elide (chunks_of chunks (length (byte ∷ x)) (byte ∷ x))) (suc place) [] ≡ piece
+          → AreFiles elide chunks None (byte ∷ x) (suc place)
+      by [] is = record {
+        y = [];
+        z = [];
+        comes = (none_comes, refl);
+        also = (none_comes, refl);
+        longest = λ front first second. omega (arith, ap length is, begin_short _ _ (here front first));
+      }
+      by (first ∷ piece) is = let c = other_than first in record {
+        y = [];
+        z = far_on c;
+        comes = (none_comes, refl);
+        also = (copies_come (suc (length (byte ∷ x)) * chunks.count) c (other_small first), refl);
+        longest = λ front one two. omega (
+          arith,
+          apart_by first piece front (subst (IsBeginning front) is (here front one))
+              (run_begins c front _ two (tail_runs c (byte ∷ x) _ place
+              (none_files elide chunks (byte ∷ x) (far_on c) c some
+              (run_of c (suc (length (byte ∷ x)) * chunks.count))
+              (length-replicate (suc (length (byte ∷ x)) * chunks.count) c)))),
+        );
+      }
+
+pub files_longest : (elide : Bool) (chunks : Chunks) (said : Option ℕ) (x : List ℕ) (place : ℕ) → 0 < chunks.count
+    → is_longer said x ≡ false → AreFiles elide chunks said x place
+files_longest elide chunks None x place some fits = none_longest elide chunks x place some
+files_longest elide chunks (Some size) x place some fits =
+    said_longest elide chunks size x place some (ltb-false _ _ fits)
+
+-- The outputs
+
+-- where all files have names, they have the bytes of the pieces
+shares_filed : (filing : Filing) (count : ℕ) (closed those : List (List ℕ)) → are_named filing.names count ≡ true
+    → length (closed ++ those) ≤ count
+    → file_bytes (part_of (manner_of filing) (map (share Closed) closed ++ map (share Open) those)) ≡ closed ++ those
+shares_filed filing count closed those named few =
+    bytes_named filing 0 (map (share Closed) closed ++ map (share Open) those)
+    ∙ ap (named_bytes filing.names 0)
+    (map-append (λ (one : Share). one.bytes) (map (share Closed) closed) (map (share Open) those)
+    ∙ ap (λ front. front ++ map (λ (one : Share). one.bytes) (map (share Open) those)) (bytes_of_shares Closed closed)
+    ∙ ap (λ rest. closed ++ rest) (bytes_of_shares Open those))
+    ∙ each_named filing.names (closed ++ those) (named_fewer filing.names _ count named few)
+
+kept_few : (elide : Bool) (pieces : List (List ℕ)) → length (kept elide pieces) ≤ length pieces
+kept_few false pieces = omega arith
+kept_few true [] = omega arith
+kept_few true ([] ∷ pieces) = omega (arith, kept_few true pieces)
+kept_few true ((byte ∷ piece) ∷ pieces) = omega (arith, kept_few true pieces)
+
+few_kept : (elide : Bool) (cut : CutUp) (count : ℕ) → length (files_by false cut) ≤ count
+    → length (files_by elide cut) ≤ count
+few_kept elide cut count few = omega (
+  arith,
+  few,
+  kept_few elide cut.full,
+  length-append (kept elide cut.full) (unless_empty cut.rest),
+  length-append cut.full (unless_empty cut.rest),
+)
+
+few_decided : (elide : Bool) (chunks : Chunks) (said : Option ℕ) (x : List ℕ) → 0 < chunks.count
+    → length (files_by elide (decided chunks 1 said x)) ≤ chunks.count
+few_decided elide chunks None x some =
+    few_kept elide (decided chunks 1 None x) chunks.count
+    (omega (arith, made_few (before_chunk chunks (length x) 1 x), some))
+few_decided elide chunks (Some size) x some = few_kept elide (chunks_of chunks size x) chunks.count
+    (few_files chunks size x some)
+
+pub settled_files : (plan : ChunksPlan) (said : Option ℕ) (x : List ℕ) → 0 < plan.chunks.count
+    → are_named plan.filing.names plan.chunks.count ≡ true
+    → file_bytes (chunks_settled plan said x) ≡ files_by plan.elide (decided plan.chunks 1 said x)
+settled_files plan said x some named = let cut = decided plan.chunks 1 said x in
+    shares_filed plan.filing plan.chunks.count (kept plan.elide cut.full) (unless_empty cut.rest) named
+    (few_decided plan.elide plan.chunks said x some)
+
+pub whole_files : (plan : ChunksPlan) (said : Option ℕ) (x : List ℕ) → 0 < plan.chunks.count
+    → are_named plan.filing.names plan.chunks.count ≡ true
+    → file_bytes (chunks_whole plan said x) ≡ files_by plan.elide (in_the_end plan.chunks said x)
+whole_files plan said x some named = let cut = in_the_end plan.chunks said x in
+    bytes_filed plan.filing plan.chunks.count (files_by plan.elide cut) named
+    (few_kept plan.elide cut plan.chunks.count (few_files plan.chunks (size_by said x) x some))
+
+-- no output has more than these files
+agree_by : {elide : Bool} {chunks : Chunks} {said : Option ℕ} {x : List ℕ} {place : ℕ} (work : Work) (agreed : Part)
+    (at : ℕ) (those : AreFiles elide chunks said x place)
+    → ((y front : List ℕ) → IsBeginning front (output_at (work.whole (x ++ y)) at)
+    → IsBeginning front (get_or (files_by elide (in_the_end chunks said (x ++ y))) place []))
+    → length (get_or (files_by elide (decided chunks 1 said x)) place []) ≤ length (output_at agreed at)
+    → (y : List ℕ) × (z : List ℕ) × CanFollow said x y × CanFollow said x z
+    × ((front : List ℕ) → IsBeginning front (output_at (work.whole (x ++ y)) at)
+    → IsBeginning front (output_at (work.whole (x ++ z)) at) → length front ≤ length (output_at agreed at))
+agree_by work agreed at those same enough = (
+  those.y,
+  those.z,
+  those.comes,
+  those.also,
+  λ front first second.
+      omega (arith, enough, those.longest front (same those.y front first) (same those.z front second)),
+)
+
+none_told : (part : Part) → (verbose : Bool) → verbose ≡ false → part.out ≡ told_of_files (output_by verbose) part.files
+    → part.out ≡ []
+none_told part verbose quiet is = is ∙ ap (λ tells. told_of_files (output_by tells) part.files) quiet
+
+nothing_at : {elide : Bool} {chunks : Chunks} {said : Option ℕ} {x : List ℕ} {place : ℕ} (work : Work) (agreed : Part)
+    (at : ℕ) (those : AreFiles elide chunks said x place) → ((y : List ℕ) → output_at (work.whole (x ++ y)) at ≡ [])
+    → (y : List ℕ) × (z : List ℕ) × CanFollow said x y × CanFollow said x z
+    × ((front : List ℕ) → IsBeginning front (output_at (work.whole (x ++ y)) at)
+    → IsBeginning front (output_at (work.whole (x ++ z)) at) → length front ≤ length (output_at agreed at))
+nothing_at work agreed at those none = (
+  those.y,
+  those.z,
+  those.comes,
+  those.also,
+  λ front first second.
+      omega (arith, ap length (none those.y), begin_short _ _ first),
+)
+
+-- files don't depend on what standard output is told
+file_agreed : (plan : ChunksPlan) (said : Option ℕ) (x : List ℕ) (place : ℕ) → 0 < plan.chunks.count
+    → are_named plan.filing.names plan.chunks.count ≡ true → is_longer said x ≡ false
+    → (y : List ℕ) × (z : List ℕ) × CanFollow said x y × CanFollow said x z
+    × ((front : List ℕ) → IsBeginning front (output_at (chunks_whole plan said (x ++ y)) (suc place))
+    → IsBeginning front (output_at (chunks_whole plan said (x ++ z)) (suc place))
+    → length front ≤ length (output_at (chunks_settled plan said x) (suc place)))
+file_agreed plan said x place some named fits =
+    agree_by (chunks_work plan said) (chunks_settled plan said x) (suc place)
+    (files_longest plan.elide plan.chunks said x place some fits)
+    (λ y front begins. subst (λ files. IsBeginning front (get_or files place []))
+    (whole_files plan said (x ++ y) some named) begins)
+    (omega (arith, ap (λ files. length (get_or files place [])) (settled_files plan said x some named)))
+
+quiet_agreed : (plan : ChunksPlan) (said : Option ℕ) (x : List ℕ) → 0 < plan.chunks.count
+    → plan.filing.verbose ≡ false → are_named plan.filing.names plan.chunks.count ≡ true → is_longer said x ≡ false
+    → (place : ℕ) → (y : List ℕ) × (z : List ℕ) × CanFollow said x y × CanFollow said x z
+    × ((front : List ℕ) → IsBeginning front (output_at (chunks_whole plan said (x ++ y)) place)
+    → IsBeginning front (output_at (chunks_whole plan said (x ++ z)) place)
+    → length front ≤ length (output_at (chunks_settled plan said x) place))
+quiet_agreed plan said x some quiet named fits zero =
+    nothing_at (chunks_work plan said) (chunks_settled plan said x) 0
+    (files_longest plan.elide plan.chunks said x 0 some fits)
+    (λ y. none_told (chunks_whole plan said (x ++ y)) plan.filing.verbose quiet refl)
+quiet_agreed plan said x some quiet named fits (suc place) = file_agreed plan said x place some named fits
+
+pub chunks_agreed : (plan : ChunksPlan) (said : Option ℕ) (x : List ℕ) → 0 < plan.chunks.count
+    → plan.filing.verbose ≡ false → are_named plan.filing.names plan.chunks.count ≡ true → is_longer said x ≡ false
+    → AgreeAt (CanFollow said x) (chunks_work plan said) x ((chunks_work plan said).settled x)
+chunks_agreed plan said x some quiet named fits = record {
+  common = λ y comes. common (chunks_work plan said) (chunks_lawful plan said some) x y;
+  longest = quiet_agreed plan said x some quiet named fits;
+}
+
+pub files_agreed : (plan : ChunksPlan) (said : Option ℕ) (x : List ℕ) → 0 < plan.chunks.count
+    → are_named plan.filing.names plan.chunks.count ≡ true → is_longer said x ≡ false
+    → AgreeAt (CanFollow said x) (beside_output (chunks_work plan said)) x
+    (record ((chunks_work plan said).settled x) { out = [] })
+files_agreed plan said x some named fits = record {
+  common = λ y comes. record {
+    out = ([], refl);
+    files = (common (chunks_work plan said) (chunks_lawful plan said some) x y).files;
+  };
+  longest = longest;
+} where
+  longest : (place : ℕ) → (y : List ℕ) × (z : List ℕ) × CanFollow said x y × CanFollow said x z
+      × ((front : List ℕ)
+      → IsBeginning front (output_at ((beside_output (chunks_work plan said)).whole (x ++ y)) place)
+      → IsBeginning front (output_at ((beside_output (chunks_work plan said)).whole (x ++ z)) place)
+      → length front ≤ length (output_at (record ((chunks_work plan said).settled x) { out = [] }) place))
+  longest zero = nothing_at (beside_output (chunks_work plan said))
+      (record ((chunks_work plan said).settled x) { out = [] }) 0
+      (files_longest plan.elide plan.chunks said x 0 some fits) (λ y. refl)
+  longest (suc place) = file_agreed plan said x place some named fits
+
+piece_made : (place : ℕ) (chunks : Chunks) (said : Option ℕ) (x : List ℕ)
+    → length (get_or (files_by false (decided chunks 1 said x)) place [])
+    ≤ length (get_or (pieces_in (decided chunks (max place 1) said x)) place [])
+piece_made zero chunks None x = omega (arith, ap length (first_made (before_chunk chunks (length x) 1 x)))
+piece_made (suc place) chunks None x = by (before_chunk chunks (length x) 1 x) where
+  by : (r : List ℕ) → length (get_or (unless_empty r) (suc place) []) ≤ 0
+  by [] = omega arith
+  by (byte ∷ r) = omega arith
+piece_made place chunks (Some size) x = let cut = chunks_of chunks size x in
+    omega (arith, ap length (same_pieces cut.full cut.rest place))
+
+chunk_longest : (place : ℕ) (chunks : Chunks) (said : Option ℕ) (x : List ℕ) → place < chunks.count
+    → is_longer said x ≡ false → (at : ℕ) → (y : List ℕ) × (z : List ℕ) × CanFollow said x y × CanFollow said x z
+    × ((front : List ℕ) → IsBeginning front (output_at ((chunk_work place chunks said).whole (x ++ y)) at)
+    → IsBeginning front (output_at ((chunk_work place chunks said).whole (x ++ z)) at)
+    → length front ≤ length (output_at ((chunk_work place chunks said).settled x) at))
+chunk_longest place chunks said x within fits zero =
+    agree_by (chunk_work place chunks said) ((chunk_work place chunks said).settled x) 0
+    (files_longest false chunks said x place (omega (arith, within)) fits)
+    (λ y front begins. let cut = in_the_end chunks said (x ++ y) in
+    subst (IsBeginning front) (same_pieces cut.full cut.rest place) begins)
+    (piece_made place chunks said x)
+chunk_longest place chunks said x within fits (suc at) =
+    nothing_at (chunk_work place chunks said) ((chunk_work place chunks said).settled x) (suc at)
+    (files_longest false chunks said x place (omega (arith, within)) fits) (λ y. refl)
+
+pub chunk_agreed : (place : ℕ) (chunks : Chunks) (said : Option ℕ) (x : List ℕ) → place < chunks.count
+    → is_longer said x ≡ false
+    → AgreeAt (CanFollow said x) (chunk_work place chunks said) x ((chunk_work place chunks said).settled x)
+chunk_agreed place chunks said x within fits = record {
+  common = λ y comes. common (chunk_work place chunks said) (chunk_lawful place chunks said within) x y;
+  longest = chunk_longest place chunks said x within fits;
+}

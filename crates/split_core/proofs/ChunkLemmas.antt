@@ -1,0 +1,348 @@
+-- Chunks of a whole text, and one of them alone.
+use Rattle.std.proofs.lemmas.Grind.{common_steps, flat_map-append}
+use Rattle.std.proofs.Common.{◌≡◌, ℕ, ◌+◌, ◌-◌, ◌/◌, ◌%◌, ◌<◌, ◌≤◌, zero, suc, nat_lt, Bool, true, false, cond, List, [], ◌∷◌, ◌++◌, length, take, drop, map, get_or, Option, Some, None, inl, inr, refl, sym, ◌∙◌, ap, arith}
+use Rattle.std.proofs.lemmas.Bool.{cases_lt, eqb-true, le-ltb, lt-ltb}
+use Rattle.std.proofs.lemmas.List.{append-nil, drop_at, length-append, length-drop, length-take-le, take_all, take_at}
+use Rattle.std.proofs.lemmas.List.FromFn.{get_or-map-range_with_len, length-map-range_with_len, map-range_with_len_more, take-map-range_with_len}
+use Rattle.std.specs.List.{flat_map, range_with_len}
+use Rattle.seg_core.specs.Line.{joined, lines_of, line_count, first_lines}
+use Rattle.seg_core.specs.declared.cut.Chunks.{Chunks}
+use Rattle.seg_core.specs.declared.cut.Cut.TheVariants.{Round}
+use Rattle.seg_core.specs.declared.cut.Way.TheVariants as way
+use Rattle.ports_core.specs.Agreed.{file_bytes}
+use Rattle.ports_core.specs.Draft.{part_of}
+use Rattle.ports_core.specs.Part.{only_out}
+use Rattle.ports_core.specs.declared.slot.State.TheVariants.{Closed}
+use Rattle.seg_core.specs.declared.unit.Unit.TheVariants.{Bytes, Lines}
+use Rattle.seg_core.proofs.FirstLines.{joined-append, lines_of-first_lines, lines_of-after_lines}
+use Rattle.seg_core.proofs.LinesOf.{joined-lines_of}
+use Rattle.split_core.specs.Chunks.{IsInChunk, IsInPiece, before_chunk, begun_before, chunk_at, chunk_start, chunks_in, chunks_of, ended, in_the_end, is_as_said, lines_before, pieces_in, size_by}
+use Rattle.split_core.specs.ChunkWork.{chunk_work, files_by, way_work}
+use Rattle.split_core.specs.Split.{Filing, are_named, manner_of, share}
+use Rattle.split_core.proofs.AgreedLemmas.{each_named, shared_bytes}
+use Rattle.split_core.proofs.RoundLemmas.{named_fewer}
+use Rattle.split_core.specs.Parts.{dealt, round_robin, unless_empty}
+use Rattle.split_core.specs.inner.Dealt.{EachSome}
+use Rattle.split_core.specs.laws.BegunLaws.{begun_long, lines_all, lines_more}
+use Rattle.split_core.specs.laws.ChunkLaws.{chunk_none, cut_all, ended_within, joined_chunks, start_first, start_grows, start_last, start_next, start_within, rest_none, take_within}
+use Rattle.split_core.specs.laws.DealLaws.{each_line}
+
+-- Chunks of a whole text
+
+pub chunks_in_are : (chunks : Chunks) (x : List ℕ) → 0 < chunks.count
+    → chunks_in chunks x ≡ map (chunk_at chunks (length x) x) (range_with_len 0 chunks.count)
+chunks_in_are chunks x some = ap (λ cut. cut.full) (cut_all chunks (length x) x some (omega arith))
+    ∙ ap (λ z. map (chunk_at chunks (length x) z) (range_with_len 0 chunks.count)) (take_all (length x) x (omega arith))
+
+pub count_chunks : (chunks : Chunks) (x : List ℕ) → 0 < chunks.count → length (chunks_in chunks x) ≡ chunks.count
+count_chunks chunks x some =
+    ap length (chunks_in_are chunks x some) ∙ length-map-range_with_len (chunk_at chunks (length x) x) 0 chunks.count
+
+pub join_first : (chunks : Chunks) (x : List ℕ) (place : ℕ) → 0 < chunks.count → place ≤ chunks.count
+    → joined (take place (chunks_in chunks x)) ≡ before_chunk chunks (length x) place x
+join_first chunks x place some within =
+    ap (λ pieces. joined (take place pieces)) (chunks_in_are chunks x some)
+    ∙ ap joined (take-map-range_with_len (chunk_at chunks (length x) x) 0 chunks.count place within)
+    ∙ joined_chunks chunks (length x) x place
+
+pub join_chunks : (chunks : Chunks) (x : List ℕ) → 0 < chunks.count → joined (chunks_in chunks x) ≡ x
+join_chunks chunks x some =
+    ap joined (sym (take_all chunks.count (chunks_in chunks x) (omega (arith, count_chunks chunks x some))))
+    ∙ join_first chunks x chunks.count some (omega arith)
+    ∙ begun_long chunks.unit chunks.delim _ x (omega (arith, start_last chunks.count (length x) some))
+
+pub chunk_in : (chunks : Chunks) (x : List ℕ) (place : ℕ) → place < chunks.count
+    → get_or (chunks_in chunks x) place [] ≡ chunk_at chunks (length x) x place
+chunk_in chunks x place within =
+    ap (λ pieces. get_or pieces place []) (chunks_in_are chunks x (omega (arith, within)))
+    ∙ get_or-map-range_with_len (chunk_at chunks (length x) x) 0 chunks.count place place [] within (omega arith)
+
+-- those of bytes
+
+drop_take : (k n : ℕ) (x : List ℕ) → k ≤ n → drop (length (take k x)) (take n x) ≡ take (n - k) (drop k x)
+drop_take zero n x within = ap (λ m. take m x) (omega arith)
+drop_take (suc k) zero x within = absurd (omega (arith, within))
+drop_take (suc k) (suc n) [] within = grind (arith, common_steps)
+drop_take (suc k) (suc n) (byte ∷ x) within =
+    let e : suc n - suc k ≡ n - k = omega arith in drop_take k n x (omega (arith, within))
+    ∙ ap (λ m. take m (drop k x)) (sym e)
+
+pub bytes_in_chunk : (chunks : Chunks) (x : List ℕ) (place : ℕ) → place < chunks.count → chunks.unit ≡ Bytes
+    → get_or (chunks_in chunks x) place []
+    ≡ take (chunk_start chunks.count (length x) (place + 1) - chunk_start chunks.count (length x) place)
+    (drop (chunk_start chunks.count (length x) place) x)
+bytes_in_chunk chunks x place within is = let at = chunk_start chunks.count (length x) in
+    chunk_in chunks x place within
+    ∙ ap (λ unit. drop (length (begun_before unit chunks.delim (at place) x))
+    (begun_before unit chunks.delim (at (place + 1)) x)) is
+    ∙ drop_take (at place) (at (place + 1)) x (start_grows chunks.count (length x) place (place + 1) (omega arith))
+
+chunk_length : (chunks : Chunks) (x : List ℕ) (place : ℕ) → place < chunks.count → chunks.unit ≡ Bytes
+    → length (get_or (chunks_in chunks x) place [])
+    ≡ chunk_start chunks.count (length x) (place + 1) - chunk_start chunks.count (length x) place
+chunk_length chunks x place within is = let at = chunk_start chunks.count (length x) in
+    ap length (bytes_in_chunk chunks x place within is)
+    ∙ length-take-le (at (place + 1) - at place) (drop (at place) x) (omega (
+      arith,
+      length-drop (at place) x,
+      start_within chunks.count (length x) (place + 1) (omega (arith, within)) (omega (arith, within)),
+    ))
+
+pub longer_chunk : (chunks : Chunks) (x : List ℕ) (place : ℕ) → place < chunks.count → chunks.unit ≡ Bytes
+    → place < length x % chunks.count → length (get_or (chunks_in chunks x) place []) ≡ length x / chunks.count + 1
+longer_chunk chunks x place within is less =
+    omega (
+      arith,
+      chunk_length chunks x place within is,
+      start_next chunks.count (length x) place
+          ∙ ap (λ one. chunk_start chunks.count (length x) place + length x / chunks.count + cond one 1 0)
+          (lt-ltb _ _ less),
+    )
+
+pub shorter_chunk : (chunks : Chunks) (x : List ℕ) (place : ℕ) → place < chunks.count → chunks.unit ≡ Bytes
+    → length x % chunks.count ≤ place → length (get_or (chunks_in chunks x) place []) ≡ length x / chunks.count
+shorter_chunk chunks x place within is past =
+    omega (
+      arith,
+      chunk_length chunks x place within is,
+      start_next chunks.count (length x) place
+          ∙ ap (λ one. chunk_start chunks.count (length x) place + length x / chunks.count + cond one 1 0)
+          (le-ltb _ _ past),
+    )
+
+-- and those of lines
+
+lines_prefix : (place : ℕ) (lines : List (List ℕ)) → (rest : List (List ℕ)) × (lines ≡ lines_before place lines ++ rest)
+lines_prefix place [] = ([], refl)
+lines_prefix place (line ∷ lines) = by (nat_lt 0 place) (lines_prefix (place - length line) lines) where
+  by : (some : Bool) → (rest : List (List ℕ)) × (lines ≡ lines_before (place - length line) lines ++ rest)
+      → (rest : List (List ℕ))
+      × (line ∷ lines ≡ cond some (line ∷ lines_before (place - length line) lines) [] ++ rest)
+  by true (rest, is) = (rest, ap (λ more. line ∷ more) is)
+  by false more = (line ∷ lines, refl)
+
+-- a stretch of a text's lines are the lines of what it has
+lines_stretch : (delim : ℕ) (x : List ℕ) (front more rest : List (List ℕ)) → lines_of delim x ≡ (front ++ more) ++ rest
+    → lines_of delim (joined more) ≡ more
+lines_stretch delim x front more rest is =
+    let n = length (front ++ more) in
+    let k = length front in
+    let z = first_lines delim n x in
+    let these : lines_of delim z ≡ front ++ more =
+    lines_of-first_lines delim n x ∙ ap (take n) is ∙ take_at (front ++ more) rest n refl in
+    let those : drop k (lines_of delim z) ≡ more = ap (drop k) these ∙ drop_at front more k refl in
+    ap (λ lines. lines_of delim (joined lines)) (sym those) ∙ lines_of-after_lines delim k z ∙ those
+
+-- the lines that begin before a place, and those that begin after it and before a later one
+lines_between : (delim : ℕ) (x : List ℕ) (place other : ℕ) → place ≤ other
+    → lines_before other (lines_of delim x) ≡ lines_before place (lines_of delim x)
+    ++ lines_of delim (drop (length (joined (lines_before place (lines_of delim x))))
+    (joined (lines_before other (lines_of delim x))))
+lines_between delim x place other within = by (lines_prefix other lines) (lines_more place other lines within) where
+  lines : List (List ℕ)
+  lines = lines_of delim x
+
+  by : (rest : List (List ℕ)) × (lines ≡ lines_before other lines ++ rest)
+      → (more : List (List ℕ)) × (lines_before other lines ≡ lines_before place lines ++ more)
+      → lines_before other lines ≡ lines_before place lines
+      ++ lines_of delim (drop (length (joined (lines_before place lines))) (joined (lines_before other lines)))
+  by (rest, all) (more, is) =
+      let front = lines_before place lines in
+      let left : drop (length (joined front)) (joined (lines_before other lines)) ≡ joined more =
+      ap (λ those. drop (length (joined front)) (joined those)) is
+      ∙ ap (drop (length (joined front))) (joined-append front more)
+      ∙ drop_at (joined front) (joined more) (length (joined front)) refl in
+      is ∙ ap (λ those. front ++ those) (sym (ap (lines_of delim) left
+      ∙ lines_stretch delim x front more rest (all ∙ ap (λ those. those ++ rest) is)))
+
+lines_to : (delim : ℕ) (chunks : Chunks) (x : List ℕ) (place : ℕ) → chunks.delim ≡ delim → chunks.unit ≡ Lines
+    → flat_map (lines_of delim) (map (chunk_at chunks (length x) x) (range_with_len 0 place))
+    ≡ lines_before (chunk_start chunks.count (length x) place) (lines_of delim x)
+lines_to delim chunks x zero by is = sym (none (lines_of delim x) (start_first chunks.count (length x))) where
+  none : (lines : List (List ℕ)) {at : ℕ} → at ≡ 0 → lines_before at lines ≡ []
+  none [] zero_is = refl
+  none (line ∷ lines) zero_is = rw zero_is refl
+lines_to delim chunks x (suc place) by is =
+    let at = chunk_start chunks.count (length x) in
+    let f = chunk_at chunks (length x) x in
+    let e : suc place ≡ place + 1 = omega arith in
+    let piece : f place ≡ drop (length (joined (lines_before (at place) (lines_of delim x))))
+    (joined (lines_before (at (place + 1)) (lines_of delim x))) =
+    ap (λ unit. drop (length (begun_before unit chunks.delim (at place) x))
+    (begun_before unit chunks.delim (at (place + 1)) x)) is
+    ∙ ap (λ ends. drop (length (begun_before Lines ends (at place) x))
+    (begun_before Lines ends (at (place + 1)) x)) by in
+    ap (λ n. flat_map (lines_of delim) (map f (range_with_len 0 n))) e
+    ∙ ap (flat_map (lines_of delim)) (map-range_with_len_more f 0 place place (omega arith))
+    ∙ flat_map-append (lines_of delim) (map f (range_with_len 0 place)) (f place ∷ [])
+    ∙ ap (λ front. front ++ (lines_of delim (f place) ++ [])) (lines_to delim chunks x place by is)
+    ∙ ap (λ more. lines_before (at place) (lines_of delim x) ++ more) (append-nil (lines_of delim (f place)))
+    ∙ ap (λ bytes. lines_before (at place) (lines_of delim x) ++ lines_of delim bytes) piece
+    ∙ sym (lines_between delim x (at place) (at (place + 1))
+    (start_grows chunks.count (length x) place (place + 1) (omega arith)))
+    ∙ ap (λ n. lines_before (at n) (lines_of delim x)) (sym e)
+
+-- no line is cut
+pub lines_in_chunks : (chunks : Chunks) (x : List ℕ) → 0 < chunks.count → chunks.unit ≡ Lines
+    → flat_map (lines_of chunks.delim) (chunks_in chunks x) ≡ lines_of chunks.delim x
+lines_in_chunks chunks x some is = let lines = lines_of chunks.delim x in
+    ap (flat_map (lines_of chunks.delim)) (chunks_in_are chunks x some)
+    ∙ lines_to chunks.delim chunks x chunks.count refl is
+    ∙ lines_all lines (chunk_start chunks.count (length x) chunks.count) (each_line chunks.delim x)
+    (omega (arith, ap length (joined-lines_of chunks.delim x), start_last chunks.count (length x) some))
+
+-- a line that begins before a place stands in what begins before it, and no other
+line_before : (lines : List (List ℕ)) (place i : ℕ) → EachSome lines → i < length lines
+    → length (joined (take i lines)) < place
+    → length (joined (take i lines)) < length (joined (lines_before place lines))
+line_before [] place i each within before = absurd (omega (arith, within))
+line_before (line ∷ lines) place zero each within before =
+    rw (lt-ltb 0 place before)
+    (omega (arith, each.0, length-append line (joined (lines_before (place - length line) lines))))
+line_before (line ∷ lines) place (suc i) each within before =
+    let l = length-append line (joined (take i lines)) in
+    rw (lt-ltb 0 place (omega (arith, before)))
+    (omega (
+      arith,
+      l,
+      length-append line (joined (lines_before (place - length line) lines)),
+      line_before lines (place - length line) i each.1 (omega (arith, within)) (omega (arith, before, l, each.0)),
+    ))
+
+line_after : (lines : List (List ℕ)) (place i : ℕ) → place ≤ length (joined (take i lines))
+    → length (joined (lines_before place lines)) ≤ length (joined (take i lines))
+line_after [] place i past = omega arith
+line_after (line ∷ lines) place zero past = let e : place ≡ 0 = omega (arith, past) in rw e (omega arith)
+line_after (line ∷ lines) place (suc i) past = by (nat_lt 0 place) (line_after lines (place - length line) i
+    (omega (arith, past, l))) where
+      l : length (line ++ joined (take i lines)) ≡ length line + length (joined (take i lines))
+      l = length-append line (joined (take i lines))
+
+      by : (some : Bool)
+          → length (joined (lines_before (place - length line) lines)) ≤ length (joined (take i lines))
+          → length (joined (cond some (line ∷ lines_before (place - length line) lines) []))
+          ≤ length (line ++ joined (take i lines))
+      by true rest = omega (arith, rest, l, length-append line (joined (lines_before (place - length line) lines)))
+      by false rest = omega arith
+
+-- a line goes with the chunk in which its first byte is
+pub line_in_chunk : (chunks : Chunks) (x : List ℕ) (place i : ℕ) → place < chunks.count → chunks.unit ≡ Lines
+    → i < line_count chunks.delim x
+    → IsInChunk chunks.count (length x) place (length (first_lines chunks.delim i x))
+    → IsInPiece (chunks_in chunks x) place (length (first_lines chunks.delim i x))
+line_in_chunk chunks x place i within is less (from, to) =
+    let some : 0 < chunks.count = omega (arith, within) in
+    let lines = lines_of chunks.delim x in
+    let at = chunk_start chunks.count (length x) in
+    let begun : (n : ℕ) → n ≤ chunks.count
+    → joined (take n (chunks_in chunks x)) ≡ joined (lines_before (at n) lines) =
+    λ n few. join_first chunks x n some few ∙ ap (λ unit. begun_before unit chunks.delim (at n) x) is in (
+      omega (arith, ap length (begun place (omega (arith, within))), line_after lines (at place) i from),
+      omega (
+        arith,
+        ap length (begun (place + 1) (omega (arith, within))),
+        line_before lines (at (place + 1)) i (each_line chunks.delim x) less to,
+      ),
+    )
+
+-- One chunk alone
+
+pub made_few : (bytes : List ℕ) → length (unless_empty bytes) ≤ 1
+made_few [] = omega arith
+made_few (byte ∷ bytes) = omega arith
+
+pub few_files : (chunks : Chunks) (size : ℕ) (x : List ℕ) → 0 < chunks.count
+    → length (files_by false (chunks_of chunks size x)) ≤ chunks.count
+few_files chunks size x some = elim (cases_lt place chunks.count) [
+  | inl less ↦ omega (arith, long, full, made_few rest, less)
+  | inr all ↦ omega (
+    arith,
+    long,
+    full,
+    ap (λ bytes. length (unless_empty bytes)) (none (omega (arith, all, within))),
+    within,
+  )
+] where
+  z : List ℕ
+  z = take size x
+
+  place : ℕ
+  place = ended chunks size z
+
+  within : place ≤ chunks.count
+  within = ended_within chunks size z
+
+  rest : List ℕ
+  rest = chunk_at chunks size z place
+
+  full : length (map (chunk_at chunks size z) (range_with_len 0 place)) ≡ place
+  full = length-map-range_with_len (chunk_at chunks size z) 0 place
+
+  long : length (files_by false (chunks_of chunks size x))
+      ≡ length (map (chunk_at chunks size z) (range_with_len 0 place)) + length (unless_empty rest)
+  long = length-append (map (chunk_at chunks size z) (range_with_len 0 place)) (unless_empty rest)
+
+  none : place ≡ chunks.count → rest ≡ []
+  none is = ap (chunk_at chunks size z) is ∙ chunk_none chunks size z chunks.count
+      (begun_long chunks.unit chunks.delim _ z
+      (omega (arith, take_within size x, start_last chunks.count size some)))
+
+-- where all have names, the files have these bytes
+pub bytes_filed : (filing : Filing) (count : ℕ) (those : List (List ℕ)) → are_named filing.names count ≡ true
+    → length those ≤ count → file_bytes (part_of (manner_of filing) (map (share Closed) those)) ≡ those
+bytes_filed filing count those named few = shared_bytes filing Closed those
+    ∙ each_named filing.names those (named_fewer filing.names (length those) count named few)
+
+pub same_pieces : (front : List (List ℕ)) (last : List ℕ) (place : ℕ)
+    → get_or (front ++ last ∷ []) place [] ≡ get_or (front ++ unless_empty last) place []
+same_pieces [] [] zero = refl
+same_pieces [] [] (suc place) = refl
+same_pieces [] (byte ∷ last) place = refl
+same_pieces (piece ∷ front) last zero = refl
+same_pieces (piece ∷ front) last (suc place) = same_pieces front last place
+
+pub chunk_alone : (chunks : Chunks) (filing : Filing) (said : Option ℕ) (place : ℕ) (x : List ℕ) → 0 < chunks.count
+    → are_named filing.names chunks.count ≡ true → (way_work (way.Chunk place chunks) false filing said).whole x
+    ≡ only_out (get_or (file_bytes ((way_work (way.Chunks chunks) false filing said).whole x)) place [])
+chunk_alone chunks filing said place x some named = let cut = in_the_end chunks said x in
+    ap only_out (same_pieces cut.full cut.rest place
+    ∙ ap (λ files. get_or files place []) (sym (bytes_filed filing chunks.count (files_by false cut) named
+    (few_files chunks (size_by said x) x some))))
+
+pub turn_alone : (count delim : ℕ) (filing : Filing) (said : Option ℕ) (place : ℕ) (x : List ℕ) → place < count
+    → are_named filing.names count ≡ true → (way_work (way.Turn place count delim) false filing said).whole x
+    ≡ only_out (get_or (file_bytes ((way_work (way.Cut (Round count delim)) false filing said).whole x)) place [])
+turn_alone count delim filing said place x within named =
+    let f : ℕ → List ℕ = λ file. dealt count file 0 (lines_of delim x) in
+    ap only_out (sym (get_or-map-range_with_len f 0 count place place [] within (omega arith))
+    ∙ ap (λ files. get_or files place []) (sym (bytes_filed filing count (round_robin delim count x) named
+    (omega (arith, length-map-range_with_len f 0 count)))))
+
+pub all_pieces : (pieces : List (List ℕ)) (done : ℕ) (all : List (List ℕ))
+    → ((i : ℕ) → get_or all (done + i) [] ≡ get_or pieces i [])
+    → flat_map (λ place. get_or all place []) (range_with_len done (length pieces)) ≡ joined pieces
+all_pieces [] done all same = refl
+all_pieces (piece ∷ pieces) done all same =
+    let first : get_or all done [] ≡ piece = ap (λ at. get_or all at []) (omega arith) ∙ same 0 in
+    ap (λ front. front ++ flat_map (λ place. get_or all place []) (range_with_len (done + 1) (length pieces))) first
+    ∙ ap (λ rest. piece ++ rest) (all_pieces pieces (done + 1) all
+    (λ i. ap (λ at. get_or all at []) (omega arith) ∙ same (suc i)))
+
+pub said_size : (said : Option ℕ) (x : List ℕ) → is_as_said said x ≡ true → size_by said x ≡ length x
+said_size None x is = refl
+said_size (Some size) x is = sym (eqb-true (length x) size is)
+
+pub chunks_together : (chunks : Chunks) (said : Option ℕ) (x : List ℕ) → 0 < chunks.count → is_as_said said x ≡ true
+    → flat_map (λ place. ((chunk_work place chunks said).whole x).out) (range_with_len 0 chunks.count) ≡ x
+chunks_together chunks said x some is =
+    let pieces = chunks_in chunks x in
+    let cut : in_the_end chunks said x ≡ record { full = pieces; rest = [] } =
+    ap (λ size. chunks_of chunks size x) (said_size said x is)
+    ∙ ap (λ left. record { full = pieces; rest = left }) (rest_none chunks (length x) x some (omega arith)) in
+    ap (λ those. flat_map (λ place. get_or (pieces_in those) place []) (range_with_len 0 chunks.count)) cut
+    ∙ ap (λ n. flat_map (λ place. get_or (pieces ++ [] ∷ []) place []) (range_with_len 0 n))
+    (sym (count_chunks chunks x some))
+    ∙ all_pieces pieces 0 (pieces ++ [] ∷ [])
+    (λ i. ap (λ at. get_or (pieces ++ [] ∷ []) at []) (omega arith) ∙ same_pieces pieces [] i
+    ∙ ap (λ those. get_or those i []) (append-nil pieces))
+    ∙ join_chunks chunks x some

@@ -1,0 +1,414 @@
+-- Chunks of an input, as a stage.
+use Rattle.std.proofs.lemmas.Bool.{cases_lt, eq-eqb, false≢true, le-leb, le-ltb, lt-ltb, ltb-true}
+use Rattle.std.proofs.lemmas.List.{append-nil, drop_all, take_at, take-append-drop, take-take, length-append, length-drop, length-take}
+use Rattle.std.proofs.Common.{◌≡◌, ℕ, ◌+◌, ◌-◌, ◌<◌, ◌≤◌, min, Bool, true, false, eqb, nat_lt, List, [], ◌++◌, ◌⊎◌, length, take, drop, Option, Some, None, inl, inr, refl, sym, ◌∙◌, ap, subst, arith, append_assoc}
+use Rattle.std.proofs.lemmas.Bool.Decides.{eqb_tells}
+use Rattle.ports_core.specs.Part.{Begins}
+use Rattle.ports_core.specs.Slot.{Slot}
+use Rattle.ports_core.specs.Work.{IsLawful, IsNeeded, IsSettled, IsSpare, Judges, Work}
+use Rattle.ports_core.specs.declared.fault.Fault.{Fault}
+use Rattle.ports_core.specs.declared.verdict.Verdict.TheVariants.{Changed}
+use Rattle.ports_core.proofs.PartLemmas.{part_begins_itself}
+use Rattle.seg_core.specs.declared.cut.Chunks.{Chunks}
+use Rattle.split_core.specs.Chunks.{chunks_of, chunks_within, ended, has_ended}
+use Rattle.split_core.specs.ChunkerState.{AimState, Carries, ChunkerState, Course, CutterState, Holds, HoldsBy, IsSaid, TargetState, can_cut, course, course_of, in_files, in_output, to_files, to_output, work_on, total}
+use Rattle.split_core.specs.inner.Chunker.{Changes, Comes, Ends, IsLike, Passes, TakesAs, made}
+use Rattle.split_core.specs.inner.Cutter.{Cuts, CutsAs, IsCut, part_so}
+use Rattle.split_core.specs.inner.Seen.{is_each_on, is_past_at, is_past_on}
+use Rattle.split_core.specs.inner.Sends.{Ends as TargetEnds, part_on, whole_on}
+use Rattle.split_core.specs.Parts.{CutUp}
+use Rattle.split_core.specs.laws.ChunkLaws.{ended_after, has_ended_before, passed_full, start_within}
+use Rattle.split_core.specs.laws.ChunkWorkLaws.{chunk_lawful, chunks_lawful, longer_differs}
+use Rattle.split_core.proofs.CutterLemmas.{cut_of, placed_at}
+use Rattle.split_core.proofs.TargetLemmas.{brings_as, brings_wider}
+
+-- What is made
+
+pub lawful_on : (on : Course) (chunks : Chunks) (said : Option ℕ) → can_cut on chunks.count ≡ true → IsLawful (work_on on chunks said)
+lawful_on (in_files filing elide) chunks said can = chunks_lawful _ said (ltb-true _ _ can)
+lawful_on (in_output chunk) chunks said can = chunk_lawful chunk chunks said (ltb-true _ _ can)
+
+settled_is : (on : Course) (chunks : Chunks) (size : ℕ) (x : List ℕ) → (work_on on chunks (Some size)).settled x ≡ part_on on (chunks_of chunks size x)
+settled_is (in_files filing elide) chunks size x = refl
+settled_is (in_output chunk) chunks size x = refl
+
+whole_is : (on : Course) (chunks : Chunks) (size : ℕ) (x : List ℕ) → (work_on on chunks (Some size)).whole x ≡ whole_on on (chunks_of chunks size x)
+whole_is (in_files filing elide) chunks size x = refl
+whole_is (in_output chunk) chunks size x = refl
+
+-- Where the size was said
+
+-- the output is complete just where the one chunk that is written has ended
+past_at : (chunks : Chunks) (size place : ℕ) (aim : AimState) (x : List ℕ) → can_cut (course_of aim) chunks.count ≡ true → length x ≤ size → ended chunks size x ≡ place
+    → is_past_at aim place ≡ (work_on (course_of aim) chunks (Some size)).is_complete x
+past_at chunks size place (to_files writer elide) x can fits is = sym (le-ltb _ _ fits)
+past_at chunks size place (to_output chunk) x can fits is = elim (cases_lt chunk place) [
+  | inl before ↦ lt-ltb _ _ before ∙ sym (has_ended_before chunks size x chunk (omega (arith, before, is)))
+  | inr past ↦ le-ltb _ _ past ∙ sym (by (has_ended chunks size x chunk) refl past)
+] where
+  by : (has : Bool) → has_ended chunks size x chunk ≡ has → place ≤ chunk → has_ended chunks size x chunk ≡ false
+  by true has past = absurd (omega (arith, past, is, ended_after chunks size x chunk (ltb-true _ _ can) has))
+  by false has past = has
+
+pub past_is : {cutter : CutterState} {size : ℕ} {x : List ℕ} → IsCut cutter size x → is_past_on cutter.target ≡ (work_on (course cutter) cutter.chunks (Some size)).is_complete x
+past_is {cutter} {size} {x} is = past_at cutter.chunks size cutter.target.place cutter.target.aim x is.cut.can is.fits (placed_at is)
+
+-- and where a text has its size
+full_at : (on : Course) (chunks : Chunks) (size : ℕ) (aim : AimState) (x : List ℕ) → can_cut (course_of aim) chunks.count ≡ true → is_each_on aim ≡ false → size ≤ length x
+    → (work_on (course_of aim) chunks (Some size)).is_complete x ≡ true
+full_at on chunks size (to_files writer elide) x can one full = absurd (false≢true (sym one))
+full_at on chunks size (to_output chunk) x can one full = le-leb _ _ (omega (arith, passed_full chunks size x full, start_within chunks.count size (chunk + 1) (omega (arith, ltb-true _ _ can)) (omega (arith, ltb-true _ _ can))))
+
+-- what is written of what came in is what is written of what was used of it
+so_used : {work : Work} {x : List ℕ} {n : ℕ} → IsLawful work → (spare : IsSpare work x n) → work.settled spare.used ≡ work.settled x
+so_used {work} {x} lawful spare = elim spare.enough [
+  | inl none ↦ ap work.settled (sym (spare.joined ∙ ap (λ rest. spare.used ++ rest) none ∙ append-nil spare.used))
+  | inr complete ↦ sym (ap work.settled spare.joined ∙ (lawful.stays spare.used spare.rest complete).settled_stays)
+]
+
+pub cut_is : {chunker : ChunkerState} {size : ℕ} {x : List ℕ} (has : IsSaid chunker size x) → IsCut chunker.cutter size has.spare.used
+cut_is has = record { cut = has.cut; fits = has.within }
+
+part_is : {chunker : ChunkerState} {size : ℕ} {x : List ℕ} → IsSaid chunker size x → part_so chunker.cutter size (take chunker.cutter.at x) ≡ (work_on (course chunker.cutter) chunker.cutter.chunks (Some size)).settled x
+part_is {chunker} {size} {x} has = let on = course chunker.cutter in let chunks = chunker.cutter.chunks in
+    let used : take chunker.cutter.at x ≡ has.spare.used = ap (take chunker.cutter.at) has.spare.joined ∙ take_at has.spare.used has.spare.rest chunker.cutter.at (sym has.cut.at) in
+    ap (part_so chunker.cutter size) used ∙ ap (part_on on) (sym (cut_of chunks size has.spare.used has.within)) ∙ sym (settled_is on chunks size has.spare.used)
+    ∙ so_used (lawful_on on chunks (Some size) has.cut.can) has.spare
+
+-- A piece
+
+module _ {chunker next : ChunkerState} {size : ℕ} {piece : List ℕ} {x : List ℕ} {past : ℕ} {told : Bool} {old new : List Slot}
+    (takes : TakesAs told chunker size piece old new next past) (ok : (past ≡ 0) ⊎ (is_each_on next.cutter.target.aim ≡ false)) (has : IsSaid chunker size x) where
+  abbrev done : List ℕ
+  done = take (length piece - past) piece
+
+  abbrev over : List ℕ
+  over = drop (length piece - past) piece
+
+  fits_done : length (has.spare.used ++ done) ≤ size
+  fits_done = omega (arith, takes.fits (omega (arith, has.cut.at, has.within)), has.cut.at, length-append has.spare.used done, length-take (length piece - past) piece, takes.few)
+
+  -- once it is complete, none of the piece is used
+  none_or : (has.spare.rest ≡ []) ⊎ (done ≡ [])
+  none_or = elim has.spare.enough [
+    | inl none ↦ inl none
+    | inr complete ↦ (let e : length piece - past ≡ 0 = omega (arith, takes.still (past_is (cut_is has) ∙ complete)) in inr (ap (λ n. take n piece) e))
+  ]
+
+  joined_so : x ++ piece ≡ (has.spare.used ++ done) ++ (has.spare.rest ++ over)
+  joined_so = elim none_or [
+    | inl none ↦
+        ap (λ x. x ++ piece) (has.spare.joined ∙ ap (λ rest. has.spare.used ++ rest) none ∙ append-nil has.spare.used)
+        ∙ ap (λ piece. has.spare.used ++ piece) (sym (take-append-drop (length piece - past) piece)) ∙ sym (append_assoc has.spare.used done over)
+        ∙ ap (λ rest. (has.spare.used ++ done) ++ (rest ++ over)) (sym none)
+    | inr none ↦
+        ap (λ x. x ++ piece) has.spare.joined ∙ append_assoc has.spare.used has.spare.rest piece
+        ∙ ap (λ piece. has.spare.used ++ (has.spare.rest ++ piece)) (sym (take-append-drop (length piece - past) piece) ∙ ap (λ done. done ++ over) none)
+        ∙ ap (λ used. used ++ (has.spare.rest ++ over)) (sym (append-nil has.spare.used) ∙ ap (λ done. has.spare.used ++ done) (sym none))
+  ]
+
+  next_cut : IsCut next.cutter size (has.spare.used ++ done)
+  next_cut = takes.cuts.stands has.spare.used (cut_is has) fits_done
+
+  next_work : (work_on (course next.cutter) next.cutter.chunks (Some size)) ≡ (work_on (course chunker.cutter) chunker.cutter.chunks (Some size))
+  next_work = ap (λ on. work_on on next.cutter.chunks (Some size)) takes.cuts.brings.stays ∙ ap (λ chunks. work_on (course chunker.cutter) chunks (Some size)) takes.cuts.chunks
+
+  needed_so : IsNeeded (work_on (course chunker.cutter) chunker.cutter.chunks (Some size)).is_complete 1 (has.spare.used ++ done)
+  needed_so = elim takes.needed [
+    | inl all ↦ (let e : length piece - past ≡ 0 = omega (arith, all) in
+        subst (IsNeeded (work_on (course chunker.cutter) chunker.cutter.chunks (Some size)).is_complete 1) (sym (ap (λ n. has.spare.used ++ take n piece) e ∙ append-nil has.spare.used)) has.spare.needed)
+    | inr needed ↦ needed has.spare.used (cut_is has)
+  ]
+
+  enough_so : ((has.spare.rest ++ over) ≡ []) ⊎ ((work_on (course chunker.cutter) chunker.cutter.chunks (Some size)).is_complete (has.spare.used ++ done) ≡ true)
+  enough_so = elim takes.enough [
+    | inl none ↦ zero_past none
+    | inr later ↦ elim later [
+      | inl ended ↦ inr (sym (ap (λ (work : Work). work.is_complete (has.spare.used ++ done)) next_work) ∙ sym (past_is next_cut) ∙ ended)
+      | inr full ↦ elim ok [
+        | inl none ↦ zero_past none
+        | inr one ↦ inr (sym (ap (λ (work : Work). work.is_complete (has.spare.used ++ done)) next_work)
+            ∙ full_at (course next.cutter) next.cutter.chunks size next.cutter.target.aim (has.spare.used ++ done) next_cut.cut.can one (omega (arith, full, next_cut.cut.at)))
+      ]
+    ]
+  ] where
+    zero_past : past ≡ 0 → ((has.spare.rest ++ over) ≡ []) ⊎ ((work_on (course chunker.cutter) chunker.cutter.chunks (Some size)).is_complete (has.spare.used ++ done) ≡ true)
+    zero_past none = let out : over ≡ [] = drop_all (length piece - past) piece (omega (arith, none)) in elim has.spare.enough [
+      | inl rest ↦ inl (rw (rest, out) refl)
+      | inr complete ↦ (let e : length piece - past ≡ 0 = omega (arith, takes.still (past_is (cut_is has) ∙ complete)) in
+          inr (ap (work_on (course chunker.cutter) chunker.cutter.chunks (Some size)).is_complete (ap (λ n. has.spare.used ++ take n piece) e ∙ append-nil has.spare.used) ∙ complete))
+    ]
+
+  abbrev spare_on : IsSpare (work_on (course chunker.cutter) chunker.cutter.chunks (Some size)) (x ++ piece) (chunker.spare + past)
+  spare_on = record {
+    used = has.spare.used ++ done;
+    rest = has.spare.rest ++ over;
+    joined = joined_so;
+    long = omega (arith, has.spare.long, length-append has.spare.rest over, length-drop (length piece - past) piece, takes.few);
+    needed = needed_so;
+    enough = enough_so;
+  }
+
+  pub said_on : (after : ℕ) → after ≡ chunker.spare + past → IsSaid (record next { spare = after }) size (x ++ piece)
+  said_on after is = record {
+    spare = record {
+      used = has.spare.used ++ done;
+      rest = has.spare.rest ++ over;
+      joined = joined_so;
+      long = spare_on.long ∙ sym is;
+      needed = subst (λ (work : Work). IsNeeded work.is_complete 1 (has.spare.used ++ done)) (sym next_work) needed_so;
+      enough = subst (λ (work : Work). ((has.spare.rest ++ over) ≡ []) ⊎ (work.is_complete (has.spare.used ++ done) ≡ true)) (sym next_work) enough_so;
+    };
+    within = fits_done;
+    cut = next_cut.cut;
+    waits = takes.waiting ∙ has.waits;
+  }
+
+  pub part_on_said : part_so chunker.cutter size (has.spare.used ++ done) ≡ (work_on (course chunker.cutter) chunker.cutter.chunks (Some size)).settled (x ++ piece)
+  part_on_said = let on = course chunker.cutter in let chunks = chunker.cutter.chunks in
+      ap (part_on on) (sym (cut_of chunks size (has.spare.used ++ done) fits_done)) ∙ sym (settled_is on chunks size (has.spare.used ++ done)) ∙ so_used (lawful_on on chunks (Some size) has.cut.can) spare_on
+
+used_is : {chunker : ChunkerState} {size : ℕ} {x : List ℕ} (has : IsSaid chunker size x) → take chunker.cutter.at x ≡ has.spare.used
+used_is {chunker} has = ap (take chunker.cutter.at) has.spare.joined ∙ take_at has.spare.used has.spare.rest chunker.cutter.at (sym has.cut.at)
+
+pub is_said : {chunker : ChunkerState} {size : ℕ} {x : List ℕ} → chunker.said ≡ Some size → Holds chunker x → IsSaid chunker size x
+is_said {chunker} {size} {x} said holds = subst (λ said. HoldsBy said chunker x) said holds
+
+said_is : {chunker : ChunkerState} {size : ℕ} {x : List ℕ} → chunker.said ≡ Some size → IsSaid chunker size x → Holds chunker x
+said_is {chunker} {size} {x} said is = subst (λ said. HoldsBy said chunker x) (sym said) is
+
+made_is : (chunker : ChunkerState) {size : ℕ} → chunker.said ≡ Some size → work_on (course chunker.cutter) chunker.cutter.chunks (Some size) ≡ made chunker
+made_is chunker said = ap (work_on (course chunker.cutter) chunker.cutter.chunks) (sym said)
+
+module _ (chunker : ChunkerState) {size : ℕ} (said : chunker.said ≡ Some size) (can : can_cut (course chunker.cutter) chunker.cutter.chunks.count ≡ true) where
+  cut_has : (x : List ℕ) (bytes : List ℕ) → Holds chunker x → chunker.cutter.at + length bytes ≤ size → IsCut chunker.cutter size (take chunker.cutter.at x) × (length (take chunker.cutter.at x ++ bytes) ≤ size)
+  cut_has x bytes holds fits = let has = is_said said holds in rw (used_is has) (cut_is has, omega (arith, fits, has.cut.at, length-append has.spare.used bytes))
+
+  low_is : (x : List ℕ) → Holds chunker x → part_so chunker.cutter size (take chunker.cutter.at x) ≡ (made chunker).settled x
+  low_is x holds = part_is (is_said said holds) ∙ ap (λ (work : Work). work.settled x) (made_is chunker said)
+
+  -- a fault came
+  to_all : (piece bytes more : List ℕ) → piece ≡ bytes ++ more → (x : List ℕ) → Holds chunker x → chunker.cutter.at + length bytes ≤ size → Begins (part_so chunker.cutter size (take chunker.cutter.at x ++ bytes)) ((made chunker).settled (x ++ piece))
+  to_all piece bytes more both x holds fits =
+      let has = is_said said holds in
+      let on = course chunker.cutter in
+      let chunks = chunker.cutter.chunks in
+      let work = work_on on chunks (Some size) in
+      let lawful = lawful_on on chunks (Some size) can in
+      let used = has.spare.used in
+      let here : part_so chunker.cutter size (take chunker.cutter.at x ++ bytes) ≡ work.settled (used ++ bytes) =
+      ap (λ used. part_so chunker.cutter size (used ++ bytes)) (used_is has) ∙ ap (part_on on) (sym (cut_of chunks size (used ++ bytes) (omega (arith, fits, has.cut.at, length-append used bytes)))) ∙ sym (settled_is on chunks size (used ++ bytes)) in
+      let there : Begins (work.settled (used ++ bytes)) (work.settled (x ++ piece)) = elim has.spare.enough [
+        | inl none ↦ (let e : (used ++ bytes) ++ more ≡ x ++ piece = append_assoc used bytes more ∙ ap (λ piece. used ++ piece) (sym both) ∙ ap (λ x. x ++ piece) (sym (has.spare.joined ∙ ap (λ rest. used ++ rest) none ∙ append-nil used)) in
+            subst (λ z. Begins (work.settled (used ++ bytes)) (work.settled z)) e (lawful.grows (used ++ bytes) more))
+        | inr complete ↦ (let e : used ++ (has.spare.rest ++ piece) ≡ x ++ piece = sym (append_assoc used has.spare.rest piece) ∙ ap (λ x. x ++ piece) (sym has.spare.joined) in
+            let low : work.settled (used ++ bytes) ≡ work.settled used = (lawful.stays used bytes complete).settled_stays in
+            let high : work.settled (x ++ piece) ≡ work.settled used = ap work.settled (sym e) ∙ (lawful.stays used (has.spare.rest ++ piece) complete).settled_stays in
+            rw (low, high) (part_begins_itself (work.settled used)))
+      ] in
+      rw (here, ← made_is chunker said) there
+
+module _ {chunker next : ChunkerState} {size : ℕ} (piece : List ℕ) {told : Bool} {old new : List Slot} (said : chunker.said ≡ Some size) (same : next.said ≡ chunker.said)
+    (can : can_cut (course chunker.cutter) chunker.cutter.chunks.count ≡ true) where
+  pub passes_said : {past : ℕ} (after : ℕ) → after ≡ chunker.spare + past → TakesAs told chunker size piece old new next past → (past ≡ 0) ⊎ (is_each_on next.cutter.target.aim ≡ false) → Passes told chunker piece old new (record next { spare = after }) None
+  passes_said {past} after is takes ok = record {
+    same = record { can = can; said = same; chunks = takes.cuts.chunks };
+    bound = omega (arith, is, takes.at, takes.few, ap length takes.waiting);
+    comes = brings_as (λ x. take chunker.cutter.at x) None (λ x holds. cut_has chunker said can x (take (length piece - past) piece) holds (omega (arith, takes.fits (omega (arith, (is_said said holds).within, (is_said said holds).cut.at)), length-take (length piece - past) piece, takes.few)))
+        (low_is chunker said can) (λ x holds. let has = is_said said holds in ap (λ used. part_so chunker.cutter size (used ++ take (length piece - past) piece)) (used_is has) ∙ part_on_said takes ok has ∙ ap (λ (work : Work). work.settled (x ++ piece)) (made_is chunker said)) takes.cuts.brings;
+    stands = λ x holds. said_is (same ∙ said) (said_on takes ok (is_said said holds) after is);
+  }
+
+  pub passes_not : {why : Fault} → next.waiting ≡ chunker.waiting → next.spare ≡ chunker.spare → Cuts told chunker.cutter size (take (min (length piece) (size - chunker.cutter.at)) piece) old new next.cutter (Some why) → Passes told chunker piece old new next (Some why)
+  passes_not {why} waits spare cuts = let n = min (length piece) (size - chunker.cutter.at) in
+      let fits : (x : List ℕ) → Holds chunker x → chunker.cutter.at + length (take n piece) ≤ size = λ x holds. let has = is_said said holds in omega (arith, length-take n piece, has.within, has.cut.at) in record {
+        same = record { can = can; said = same; chunks = cuts.chunks };
+        bound = omega (arith, ap length waits, spare, cuts.bound, length-take n piece);
+        comes = brings_wider (λ x holds. to_all chunker said can piece (take n piece) (drop n piece) (sym (take-append-drop n piece)) x holds (fits x holds)) (brings_as (λ x. take chunker.cutter.at x) (Some why) (λ x holds. cut_has chunker said can x (take n piece) holds (fits x holds)) (low_is chunker said can) (λ x holds. refl) cuts.brings);
+        stands = tt;
+      }
+
+-- the input has more than it said
+each_course : (aim : AimState) (chunks : Chunks) (size : ℕ) → is_each_on aim ≡ true → (x : List ℕ) → (work_on (course_of aim) chunks (Some size)).is_complete x ≡ nat_lt size (length x)
+each_course (to_files writer elide) chunks size each x = refl
+each_course (to_output chunk) chunks size each x = absurd (false≢true each)
+
+each_judges : (aim : AimState) (chunks : Chunks) (size : ℕ) → is_each_on aim ≡ true → (x : List ℕ) → eqb (length x) size ≡ false → (work_on (course_of aim) chunks (Some size)).verdict x ≡ Some Changed
+each_judges (to_files writer elide) chunks size each x differs = rw differs refl
+each_judges (to_output chunk) chunks size each x differs = absurd (false≢true each)
+
+each_same : (one two : AimState) → course_of two ≡ course_of one → is_each_on two ≡ is_each_on one
+each_same (to_files writer elide) (to_files other also) same = refl
+each_same (to_files writer elide) (to_output chunk) same = absurd (cc)
+each_same (to_output chunk) (to_files writer elide) same = absurd (cc)
+each_same (to_output chunk) (to_output other) same = refl
+
+never_past : (aim : AimState) (place : ℕ) → is_each_on aim ≡ true → is_past_at aim place ≡ false
+never_past (to_files writer elide) place each = refl
+never_past (to_output chunk) place each = absurd (false≢true each)
+
+module _ {chunker next : ChunkerState} {size : ℕ} (piece : List ℕ) {past : ℕ} {told : Bool} {old new : List Slot} (said : chunker.said ≡ Some size) (same : next.said ≡ chunker.said)
+    (can : can_cut (course chunker.cutter) chunker.cutter.chunks.count ≡ true) (takes : TakesAs told chunker size piece old new next past) (some : 0 < past) (each : is_each_on next.cutter.target.aim ≡ true) where
+  abbrev cut_off : List ℕ
+  cut_off = take (length piece - past) piece
+
+  this : is_each_on chunker.cutter.target.aim ≡ true
+  this = sym (each_same chunker.cutter.target.aim next.cutter.target.aim takes.cuts.brings.stays) ∙ each
+
+  all_used : (x : List ℕ) (has : IsSaid chunker size x) → has.spare.rest ≡ []
+  all_used x has = elim has.spare.enough [
+    | inl none ↦ none
+    | inr complete ↦ absurd (omega (arith, has.within, ltb-true _ _ (sym (each_course chunker.cutter.target.aim chunker.cutter.chunks size this has.spare.used) ∙ complete)))
+  ]
+
+  full : size ≤ next.cutter.at
+  full = elim takes.enough [
+    | inl none ↦ absurd (omega (arith, none, some))
+    | inr later ↦ elim later [
+      | inl closed ↦ absurd (false≢true (sym (never_past next.cutter.target.aim next.cutter.target.place each) ∙ closed))
+      | inr enough ↦ enough
+    ]
+  ]
+
+  size_is : (x : List ℕ) (has : IsSaid chunker size x) → length (has.spare.used ++ cut_off) ≡ size
+  size_is x has = omega (arith, full, takes.at, takes.fits (omega (arith, has.within, has.cut.at)), has.cut.at, length-append has.spare.used cut_off, length-take (length piece - past) piece, takes.few)
+
+  all_so : (x : List ℕ) (has : IsSaid chunker size x) → x ++ piece ≡ (has.spare.used ++ cut_off) ++ drop (length piece - past) piece
+  all_so x has = ap (λ x. x ++ piece) (has.spare.joined ∙ ap (λ rest. has.spare.used ++ rest) (all_used x has) ∙ append-nil has.spare.used)
+      ∙ ap (λ piece. has.spare.used ++ piece) (sym (take-append-drop (length piece - past) piece)) ∙ sym (append_assoc has.spare.used cut_off _)
+
+  taken : (x : List ℕ) (has : IsSaid chunker size x) → take size (x ++ piece) ≡ has.spare.used ++ cut_off
+  taken x has = ap (take size) (all_so x has) ∙ take_at (has.spare.used ++ cut_off) _ size (size_is x has)
+
+  longer_so : (x : List ℕ) (has : IsSaid chunker size x) → size < length (x ++ piece)
+  longer_so x has = omega (arith, ap length (all_so x has), length-append (has.spare.used ++ cut_off) (drop (length piece - past) piece), size_is x has, length-drop (length piece - past) piece, takes.few, some)
+
+  pub changed_more : (total next ≤ total chunker + length piece) × Changes told chunker (λ x. (made chunker).settled (x ++ piece)) (λ x. IsSettled (made chunker) (x ++ piece) Changed) old new next
+  changed_more = (
+    omega (arith, takes.at, takes.few, takes.spare, ap length takes.waiting),
+    record {
+      same = record { can = can; said = same; chunks = takes.cuts.chunks };
+      all = brings_as (λ x. take chunker.cutter.at x) None (λ x holds. cut_has chunker said can x cut_off holds (omega (arith, takes.fits (omega (arith, (is_said said holds).within, (is_said said holds).cut.at)), length-take (length piece - past) piece, takes.few)))
+          (low_is chunker said can) (λ x holds. let has = is_said said holds in
+          ap (λ used. part_so chunker.cutter size (used ++ cut_off)) (used_is has) ∙ ap (λ z. part_on (course chunker.cutter) (chunks_within chunker.cutter.chunks size z)) (sym (taken x has)) ∙ sym (settled_is (course chunker.cutter) chunker.cutter.chunks size (x ++ piece))
+          ∙ ap (λ (work : Work). work.settled (x ++ piece)) (made_is chunker said)) takes.cuts.brings;
+      judged = λ x holds. let has = is_said said holds in let longer : size < length (x ++ piece) = longer_so x has in subst (λ work. IsSettled work (x ++ piece) Changed) (made_is chunker said) (
+        each_course chunker.cutter.target.aim chunker.cutter.chunks size this (x ++ piece) ∙ lt-ltb _ _ longer,
+        each_judges chunker.cutter.target.aim chunker.cutter.chunks size this (x ++ piece) (longer_differs size (x ++ piece) longer),
+      );
+    },
+  )
+
+-- What was cut off of a piece
+
+pub takes_as : {told : Bool} {chunker next : ChunkerState} {size : ℕ} (piece : List ℕ) (own left : ℕ) {old new : List Slot} → own ≡ min (length piece) (size - chunker.cutter.at) → next.waiting ≡ chunker.waiting → next.spare ≡ chunker.spare
+    → CutsAs told chunker.cutter size (take own piece) old new next.cutter left → TakesAs told chunker size piece old new next (left + (length piece - own))
+takes_as {told} {chunker} {next} {size} piece own left {old} {new} is waiting spare cuts = let n = length piece - (left + (length piece - own)) in
+    let long : length (take own piece) ≡ own = omega (arith, length-take own piece, is) in
+    let e : take (length (take own piece) - left) (take own piece) ≡ take n piece = let m : length (take own piece) - left ≡ n = omega (arith, long, cuts.few, is) in ap (λ m. take m (take own piece)) m ∙ take-take n own piece (omega (arith, is)) in record {
+      waiting = waiting;
+      spare = spare;
+      few = omega (arith, cuts.few, long, is);
+      at = omega (arith, cuts.at, long, cuts.few, is);
+      cuts = rw e at cuts.cuts;
+      fits = λ fits. omega (arith, fits, is);
+      still = λ past. omega (arith, cuts.still past, long, is);
+      needed = elim cuts.needed [
+        | inl all ↦ inl (omega (arith, all, long, is))
+        | inr needed ↦ inr (λ x has. rw e at (needed x has (omega (arith, has.fits, has.cut.at, length-append x (take own piece), long, is))))
+      ];
+      enough = elim cuts.enough [
+        | inl none ↦ elim (cases_lt own (length piece)) [
+          | inl less ↦ inr (inr (omega (arith, cuts.at, long, none, is, less)))
+          | inr all ↦ inl (omega (arith, none, all))
+        ]
+        | inr past ↦ inr (inl past)
+      ];
+    }
+
+-- The end of an input that said its length
+
+shorter_differs : (size n : ℕ) → n < size → eqb n size ≡ false
+shorter_differs size n less = elim (eqb_tells n size) [
+  | inl (same, is) ↦ absurd (omega (arith, is, less))
+  | inr (differs, apart) ↦ differs
+]
+
+-- where the output is complete, it was one chunk's
+complete_whole : (on : Course) (chunks : Chunks) (size : ℕ) (x : List ℕ) → length x ≤ size → (work_on on chunks (Some size)).is_complete x ≡ true → (cut : CutUp) → part_on on cut ≡ whole_on on cut
+complete_whole (in_files filing elide) chunks size x fits complete = absurd (omega (arith, fits, ltb-true _ _ complete))
+complete_whole (in_output chunk) chunks size x fits complete = λ cut. refl
+
+whole_said : {chunker : ChunkerState} {size : ℕ} {x : List ℕ} → IsSaid chunker size x → whole_on (course chunker.cutter) (chunks_within chunker.cutter.chunks size (take chunker.cutter.at x)) ≡ (work_on (course chunker.cutter) chunker.cutter.chunks (Some size)).whole x
+whole_said {chunker} {size} {x} has =
+    let on = course chunker.cutter in let chunks = chunker.cutter.chunks in let work = work_on on chunks (Some size) in let used = has.spare.used in
+    let here : whole_on on (chunks_within chunks size (take chunker.cutter.at x)) ≡ work.whole used =
+    ap (λ used. whole_on on (chunks_within chunks size used)) (used_is has) ∙ ap (whole_on on) (sym (cut_of chunks size used has.within)) ∙ sym (whole_is on chunks size used) in
+    elim has.spare.enough [
+      | inl none ↦ here ∙ ap work.whole (sym (has.spare.joined ∙ ap (λ rest. used ++ rest) none ∙ append-nil used))
+      | inr complete ↦ here ∙ whole_is on chunks size used ∙ sym (complete_whole on chunks size used has.within complete (chunks_of chunks size used)) ∙ sym (settled_is on chunks size used)
+          ∙ sym (ap work.whole has.spare.joined ∙ ((lawful_on on chunks (Some size) has.cut.can).stays used has.spare.rest complete).whole_stays)
+    ]
+
+ends_well : (aim : AimState) (chunks : Chunks) (size : ℕ) (x : List ℕ) {n : ℕ} → (spare : IsSpare (work_on (course_of aim) chunks (Some size)) x n) → IsLawful (work_on (course_of aim) chunks (Some size)) → can_cut (course_of aim) chunks.count ≡ true → length spare.used ≤ size
+    → ((work_on (course_of aim) chunks (Some size)).is_complete spare.used ≡ true) ⊎ (size ≤ length spare.used) → (work_on (course_of aim) chunks (Some size)).verdict x ≡ None
+ends_well (to_files writer elide) chunks size x spare lawful can fits ends = elim spare.enough [
+  | inr complete ↦ absurd (omega (arith, fits, ltb-true _ _ complete))
+  | inl none ↦ elim ends [
+    | inl complete ↦ absurd (omega (arith, fits, ltb-true _ _ complete))
+    | inr full ↦ (let e : length x ≡ size = omega (arith, fits, full, ap length (spare.joined ∙ ap (λ rest. spare.used ++ rest) none ∙ append-nil spare.used)) in rw (eq-eqb _ _ e) refl)
+  ]
+]
+ends_well (to_output chunk) chunks size x spare lawful can fits ends = let complete : has_ended chunks size spare.used chunk ≡ true = elim ends [
+  | inl complete ↦ complete
+  | inr full ↦ full_at (in_output chunk) chunks size (to_output chunk) spare.used can refl full
+] in let all : has_ended chunks size x chunk ≡ true = ap (λ x. has_ended chunks size x chunk) spare.joined ∙ (lawful.stays spare.used spare.rest complete).still in rw all refl
+
+ends_badly : (aim : AimState) (chunks : Chunks) (size : ℕ) (x : List ℕ) → length x < size → (work_on (course_of aim) chunks (Some size)).is_complete x ≡ false → (work_on (course_of aim) chunks (Some size)).verdict x ≡ Some Changed
+ends_badly (to_files writer elide) chunks size x short open_still = rw (shorter_differs size (length x) short) refl
+ends_badly (to_output chunk) chunks size x short open_still = rw (open_still, shorter_differs size (length x) short) refl
+
+module _ {chunker next : ChunkerState} {size : ℕ} {told : Bool} {old new : List Slot} (said : chunker.said ≡ Some size) (same : IsLike chunker next) (bound : total next ≤ total chunker) where
+  end_comes : (fault : Option Fault) → TargetEnds told chunker.cutter.target old new next.cutter.target fault → Comes told chunker (made chunker).whole old new next fault
+  end_comes fault ends = brings_as (λ x. chunks_within chunker.cutter.chunks size (take chunker.cutter.at x)) fault
+      (λ x holds. let has = is_said said holds in subst (λ used. Carries chunker.cutter.target (chunks_within chunker.cutter.chunks size used)) (sym (used_is has)) has.cut.carries)
+      (low_is chunker said same.can) (λ x holds. whole_said (is_said said holds) ∙ ap (λ (work : Work). work.whole x) (made_is chunker said)) ends
+
+  pub said_stops : {why : Fault} → TargetEnds told chunker.cutter.target old new next.cutter.target (Some why) → Ends told chunker old new next (Some why)
+  said_stops {why} ends = record { same = same; bound = bound; comes = end_comes (Some why) ends; well = tt }
+
+  pub said_ends : TargetEnds told chunker.cutter.target old new next.cutter.target None → (is_past_on chunker.cutter.target ≡ true) ⊎ (size ≤ chunker.cutter.at) → Ends told chunker old new next None
+  said_ends ends full = record {
+    same = same;
+    bound = bound;
+    comes = end_comes None ends;
+    well = λ x holds. let has = is_said said holds in ap (λ (work : Work). work.verdict x) (sym (made_is chunker said))
+        ∙ ends_well chunker.cutter.target.aim chunker.cutter.chunks size x has.spare (lawful_on (course chunker.cutter) chunker.cutter.chunks (Some size) same.can) same.can has.within (elim full [
+          | inl past ↦ inl (sym (past_is (cut_is has)) ∙ past)
+          | inr all ↦ inr (omega (arith, all, has.cut.at))
+        ]);
+  }
+
+  pub said_changed : TargetEnds told chunker.cutter.target old new next.cutter.target None → is_past_on chunker.cutter.target ≡ false → chunker.cutter.at < size
+      → Changes told chunker (made chunker).whole (λ x. Judges (made chunker) x Changed) old new next
+  said_changed ends going short = record {
+    same = same;
+    all = end_comes None ends;
+    judged = λ x holds. let has = is_said said holds in
+        let open_still = sym (past_is (cut_is has)) ∙ going in
+        let used : has.spare.used ≡ x = elim has.spare.enough [
+          | inl none ↦ sym (has.spare.joined ∙ ap (λ rest. has.spare.used ++ rest) none ∙ append-nil has.spare.used)
+          | inr complete ↦ absurd (false≢true (sym open_still ∙ complete))
+        ] in
+        subst (λ (work : Work). Judges work x Changed) (made_is chunker said)
+        (ends_badly chunker.cutter.target.aim chunker.cutter.chunks size x (omega (arith, short, has.cut.at, ap length used)) (ap (work_on (course chunker.cutter) chunker.cutter.chunks (Some size)).is_complete (sym used) ∙ open_still));
+  }
+
+past_so : (one two : AimState) (place : ℕ) → course_of two ≡ course_of one → is_past_at two place ≡ is_past_at one place
+past_so (to_files writer elide) (to_files other also) place same = refl
+past_so (to_files writer elide) (to_output chunk) place same = absurd (cc)
+past_so (to_output chunk) (to_files writer elide) place same = absurd (cc)
+past_so (to_output chunk) (to_output other) place same = ap (λ chunk. nat_lt chunk place) (cc)
+
+pub past_same : (one two : TargetState) → course_of two.aim ≡ course_of one.aim → two.place ≡ one.place → is_past_on two ≡ is_past_on one
+past_same one two same place = ap (is_past_at two.aim) place ∙ past_so one.aim two.aim one.place same

@@ -1,0 +1,327 @@
+-- Lemmas on chunks of an input, as one of the ways to split.
+use Rattle.std.proofs.lemmas.Grind.{common_steps}
+use Rattle.std.proofs.Common.{◌≡◌, ℕ, ◌+◌, ◌≤◌, Bool, true, false, IsTrue, List, ◌++◌, length, Option, Some, None, Result, Ok, Err, inl, inr, refl, sym, ◌∙◌, ap, subst, arith, if◌then◌else◌}
+use Rattle.std.proofs.lemmas.Bool.{false≢true, ltb-true}
+use Rattle.std.proofs.lemmas.Bool.Decides.{nat_tests}
+use Rattle.std.proofs.lemmas.List.{length-append}
+use Rattle.ports_core.specs.Engine.{EndsThere, EndsWith, IsMet, StandsAt, is_verdict}
+use Rattle.ports_core.specs.Engine as engine
+use Rattle.ports_core.specs.Draft.{Manner}
+use Rattle.ports_core.specs.FileWriter.{Breaks}
+use Rattle.ports_core.specs.Part.{OutputsAt, gets_bytes, writes}
+use Rattle.ports_core.specs.Slot.{Slot, is_writable}
+use Rattle.ports_core.specs.Work.{IsSettled, IsSpare, Judges, Needs, Work}
+use Rattle.ports_core.specs.declared.fault.Fault.{Fault}
+use Rattle.ports_core.specs.declared.fault.Fault.TheVariants.{Memory, Open, Verdict, Write}
+use Rattle.ports_core.specs.declared.verdict.Verdict.{Verdict as Judgement}
+use Rattle.ports_core.specs.declared.verdict.Verdict.TheVariants.{Changed, Suffixes}
+use Rattle.ports_core.specs.inner.Part.{HasLines}
+use Rattle.ports_core.proofs.PartLemmas.{stopped_here, stopped_in_turn}
+use Rattle.ports_core.proofs.ShareLemmas.{has_told}
+use Rattle.ports_core.proofs.SpareLemmas.{all_used}
+use Rattle.seg_core.specs.declared.cut.Chunks.{Chunks}
+use Rattle.split_core.specs.ChunkerState.{AimState, ChunkerState, Course, Holds, HoldsBy, IsAimed, can_cut, course, course_of, first_on, to_files, to_output, in_files, in_output, made_if, total, work, work_on}
+use Rattle.split_core.specs.Chunks.{is_longer, undecided}
+use Rattle.split_core.specs.Split.{Filing}
+use Rattle.split_core.specs.Ways as ways
+use Rattle.split_core.specs.declared.splitter.Splitter.TheVariants as way
+use Rattle.split_core.specs.inner.Chunker.{Changes, Ends, EndsAs, IsLike, LacksRoom, Passes, PassesAs, made}
+use Rattle.split_core.specs.inner.Sends.{AtAim, IsOf, manner_on, output_on}
+use Rattle.split_core.specs.inner.Ways.{FinishesBy, PassesBy}
+use Rattle.split_core.specs.laws.WorkLaws.{lawful}
+use Rattle.split_core.proofs.PartsLemmas.{told_writable}
+
+-- What is made
+
+pub works_so : (state : ChunkerState) → can_cut (course state.cutter) state.cutter.chunks.count ≡ true → work state ≡ made state
+works_so state is = ap (λ can. made_if can (made state)) is
+
+-- the same was asked for
+same_work : (state next : ChunkerState) → IsLike state next → course next.cutter ≡ course state.cutter → work next ≡ work state
+same_work state next like stays = grind (arith, common_steps)
+
+output_is : (on : Course) (chunks : Chunks) (said : Option ℕ) → (work_on on chunks said).means.output ≡ output_on on
+output_is (in_files filing elide) chunks said = refl
+output_is (in_output chunk) chunks said = refl
+
+clears_none : (on : Course) (chunks : Chunks) (said : Option ℕ) → (work_on on chunks said).clears ≡ false
+clears_none (in_files filing elide) chunks said = refl
+clears_none (in_output chunk) chunks said = refl
+
+feeds_memory : (on : Course) (chunks : Chunks) (said : Option ℕ) → (work_on on chunks said).means.feeding.memory ≡ true
+feeds_memory (in_files filing elide) chunks said = refl
+feeds_memory (in_output chunk) chunks said = refl
+
+-- standard output has the lines of what is settled
+settled_lines : (on : Course) (chunks : Chunks) (said : Option ℕ) (x : List ℕ)
+    → HasLines (output_on on) ((work_on on chunks said).settled x).out ((work_on on chunks said).settled x).files
+settled_lines (in_files filing elide) chunks said x = has_told _ _
+settled_lines (in_output chunk) chunks said x = tt
+
+-- Faults
+
+unjudged : (manner : Manner) (old new : List Slot) (fault : Fault) → Breaks manner old new fault → (fault ≡ Verdict Suffixes → ⊥)
+    → is_verdict fault ≡ false
+unjudged manner old new Memory breaks other = refl
+unjudged manner old new (Write slot) breaks other = refl
+unjudged manner old new (Open slot) breaks other = refl
+unjudged manner old new (Verdict Suffixes) breaks other = absurd (other refl)
+unjudged manner old new fault breaks other = absurd breaks
+
+module _ (chunks : Chunks) (said : Option ℕ) (needs : Needs) (Lacks : Type 0) (Why : Judgement → Type 0) (old new : List Slot) where
+  met_files : (filing : Filing) (elide : Bool) (fault : Fault) → (needs.memory ≡ true) × Lacks → needs.files ≡ true
+      → Breaks (manner_on (in_files filing elide)) old new fault → (fault ≡ Verdict Suffixes → Why Suffixes)
+      → IsMet (work_on (in_files filing elide) chunks said).means needs Lacks Why old new fault
+  met_files filing elide Memory memory files breaks ends = memory
+  met_files filing elide (Write slot) memory files breaks ends = (breaks.0, (λ none. absurd (false≢true (sym none))), breaks.1)
+  met_files filing elide (Open slot) memory files breaks ends = (refl, files, breaks)
+  met_files filing elide (Verdict Suffixes) memory files breaks ends = ends refl
+  met_files filing elide fault memory files breaks ends = absurd breaks
+
+  met_output : (chunk : ℕ) (fault : Fault) → Breaks (manner_on (in_output chunk)) old new fault → fault ≡ Write 0
+      → IsMet (work_on (in_output chunk) chunks said).means needs Lacks Why old new fault
+  met_output chunk (Write slot) breaks is = ((λ none. refl), (λ none. cc), breaks.1)
+  met_output chunk fault breaks is = absurd (cc)
+
+met_feeding : (on : Course) (chunks : Chunks) (said : Option ℕ) (Why : Judgement → Type 0) (old new : List Slot) (fault : Fault)
+    → Breaks (manner_on on) old new fault → IsOf on fault → (fault ≡ Verdict Suffixes → Why Suffixes)
+    → IsMet (work_on on chunks said).means (work_on on chunks said).means.feeding (true ≡ true) Why old new fault
+met_feeding (in_files filing elide) chunks said Why old new fault breaks of ends =
+    met_files chunks said _ _ Why old new filing elide fault (refl, refl) refl breaks ends
+met_feeding (in_output chunk) chunks said Why old new fault breaks of ends =
+    met_output chunks said _ _ Why old new chunk fault breaks of
+
+met_closing : (on : Course) (chunks : Chunks) (said : Option ℕ) (Why : Judgement → Type 0) (old new : List Slot) (fault : Fault)
+    → Breaks (manner_on on) old new fault → IsOf on fault → (fault ≡ Verdict Suffixes → Why Suffixes)
+    → IsMet (work_on on chunks said).means (work_on on chunks said).means.closing (Unit {0}) Why old new fault
+met_closing (in_files filing elide) chunks said Why old new fault breaks of ends =
+    met_files chunks said _ _ Why old new filing elide fault (refl, tt) refl breaks ends
+met_closing (in_output chunk) chunks said Why old new fault breaks of ends =
+    met_output chunks said _ _ Why old new chunk fault breaks of
+
+-- What a piece leaves
+
+at_aim : {told : Bool} {state : ChunkerState} {start : List Slot} {x : List ℕ} {now : List Slot}
+    → can_cut (course state.cutter) state.cutter.chunks.count ≡ true
+    → StandsAt ways.Holds ways.Owns (way.Chunks state) told start x ((work state).settled x) now
+    → AtAim told state.cutter.target.aim start ((made state).settled x) now
+at_aim {told} {state} {start} {x} {now} can at = record {
+  owns = at.owns;
+  outputs = subst (λ (those : Work). OutputsAt told start (those.settled x) now) (works_so state can) at.outputs;
+}
+
+module _ (told : Bool) (old new : ChunkerState) (piece : List ℕ) (before after : List Slot) where
+  passes_well : Passes told old piece before after new None
+      → PassesBy told piece before after (Ok tt) (way.Chunks old) (way.Chunks new)
+  passes_well passes = record {
+    same = same_work old new passes.same passes.comes.stays;
+    bound = passes.bound;
+    holds = passes.stands;
+    outputs = λ start x at. subst (λ (those : Work). OutputsAt told start (those.settled (x ++ piece)) after)
+        (sym (works_so old passes.same.can)) (passes.comes.reaches x at.holds start (at_aim passes.same.can at)).outputs;
+    ready = passes.comes.ready;
+    owns = passes.comes.owns;
+    cut = tt;
+    met = tt;
+  }
+
+  passes_cut : (why : Fault) → Passes told old piece before after new (Some why)
+      → PassesBy told piece before after (Err why) (way.Chunks old) (way.Chunks new)
+  passes_cut why passes = record {
+    same = same_work old new passes.same passes.comes.stays;
+    bound = passes.bound;
+    holds = tt;
+    outputs = tt;
+    ready = tt;
+    owns = passes.comes.owns;
+    cut = λ start x at. subst (λ (those : Work). engine.Ended those.means.output told start (those.settled x) (those.settled (x ++ piece)) those.clears why after)
+        (sym (works_so old passes.same.can))
+        (engine.cut (unjudged (manner_on (course old.cutter)) before after why passes.comes.slots (λ is. passes.comes.named is x at.holds))
+        (rw (output_is (course old.cutter) old.cutter.chunks old.said)
+        (stopped_in_turn (output_on (course old.cutter)) told start _ _ why after (settled_lines (course old.cutter) old.cutter.chunks old.said x)
+        (passes.comes.reaches x at.holds start (at_aim passes.same.can at)))));
+    met = subst (λ (those : Work). IsMet those.means those.means.feeding (true ≡ true) (EndsWith ways.Holds ways.work (way.Chunks old) piece) before after why)
+        (sym (works_so old passes.same.can))
+        (met_feeding (course old.cutter) old.cutter.chunks old.said _ before after why passes.comes.slots passes.comes.only (λ is x holds. absurd (passes.comes.named is x holds)));
+  }
+
+  passes_lacking : LacksRoom old piece before after new
+      → PassesBy told piece before after (Err Memory) (way.Chunks old) (way.Chunks new)
+  passes_lacking lacks = record {
+    same = same_work old new lacks.same (ap course_of lacks.aim);
+    bound = lacks.bound;
+    holds = tt;
+    outputs = tt;
+    ready = tt;
+    owns = λ first owns. rw (lacks.aim, lacks.slots) owns;
+    cut = λ start x at. engine.cut refl (stopped_here (work old).means.output told start ((work old).settled x) ((work old).settled (x ++ piece))
+        Memory before after at.outputs ((lawful (way.Chunks old)).grows x piece) lacks.slots tt tt);
+    met = subst (λ (those : Work). (those.means.feeding.memory ≡ true) × (true ≡ true)) (sym (works_so old lacks.same.can))
+        (feeds_memory (course old.cutter) old.cutter.chunks old.said, refl);
+  }
+
+  passes_changed : total new ≤ total old + length piece
+      → Changes told old (λ x. (made old).settled (x ++ piece)) (λ x. IsSettled (made old) (x ++ piece) Changed) before after new
+      → PassesBy told piece before after (Err (Verdict Changed)) (way.Chunks old) (way.Chunks new)
+  passes_changed bound changes = record {
+    same = same_work old new changes.same changes.all.stays;
+    bound = bound;
+    holds = tt;
+    outputs = tt;
+    ready = tt;
+    owns = changes.all.owns;
+    cut = λ start x at. subst (λ (those : Work). engine.Ended those.means.output told start (those.settled x) (those.settled (x ++ piece)) those.clears (Verdict Changed) after)
+        (sym (works_so old changes.same.can))
+        (engine.judged refl after (changes.all.reaches x at.holds start (at_aim changes.same.can at)).outputs
+        (rw (clears_none (course old.cutter) old.cutter.chunks old.said) refl));
+    met = λ x holds. subst (λ (those : Work). IsSettled those (x ++ piece) Changed) (sym (works_so old changes.same.can)) (changes.judged x holds);
+  }
+
+pub passes_by : (told : Bool) (old new : ChunkerState) (piece : List ℕ) (before after : List Slot) (result : Result (Unit {0}) Fault)
+    → PassesAs told old piece before after new result → PassesBy told piece before after result (way.Chunks old) (way.Chunks new)
+passes_by told old new piece before after (Ok u) passes = passes_well told old new piece before after passes
+passes_by told old new piece before after (Err why) (inl passes) = passes_cut told old new piece before after why passes
+passes_by told old new piece before after (Err why) (inr (inl (is, lacks))) = rw is (passes_lacking told old new piece before after lacks)
+passes_by told old new piece before after (Err why) (inr (inr (is, bound, changes))) =
+    rw is (passes_changed told old new piece before after bound changes)
+
+-- And the end
+
+aimed_writable : (aim : AimState) (chunks : Chunks) (said : Option ℕ) (slots : List Slot) → IsAimed aim slots
+    → writes (work_on (course_of aim) chunks said).means.output ≡ true → IsTrue (is_writable slots 0)
+aimed_writable (to_files writer elide) chunks said slots aimed told = told_writable writer.tells slots aimed.0.output told
+aimed_writable (to_output chunk) chunks said slots aimed told = aimed
+
+module _ (told : Bool) (old new : ChunkerState) (before after : List Slot) where
+  ends_well : IsAimed old.cutter.target.aim before → Ends told old before after new None
+      → FinishesBy told before after (Ok tt) (way.Chunks old) (way.Chunks new)
+  ends_well aimed ends = record {
+    same = same_work old new ends.same ends.comes.stays;
+    bound = ends.bound;
+    outputs = λ start x at. subst (λ (those : Work). (those.verdict x ≡ None) × OutputsAt told start (those.whole x) after)
+        (sym (works_so old ends.same.can)) (ends.well x at.holds, (ends.comes.reaches x at.holds start (at_aim ends.same.can at)).outputs);
+    writable = subst (λ (those : Work). writes those.means.output ≡ true → IsTrue (is_writable after 0)) (sym (works_so old ends.same.can))
+        (λ told_is. ends.comes.output (aimed_writable old.cutter.target.aim old.cutter.chunks old.said before aimed told_is));
+    owns = ends.comes.owns;
+    cut = tt;
+    met = tt;
+  }
+
+  ends_cut : (why : Fault) → Ends told old before after new (Some why)
+      → FinishesBy told before after (Err why) (way.Chunks old) (way.Chunks new)
+  ends_cut why ends = record {
+    same = same_work old new ends.same ends.comes.stays;
+    bound = ends.bound;
+    outputs = tt;
+    writable = tt;
+    owns = ends.comes.owns;
+    cut = λ start x at. subst (λ (those : Work). engine.Ended those.means.output told start (those.settled x) (those.whole x) those.clears why after)
+        (sym (works_so old ends.same.can))
+        (engine.cut (unjudged (manner_on (course old.cutter)) before after why ends.comes.slots (λ is. ends.comes.named is x at.holds))
+        (rw (output_is (course old.cutter) old.cutter.chunks old.said)
+        (stopped_in_turn (output_on (course old.cutter)) told start _ _ why after (settled_lines (course old.cutter) old.cutter.chunks old.said x)
+        (ends.comes.reaches x at.holds start (at_aim ends.same.can at)))));
+    met = subst (λ (those : Work). IsMet those.means those.means.closing (Unit {0}) (EndsThere ways.Holds ways.work (way.Chunks old)) before after why)
+        (sym (works_so old ends.same.can))
+        (met_closing (course old.cutter) old.cutter.chunks old.said _ before after why ends.comes.slots ends.comes.only (λ is x holds. absurd (ends.comes.named is x holds)));
+  }
+
+  ends_changed : total new ≤ total old → Changes told old (made old).whole (λ x. Judges (made old) x Changed) before after new
+      → FinishesBy told before after (Err (Verdict Changed)) (way.Chunks old) (way.Chunks new)
+  ends_changed bound changes = record {
+    same = same_work old new changes.same changes.all.stays;
+    bound = bound;
+    outputs = tt;
+    writable = tt;
+    owns = changes.all.owns;
+    cut = λ start x at. subst (λ (those : Work). engine.Ended those.means.output told start (those.settled x) (those.whole x) those.clears (Verdict Changed) after)
+        (sym (works_so old changes.same.can))
+        (engine.judged refl after (changes.all.reaches x at.holds start (at_aim changes.same.can at)).outputs
+        (rw (clears_none (course old.cutter) old.cutter.chunks old.said) refl));
+    met = λ x holds. subst (λ (those : Work). Judges those x Changed) (sym (works_so old changes.same.can)) (changes.judged x holds);
+  }
+
+pub finishes_by : (told : Bool) (old new : ChunkerState) (before after : List Slot) (result : Result (Unit {0}) Fault)
+    → IsAimed old.cutter.target.aim before → EndsAs told old before after new result
+    → FinishesBy told before after result (way.Chunks old) (way.Chunks new)
+finishes_by told old new before after (Ok u) aimed ends = ends_well told old new before after aimed ends
+finishes_by told old new before after (Err why) aimed (inl ends) = ends_cut told old new before after why ends
+finishes_by told old new before after (Err why) aimed (inr (is, bound, changes)) =
+    rw is (ends_changed told old new before after bound changes)
+
+-- what waits, and what isn't used
+
+waiting_is : (on : Course) (chunks : Chunks) (said : Option ℕ) (x : List ℕ)
+    → (work_on on chunks said).waiting x ≡ undecided chunks (first_on on) said x
+waiting_is (in_files filing elide) chunks said x = refl
+waiting_is (in_output chunk) chunks said x = refl
+
+pub holds_can : (said : Option ℕ) (state : ChunkerState) (x : List ℕ) → HoldsBy said state x
+    → can_cut (course state.cutter) state.cutter.chunks.count ≡ true
+holds_can None state x holds = holds.cut.can
+holds_can (Some size) state x holds = holds.cut.can
+
+said_waits : (said : Option ℕ) (state : ChunkerState) (x : List ℕ) → HoldsBy said state x
+    → state.waiting ≡ undecided state.cutter.chunks (first_on (course state.cutter)) said x
+said_waits None state x holds = holds.waits
+said_waits (Some size) state x holds = holds.waits
+
+pub chunks_wait : (state : ChunkerState) (x : List ℕ) → Holds state x → length state.waiting ≡ length ((work state).waiting x)
+chunks_wait state x holds = ap length (said_waits state.said state x holds
+    ∙ sym (waiting_is (course state.cutter) state.cutter.chunks state.said x)
+    ∙ ap (λ (those : Work). those.waiting x) (sym (works_so state (holds_can state.said state x holds))))
+
+-- no chunk wants a name that isn't there
+if_suffixes : (test : Bool) → (if test then None else Some Changed) ≡ Some Suffixes → ⊥
+if_suffixes true is = cc
+if_suffixes false is = cc
+
+suffixes_on : (on : Course) (chunks : Chunks) (said : Option ℕ) (x : List ℕ) → Judges (work_on on chunks said) x Suffixes → ⊥
+suffixes_on (in_files filing elide) chunks said x is = if_suffixes _ is
+suffixes_on (in_output chunk) chunks said x is = if_suffixes _ is
+
+suffixes_if : (can : Bool) (those : Work) (x : List ℕ) → (Judges those x Suffixes → ⊥) → Judges (made_if can those) x Suffixes → ⊥
+suffixes_if true those x none is = none is
+suffixes_if false those x none is = cc
+
+pub no_suffixes : (state : ChunkerState) (x : List ℕ) → Judges (work state) x Suffixes → ⊥
+no_suffixes state x = suffixes_if _ (made state) x (suffixes_on (course state.cutter) state.cutter.chunks state.said x)
+
+-- where all go to files, more can come until there is more than was said
+files_open : (filing : Filing) (elide : Bool) (chunks : Chunks) (said : Option ℕ) (state : ChunkerState) (z : List ℕ)
+    → course state.cutter ≡ in_files filing elide → state.cutter.chunks ≡ chunks → HoldsBy said state z → is_longer said z ≡ false
+files_open filing elide chunks None state z on same holds = refl
+files_open filing elide chunks (Some size) state z on same holds = elim holds.spare.enough [
+  | inl none ↦
+      let all : length z ≤ size = omega (arith, holds.within, ap length holds.spare.joined ∙ length-append holds.spare.used holds.spare.rest, ap length none) in
+      grind (arith, nat_tests, all)
+  | inr complete ↦
+      let over : is_longer (Some size) holds.spare.used ≡ true = sym (ap (λ on. (work_on on state.cutter.chunks (Some size)).is_complete holds.spare.used) on) ∙ complete in
+      absurd (omega (arith, holds.within, ltb-true _ _ over))
+]
+
+-- what doesn't write bytes of its own to standard output isn't complete
+pub open_beside : (state : ChunkerState) (z : List ℕ) (those : Work) → work state ≡ those → (those.means.output ≡ gets_bytes → ⊥)
+    → Holds state z → those.is_complete z ≡ false
+open_beside state z those same beside holds = by (course state.cutter) refl where
+  is : work state ≡ made state
+  is = works_so state (holds_can state.said state z holds)
+
+  by : (on : Course) → course state.cutter ≡ on → those.is_complete z ≡ false
+  by (in_files filing elide) on = ap (λ (those : Work). those.is_complete z) (sym same ∙ is ∙ ap (λ on. work_on on state.cutter.chunks state.said) on)
+      ∙ files_open filing elide state.cutter.chunks state.said state z on refl holds
+  by (in_output chunk) on = absurd (beside (ap (λ (those : Work). those.means.output)
+      (sym same ∙ is ∙ ap (λ on. work_on on state.cutter.chunks state.said) on)))
+
+pub unsaid_open : (on : Course) (chunks : Chunks) (x : List ℕ) → (work_on on chunks None).is_complete x ≡ false
+unsaid_open (in_files filing elide) chunks x = refl
+unsaid_open (in_output chunk) chunks x = refl
+
+spare_by : (said : Option ℕ) (state : ChunkerState) (x : List ℕ) → HoldsBy said state x
+    → IsSpare (work_on (course state.cutter) state.cutter.chunks said) x state.spare
+spare_by None state x holds = rw holds.spare (all_used _ x (unsaid_open (course state.cutter) state.cutter.chunks x))
+spare_by (Some size) state x holds = holds.spare
+
+pub chunks_spare : (state : ChunkerState) (x : List ℕ) → Holds state x → IsSpare (work state) x state.spare
+chunks_spare state x holds =
+    subst (λ (those : Work). IsSpare those x state.spare) (sym (works_so state (holds_can state.said state x holds))) (spare_by state.said state x holds)

@@ -1,0 +1,91 @@
+-- Lemmas on chunks of an input of which no byte came in yet.
+use Rattle.std.proofs.Common.{◌≡◌, ℕ, ◌<◌, Bool, true, false, List, [], Option, Some, None, IfSome, refl, sym, ◌∙◌, ap, subst, arith, inl, drop, Result, zero, suc, max}
+use Rattle.std.proofs.Math.Seq.{drop-nil, take-nil}
+use Rattle.std.proofs.lemmas.Bool.{ltb-true}
+use Rattle.seg_core.specs.declared.cut.Chunks.{Chunks}
+use Rattle.seg_core.specs.declared.unit.Unit.{Unit as Counted}
+use Rattle.seg_core.specs.declared.unit.Unit.TheVariants.{Bytes, Lines}
+use Rattle.ports_core.specs.Draft.{draft_part}
+use Rattle.ports_core.specs.Part.{Output, OutputsAt, Part, StoppedBetween, nothing}
+use Rattle.ports_core.specs.Slot.{Slot}
+use Rattle.ports_core.specs.declared.fault.Fault.{Fault}
+use Rattle.ports_core.specs.declared.fault.Fault.TheVariants.{Memory}
+use Rattle.ports_core.proofs.HandedOn.{result_is}
+use Rattle.ports_core.proofs.PartLemmas.{nothing_begins_part, stopped_here}
+use Rattle.std.specs.Result.{IfErr, IsErrAnd}
+use Rattle.split_core.specs.ChunkWork.{draft_by, piece_at}
+use Rattle.split_core.specs.Split.{Filing, manner_of}
+use Rattle.split_core.specs.Parts.{uncut}
+use Rattle.split_core.specs.Chunks.{chunks_within, decided, is_within}
+use Rattle.split_core.specs.ChunkerState.{Carries, Course, CutterState, HasAll, HasCut, HoldsBy, TargetState, can_cut, course_of, in_files, in_output, work_on}
+use Rattle.ports_core.proofs.ShareLemmas.{nothing_part}
+use Rattle.split_core.specs.laws.BegunLaws.{begun_of_none}
+use Rattle.split_core.proofs.UnsaidLemmas.{none_ended}
+
+-- there are chunks
+pub some_chunks : (on : Course) (count : ℕ) → can_cut on count ≡ true → 0 < count
+some_chunks (in_files filing elide) count can = ltb-true _ _ can
+some_chunks (in_output chunk) count can = omega (arith, ltb-true _ _ can)
+
+-- nothing is cut up into nothing
+pub none_within : (chunks : Chunks) (size : ℕ) → 0 < chunks.count → 0 < size → chunks_within chunks size [] ≡ uncut []
+none_within chunks size count some = rw (none_ended chunks size count some)
+    (ap (λ rest. record { full = []; rest = rest }) (ap (drop _) (begun_of_none chunks.unit chunks.delim _) ∙ drop-nil _))
+
+none_so : (unit : Counted) (delim : ℕ) → is_within unit delim [] ≡ false
+none_so Bytes delim = refl
+none_so Lines delim = refl
+
+module _ (chunks : Chunks) (target : TargetState) (can : can_cut (course_of target.aim) chunks.count ≡ true)
+    (all : HasAll (course_of target.aim) chunks.count) (fresh : Carries target (uncut [])) where
+  abbrev cutter : CutterState
+  cutter = record { chunks = chunks; at = 0; is_within = false; target = target }
+
+  has_none : HasCut cutter [] (uncut [])
+  has_none = record { can = can; all = all; at = refl; within = sym (none_so chunks.unit chunks.delim); carries = fresh }
+
+  -- no byte came in
+  pub holds_none : (said : Option ℕ) (waiting : List ℕ) → waiting ≡ [] → IfSome said (λ size. 0 < size)
+      → HoldsBy said (record { said = said; cutter = cutter; waiting = waiting; spare = 0 }) []
+  holds_none None waiting none long = record {
+    cut = rw (begun_of_none chunks.unit chunks.delim) has_none;
+    waits = none ∙ sym (drop-nil _);
+    spare = refl;
+  }
+  holds_none (Some size) waiting none long = record {
+    spare = record { used = []; rest = []; joined = refl; long = refl; needed = inl refl; enough = inl refl };
+    within = omega arith;
+    cut = subst (HasCut cutter []) (sym (none_within chunks size (some_chunks _ _ can) long)) has_none;
+    waits = none;
+  }
+
+-- and nothing is settled
+
+none_decided : (chunks : Chunks) (first : ℕ) (said : Option ℕ) → 0 < chunks.count → IfSome said (λ size. 0 < size)
+    → decided chunks first said [] ≡ uncut []
+none_decided chunks first None count long = ap uncut (begun_of_none chunks.unit chunks.delim _)
+none_decided chunks first (Some size) count long =
+    ap (chunks_within chunks size) (take-nil size) ∙ none_within chunks size count long
+
+no_piece : (place : ℕ) → piece_at place (uncut []) ≡ nothing
+no_piece zero = refl
+no_piece (suc place) = refl
+
+no_file : (filing : Filing) (elide : Bool) → draft_part (manner_of filing) (draft_by elide (uncut [])) ≡ nothing
+no_file filing true = nothing_part _
+no_file filing false = nothing_part _
+
+pub settled_none : (on : Course) (chunks : Chunks) (said : Option ℕ) → can_cut on chunks.count ≡ true
+    → IfSome said (λ size. 0 < size) → (work_on on chunks said).settled [] ≡ nothing
+settled_none (in_files filing elide) chunks said can long =
+    ap (λ cut. draft_part (manner_of filing) (draft_by elide cut)) (none_decided chunks 1 said (some_chunks (in_files filing elide) _ can) long) ∙ no_file filing elide
+settled_none (in_output chunk) chunks said can long =
+    ap (piece_at chunk) (none_decided chunks (max chunk 1) said (some_chunks (in_output chunk) _ can) long) ∙ no_piece chunk
+
+-- there was no memory for what waits, and nothing was written
+pub lacks_memory : (told : Bool) (output : Output) (high : Part) (slots : List Slot) {T : Type 0} (result : Result T Fault) (fault : Fault) → fault ≡ Memory
+    → IsErrAnd result (λ given. given ≡ fault)
+    → IfErr result (λ fault. (before : List Slot) → OutputsAt told before nothing slots → StoppedBetween output told before nothing high fault slots)
+lacks_memory told output high slots result fault is handed = result_is
+    (λ result. IfErr result (λ fault. (before : List Slot) → OutputsAt told before nothing slots → StoppedBetween output told before nothing high fault slots))
+    result fault handed (λ before outputs. rw is (stopped_here output told before nothing high Memory slots slots outputs (nothing_begins_part high) refl tt tt))

@@ -1,0 +1,463 @@
+-- Chunks of an input that doesn't say its length.
+use Rattle.std.proofs.lemmas.Bool.{cases_lt, false≢true, ltb-false, ltb-true}
+use Rattle.std.proofs.lemmas.List.{append-nil, get_or_past, drop_at, drop-append-le, take-append-drop, length-append, length-take}
+use Rattle.std.proofs.Common.{◌≡◌, ℕ, ◌+◌, ◌-◌, ◌<◌, ◌≤◌, max, zero, suc, Bool, true, false, ◌||◌, nat_lt, List, [], ◌∷◌, ◌++◌, ◌⊎◌, length, map, take, drop, replicate, get_or, ◌/◌, ◌*◌, Option, Some, None, Result, Ok, Err, inl, inr, refl, sym, ◌∙◌, ap, subst, arith, append_assoc}
+use Rattle.ports_core.specs.Part.{Begins, IsBeginning}
+use Rattle.ports_core.specs.Slot.{Slot}
+use Rattle.ports_core.specs.declared.fault.Fault.{Fault}
+use Rattle.seg_core.specs.declared.cut.Chunks.{Chunks}
+use Rattle.split_core.specs.Chunks.{before_chunk, pieces_in, begun_before, chunk_at, chunk_start, chunks_of, chunks_within, decided, ended, is_within, open_from}
+use Rattle.split_core.specs.Parts.{CutUp, uncut}
+use Rattle.split_core.specs.ChunkerState.{AimState, Carries, ChunkerState, Course, course_of, to_files, to_output, CutterState, HasCut, Holds, HoldsBy, IsAimed, IsUnsaid, TargetState, can_cut, course, first_on, in_files, in_output, work_on}
+use Rattle.split_core.specs.Split.{manner_of}
+use Rattle.split_core.specs.ChunkWork.{draft_by}
+use Rattle.ports_core.specs.Draft.{draft_part}
+use Rattle.ports_core.specs.declared.file_writer.Opening.TheVariants.{Never}
+use Rattle.ports_core.proofs.PartLemmas.{part_begins_itself, part_trans}
+use Rattle.ports_core.proofs.ShareLemmas.{next_begins}
+use Rattle.split_core.specs.inner.Chunker.{Ends as StageEnds, EndsAs, Passes, PassesAs, made}
+use Rattle.ports_core.specs.Turn.{fault_in}
+use Rattle.ports_core.specs.Work.{Work}
+use Rattle.ports_core.proofs.FileWriterLemmas.{in_any, where_well}
+use Rattle.seg_core.specs.declared.unit.Unit.{Unit as Counted}
+use Rattle.seg_core.specs.declared.unit.Unit.TheVariants.{Bytes, Lines}
+use Rattle.std.specs.List.{range_with_len}
+use Rattle.std.proofs.lemmas.List.FromFn.{get_or-map-range_with_len, length-map-range_with_len, map-range_with_len_more}
+use Rattle.std.proofs.lemmas.Nat.{div-add-mod'}
+use Rattle.ports_core.specs.Part.{only_out}
+use Rattle.split_core.specs.laws.ChunkLaws.{chunk_none, cut_all, ended_all, passed_open, ended_only, start_first, begin_then_rest, start_by_size}
+use Rattle.split_core.specs.inner.Cutter.{BeginsBefore, Cuts, CutsHeld, EndsFull, EndsHeld, IsCut, IsCutOff, IsSettled, part_so, Settles, Steps, WritesTo, all_before, cut_to}
+use Rattle.split_core.specs.inner.Sends.{Brings, Changes, Ends as TargetEnds, Sends, with_fulls, with_rest, part_on, whole_on}
+use Rattle.split_core.specs.laws.BegunLaws.{begun_first, begun_of_none, begun_again, begun_begins, begun_grows, begun_monotone, begun_on, begun_stays, open_within}
+use Rattle.split_core.proofs.CutterLemmas.{cut_of, so_grows, fulls_are, grown, begin_so, cuts_again, cuts_nothing, cuts_wider, cutting, has_cut, name_of, no_line, open_early, some_of}
+use Rattle.split_core.proofs.TargetLemmas.{whole_draft, piece_full, brings_as, brings_then, brings_wider, sends_as, sends_none, sends_then, sends_wider}
+
+-- What is settled is written, stretch after stretch
+
+pub record Settling (told : Bool) (cutter : CutterState) (waiting : List ℕ) (end : ℕ) (old slots : List Slot) (now : CutterState) (left : List ℕ) : Type 0 where
+  pub chunks : now.chunks ≡ cutter.chunks
+  pub done : List ℕ
+  pub both : waiting ≡ done ++ left
+  pub at : now.at ≡ cutter.at + length done
+  pub sends : Sends told cutter.target (BeginsBefore cutter end) (λ z. uncut z) (λ z. uncut (z ++ done)) old slots now.target None
+  pub stands : (z : List ℕ) → BeginsBefore cutter end z → BeginsBefore now end (z ++ done)
+
+pub settles_none : {told : Bool} {cutter : CutterState} {waiting : List ℕ} {end : ℕ} {slots : List Slot} → IsAimed cutter.target.aim slots → Settling told cutter waiting end slots slots cutter waiting
+settles_none {told} {cutter} {waiting} {end} {slots} ready = record {
+  chunks = refl;
+  done = [];
+  both = refl;
+  at = omega arith;
+  sends = sends_as (λ z. z) None (λ z so. so) (λ z so. refl) (λ z so. ap uncut (sym (append-nil z))) (sends_none {target = cutter.target} {So = BeginsBefore cutter end} {from = λ z. uncut z} ready (λ z so. so.0.carries));
+  stands = λ z so. rw (append-nil z) so;
+}
+
+no_bytes : (x : List ℕ) → length x ≡ 0 → x ≡ []
+no_bytes [] none = refl
+no_bytes (byte ∷ x) none = absurd (omega (arith, none))
+
+or_true : (one other : Bool) → true ≡ (one || other) → (one ≡ true) ⊎ (other ≡ true)
+or_true true other is = inl refl
+or_true false other is = inr (sym is)
+
+or_false : (one other : Bool) → false ≡ (one || other) → (one ≡ false) × (other ≡ false)
+or_false true other is = absurd (false≢true is)
+or_false false other is = (refl, sym is)
+
+-- what comes goes on with what was cut off
+goes_on_so : (cutter : CutterState) (end : ℕ) (w : List ℕ) → BeginsBefore cutter end w → true ≡ (nat_lt cutter.at end || cutter.is_within) → open_from cutter.chunks.unit cutter.chunks.delim w < end
+goes_on_so cutter end w (has, all) short = elim (or_true (nat_lt cutter.at end) cutter.is_within short) [
+  | inl before ↦ omega (arith, ltb-true _ _ before, has.at, open_within cutter.chunks.unit cutter.chunks.delim w)
+  | inr within ↦ open_early cutter.chunks.unit cutter.chunks.delim end w all (sym has.within ∙ within)
+]
+
+writes_on : (cutter : CutterState) (end : ℕ) (w front : List ℕ) → BeginsBefore cutter end w → true ≡ (nat_lt cutter.at end || cutter.is_within)
+    → begun_before cutter.chunks.unit cutter.chunks.delim end (w ++ front) ≡ w ++ cut_to cutter end front
+writes_on cutter end w front so short = begun_on cutter.chunks.unit cutter.chunks.delim end w front (goes_on_so cutter end w so short)
+    ∙ ap (λ at. w ++ begun_before cutter.chunks.unit cutter.chunks.delim (max (end - at) 1) front) (sym so.0.at)
+
+still_before : (cutter : CutterState) (end : ℕ) (w front : List ℕ) → BeginsBefore cutter end w → true ≡ (nat_lt cutter.at end || cutter.is_within)
+    → begun_before cutter.chunks.unit cutter.chunks.delim end (w ++ cut_to cutter end front) ≡ w ++ cut_to cutter end front
+still_before cutter end w front so short = let is = writes_on cutter end w front so short in let unit = cutter.chunks.unit in let delim = cutter.chunks.delim in
+    ap (begun_before unit delim end) (sym is) ∙ begun_again unit delim end (w ++ front) ∙ is
+
+module _ {told : Bool} {cutter now : CutterState} {waiting left : List ℕ} {end : ℕ} {old slots : List Slot} (so_far : Settling told cutter waiting end old slots now left) (front rest : List ℕ) (is : left ≡ front ++ rest)
+    (short : true ≡ (nat_lt now.at end || now.is_within)) where
+  on_more : {next : TargetState} {new : List Slot} (fault : Option Fault) → Changes told now.target (with_rest (cut_to now end front)) slots new next fault
+      → Sends told cutter.target (BeginsBefore cutter end) (λ z. uncut z) (λ z. uncut ((z ++ so_far.done) ++ cut_to now end front)) old new next fault
+  on_more fault changes = sends_then so_far.sends (λ z so has. (so, has))
+      (sends_as {Also = λ z. BeginsBefore cutter end z × Carries now.target (uncut (z ++ so_far.done))} (λ z. uncut (z ++ so_far.done)) fault (λ z so. let here = (so_far.stands z so.0).0 in
+      (so.1, name_of (course now) now.chunks.count now.target.place here.all (omega (arith, so.1.placed, some_of (course now) now.chunks.count here.can)))) (λ z so. refl) (λ z so. refl) changes)
+
+  pub settles_more : {next : CutterState} {after : List ℕ} {new : List Slot} {n : ℕ} → WritesTo told now end front slots new next (Ok n) → after ≡ drop n left → Settling told cutter waiting end old new next after
+  settles_more {next} {after} {new} {n} writes waits = let y = cut_to now end front in let step = cutting front writes in record {
+    chunks = writes.chunks ∙ so_far.chunks;
+    done = so_far.done ++ y;
+    both = so_far.both ∙ ap (λ those. so_far.done ++ those) (is ∙ ap (λ front. front ++ rest) (sym (take-append-drop n front)) ∙ append_assoc (take n front) (drop n front) rest
+        ∙ ap (λ y. y ++ (drop n front ++ rest)) writes.count.2 ∙ ap (λ rest. y ++ rest) (sym (drop-append-le n front rest writes.count.1) ∙ ap (drop n) (sym is) ∙ sym waits)) ∙ sym (append_assoc so_far.done y after);
+    at = omega (arith, writes.at, so_far.at, length-append so_far.done y, ap length writes.count.2, length-take n front, writes.count.1);
+    sends = sends_as (λ z. z) None (λ z so. so) (λ z so. refl) (λ z so. ap uncut (append_assoc z so_far.done y)) (on_more None writes.sends);
+    stands = λ z so. let here = so_far.stands z so in rw (← append_assoc z so_far.done y) (
+      has_cut y writes.chunks step.stays (omega (arith, writes.at, ap length writes.count.2, length-take n front, writes.count.1)) writes.within (omega (arith, step.some, ap length writes.count.2)) here.0 ((on_more None writes.sends).carries z so),
+      rw writes.chunks (still_before now end (z ++ so_far.done) front here short),
+    );
+  }
+
+  pub settles_not : {next : CutterState} {after : List ℕ} {new : List Slot} {why : Fault} → WritesTo told now end front slots new next (Err why) → after ≡ left → Settles told cutter waiting end old new next after (Some why)
+  settles_not {next} {after} {new} {why} writes waits = record {
+    chunks = writes.chunks ∙ so_far.chunks;
+    bound = omega (arith, writes.kept, so_far.at, ap length waits, ap length so_far.both, length-append so_far.done left);
+    sends = sends_wider (λ z so. let here = so_far.stands z so in let w = z ++ so_far.done in let unit = cutter.chunks.unit in let delim = cutter.chunks.delim in
+        let on = writes_on now end w front here short in
+        let all : (w ++ front) ++ rest ≡ z ++ waiting = append_assoc w front rest ∙ ap (λ more. w ++ more) (sym is) ∙ append_assoc z so_far.done left ∙ ap (λ more. z ++ more) (sym so_far.both) in
+        begin_so (course cutter) (uncut (w ++ cut_to now end front)) (uncut (all_before cutter waiting end z)) (record {
+          more = [];
+          full = refl;
+          rest = subst (λ low. IsBeginning low (all_before cutter waiting end z)) (ap (λ (chunks : Chunks). begun_before chunks.unit chunks.delim end (w ++ front)) (sym so_far.chunks) ∙ on)
+              (subst (λ x. IsBeginning (begun_before unit delim end (w ++ front)) (begun_before unit delim end x)) all (begun_grows unit delim end (w ++ front) rest));
+        })) (on_more (Some why) writes.sends);
+    stands = tt;
+  }
+
+-- as far as it goes
+
+module _ {told : Bool} {cutter now : CutterState} {waiting left : List ℕ} {end : ℕ} {old slots : List Slot} (so_far : Settling told cutter waiting end old slots now left) where
+  whole_so : (z : List ℕ) → z ++ waiting ≡ (z ++ so_far.done) ++ left
+  whole_so z = ap (λ more. z ++ more) so_far.both ∙ sym (append_assoc z so_far.done left)
+
+  same_so : (z : List ℕ) → BeginsBefore cutter end z → (length left ≡ 0) ⊎ (false ≡ (nat_lt now.at end || now.is_within)) → all_before cutter waiting end z ≡ z ++ so_far.done
+  same_so z so ends = let (has, all) = so_far.stands z so in let w = z ++ so_far.done in let unit = cutter.chunks.unit in let delim = cutter.chunks.delim in
+      let here : begun_before unit delim end w ≡ w = ap (λ (chunks : Chunks). begun_before chunks.unit chunks.delim end w) (sym so_far.chunks) ∙ all in elim ends [
+        | inl none ↦ ap (begun_before unit delim end) (whole_so z ∙ ap (λ rest. w ++ rest) (no_bytes left none) ∙ append-nil w) ∙ here
+        | inr stops ↦ (let (before, within) = or_false (nat_lt now.at end) now.is_within stops in
+            let open_at : open_from unit delim w ≡ length w = ap (λ (chunks : Chunks). open_from chunks.unit chunks.delim w) (sym so_far.chunks) ∙ no_line now.chunks.unit now.chunks.delim w (sym has.within ∙ within) in
+            ap (begun_before unit delim end) (whole_so z) ∙ begun_stays unit delim end w left (omega (arith, open_at, has.at, ltb-false _ _ before)) ∙ here)
+      ]
+
+  pub settles_so : (length left ≡ 0) ⊎ (false ≡ (nat_lt now.at end || now.is_within)) → Settles told cutter waiting end old slots now left None
+  settles_so ends = record {
+    chunks = so_far.chunks;
+    bound = omega (arith, so_far.at, ap length so_far.both, length-append so_far.done left);
+    sends = sends_as (λ z. z) None (λ z so. so) (λ z so. refl) (λ z so. ap uncut (sym (same_so z so ends))) so_far.sends;
+    stands = λ z so. rw (same_so z so ends) ((so_far.stands z so).0, sym (ap (drop (length (z ++ so_far.done))) (whole_so z) ∙ drop_at (z ++ so_far.done) left (length (z ++ so_far.done)) refl));
+  }
+
+-- Where the input ended, all that waits is cut
+
+pub record Resting (told : Bool) (cutter : CutterState) (waiting : List ℕ) (size : ℕ) (old slots : List Slot) (now : CutterState) (left : List ℕ) : Type 0 where
+  pub done : List ℕ
+  pub both : waiting ≡ done ++ left
+  pub at : now.at ≡ cutter.at + length done
+  pub cuts : Cuts told cutter size done old slots now None
+
+pub rests_none : {told : Bool} {cutter : CutterState} {waiting : List ℕ} {size : ℕ} {slots : List Slot} → IsAimed cutter.target.aim slots → Resting told cutter waiting size slots slots cutter waiting
+rests_none ready = record { done = []; both = refl; at = omega arith; cuts = cuts_nothing ready }
+
+module _ {told : Bool} {cutter now : CutterState} {waiting left : List ℕ} {size : ℕ} {old slots : List Slot} (so_far : Resting told cutter waiting size old slots now left) where
+  pub rests_more : {next : CutterState} {after : List ℕ} {new : List Slot} {n : ℕ} (front rest : List ℕ) → left ≡ front ++ rest → Steps told now size front slots new next (Ok n) → after ≡ drop n left → Resting told cutter waiting size old new next after
+  rests_more {next} {after} {n = n} front rest is (some, few, at, step, going) waits = record {
+    done = so_far.done ++ take n front;
+    both = so_far.both ∙ ap (λ those. so_far.done ++ those) (is ∙ ap (λ front. front ++ rest) (sym (take-append-drop n front)) ∙ append_assoc (take n front) (drop n front) rest
+        ∙ ap (λ rest. take n front ++ rest) (sym (drop-append-le n front rest few) ∙ ap (drop n) (sym is) ∙ sym waits)) ∙ sym (append_assoc so_far.done (take n front) after);
+    at = omega (arith, at, so_far.at, length-append so_far.done (take n front), length-take n front, few);
+    cuts = cuts_again so_far.done (take n front) None so_far.cuts step;
+  }
+
+  pub rests_not : {next : CutterState} {after : List ℕ} {new : List Slot} {why : Fault} (front rest : List ℕ) → left ≡ front ++ rest → Cuts told now size front slots new next (Some why) → length after ≡ 0 → CutsHeld told cutter waiting size old new next after (Some why)
+  rests_not {why = why} front rest is stops none = record {
+    bound = omega (arith, none, stops.bound, so_far.at, ap length so_far.both, length-append so_far.done left, ap length is, length-append front rest);
+    cuts = rw (so_far.both, is) (cuts_again so_far.done (front ++ rest) (Some why) so_far.cuts (cuts_wider front rest stops));
+  }
+
+  pub rests_so : length left ≡ 0 → CutsHeld told cutter waiting size old slots now left None
+  rests_so none = record {
+    bound = omega (arith, so_far.at, ap length so_far.both, length-append so_far.done left);
+    cuts = rw (so_far.both ∙ ap (λ rest. so_far.done ++ rest) (no_bytes left none) ∙ append-nil so_far.done) so_far.cuts;
+  }
+
+-- A piece
+
+begun_later : (unit : Counted) (delim : ℕ) {place other : ℕ} (x : List ℕ) → place ≤ other → begun_before unit delim place x ≡ x → begun_before unit delim other x ≡ x
+begun_later unit delim {place} {other} x within all = same (begun_monotone unit delim x within) (begun_begins unit delim other x) where
+  same : IsBeginning (begun_before unit delim place x) (begun_before unit delim other x) → IsBeginning (begun_before unit delim other x) x → begun_before unit delim other x ≡ x
+  same (more, is) (rest, both) = let none : length rest ≡ 0 = omega (arith, ap length is, length-append (begun_before unit delim place x) more, ap length all, ap length both, length-append (begun_before unit delim other x) rest) in
+      sym (both ∙ ap (λ rest. begun_before unit delim other x ++ rest) (no_bytes rest none) ∙ append-nil (begun_before unit delim other x))
+
+decided_is : (on : Course) (chunks : Chunks) (x : List ℕ) → (work_on on chunks None).settled x ≡ part_on on (decided chunks (first_on on) None x)
+decided_is (in_files filing elide) chunks x = refl
+decided_is (in_output chunk) chunks x = refl
+
+pub first_fits : (on : Course) (count : ℕ) → can_cut on count ≡ true → first_on on ≤ count
+first_fits (in_files filing elide) count can = omega (arith, ltb-true _ _ can)
+first_fits (in_output chunk) count can = omega (arith, ltb-true _ _ can)
+
+pub is_unsaid : {chunker : ChunkerState} {x : List ℕ} → chunker.said ≡ None → Holds chunker x → IsUnsaid chunker x
+is_unsaid {chunker} {x} said holds = subst (λ said. HoldsBy said chunker x) said holds
+
+unsaid_is : {chunker : ChunkerState} {x : List ℕ} → chunker.said ≡ None → IsUnsaid chunker x → Holds chunker x
+unsaid_is {chunker} {x} said is = subst (λ said. HoldsBy said chunker x) (sym said) is
+
+made_none : (chunker : ChunkerState) → chunker.said ≡ None → work_on (course chunker.cutter) chunker.cutter.chunks None ≡ made chunker
+made_none chunker said = ap (work_on (course chunker.cutter) chunker.cutter.chunks) (sym said)
+
+-- what was cut off, of what came in
+abbrev pub cut_front : ChunkerState → List ℕ → List ℕ
+cut_front chunker x = before_chunk chunker.cutter.chunks (length x) (first_on (course chunker.cutter)) x
+
+module _ {chunker : ChunkerState} {x : List ℕ} (has : IsUnsaid chunker x) where
+  all_came : cut_front chunker x ++ chunker.waiting ≡ x
+  all_came = ap (λ rest. cut_front chunker x ++ rest) has.waits ∙ begin_then_rest (cut_front chunker x) x (begun_begins chunker.cutter.chunks.unit chunker.cutter.chunks.delim _ x)
+
+  front_before : (more : List ℕ) → BeginsBefore chunker.cutter (chunk_start chunker.cutter.chunks.count (length (x ++ more)) (first_on (course chunker.cutter))) (cut_front chunker x)
+  front_before more = let chunks = chunker.cutter.chunks in let first = first_on (course chunker.cutter) in (
+    has.cut,
+    begun_later chunks.unit chunks.delim (cut_front chunker x) (start_by_size chunks.count (length x) (length (x ++ more)) first (some_of (course chunker.cutter) chunks.count has.cut.can) (first_fits (course chunker.cutter) chunks.count has.cut.can) (omega (arith, length-append x more)))
+        (begun_again chunks.unit chunks.delim (chunk_start chunks.count (length x) first) x),
+  )
+
+  came_more : (piece : List ℕ) → cut_front chunker x ++ (chunker.waiting ++ piece) ≡ x ++ piece
+  came_more piece = sym (append_assoc (cut_front chunker x) chunker.waiting piece) ∙ ap (λ x. x ++ piece) all_came
+
+module _ (chunker : ChunkerState) (piece : List ℕ) {end : ℕ} (ends : end ≡ chunk_start chunker.cutter.chunks.count (chunker.cutter.at + length (chunker.waiting ++ piece)) (first_on (course chunker.cutter))) where
+  end_is : {x : List ℕ} → IsUnsaid chunker x → end ≡ chunk_start chunker.cutter.chunks.count (length (x ++ piece)) (first_on (course chunker.cutter))
+  end_is {x} has = let n : chunker.cutter.at + length (chunker.waiting ++ piece) ≡ length (x ++ piece) = omega (arith, has.cut.at, length-append (cut_front chunker x) (chunker.waiting ++ piece), ap length (came_more has piece)) in
+      ends ∙ ap (λ n. chunk_start chunker.cutter.chunks.count n (first_on (course chunker.cutter))) n
+
+  to_is : {x : List ℕ} → IsUnsaid chunker x → all_before chunker.cutter (chunker.waiting ++ piece) end (cut_front chunker x) ≡ cut_front chunker (x ++ piece)
+  to_is {x} has = ap (begun_before chunker.cutter.chunks.unit chunker.cutter.chunks.delim end) (came_more has piece) ∙ ap (λ end. begun_before chunker.cutter.chunks.unit chunker.cutter.chunks.delim end (x ++ piece)) (end_is has)
+
+module _ {told : Bool} {chunker next : ChunkerState} {piece : List ℕ} {end : ℕ} {old new : List Slot} (said : chunker.said ≡ None) (same : next.said ≡ chunker.said) (can : can_cut (course chunker.cutter) chunker.cutter.chunks.count ≡ true)
+    (spare : next.spare ≡ chunker.spare) (ends : end ≡ chunk_start chunker.cutter.chunks.count (chunker.cutter.at + length (chunker.waiting ++ piece)) (first_on (course chunker.cutter))) where
+  pub passes_unsaid : (fault : Option Fault) → Settles told chunker.cutter (chunker.waiting ++ piece) end old new next.cutter next.waiting fault → Passes told chunker piece old new next fault
+  passes_unsaid fault settles = record {
+    same = record { can = can; said = same; chunks = settles.chunks };
+    bound = omega (arith, settles.bound, spare, length-append chunker.waiting piece);
+    comes = brings_as (cut_front chunker) fault (λ x holds. let has = is_unsaid said holds in subst (λ end. BeginsBefore chunker.cutter end (cut_front chunker x)) (sym (end_is chunker piece ends has)) (front_before has piece))
+        (λ x holds. sym (decided_is (course chunker.cutter) chunker.cutter.chunks x) ∙ ap (λ (work : Work). work.settled x) (made_none chunker said))
+        (λ x holds. let has = is_unsaid said holds in ap (λ z. part_on (course chunker.cutter) (uncut z)) (to_is chunker piece ends has) ∙ sym (decided_is (course chunker.cutter) chunker.cutter.chunks (x ++ piece)) ∙ ap (λ (work : Work). work.settled (x ++ piece)) (made_none chunker said)) settles.sends.brings;
+    stands = where_well fault settles.stands (λ later x holds. let has = is_unsaid said holds in
+        let (cut, left) = later (cut_front chunker x) (subst (λ end. BeginsBefore chunker.cutter end (cut_front chunker x)) (sym (end_is chunker piece ends has)) (front_before has piece)) in
+        let stays = settles.sends.brings.stays in
+        let on : cut_front next (x ++ piece) ≡ cut_front chunker (x ++ piece) = ap (λ (chunks : Chunks). before_chunk chunks (length (x ++ piece)) (first_on (course next.cutter)) (x ++ piece)) settles.chunks ∙ ap (λ on. before_chunk chunker.cutter.chunks (length (x ++ piece)) (first_on on) (x ++ piece)) stays in
+        let z = cut_front chunker (x ++ piece) in
+        unsaid_is (same ∙ said) (record {
+          cut = rw on (subst (λ z. HasCut next.cutter z (uncut z)) (to_is chunker piece ends has) cut);
+          waits = left ∙ ap (λ z. drop (length z) (cut_front chunker x ++ (chunker.waiting ++ piece))) (to_is chunker piece ends has) ∙ ap (drop (length z)) (came_more has piece) ∙ ap (λ z. drop (length z) (x ++ piece)) (sym on);
+          spare = spare ∙ has.spare;
+        }));
+  }
+
+pub passes_as : {told : Bool} {chunker next : ChunkerState} {piece : List ℕ} {old new : List Slot} (result : Result (Unit {0}) Fault) → Passes told chunker piece old new next (fault_in result) → PassesAs told chunker piece old new next result
+passes_as (Ok done) passes = passes
+passes_as (Err why) passes = inl passes
+
+-- The end
+
+begun_some : (unit : Counted) (delim place : ℕ) (x : List ℕ) → 0 < place → 0 < length x → 0 < length (begun_before unit delim place x)
+begun_some Bytes delim place x some has = omega (arith, length-take place x, some, has)
+begun_some Lines delim place [] some has = absurd (omega (arith, has))
+begun_some Lines delim place (byte ∷ x) some has = rw (begun_first delim byte place x some) (omega arith)
+
+-- what is settled ends within a line only where nothing waits
+none_waits : (unit : Counted) (delim place : ℕ) (z waiting : List ℕ) → begun_before unit delim place (z ++ waiting) ≡ z → is_within unit delim z ≡ true → length waiting ≡ 0
+none_waits unit delim place z waiting is within = elim (cases_lt 0 (length waiting)) [
+  | inr none ↦ omega (arith, none)
+  | inl some ↦ (let early = open_early unit delim place z (ap (begun_before unit delim place) (sym is) ∙ begun_again unit delim place (z ++ waiting) ∙ is) within in
+      absurd (omega (arith, begun_some unit delim (max (place - length z) 1) waiting (omega arith) some, ap length (sym is ∙ begun_on unit delim place z waiting early), length-append z (begun_before unit delim (max (place - length z) 1) waiting))))
+]
+
+start_some : (n size : ℕ) → 0 < n → 0 < size → 0 < chunk_start n size 1
+start_some n size count some = elim (cases_lt 0 (size / n)) [
+  | inl more ↦ omega (arith, more)
+  | inr none ↦ (let e : size / n ≡ 0 = omega (arith, none) in omega (arith, div-add-mod' size n, ap (λ q. q * n) e, some))
+]
+
+no_drop : (n : ℕ) → ◌≡◌ {A = List ℕ} (drop n []) []
+no_drop zero = refl
+no_drop (suc n) = refl
+
+none_of : (chunks : Chunks) (size place : ℕ) → chunk_at chunks size [] place ≡ []
+none_of chunks size place = ap (drop (length (before_chunk chunks size place []))) (begun_of_none chunks.unit chunks.delim (chunk_start chunks.count size (place + 1))) ∙ no_drop _
+
+pub none_ended : (chunks : Chunks) (size : ℕ) → 0 < chunks.count → 0 < size → ended chunks size [] ≡ 0
+none_ended chunks size count some = ended_only {chunks = chunks} {size = size} {x = []} (record {
+  within = omega arith;
+  before = omega (arith, start_first chunks.count size);
+  next = λ less. omega (arith, start_some chunks.count size count some, passed_open chunks size [] some, open_within chunks.unit chunks.delim []);
+})
+
+nothing_cut : (chunks : Chunks) (size : ℕ) → 0 < chunks.count → 0 < size → chunks_within chunks size [] ≡ uncut []
+nothing_cut chunks size count some = ap (λ n. record { full = map (chunk_at chunks size []) (range_with_len 0 n); rest = chunk_at chunks size [] n }) (none_ended chunks size count some)
+    ∙ ap (λ rest. record { full = []; rest = rest }) (none_of chunks size 0)
+
+empty_map : (f : ℕ → List ℕ) (a n : ℕ) → ((i : ℕ) → f i ≡ []) → map f (range_with_len a n) ≡ replicate n []
+empty_map f a zero none = refl
+empty_map f a (suc n) none = rw (none a) (ap (λ rest. [] ∷ rest) (empty_map f (a + 1) n none))
+
+all_empty : (chunks : Chunks) → 0 < chunks.count → with_fulls chunks.count (uncut []) ≡ chunks_within chunks 0 []
+all_empty chunks count = by chunks.count refl count where
+  by : (n : ℕ) → chunks.count ≡ n → 0 < n → with_fulls n (uncut []) ≡ chunks_within chunks 0 []
+  by zero is some = absurd (omega (arith, some))
+  by (suc n) is some = fulls_are n (uncut [])
+      ∙ ap (λ full. record { full = full; rest = [] }) (sym (empty_map (chunk_at chunks 0 []) 0 (suc n) (none_of chunks 0)) ∙ ap (λ n. map (chunk_at chunks 0 []) (range_with_len 0 n)) (sym is))
+      ∙ sym (cut_all chunks 0 [] (omega (arith, is)) (omega arith))
+
+-- the first chunk of a text is what stands before the second
+first_cut : (chunks : Chunks) (size : ℕ) (z : List ℕ) → 0 < chunks.count → length z ≤ size → before_chunk chunks size 1 z ≡ z → with_fulls (ended chunks size z) (uncut z) ≡ chunks_within chunks size z
+first_cut chunks size z count fits all = by (cases_lt 0 size) where
+  by : (0 < size) ⊎ (size ≤ 0) → with_fulls (ended chunks size z) (uncut z) ≡ chunks_within chunks size z
+  by (inl some) = let none = none_ended chunks size count some in
+      let n : ended chunks size z - ended chunks size [] ≡ ended chunks size z = omega (arith, none) in
+      let place : ended chunks size [] + 1 ≡ 1 = omega (arith, none) in
+      ap (λ n. with_fulls n (uncut z)) (sym n) ∙ ap (λ cut. with_fulls (ended chunks size z - ended chunks size []) (with_rest z cut)) (sym (nothing_cut chunks size count some))
+      ∙ grown chunks size [] z count fits (ap (λ place. before_chunk chunks size place z) place ∙ all)
+  by (inr empty) = let none : z ≡ [] = no_bytes z (omega (arith, fits, empty)) in let e : size ≡ 0 = omega (arith, empty) in
+      rw (none, e) (ap (λ n. with_fulls n (uncut [])) (ended_all chunks {size = 0} [] count (omega arith)) ∙ all_empty chunks count)
+
+-- what is written of it is the same, also where one chunk alone goes out
+
+fulls_past : (chunk : ℕ) (n : ℕ) (cut : CutUp) → get_or (pieces_in (with_fulls n cut)) chunk [] ≡ get_or (pieces_in cut) chunk []
+fulls_past chunk zero cut = refl
+fulls_past chunk (suc n) cut = piece_full (pieces_in (with_fulls n cut)) chunk ∙ fulls_past chunk n cut
+
+past_pieces : (chunks : Chunks) (size chunk : ℕ) (z : List ℕ) → before_chunk chunks size chunk z ≡ z → get_or (pieces_in (chunks_within chunks size z)) chunk [] ≡ []
+past_pieces chunks size chunk z all = let f = chunk_at chunks size z in let n = ended chunks size z in
+    ap (λ pieces. get_or pieces chunk []) (sym (map-range_with_len_more f 0 n n (omega arith))) ∙ by (cases_lt chunk (n + 1)) where
+      by : (chunk < ended chunks size z + 1) ⊎ (ended chunks size z + 1 ≤ chunk) → get_or (map (chunk_at chunks size z) (range_with_len 0 (ended chunks size z + 1))) chunk [] ≡ []
+      by (inl within) = get_or-map-range_with_len (chunk_at chunks size z) 0 (ended chunks size z + 1) chunk chunk [] within (omega arith) ∙ chunk_none chunks size z chunk all
+      by (inr past) = get_or_past (map (chunk_at chunks size z) (range_with_len 0 (ended chunks size z + 1))) chunk [] (omega (arith, past, length-map-range_with_len (chunk_at chunks size z) 0 (ended chunks size z + 1)))
+
+part_same : (on : Course) (chunks : Chunks) (size : ℕ) (z : List ℕ) → 0 < chunks.count → length z ≤ size → before_chunk chunks size (first_on on) z ≡ z
+    → part_on on (with_fulls (ended chunks size z) (uncut z)) ≡ part_on on (chunks_within chunks size z)
+part_same (in_files filing elide) chunks size z count fits all = ap (part_on (in_files filing elide)) (first_cut chunks size z count fits all)
+part_same (in_output zero) chunks size z count fits all = ap (part_on (in_output zero)) (first_cut chunks size z count fits all)
+part_same (in_output (suc chunk)) chunks size z count fits all = let e : max (suc chunk) 1 ≡ suc chunk = omega arith in
+    ap only_out (fulls_past (suc chunk) (ended chunks size z) (uncut z) ∙ sym (past_pieces chunks size (suc chunk) z (ap (λ place. before_chunk chunks size place z) (sym e) ∙ all)))
+
+fulls_long : (n : ℕ) (cut : CutUp) → length (with_fulls n cut).full ≡ length cut.full + n
+fulls_long zero cut = omega arith
+fulls_long (suc n) cut = omega (arith, length-append (with_fulls n cut).full ((with_fulls n cut).rest ∷ []), fulls_long n cut)
+
+carries_same : (chunks : Chunks) (size : ℕ) (z : List ℕ) (place : ℕ) (aim : AimState) → 0 < chunks.count → length z ≤ size → before_chunk chunks size (first_on (course_of aim)) z ≡ z
+    → Carries (record { place = place; aim = aim }) (with_fulls (ended chunks size z) (uncut z)) → Carries (record { place = place; aim = aim }) (chunks_within chunks size z)
+carries_same chunks size z place (to_files writer elide) count fits all carries = subst (Carries (record { place = place; aim = to_files writer elide })) (first_cut chunks size z count fits all) carries
+carries_same chunks size z place (to_output chunk) count fits all carries = record {
+  placed = omega (arith, length-map-range_with_len (chunk_at chunks size z) 0 (ended chunks size z), fulls_long (ended chunks size z) (uncut z), carries.placed);
+  has = tt;
+}
+
+-- all of it
+
+whole_begins : (on : Course) (cut : CutUp) → Begins (part_on on cut) (whole_on on cut)
+whole_begins (in_files filing elide) cut = subst (Begins (draft_part (manner_of filing) (draft_by elide cut))) (whole_draft filing elide cut) (next_begins (manner_of filing) Never (draft_by elide cut))
+whole_begins (in_output chunk) cut = part_begins_itself _
+
+settled_cut : {cutter : CutterState} {waiting : List ℕ} {size : ℕ} {z : List ℕ} → IsSettled cutter waiting size z → before_chunk cutter.chunks size (first_on (course cutter)) z ≡ z
+settled_cut {cutter} {waiting} {size} {z} so = let at = chunk_start cutter.chunks.count size (first_on (course cutter)) in
+    ap (begun_before cutter.chunks.unit cutter.chunks.delim at) (sym so.is) ∙ begun_again cutter.chunks.unit cutter.chunks.delim at (z ++ waiting) ∙ so.is
+
+cut_off_so : {cutter : CutterState} {waiting : List ℕ} {size : ℕ} {z : List ℕ} → IsSettled cutter waiting size z → IsCutOff cutter size (z, uncut z)
+cut_off_so {cutter} {waiting} {size} {z} so = record {
+  carries = so.cut.carries;
+  all = so.cut.all;
+  at = so.cut.at;
+  within = so.cut.within;
+  fits = omega (arith, so.all);
+  begun = λ within short. absurd (omega (arith, short, so.all, none_waits cutter.chunks.unit cutter.chunks.delim (chunk_start cutter.chunks.count size (first_on (course cutter))) z waiting so.is within));
+  from = omega (arith, so.cut.carries.placed);
+}
+
+some_so : {cutter : CutterState} {waiting : List ℕ} {size : ℕ} {z : List ℕ} → IsSettled cutter waiting size z → 0 < cutter.chunks.count
+some_so {cutter} so = some_of (course cutter) cutter.chunks.count so.cut.can
+
+to_whole : {cutter : CutterState} {waiting : List ℕ} {size : ℕ} (z : List ℕ) → IsSettled cutter waiting size z → Begins (part_on (course cutter) (chunks_within cutter.chunks size z)) (whole_on (course cutter) (chunks_within cutter.chunks size (z ++ waiting)))
+to_whole {cutter} {waiting} {size} z so = part_trans _ _ _ (so_grows (course cutter) cutter.chunks size z waiting (some_so so) (omega (arith, so.all, length-append z waiting))) (whole_begins (course cutter) (chunks_within cutter.chunks size (z ++ waiting)))
+
+module _ {told : Bool} {cutter mid : CutterState} {waiting : List ℕ} {size : ℕ} {old wet : List Slot} where
+  ends_first : (fault : Option Fault) → EndsFull told cutter size old wet mid fault
+      → Sends told cutter.target (IsSettled cutter waiting size) (λ z. uncut z) (λ z. with_fulls (ended cutter.chunks size z) (uncut z)) old wet mid.target fault
+  ends_first fault ends = sends_as (λ z. (z, uncut z)) fault (λ z so. cut_off_so so) (λ z so. refl) (λ z so.
+      let e : ended cutter.chunks size z - cutter.target.place ≡ ended cutter.chunks size z = omega (arith, so.cut.carries.placed) in ap (λ n. with_fulls n (uncut z)) e) ends.sends
+
+  brings_first : (fault : Option Fault) → EndsFull told cutter size old wet mid fault
+      → Brings told (course cutter) cutter.target.aim mid.target.aim (IsSettled cutter waiting size) (λ z. part_on (course cutter) (uncut z)) (λ z. part_on (course cutter) (chunks_within cutter.chunks size z)) old wet fault
+  brings_first fault ends = brings_as (λ z. z) fault (λ z so. so) (λ z so. refl) (λ z so. part_same (course cutter) cutter.chunks size z (some_so so) (omega (arith, so.all)) (settled_cut so)) (ends_first fault ends).brings
+
+  pub held_not_ended : {why : Fault} → EndsFull told cutter size old wet mid (Some why) → EndsHeld told cutter waiting size old wet mid waiting (Some why)
+  held_not_ended {why} ends = record {
+    chunks = ends.chunks;
+    bound = omega (arith, ends.at);
+    brings = brings_wider (λ z so. to_whole z so) (brings_first (Some why) ends);
+  }
+
+  mid_cut : (ends : EndsFull told cutter size old wet mid None) (z : List ℕ) → IsSettled cutter waiting size z → IsCut mid size z × (length (z ++ waiting) ≤ size)
+  mid_cut ends z so = let sends = ends_first None ends in let stays = sends.brings.stays in (
+    record {
+      cut = record {
+        can = rw (stays, ends.chunks) so.cut.can;
+        all = rw (stays, ends.chunks) so.cut.all;
+        at = ends.at ∙ so.cut.at;
+        within = rw ends.chunks (ends.within ∙ so.cut.within);
+        carries = subst (λ chunks. Carries mid.target (chunks_within chunks size z)) (sym ends.chunks)
+            (carries_same cutter.chunks size z mid.target.place mid.target.aim (some_so so) (omega (arith, so.all)) (ap (λ on. before_chunk cutter.chunks size (first_on on) z) stays ∙ settled_cut so) (sends.carries z so));
+      };
+      fits = omega (arith, so.all);
+    },
+    omega (arith, so.all, length-append z waiting),
+  )
+
+  brings_rest : {next : AimState} {new : List Slot} (fault : Option Fault) (ends : EndsFull told cutter size old wet mid None)
+      → Brings told (course mid) mid.target.aim next (λ z. IsCut mid size z × (length (z ++ waiting) ≤ size)) (part_so mid size) (λ z. part_so mid size (z ++ waiting)) wet new fault
+      → Brings told (course cutter) cutter.target.aim next (IsSettled cutter waiting size) (λ z. part_on (course cutter) (uncut z)) (λ z. part_on (course cutter) (chunks_within cutter.chunks size (z ++ waiting))) old new fault
+  brings_rest {next} {new} fault ends brings = let stays = (ends_first None ends).brings.stays in
+      brings_then (brings_first None ends) (λ z so. so) (brings_as (λ z. z) fault (mid_cut ends) (λ z so. ap (λ chunks. part_on (course cutter) (chunks_within chunks size z)) ends.chunks) (λ z so. ap (λ chunks. part_on (course cutter) (chunks_within chunks size (z ++ waiting))) ends.chunks)
+      (subst (λ on. Brings told on mid.target.aim next (λ z. IsCut mid size z × (length (z ++ waiting) ≤ size)) (λ z. part_on on (chunks_within mid.chunks size z)) (λ z. part_on on (chunks_within mid.chunks size (z ++ waiting))) wet new fault) stays brings))
+
+  pub held_not_cut : {next : CutterState} {left : List ℕ} {new : List Slot} {why : Fault} → EndsFull told cutter size old wet mid None → CutsHeld told mid waiting size wet new next left (Some why) → EndsHeld told cutter waiting size old new next left (Some why)
+  held_not_cut {why = why} ends cuts = record {
+    chunks = cuts.cuts.chunks ∙ ends.chunks;
+    bound = omega (arith, cuts.bound, ends.at);
+    brings = brings_wider (λ z so. whole_begins (course cutter) (chunks_within cutter.chunks size (z ++ waiting))) (brings_rest (Some why) ends cuts.cuts.brings);
+  }
+
+  pub held_ends : {later : CutterState} {next : CutterState} {left : List ℕ} {between new : List Slot} (fault : Option Fault) → EndsFull told cutter size old wet mid None → CutsHeld told mid waiting size wet between later left None
+      → TargetEnds told later.target between new next.target fault → next.chunks ≡ later.chunks → next.at ≡ later.at → EndsHeld told cutter waiting size old new next left fault
+  held_ends {later} {next} {left} {between} {new} fault ends cuts last chunks at = let first = brings_rest None ends cuts.cuts.brings in record {
+    chunks = chunks ∙ cuts.cuts.chunks ∙ ends.chunks;
+    bound = omega (arith, at, cuts.bound, ends.at);
+    brings = brings_then first (λ z so. so) (brings_as (λ z. chunks_within cutter.chunks size (z ++ waiting)) fault
+        (λ z so. let (has, fits) = mid_cut ends z so in subst (λ chunks. Carries later.target (chunks_within chunks size (z ++ waiting))) (cuts.cuts.chunks ∙ ends.chunks) ((cuts.cuts.stands z has fits).cut.carries)) (λ z so. refl) (λ z so. refl)
+        (subst (λ on. Brings told on later.target.aim next.target.aim (Carries later.target) (part_on on) (whole_on on) between new fault) first.stays last));
+  }
+
+-- as the stage ends
+
+whole_none : (on : Course) (chunks : Chunks) (x : List ℕ) → (work_on on chunks None).whole x ≡ whole_on on (chunks_of chunks (length x) x)
+whole_none (in_files filing elide) chunks x = refl
+whole_none (in_output chunk) chunks x = refl
+
+well_none : (on : Course) (chunks : Chunks) (x : List ℕ) → (work_on on chunks None).verdict x ≡ None
+well_none (in_files filing elide) chunks x = refl
+well_none (in_output chunk) chunks x = refl
+
+pub ends_unsaid : {told : Bool} {chunker next : ChunkerState} {size : ℕ} {old new : List Slot} (fault : Option Fault) → chunker.said ≡ None → next.said ≡ chunker.said → next.spare ≡ chunker.spare → can_cut (course chunker.cutter) chunker.cutter.chunks.count ≡ true
+    → size ≡ chunker.cutter.at + length chunker.waiting → EndsHeld told chunker.cutter chunker.waiting size old new next.cutter next.waiting fault → StageEnds told chunker old new next fault
+ends_unsaid {chunker = chunker} {size = size} fault said same spare can size_is ends = record {
+  same = record { can = can; said = same; chunks = ends.chunks };
+  bound = omega (arith, ends.bound, spare);
+  comes = brings_as (cut_front chunker) fault (λ x holds. let has = is_unsaid said holds in record {
+    cut = has.cut;
+    all = omega (arith, size_is, has.cut.at);
+    is = ap (λ z. before_chunk chunker.cutter.chunks size (first_on (course chunker.cutter)) z) (all_came has) ∙ ap (λ n. before_chunk chunker.cutter.chunks n (first_on (course chunker.cutter)) x) (long x has);
+  })
+      (λ x holds. sym (decided_is (course chunker.cutter) chunker.cutter.chunks x) ∙ ap (λ (work : Work). work.settled x) (made_none chunker said))
+      (λ x holds. let has = is_unsaid said holds in ap (λ z. whole_on (course chunker.cutter) (chunks_within chunker.cutter.chunks size z)) (all_came has) ∙ ap (λ n. whole_on (course chunker.cutter) (chunks_within chunker.cutter.chunks n x)) (long x has)
+      ∙ ap (whole_on (course chunker.cutter)) (sym (cut_of chunker.cutter.chunks (length x) x (omega arith))) ∙ sym (whole_none (course chunker.cutter) chunker.cutter.chunks x) ∙ ap (λ (work : Work). work.whole x) (made_none chunker said)) ends.brings;
+  well = in_any fault (λ x holds. ap (λ (work : Work). work.verdict x) (sym (made_none chunker said)) ∙ well_none (course chunker.cutter) chunker.cutter.chunks x);
+} where
+  long : (x : List ℕ) → IsUnsaid chunker x → size ≡ length x
+  long x has = omega (arith, size_is, has.cut.at, length-append (cut_front chunker x) chunker.waiting, ap length (all_came has))
+
+pub ends_as : {told : Bool} {chunker next : ChunkerState} {old new : List Slot} (result : Result (Unit {0}) Fault) → StageEnds told chunker old new next (fault_in result) → EndsAs told chunker old new next result
+ends_as (Ok done) ends = ends
+ends_as (Err why) ends = inl ends

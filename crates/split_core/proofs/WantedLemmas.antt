@@ -1,0 +1,117 @@
+-- Lemmas on when one chunk is complete, and on how many bytes are wanted until then.
+use Rattle.std.proofs.Common.{◌≡◌, ℕ, ◌+◌, ◌-◌, ◌≤◌, max, nat_lt, take, Bool, true, false, List, ◌++◌, length, Option, Some, None, inl, inr, refl, sym, ◌∙◌, ap, subst, arith}
+use Rattle.std.specs.Option.{is_some}
+use Rattle.std.proofs.lemmas.Bool.{false≢true, cases_lt, leb-true}
+use Rattle.std.proofs.lemmas.List.{append-nil, length-append, take_at}
+use Rattle.ports_core.specs.Engine.{MayGet}
+use Rattle.ports_core.specs.Work.{IsSpare, Work}
+use Rattle.ports_core.proofs.SpareLemmas.{none_spare, spare_within}
+use Rattle.seg_core.specs.declared.cut.Chunks.{Chunks}
+use Rattle.split_core.specs.Chunks.{chunk_start, has_ended}
+use Rattle.split_core.specs.ChunkWork.{chunk_work}
+use Rattle.split_core.specs.ChunkerState.{ChunkerState, Course, Holds, HoldsBy, IsSaid, course, can_cut, in_files, in_output, work, work_on}
+use Rattle.split_core.specs.Split.{Filing}
+use Rattle.split_core.specs.Ways as ways
+use Rattle.split_core.specs.declared.splitter.Splitter.TheVariants as way
+use Rattle.split_core.specs.inner.Seen.{is_past_on}
+use Rattle.split_core.specs.laws.BegunLaws.{open_within}
+use Rattle.split_core.specs.laws.ChunkLaws.{passed_full, passed_open}
+use Rattle.split_core.specs.laws.WorkLaws.{lawful}
+use Rattle.split_core.proofs.ChunkerLemmas.{cut_is, is_said, lawful_on, past_is}
+use Rattle.split_core.proofs.ChunkerWays.{holds_can, unsaid_open, works_so}
+use Rattle.split_core.proofs.RoundLemmas.{open_after}
+
+-- what came in completes the output where what is used does
+complete_by : (said : Option ℕ) (state : ChunkerState) (x : List ℕ) → is_some said ≡ true → HoldsBy said state x
+    → is_past_on state.cutter.target ≡ (work_on (course state.cutter) state.cutter.chunks said).is_complete x
+complete_by None state x some holds = absurd (false≢true some)
+complete_by (Some size) state x some holds = past_is (cut_is holds) ∙ elim holds.spare.enough [
+  | inl none ↦ ap (work_on (course state.cutter) state.cutter.chunks (Some size)).is_complete
+      (sym (holds.spare.joined ∙ ap (λ rest. holds.spare.used ++ rest) none ∙ append-nil holds.spare.used))
+  | inr complete ↦ complete
+      ∙ sym (ap (work_on (course state.cutter) state.cutter.chunks (Some size)).is_complete holds.spare.joined
+      ∙ ((lawful_on (course state.cutter) state.cutter.chunks (Some size) holds.cut.can).stays holds.spare.used holds.spare.rest complete).still)
+]
+
+pub complete_is : (state : ChunkerState) (x : List ℕ) → is_some state.said ≡ true → Holds state x
+    → is_past_on state.cutter.target ≡ (work state).is_complete x
+complete_is state x some holds = complete_by state.said state x some holds
+    ∙ ap (λ (those : Work). those.is_complete x) (sym (works_so state (holds_can state.said state x holds)))
+
+-- where the input doesn't say its length, the output is never complete
+unsaid_by : (said : Option ℕ) → is_some said ≡ false → (on : Course) (chunks : Chunks) (x : List ℕ) → (work_on on chunks said).is_complete x ≡ false
+unsaid_by None none on chunks x = unsaid_open on chunks x
+unsaid_by (Some size) none on chunks x = absurd (false≢true (sym none))
+
+pub unsaid_goes_on : (state : ChunkerState) (x z : List ℕ) → is_some state.said ≡ false → Holds state x → (work state).is_complete z ≡ false
+unsaid_goes_on state x z none holds = ap (λ (those : Work). those.is_complete z) (works_so state (holds_can state.said state x holds))
+    ∙ unsaid_by state.said none (course state.cutter) state.cutter.chunks z
+
+-- How much is wanted
+
+-- a text that has all of a chunk reaches its end
+reaches : (chunks : Chunks) (size chunk : ℕ) (x : List ℕ) → has_ended chunks size x chunk ≡ true → chunk_start chunks.count size (chunk + 1) ≤ length x
+reaches chunks size chunk x has = elim (cases_lt (length x) size) [
+  | inl short ↦ omega (arith, leb-true _ _ has, passed_open chunks size x short, open_within chunks.unit chunks.delim x)
+  | inr full ↦ omega (arith, leb-true _ _ has, passed_full chunks size x full, full)
+]
+
+few_missing : (chunk : ℕ) (chunks : Chunks) (size : ℕ) (x piece : List ℕ) (n : ℕ) → nat_lt chunk chunks.count ≡ true
+    → length piece ≤ max (chunk_start chunks.count size (chunk + 1) - length x) 1 → has_ended chunks size x chunk ≡ false
+    → IsSpare (chunk_work chunk chunks (Some size)) (x ++ piece) n → n ≡ 0
+few_missing chunk chunks size x piece n can few going spare = elim spare.enough [
+  | inl none ↦ omega (arith, ap length none, spare.long)
+  | inr complete ↦ elim (cases_lt (length x) (length spare.used)) [
+    | inl more ↦ omega (arith, reaches chunks size chunk spare.used complete, few, more, long, length-append spare.used spare.rest, length-append x piece, spare.long)
+    | inr within ↦
+        let same : length spare.used ≡ length x = omega (
+          arith,
+          within,
+          long,
+          length-append spare.used spare.rest,
+          length-append x piece,
+          spare.long,
+          spare_within (chunk_work chunk chunks (Some size)) (length piece) n (x ++ piece) (lawful_on (in_output chunk) chunks (Some size) can) (inr (x, piece, refl, omega (arith), going)) spare,
+        ) in
+        absurd (false≢true (sym going ∙ ap (λ x. has_ended chunks size x chunk) (sym (take_at x piece (length x) refl) ∙ ap (take (length x)) spare.joined ∙ take_at spare.used spare.rest (length x) same) ∙ complete))
+  ]
+] where
+  long : length (x ++ piece) ≡ length (spare.used ++ spare.rest)
+  long = ap length spare.joined
+
+-- while it goes on, all that came in was cut off
+all_cut : (state : ChunkerState) (size : ℕ) (x : List ℕ) → state.said ≡ Some size → (work state).is_complete x ≡ false → Holds state x
+    → state.cutter.at ≡ length x
+all_cut state size x said going holds = let has : IsSaid state size x = is_said said holds in elim has.spare.enough [
+  | inl none ↦ omega (arith, has.cut.at, ap length none, ap length has.spare.joined ∙ length-append has.spare.used has.spare.rest)
+  | inr complete ↦ absurd (false≢true (sym going ∙ sym (complete_is state x (ap is_some said) holds) ∙ past_is (cut_is has) ∙ complete))
+]
+
+made_by : (state : ChunkerState) (on : Course) (x : List ℕ) → Holds state x → course state.cutter ≡ on
+    → work state ≡ work_on on state.cutter.chunks state.said
+made_by state on x holds is = works_so state (holds_can state.said state x holds) ∙ ap (λ on. work_on on state.cutter.chunks state.said) is
+
+pub few_of_chunk : (state : ChunkerState) (size chunk most : ℕ) → state.said ≡ Some size → course state.cutter ≡ in_output chunk
+    → most ≡ max (chunk_start state.cutter.chunks.count size (chunk + 1) - state.cutter.at) 1
+    → MayGet ways.Holds ways.work (way.Chunks state) most
+few_of_chunk state size chunk most said on is x piece after n holds going within same later spare =
+    let it : work state ≡ chunk_work chunk state.cutter.chunks (Some size) = made_by state (in_output chunk) x holds on ∙ ap (chunk_work chunk state.cutter.chunks) said in
+    let can : nat_lt chunk state.cutter.chunks.count ≡ true = sym (ap (λ on. can_cut on state.cutter.chunks.count) on) ∙ holds_can state.said state x holds in
+    omega (
+      arith,
+      few_missing chunk state.cutter.chunks size x piece n can (omega (arith, within, is, all_cut state size x said going holds))
+          (sym (ap (λ (those : Work). those.is_complete x) it) ∙ going) (subst (λ (those : Work). IsSpare those (x ++ piece) n) it spare),
+    )
+
+pub few_of_files : (most : ℕ) (state : ChunkerState) (filing : Filing) (elide : Bool) → course state.cutter ≡ in_files filing elide
+    → MayGet ways.Holds ways.work (way.Chunks state) most
+few_of_files most state filing elide on x piece after n holds going within same later spare =
+    omega (
+      arith,
+      none_spare (work state) (x ++ piece) n (lawful (way.Chunks state)) (open_after (work state) filing.verbose
+          (ap (λ (those : Work). those.means.output) (made_by state (in_files filing elide) x holds on)) after (x ++ piece) same later) spare,
+    )
+
+pub few_unsaid : (most : ℕ) (state : ChunkerState) → state.said ≡ None → MayGet ways.Holds ways.work (way.Chunks state) most
+few_unsaid most state said x piece after n holds going within same later spare =
+    omega (arith, none_spare (work state) (x ++ piece) n (lawful (way.Chunks state)) (unsaid_goes_on state x (x ++ piece) (ap is_some said) holds) spare)

@@ -1,0 +1,10 @@
+use Rattle.std.proofs.Common.{◌≡◌, length}
+use Rattle.split_core.specs.inner.Cutter.{seen_cutter}
+use Rattle.split_core.proofs.UnsaidLemmas.{Settling}
+use Rattle.split_core.proofs.chunk_cutter.ChunkCutter.settle.Given as goal
+
+abbrev pub invariant-stretches : goal.invariant-stretches
+invariant-stretches g l = Settling g.O.Outs.told (seen_cutter l.fn.self) l.fn.window.held l.fn.end (g.O.Outs.slots l.fn.outs) (g.O.Outs.slots l.outs) (seen_cutter l.self) l.window.held × (l.window.most ≡ l.fn.window.most)
+
+abbrev pub decreases-stretches : goal.decreases-stretches
+decreases-stretches g l = length l.window.held

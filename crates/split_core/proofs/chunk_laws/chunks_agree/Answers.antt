@@ -1,0 +1,21 @@
+use Rattle.std.proofs.Common.{refl}
+use Rattle.ports_core.proofs.AgreedLemmas.{agreed_now, common}
+use Rattle.split_core.specs.ChunkWork.{turn_work}
+use Rattle.split_core.specs.laws.ChunkWorkLaws.{turn_lawful}
+use Rattle.split_core.proofs.ChunkAgreedLemmas.{chunk_agreed, chunks_agreed, files_agreed}
+use Rattle.split_core.proofs.ChunkWaitLemmas.{chunks_placed, chunks_wait}
+use Rattle.split_core.proofs.OneChunkLemmas.{chunk_placed, chunk_waits}
+use Rattle.split_core.proofs.chunk_laws.chunks_agree.Goals as goal
+
+pub returns : goal.returns
+returns c = record {
+  outputs = chunks_agreed;
+  files = files_agreed;
+  waits = chunks_wait;
+  placed = chunks_placed;
+  chunk = chunk_agreed;
+  chunk_waits = chunk_waits;
+  chunk_placed = chunk_placed;
+  turn = λ place count delim x. agreed_now (turn_work place count delim) x
+      (common (turn_work place count delim) (turn_lawful place count delim) x) refl;
+}

@@ -1,0 +1,36 @@
+-- What all continuations of an input agree on that is cut into chunks. In the end each of them makes all files, so what
+-- they agree on is said of each output by itself.
+use Rattle.std.specs.Prelude.{◌≡◌, ℕ, ◌-◌, ◌≤◌, nat_lt, true, List, [], ◌∷◌, ◌++◌, get_or, length, take, Option, if◌then◌else◌}
+use Rattle.seg_core.specs.Line.{joined}
+use Rattle.seg_core.specs.declared.cut.Chunks.{Chunks}
+use Rattle.ports_core.specs.Agreed.{CanCome, Spot, file_bytes, output_at, spots_from}
+use Rattle.ports_core.specs.Part.{Part, IsBeginning, Begins}
+use Rattle.ports_core.specs.Work.{Work}
+use Rattle.split_core.specs.Chunks.{in_the_end, is_as_said, pieces_in}
+use Rattle.split_core.specs.ChunkWork.{ChunksPlan, chunks_whole}
+
+-- what may still come after x: bytes with which it has the size that was said
+abbrev pub CanFollow : Option ℕ → List ℕ → List ℕ → Type 0
+CanFollow said x y = CanCome y × (is_as_said said (x ++ y) ≡ true)
+
+-- The most that all continuations of x have in common in each output. Where `agreed` has no such output, that is
+-- nothing.
+pub record AgreeAt (comes : List ℕ → Type 0) (work : Work) (x : List ℕ) (agreed : Part) : Type 0 where
+  -- in the end every continuation has these outputs, each beginning so
+  pub common : (y : List ℕ) → comes y → Begins agreed (work.whole (x ++ y))
+  -- at each place two continuations have no more in common
+  pub longest : (place : ℕ) → (y : List ℕ) × (z : List ℕ) × comes y × comes z
+      × ((front : List ℕ) → IsBeginning front (output_at (work.whole (x ++ y)) place)
+      → IsBeginning front (output_at (work.whole (x ++ z)) place) → length front ≤ length (output_at agreed place))
+
+-- where byte i of an input goes, counted from 0: files are its chunks, one after another
+abbrev pub chunk_spots : ChunksPlan → Option ℕ → List ℕ → ℕ → List Spot
+chunk_spots plan said x i = spots_from 1 (file_bytes (chunks_whole plan said x)) i
+
+-- and where just the piece at a place is written, to standard output
+abbrev pub piece_spots : ℕ → List (List ℕ) → ℕ → List Spot
+piece_spots place pieces i = if nat_lt i (length (joined (take place pieces))) then []
+    else spots_from 0 (get_or pieces place [] ∷ []) (i - length (joined (take place pieces)))
+
+abbrev pub one_chunk_spots : ℕ → Chunks → Option ℕ → List ℕ → ℕ → List Spot
+one_chunk_spots place chunks said x i = piece_spots place (pieces_in (in_the_end chunks said x)) i

@@ -1,0 +1,147 @@
+-- What `split` makes of an input that it cuts into chunks, or of which it writes what one file would have: GNU coreutils
+-- manual, split, `-n N`, `-n l/N`, `-n K/N`, `-n l/K/N` and `-n r/K/N`.
+use Rattle.std.specs.Prelude.{◌≡◌, ℕ, ◌||◌, max, Bool, true, false, List, [], ◌++◌, map, filter, get_or, IsTrue, Option, Some, None, if◌then◌else◌}
+use Rattle.seg_core.specs.Line.{lines_of}
+use Rattle.ports_core.specs.Draft.{Draft, draft_part, part_of, share}
+use Rattle.ports_core.specs.FileWriter.{CanTell}
+use Rattle.ports_core.specs.Name.{Naming}
+use Rattle.ports_core.specs.Part.{Part, only_out}
+use Rattle.ports_core.specs.Slot.{Slot, is_writable}
+use Rattle.ports_core.specs.Work.{Work, Means, always_well, on_output}
+use Rattle.ports_core.specs.declared.fault.Fault.{Fault}
+use Rattle.ports_core.specs.declared.fault.Fault.TheVariants.{Memory}
+use Rattle.ports_core.specs.declared.verdict.Verdict.TheVariants.{Changed}
+use Rattle.ports_core.specs.declared.file_writer.Opening.TheVariants.{Late}
+use Rattle.ports_core.specs.declared.file_writer.Tells.{Tells}
+use Rattle.ports_core.specs.declared.slot.State.TheVariants.{Closed}
+use Rattle.seg_core.specs.declared.cut.Chunks.{Chunks}
+use Rattle.seg_core.specs.declared.cut.Way.{Way}
+use Rattle.seg_core.specs.declared.cut.Way.TheVariants as way
+use Rattle.split_core.specs.Parts.{CutUp, dealt, unless_empty}
+use Rattle.split_core.specs.Chunks.{decided, has_ended, in_the_end, is_as_said, is_longer, pieces_in, undecided}
+use Rattle.split_core.specs.Sharing.{CannotOpen}
+use Rattle.split_core.specs.Split.{Filing, HasNames, are_named, is_some, is_verbose, manner_of, output_by, split_work}
+
+-- To files
+
+-- what is asked for: with `elide` no file is made that stays empty
+pub record ChunksPlan : Type 0 where
+  pub chunks : Chunks
+  pub elide : Bool
+  pub filing : Filing
+
+-- of these pieces those that have a file
+abbrev pub kept : Bool → List (List ℕ) → List (List ℕ)
+kept elide pieces = if elide then filter is_some pieces else pieces
+
+-- each piece that is kept has its file, and what is left has one with its first byte
+abbrev pub draft_by : Bool → CutUp → Draft
+draft_by elide cut = record { ended = kept elide cut.full; opening = Late; bytes = cut.rest }
+
+-- what the files have
+abbrev pub files_by : Bool → CutUp → List (List ℕ)
+files_by elide cut = kept elide cut.full ++ unless_empty cut.rest
+
+-- once x came in
+abbrev pub chunks_settled : ChunksPlan → Option ℕ → List ℕ → Part
+chunks_settled plan said x = draft_part (manner_of plan.filing) (draft_by plan.elide (decided plan.chunks 1 said x))
+
+-- and in the end, where all are closed
+abbrev pub chunks_whole : ChunksPlan → Option ℕ → List ℕ → Part
+chunks_whole plan said x =
+    part_of (manner_of plan.filing) (map (share Closed) (files_by plan.elide (in_the_end plan.chunks said x)))
+
+-- It may open files as it takes in a piece, and at the end, and may want memory for their names and for what waits.
+abbrev pub chunks_means : Bool → Means
+chunks_means verbose = record {
+  output = output_by verbose;
+  files = true;
+  feeding = record { memory = true; files = true };
+  closing = record { memory = true; files = true };
+}
+
+-- An input that has another length than it said has changed; what was written stays.
+abbrev pub chunks_work : ChunksPlan → Option ℕ → Work
+chunks_work plan said = record {
+  settled = chunks_settled plan said;
+  whole = chunks_whole plan said;
+  waiting = undecided plan.chunks 1 said;
+  is_complete = is_longer said;
+  verdict = λ x. if is_as_said said x then None else Some Changed;
+  clears = false;
+  means = chunks_means plan.filing.verbose;
+  ahead = 0;
+}
+
+-- To standard output, what the file at a place would have
+
+abbrev pub piece_at : ℕ → CutUp → Part
+piece_at place cut = only_out (get_or (pieces_in cut) place [])
+
+-- Standard output has all that goes with its chunk; only where the size was said that is known. Then the run ends, and it
+-- isn't seen whether the input changed.
+abbrev pub is_written : ℕ → Chunks → Option ℕ → List ℕ → Bool
+is_written place chunks None x = false
+is_written place chunks (Some size) x = has_ended chunks size x place
+
+-- What goes before the chunk is passed over, and the first one is written as far as it is decided.
+abbrev pub chunk_work : ℕ → Chunks → Option ℕ → Work
+chunk_work place chunks said = record {
+  settled = λ x. piece_at place (decided chunks (max place 1) said x);
+  whole = λ x. piece_at place (in_the_end chunks said x);
+  waiting = undecided chunks (max place 1) said;
+  is_complete = is_written place chunks said;
+  verdict = λ x. if is_written place chunks said x || is_as_said said x then None else Some Changed;
+  clears = false;
+  means = on_output true;
+  ahead = 0;
+}
+
+-- lines are dealt in turn, and nothing waits
+abbrev pub turn_of : ℕ → ℕ → ℕ → List ℕ → Part
+turn_of place count delim x = only_out (dealt count place 0 (lines_of delim x))
+
+abbrev pub turn_work : ℕ → ℕ → ℕ → Work
+turn_work place count delim = record {
+  settled = turn_of place count delim;
+  whole = turn_of place count delim;
+  waiting = λ x. [];
+  is_complete = λ x. false;
+  verdict = always_well;
+  clears = false;
+  means = on_output true;
+  ahead = 0;
+}
+
+-- What becomes of an input that says this of its size
+abbrev pub way_work : Way → Bool → Filing → Option ℕ → Work
+way_work (way.Cut cut) elide filing said = split_work (record { cut = cut; elide = elide; filing = filing })
+way_work (way.Chunks chunks) elide filing said =
+    chunks_work (record { chunks = chunks; elide = elide; filing = filing }) said
+way_work (way.Chunk place chunks) elide filing said = chunk_work place chunks said
+way_work (way.Turn place count delim) elide filing said = turn_work place count delim
+
+-- the same, where standard output is told this of its files
+abbrev pub work_by : Way → Bool → Naming → Tells → Option ℕ → Work
+work_by way elide names tells said = way_work way elide (record { names = names; verbose = is_verbose tells }) said
+
+-- all files that are known to be made have names
+abbrev pub HasAllNames : Way → Naming → Type 0
+HasAllNames (way.Cut cut) names = HasNames cut names
+HasAllNames (way.Chunks chunks) names = are_named names chunks.count ≡ true
+HasAllNames (way.Chunk place chunks) names = Unit {0}
+HasAllNames (way.Turn place count delim) names = Unit {0}
+
+-- standard output can be told of files, or gets what one of them would have
+abbrev pub CanGive : Way → Tells → List Slot → Type 0
+CanGive (way.Cut cut) tells slots = CanTell tells slots
+CanGive (way.Chunks chunks) tells slots = CanTell tells slots
+CanGive (way.Chunk place chunks) tells slots = IsTrue (is_writable slots 0)
+CanGive (way.Turn place count delim) tells slots = IsTrue (is_writable slots 0)
+
+-- it can't be begun: there is no memory, or where lines are dealt to files, one of these can't be opened
+abbrev pub CannotBegin : Way → Bool → List Slot → List Slot → Fault → Type 0
+CannotBegin (way.Cut cut) verbose old new fault = CannotOpen verbose old new fault
+CannotBegin (way.Chunks chunks) verbose old new fault = fault ≡ Memory
+CannotBegin (way.Chunk place chunks) verbose old new fault = fault ≡ Memory
+CannotBegin (way.Turn place count delim) verbose old new fault = fault ≡ Memory

@@ -1,0 +1,155 @@
+-- What contracts see of chunks of an input.
+use Rattle.std.specs.Prelude.{◌≡◌, ℕ, ◌+◌, ◌≤◌, max, nat_lt, Bool, true, false, List, [], length, Option, Some, None, IsTrue}
+use Rattle.ports_core.specs.FileWriter.{WriterState, Writes, OwnsFiles, IsReady as CanWrite}
+use Rattle.ports_core.specs.Part.{nothing}
+use Rattle.ports_core.specs.Slot.{Slot, is_writable}
+use Rattle.ports_core.specs.Work.{Work, IsSpare, always_well}
+use Rattle.seg_core.specs.declared.cut.Chunks.{Chunks}
+use Rattle.split_core.specs.Parts.{CutUp}
+use Rattle.split_core.specs.Chunks.{before_chunk, chunks_within, decided, undecided, is_within}
+use Rattle.split_core.specs.ChunkWork.{chunk_work, chunks_work, draft_by}
+use Rattle.split_core.specs.Split.{Filing, TellsNoSizes, are_named, is_verbose, manner_of}
+
+-- Where chunks go
+
+pub data AimState : Type 0 where
+  -- each to a file; those that stay empty are left out, if so
+  to_files : WriterState → Bool → AimState
+  -- the one at this place to standard output
+  to_output : ℕ → AimState
+
+pub record TargetState : Type 0 where
+  -- the place of the chunk that was begun
+  pub place : ℕ
+  pub aim : AimState
+
+-- where they go, however far
+pub data Course : Type 0 where
+  in_files : Filing → Bool → Course
+  in_output : ℕ → Course
+
+-- how a writer makes files
+abbrev pub filing_by : WriterState → Filing
+filing_by writer = record { names = writer.names.naming; verbose = is_verbose writer.tells }
+
+abbrev pub course_of : AimState → Course
+course_of (to_files writer elide) = in_files (filing_by writer) elide
+course_of (to_output chunk) = in_output chunk
+
+-- as long as the size isn't known, what stands before the chunk at this place is settled, whichever chunks it goes with
+abbrev pub first_on : Course → ℕ
+first_on (in_files filing elide) = 1
+first_on (in_output chunk) = max chunk 1
+
+-- what is made of an input
+abbrev pub work_on : Course → Chunks → Option ℕ → Work
+work_on (in_files filing elide) chunks said =
+    chunks_work (record { chunks = chunks; elide = elide; filing = filing }) said
+work_on (in_output chunk) chunks said = chunk_work chunk chunks said
+
+-- there are names for the files of all chunks
+abbrev pub HasAll : Course → ℕ → Type 0
+HasAll (in_files filing elide) count = are_named filing.names count ≡ true
+HasAll (in_output chunk) count = Unit {0}
+
+abbrev pub CanHave : AimState → CutUp → Type 0
+CanHave (to_files writer elide) cut = Writes (manner_of (filing_by writer)) writer (draft_by elide cut)
+CanHave (to_output chunk) cut = Unit {0}
+
+-- it can have been given this
+pub record Carries (target : TargetState) (cut : CutUp) : Type 0 where
+  pub placed : length cut.full ≡ target.place
+  pub has : CanHave target.aim cut
+
+-- the outputs that it goes on with can be written, and standard output isn't told sizes
+abbrev pub IsAimed : AimState → List Slot → Type 0
+IsAimed (to_files writer elide) slots = CanWrite writer slots × TellsNoSizes writer.tells
+IsAimed (to_output chunk) slots = IsTrue (is_writable slots 0)
+
+-- its open file is the last output, and doesn't stand before this place
+abbrev pub OwnsAim : AimState → ℕ → List Slot → Type 0
+OwnsAim (to_files writer elide) first slots = OwnsFiles writer first slots
+OwnsAim (to_output chunk) first slots = Unit {0}
+
+-- The stage
+
+pub record CutterState : Type 0 where
+  pub chunks : Chunks
+  -- how many bytes were cut off
+  pub at : ℕ
+  -- they end within a line, where lines matter
+  pub is_within : Bool
+  pub target : TargetState
+
+pub record ChunkerState : Type 0 where
+  -- how long the input is, where it said so
+  pub said : Option ℕ
+  pub cutter : CutterState
+  -- the bytes that wait
+  pub waiting : List ℕ
+  -- how many bytes came after the output was complete
+  pub spare : ℕ
+
+-- how many bytes came in
+abbrev pub total : ChunkerState → ℕ
+total chunker = chunker.cutter.at + length chunker.waiting + chunker.spare
+
+abbrev pub course : CutterState → Course
+course cutter = course_of cutter.target.aim
+
+-- there are such chunks
+abbrev pub can_cut : Course → ℕ → Bool
+can_cut (in_files filing elide) count = nat_lt 0 count
+can_cut (in_output chunk) count = nat_lt chunk count
+
+-- where there are none, nothing is made
+abbrev pub made_if : Bool → Work → Work
+made_if true work = work
+made_if false work = record work {
+  settled = λ x. nothing;
+  whole = λ x. nothing;
+  waiting = λ x. [];
+  is_complete = λ x. false;
+  verdict = always_well;
+}
+
+abbrev pub work : ChunkerState → Work
+work chunker = made_if (can_cut (course chunker.cutter) chunker.cutter.chunks.count)
+    (work_on (course chunker.cutter) chunker.cutter.chunks chunker.said)
+
+-- these bytes were cut off, and this is what they were cut up into
+pub record HasCut (cutter : CutterState) (x : List ℕ) (cut : CutUp) : Type 0 where
+  pub can : can_cut (course cutter) cutter.chunks.count ≡ true
+  pub all : HasAll (course cutter) cutter.chunks.count
+  pub at : cutter.at ≡ length x
+  pub within : cutter.is_within ≡ is_within cutter.chunks.unit cutter.chunks.delim x
+  pub carries : Carries cutter.target cut
+
+-- x can be what came in, where the size wasn't said
+pub record IsUnsaid (chunker : ChunkerState) (x : List ℕ) : Type 0 where
+  pub cut : HasCut chunker.cutter
+      (before_chunk chunker.cutter.chunks (length x) (first_on (course chunker.cutter)) x)
+      (decided chunker.cutter.chunks (first_on (course chunker.cutter)) None x)
+  pub waits : chunker.waiting ≡ undecided chunker.cutter.chunks (first_on (course chunker.cutter)) None x
+  pub spare : chunker.spare ≡ 0
+
+-- and where it was
+pub record IsSaid (chunker : ChunkerState) (size : ℕ) (x : List ℕ) : Type 0 where
+  pub spare : IsSpare (work_on (course chunker.cutter) chunker.cutter.chunks (Some size)) x chunker.spare
+  pub within : length spare.used ≤ size
+  pub cut : HasCut chunker.cutter spare.used (chunks_within chunker.cutter.chunks size spare.used)
+  pub waits : chunker.waiting ≡ []
+
+abbrev pub HoldsBy : Option ℕ → ChunkerState → List ℕ → Type 0
+HoldsBy None chunker x = IsUnsaid chunker x
+HoldsBy (Some size) chunker x = IsSaid chunker size x
+
+-- x can be what came in
+abbrev pub Holds : ChunkerState → List ℕ → Type 0
+Holds chunker x = HoldsBy chunker.said chunker x
+
+abbrev pub Ready : ChunkerState → List Slot → Type 0
+Ready chunker slots = IsAimed chunker.cutter.target.aim slots
+
+abbrev pub Owns : ChunkerState → ℕ → List Slot → Type 0
+Owns chunker first slots = OwnsAim chunker.cutter.target.aim first slots

@@ -1,0 +1,170 @@
+-- What private calls say: cutting an input into chunks.
+use Rattle.std.specs.Prelude.{◌≡◌, ℕ, ◌+◌, ◌-◌, ◌<◌, ◌≤◌, ◌⊎◌, max, Bool, true, false, List, ◌++◌, length, take, drop, Option, Some, None, IfNone, Result, Ok, Err, IfErr, IfOk, OnOk}
+use Rattle.ports_core.specs.Part.{Part}
+use Rattle.ports_core.specs.Slot.{Slot}
+use Rattle.ports_core.specs.Turn.{fault_in}
+use Rattle.ports_core.specs.Work.{IsNeeded}
+use Rattle.ports_core.specs.declared.fault.Fault.{Fault}
+use Rattle.split_core.specs.Chunks.{before_chunk, begun_before, chunk_start, chunks_within, ended, is_within}
+use Rattle.split_core.specs.ChunkerState.{Carries, CutterState, HasAll, HasCut, course, first_on, work_on}
+use Rattle.split_core.specs.Parts.{CutUp, uncut}
+use Rattle.split_core.specs.declared.chunk_cutter.ChunkCutter.{ChunkCutter}
+use Rattle.split_core.specs.inner.Seen.{is_past_on, seen_target}
+use Rattle.split_core.specs.inner.Sends.{Brings, Changes, Sends, with_fulls, with_rest, part_on, whole_on}
+
+abbrev pub seen_cutter : ChunkCutter → CutterState
+seen_cutter cutter = record {
+  chunks = cutter.chunks;
+  at = cutter.at;
+  is_within = cutter.is_within;
+  target = seen_target cutter.target;
+}
+
+-- what of a text that comes goes with the chunk that was begun, where that ends at a place
+abbrev pub cut_to : CutterState → ℕ → List ℕ → List ℕ
+cut_to cutter end text = begun_before cutter.chunks.unit cutter.chunks.delim (max (end - cutter.at) 1) text
+
+-- that was written
+pub record WritesTo (told : Bool) (cutter : CutterState) (end : ℕ) (text : List ℕ) (old new : List Slot)
+    (next : CutterState) (result : Result ℕ Fault) : Type 0 where
+  pub chunks : next.chunks ≡ cutter.chunks
+  pub place : next.target.place ≡ cutter.target.place
+  pub sends : Changes told cutter.target (with_rest (cut_to cutter end text)) old new next.target (fault_in result)
+  pub count : IfOk result (λ n. (0 < n) × (n ≤ length text) × (take n text ≡ cut_to cutter end text))
+  pub at : IfOk result (λ n. next.at ≡ cutter.at + n)
+  pub kept : IfErr result (λ fault. next.at ≡ cutter.at)
+  pub bound : next.at ≤ cutter.at + length text
+  pub within : OnOk result
+      (next.is_within ≡ is_within cutter.chunks.unit cutter.chunks.delim (cut_to cutter end text))
+
+-- just the chunks before this place end before another
+pub record IsUpTo (count size at place : ℕ) : Type 0 where
+  pub within : place ≤ count
+  pub before : chunk_start count size place ≤ at
+  pub next : place < count → at < chunk_start count size (place + 1)
+
+-- a text that is cut up, and the place of a chunk up to which all end
+pub record EndsBefore (cutter : CutterState) (size : ℕ) (x : ℕ × CutUp) : Type 0 where
+  pub carries : Carries cutter.target x.1
+  pub all : HasAll (course cutter) cutter.chunks.count
+  pub from : cutter.target.place ≤ x.0
+  pub is : IsUpTo cutter.chunks.count size cutter.at x.0
+
+pub record EndsAll {X : Type 0} (So : X → Type 0) (from : X → CutUp) (to : X → ℕ) (told : Bool) (cutter : CutterState)
+    (old new : List Slot) (next : CutterState) (fault : Option Fault) : Type 0 where
+  pub chunks : next.chunks ≡ cutter.chunks
+  pub at : next.at ≡ cutter.at
+  pub within : next.is_within ≡ cutter.is_within
+  pub sends : Sends told cutter.target So from (λ x. with_fulls (to x - cutter.target.place) (from x)) old new
+      next.target fault
+
+-- all chunks ended up to that place
+abbrev pub EndsUp : Bool → CutterState → ℕ → List Slot → List Slot → CutterState → Option Fault → Type 0
+EndsUp told cutter size old new next fault =
+    EndsAll (EndsBefore cutter size) (λ x. x.1) (λ x. x.0) told cutter old new next fault
+
+-- a text was cut off, all of it before the end of the chunk that was begun, and is cut up like this
+pub record IsCutOff (cutter : CutterState) (size : ℕ) (x : List ℕ × CutUp) : Type 0 where
+  pub carries : Carries cutter.target x.1
+  pub all : HasAll (course cutter) cutter.chunks.count
+  pub at : cutter.at ≡ length x.0
+  pub within : cutter.is_within ≡ is_within cutter.chunks.unit cutter.chunks.delim x.0
+  pub fits : length x.0 ≤ size
+  pub begun : is_within cutter.chunks.unit cutter.chunks.delim x.0 ≡ true → length x.0 < size
+      → before_chunk cutter.chunks size (cutter.target.place + 1) x.0 ≡ x.0
+  pub from : cutter.target.place ≤ ended cutter.chunks size x.0
+
+-- the chunks ended that had all that goes with them
+abbrev pub EndsFull : Bool → CutterState → ℕ → List Slot → List Slot → CutterState → Option Fault → Type 0
+EndsFull told cutter size old new next fault =
+    EndsAll (IsCutOff cutter size) (λ x. x.1) (λ x. ended cutter.chunks size x.0) told cutter old new next fault
+
+-- a text was cut off that has no more than its size, and is cut up as chunks say
+pub record IsCut (cutter : CutterState) (size : ℕ) (x : List ℕ) : Type 0 where
+  pub cut : HasCut cutter x (chunks_within cutter.chunks size x)
+  pub fits : length x ≤ size
+
+abbrev pub part_so : CutterState → ℕ → List ℕ → Part
+part_so cutter size x = part_on (course cutter) (chunks_within cutter.chunks size x)
+
+-- and more of it was, or a fault came meanwhile
+pub record Cuts (told : Bool) (cutter : CutterState) (size : ℕ) (bytes : List ℕ) (old new : List Slot)
+    (next : CutterState) (fault : Option Fault) : Type 0 where
+  pub chunks : next.chunks ≡ cutter.chunks
+  pub bound : next.at ≤ cutter.at + length bytes
+  pub brings : Brings told (course cutter) cutter.target.aim next.target.aim
+      (λ x. IsCut cutter size x × (length (x ++ bytes) ≤ size)) (part_so cutter size)
+      (λ x. part_so cutter size (x ++ bytes)) old new fault
+  pub stands : IfNone fault ((x : List ℕ) → IsCut cutter size x → length (x ++ bytes) ≤ size
+      → IsCut next size (x ++ bytes))
+
+-- as long as its output isn't complete
+abbrev pub IsOpen : CutterState → ℕ → List ℕ → Type 0
+IsOpen cutter size x = (work_on (course cutter) cutter.chunks (Some size)).is_complete x ≡ false
+
+-- a stretch of the text was cut off, or a fault came
+abbrev pub Steps : Bool → CutterState → ℕ → List ℕ → List Slot → List Slot → CutterState → Result ℕ Fault → Type 0
+Steps told cutter size text old new next (Ok n) = (0 < n) × (n ≤ length text)
+    × (next.at ≡ cutter.at + n) × Cuts told cutter size (take n text) old new next None
+    × (is_past_on cutter.target ≡ false → (x : List ℕ) → IsCut cutter size x → length (x ++ text) ≤ size
+    → IsOpen cutter size (x ++ take (n - 1) text))
+Steps told cutter size text old new next (Err fault) = Cuts told cutter size text old new next (Some fault)
+
+-- As much of a text was cut off as the output isn't complete without; the last `left` bytes are left.
+pub record CutsAs (told : Bool) (cutter : CutterState) (size : ℕ) (text : List ℕ) (old new : List Slot)
+    (next : CutterState) (left : ℕ) : Type 0 where
+  pub few : left ≤ length text
+  pub at : next.at ≡ cutter.at + (length text - left)
+  pub still : is_past_on cutter.target ≡ true → left ≡ length text
+  pub cuts : Cuts told cutter size (take (length text - left) text) old new next None
+  pub needed : (left ≡ length text) ⊎ ((x : List ℕ) → IsCut cutter size x → length (x ++ text) ≤ size
+      → IsNeeded (work_on (course cutter) cutter.chunks (Some size)).is_complete 1
+      (x ++ take (length text - left) text))
+  pub enough : (left ≡ 0) ⊎ (is_past_on next.target ≡ true)
+
+abbrev pub CutsSo : Bool → CutterState → ℕ → List ℕ → List Slot → List Slot → CutterState → Result ℕ Fault → Type 0
+CutsSo told cutter size text old new next (Ok left) = CutsAs told cutter size text old new next left
+CutsSo told cutter size text old new next (Err fault) = Cuts told cutter size text old new next (Some fault)
+
+-- Where the size isn't known
+
+-- a text that was cut off, all of which begins before a place
+abbrev pub BeginsBefore : CutterState → ℕ → List ℕ → Type 0
+BeginsBefore cutter end z =
+    HasCut cutter z (uncut z) × (begun_before cutter.chunks.unit cutter.chunks.delim end z ≡ z)
+
+-- and what does of it with what waits
+abbrev pub all_before : CutterState → List ℕ → ℕ → List ℕ → List ℕ
+all_before cutter waiting end z = begun_before cutter.chunks.unit cutter.chunks.delim end (z ++ waiting)
+
+-- that was written, and the rest waits
+pub record Settles (told : Bool) (cutter : CutterState) (waiting : List ℕ) (end : ℕ) (old new : List Slot)
+    (next : CutterState) (left : List ℕ) (fault : Option Fault) : Type 0 where
+  pub chunks : next.chunks ≡ cutter.chunks
+  pub bound : next.at + length left ≤ cutter.at + length waiting
+  pub sends : Sends told cutter.target (BeginsBefore cutter end) (λ z. uncut z)
+      (λ z. uncut (all_before cutter waiting end z)) old new next.target fault
+  pub stands : IfNone fault ((z : List ℕ) → BeginsBefore cutter end z
+      → HasCut next (all_before cutter waiting end z) (uncut (all_before cutter waiting end z))
+      × (left ≡ drop (length (all_before cutter waiting end z)) (z ++ waiting)))
+
+-- all that waits was cut off, or a fault came meanwhile
+pub record CutsHeld (told : Bool) (cutter : CutterState) (waiting : List ℕ) (size : ℕ) (old new : List Slot)
+    (next : CutterState) (left : List ℕ) (fault : Option Fault) : Type 0 where
+  pub bound : next.at + length left ≤ cutter.at + length waiting
+  pub cuts : Cuts told cutter size waiting old new next fault
+
+-- What was cut off is what is settled of a text that has this size with what waits.
+pub record IsSettled (cutter : CutterState) (waiting : List ℕ) (size : ℕ) (z : List ℕ) : Type 0 where
+  pub cut : HasCut cutter z (uncut z)
+  pub all : length z + length waiting ≡ size
+  pub is : before_chunk cutter.chunks size (first_on (course cutter)) (z ++ waiting) ≡ z
+
+-- all of it is cut up into chunks, and all end
+pub record EndsHeld (told : Bool) (cutter : CutterState) (waiting : List ℕ) (size : ℕ) (old new : List Slot)
+    (next : CutterState) (left : List ℕ) (fault : Option Fault) : Type 0 where
+  pub chunks : next.chunks ≡ cutter.chunks
+  pub bound : next.at + length left ≤ cutter.at + length waiting
+  pub brings : Brings told (course cutter) cutter.target.aim next.target.aim (IsSettled cutter waiting size)
+      (λ z. part_on (course cutter) (uncut z))
+      (λ z. whole_on (course cutter) (chunks_within cutter.chunks size (z ++ waiting))) old new fault

@@ -1,0 +1,134 @@
+-- What private calls say: what goes to the files of chunks, or to standard output where one of them goes there.
+use Rattle.std.specs.Prelude.{◌≡◌, ℕ, Bool, true, false, List, [], ◌∷◌, ◌++◌, length, map, zero, suc, Option, IfNone, IfSome, IsTrue}
+use Rattle.ports_core.specs.Draft.{Draft, Manner, draft_part, made_of, part_of, share, with_next}
+use Rattle.ports_core.specs.FileWriter.{KeepsOrBreaks, Leaves, Reaches, Writes, WriterState}
+use Rattle.ports_core.specs.Part.{Output, Part, OutputsAt, Begins, gets_bytes}
+use Rattle.ports_core.specs.Slot.{Slot, is_writable}
+use Rattle.ports_core.specs.Turn.{IsThere}
+use Rattle.ports_core.specs.Name.{has_name}
+use Rattle.ports_core.specs.declared.fault.Fault.{Fault}
+use Rattle.ports_core.specs.declared.fault.Fault.TheVariants.{Verdict, Write}
+use Rattle.ports_core.specs.declared.verdict.Verdict.TheVariants.{Suffixes}
+use Rattle.ports_core.specs.declared.file_writer.Opening.TheVariants.{Late, AtOnce}
+use Rattle.ports_core.specs.declared.slot.State.TheVariants.{Closed}
+use Rattle.split_core.specs.ChunkWork.{draft_by, files_by, piece_at}
+use Rattle.split_core.specs.Parts.{CutUp}
+use Rattle.split_core.specs.Split.{manner_of}
+use Rattle.split_core.specs.ChunkerState.{AimState, Carries, Course, in_files, in_output, IsAimed, OwnsAim, TargetState, course_of}
+
+-- what is written of a text that is cut up, and in the end
+abbrev pub part_on : Course → CutUp → Part
+part_on (in_files filing elide) cut = draft_part (manner_of filing) (draft_by elide cut)
+part_on (in_output chunk) cut = piece_at chunk cut
+
+abbrev pub whole_on : Course → CutUp → Part
+whole_on (in_files filing elide) cut = part_of (manner_of filing) (map (share Closed) (files_by elide cut))
+whole_on (in_output chunk) cut = piece_at chunk cut
+
+-- what is left of a text that is cut up gets more bytes, or ends
+abbrev pub with_rest : List ℕ → CutUp → CutUp
+with_rest bytes cut = record { full = cut.full; rest = cut.rest ++ bytes }
+
+abbrev pub with_full : CutUp → CutUp
+with_full cut = record { full = cut.full ++ cut.rest ∷ []; rest = [] }
+
+-- this often
+abbrev pub with_fulls : ℕ → CutUp → CutUp
+with_fulls zero cut = cut
+with_fulls (suc n) cut = with_full (with_fulls n cut)
+
+-- how files are made, and what standard output gets
+abbrev pub manner_on : Course → Manner
+manner_on (in_files filing elide) = manner_of filing
+manner_on (in_output chunk) = record { has_name = λ place. true; name = λ place. []; output = gets_bytes }
+
+abbrev pub output_on : Course → Output
+output_on course = (manner_on course).output
+
+-- there is a name for the file of the chunk at a place
+abbrev pub HasName : Course → ℕ → Type 0
+HasName (in_files filing elide) place = has_name filing.names place ≡ true
+HasName (in_output chunk) place = Unit {0}
+
+-- where no files are written, only standard output breaks
+abbrev pub IsOf : Course → Fault → Type 0
+IsOf (in_files filing elide) fault = Unit {0}
+IsOf (in_output chunk) fault = fault ≡ Write 0
+
+-- the outputs have this part, and those that were opened are its own
+pub record AtAim (told : Bool) (aim : AimState) (before : List Slot) (part : Part) (now : List Slot) : Type 0 where
+  pub owns : OwnsAim aim (length before) now
+  pub outputs : OutputsAt told before part now
+
+-- Whatever it is that so holds of: outputs that had the one part have the other, or a fault stopped them between the two.
+pub record Brings {X : Type 0} (told : Bool) (on : Course) (aim next : AimState) (So : X → Type 0) (low high : X → Part)
+    (old new : List Slot) (fault : Option Fault) : Type 0 where
+  pub stays : course_of next ≡ on
+  pub owns : (first : ℕ) → OwnsAim aim first old → OwnsAim next first new
+  pub slots : KeepsOrBreaks (manner_on on) old new fault
+  pub only : IfSome fault (IsOf on)
+  pub named : IfSome fault (λ why. why ≡ Verdict Suffixes → (x : X) → So x → ⊥)
+  pub output : IfNone fault (IsTrue (is_writable old 0) → IsTrue (is_writable new 0))
+  pub ready : IfNone fault (IsAimed next new)
+  pub begins : (x : X) → So x → Begins (low x) (high x)
+  pub reaches : (x : X) → So x → (before : List Slot) → AtAim told aim before (low x) old
+      → IsThere (output_on on) told (AtAim told next before (high x) new) before (low x) (high x) new fault
+
+-- The same of what is written of texts that are cut up, and it can have been given the other then.
+pub record Sends {X : Type 0} (told : Bool) (target : TargetState) (So : X → Type 0) (from to : X → CutUp)
+    (old new : List Slot) (next : TargetState) (fault : Option Fault) : Type 0 where
+  pub brings : Brings told (course_of target.aim) target.aim next.aim So (λ x. part_on (course_of target.aim) (from x))
+      (λ x. part_on (course_of target.aim) (to x)) old new fault
+  pub carries : IfNone fault ((x : X) → So x → Carries next (to x))
+
+-- it can have been given this, and there is a name for the file of the chunk that was begun
+abbrev pub GoesOn : TargetState → CutUp → Type 0
+GoesOn target cut = Carries target cut × HasName (course_of target.aim) target.place
+
+-- of any text that it can have been given
+abbrev pub Changes : Bool → TargetState → (CutUp → CutUp) → List Slot → List Slot → TargetState → Option Fault → Type 0
+Changes told target change old new next fault =
+    Sends told target (GoesOn target) (λ cut. cut) change old new next fault
+
+-- and all of it ended
+abbrev pub Ends : Bool → TargetState → List Slot → List Slot → TargetState → Option Fault → Type 0
+Ends told target old new next fault = Brings told (course_of target.aim) target.aim next.aim (Carries target)
+    (part_on (course_of target.aim)) (whole_on (course_of target.aim)) old new fault
+
+-- The files
+
+-- a file that is begun without a byte gets none, or an empty one
+abbrev pub or_empty : List (List ℕ) → List (List ℕ)
+or_empty [] = [] ∷ []
+or_empty (file ∷ files) = file ∷ files
+
+abbrev pub made_by : Bool → List (List ℕ) → List (List ℕ)
+made_by true made = made
+made_by false made = or_empty made
+
+-- what is begun ends, and the next gets its file with its first byte
+abbrev pub ends_by : Bool → Draft → Draft
+ends_by elide draft =
+    record { ended = draft.ended ++ made_by elide (made_of draft.opening draft.bytes); opening = Late; bytes = [] }
+
+-- an empty file is made, where what is begun has none
+abbrev pub begun_by : List (List ℕ) → Draft → Draft
+begun_by [] draft = with_next AtOnce draft
+begun_by (file ∷ files) draft = draft
+
+abbrev pub empties_by : Bool → Draft → Draft
+empties_by true draft = draft
+empties_by false draft = begun_by (made_of draft.opening draft.bytes) draft
+
+-- The files changed so, and with them the outputs; or a fault stopped them. Names ran out only where there was none for
+-- what was begun.
+pub record Files (told : Bool) (writer : WriterState) (change : Draft → Draft) (old new : List Slot)
+    (next : WriterState) (fault : Option Fault) : Type 0 where
+  pub leaves : Leaves writer next old new fault
+  pub reaches : (manner : Manner) (draft : Draft) → Writes manner writer draft
+      → Reaches manner.output told writer next (draft_part manner draft) (draft_part manner (change draft)) old new
+      fault
+  pub named : IfSome fault (λ why. why ≡ Verdict Suffixes → (manner : Manner) (draft : Draft)
+      → Writes manner writer draft → manner.has_name (length draft.ended) ≡ false)
+  pub writes : IfNone fault ((manner : Manner) (draft : Draft) → Writes manner writer draft
+      → Writes manner next (change draft))

@@ -1,0 +1,309 @@
+-- Laws that traits cite: what of a text that goes on begins before a place.
+use Rattle.std.proofs.lemmas.Grind.{common_steps}
+use Rattle.std.proofs.Common.{◌≡◌, ℕ, ◌+◌, ◌-◌, ◌<◌, ◌≤◌, max, zero, suc, Bool, true, false, cond, eqb, nat_lt, List, [], ◌∷◌, ◌++◌, ◌⊎◌, length, take, drop, inl, inr, refl, sym, ◌∙◌, ap, subst, arith}
+use Rattle.std.proofs.lemmas.Bool.{cases_lt, lt-ltb, ltb-true, ltb-false}
+use Rattle.std.proofs.lemmas.List.{append-nil, take_all, length-append, take-append-le, take-append-drop, take-take}
+use Rattle.std.proofs.Math.Seq.{take-append-add}
+use Rattle.std.specs.List.{onto_first}
+use Rattle.seg_core.specs.Line.{joined, lines_of, delimiters, first_lines}
+use Rattle.seg_core.proofs.Delimiters.{delimiters-append, delimiters-le-length}
+use Rattle.seg_core.proofs.FirstLines.{first_lines-append, first_lines-cons, delimiters-first_lines, length-first_lines-le, joined-append}
+use Rattle.seg_core.proofs.LinesOf.{joined-lines_of}
+use Rattle.seg_core.specs.declared.unit.Unit.{Unit}
+use Rattle.seg_core.specs.declared.unit.Unit.TheVariants.{Bytes, Lines}
+use Rattle.ports_core.specs.Part.{IsBeginning}
+use Rattle.ports_core.proofs.PartLemmas.{begins_itself, begins_more}
+use Rattle.split_core.specs.Chunks.{lines_before, begun_before, open_from}
+use Rattle.split_core.specs.inner.Dealt.{EachSome}
+use Rattle.split_core.specs.laws.DealLaws.{each_line}
+use Rattle.split_core.specs.laws.ShareLaws.{first_lines_begin}
+
+-- What of a text begins before a place
+
+begun_none : (delim : ℕ) (lines : List (List ℕ)) → joined (lines_before 0 lines) ≡ []
+begun_none delim [] = refl
+begun_none delim (line ∷ lines) = refl
+
+first_step : (ends : Bool) (byte place : ℕ) (lines : List (List ℕ)) → EachSome lines → 0 < place
+    → joined (lines_before place (cond ends ((byte ∷ []) ∷ lines) (onto_first byte lines)))
+    ≡ byte ∷ cond ends (joined (lines_before (place - 1) lines)) (joined (lines_before (max (place - 1) 1) lines))
+first_step true byte place lines each some = grind (arith, common_steps)
+first_step false byte place [] each some = grind (arith, common_steps)
+first_step false byte place (line ∷ lines) each some =
+    let e : place - (length line + 1) ≡ max (place - 1) 1 - length line = omega (arith, each.0) in
+    grind (arith, common_steps)
+
+pub begun_first : (delim byte place : ℕ) (x : List ℕ) → 0 < place
+    → begun_before Lines delim place (byte ∷ x) ≡ byte ∷ cond (eqb byte delim) (begun_before Lines delim (place - 1) x)
+    (begun_before Lines delim (max (place - 1) 1) x)
+begun_first delim byte place x some =
+    first_step (eqb byte delim) byte place (lines_of delim x) (each_line delim x) some
+
+-- From where on it may still get bytes
+
+none_open : (delim : ℕ) (x : List ℕ) → delimiters delim x ≡ 0 → open_from Lines delim x ≡ 0
+none_open delim x none = rw none refl
+
+some_open : (delim : ℕ) (x : List ℕ) → 0 < delimiters delim x → 0 < open_from Lines delim x
+some_open delim x some =
+    let first = first_lines delim (delimiters delim x) x in
+    omega (arith, delimiters-le-length delim first, delimiters-first_lines delim (delimiters delim x) x (omega arith))
+
+open_end : (delim byte : ℕ) (x : List ℕ) → eqb byte delim ≡ true
+    → open_from Lines delim (byte ∷ x) ≡ open_from Lines delim x + 1
+open_end delim byte x ends =
+    let d : delimiters delim (byte ∷ x) ≡ suc (delimiters delim x) = rw ends (omega arith) in
+    ap (λ n. length (first_lines delim n (byte ∷ x))) d
+    ∙ ap length (first_lines-cons delim byte (delimiters delim x) x) ∙ rw ends (omega arith)
+
+open_more : (delim byte : ℕ) (x : List ℕ) → eqb byte delim ≡ false → 0 < open_from Lines delim x
+    → open_from Lines delim (byte ∷ x) ≡ open_from Lines delim x + 1
+open_more delim byte x goes some = by (delimiters delim x) refl where
+  by : (d : ℕ) → delimiters delim x ≡ d → open_from Lines delim (byte ∷ x) ≡ open_from Lines delim x + 1
+  by zero is = absurd (omega (arith, none_open delim x is))
+  by (suc d) is =
+      let more : delimiters delim (byte ∷ x) ≡ suc d = rw goes is in
+      ap (λ n. length (first_lines delim n (byte ∷ x))) more
+      ∙ ap length (first_lines-cons delim byte d x) ∙ rw (goes, is) (omega arith)
+
+open_still : (delim byte : ℕ) (x : List ℕ) → eqb byte delim ≡ false → open_from Lines delim x ≡ 0
+    → open_from Lines delim (byte ∷ x) ≡ 0
+open_still delim byte x goes none = by (delimiters delim x) refl where
+  by : (d : ℕ) → delimiters delim x ≡ d → open_from Lines delim (byte ∷ x) ≡ 0
+  by zero is = none_open delim (byte ∷ x) (rw goes is)
+  by (suc d) is = absurd (omega (arith, some_open delim x (omega arith)))
+
+-- A text that goes on
+
+stays_step : (delim byte place : ℕ) (x y : List ℕ)
+    → ((at : ℕ) → at ≤ open_from Lines delim x → begun_before Lines delim at (x ++ y) ≡ begun_before Lines delim at x)
+    → place ≤ open_from Lines delim (byte ∷ x) → 0 < place → (ends : Bool) → eqb byte delim ≡ ends
+    → cond ends (begun_before Lines delim (place - 1) (x ++ y)) (begun_before Lines delim (max (place - 1) 1) (x ++ y))
+    ≡ cond ends (begun_before Lines delim (place - 1) x) (begun_before Lines delim (max (place - 1) 1) x)
+stays_step delim byte place x y again within some true is =
+    again (place - 1) (omega (arith, open_end delim byte x is))
+stays_step delim byte place x y again within some false is = elim (cases_lt 0 (open_from Lines delim x)) [
+  | inl open_later ↦ again (max (place - 1) 1) (omega (arith, open_more delim byte x is open_later))
+  | inr none ↦ absurd (omega (arith, open_still delim byte x is (omega (arith, none))))
+]
+
+begun_stays_lines : (delim place : ℕ) (x y : List ℕ) → place ≤ open_from Lines delim x
+    → begun_before Lines delim place (x ++ y) ≡ begun_before Lines delim place x
+begun_stays_lines delim place [] y within = let e : place ≡ 0 = omega arith in
+    rw e (begun_none delim (lines_of delim y))
+begun_stays_lines delim place (byte ∷ x) y within = elim (cases_lt 0 place) [
+  | inl some ↦ begun_first delim byte place (x ++ y) some
+      ∙ ap (λ more. byte ∷ more) (stays_step delim byte place x y (λ at. begun_stays_lines delim at x y) within some
+      (eqb byte delim) refl) ∙ sym (begun_first delim byte place x some)
+  | inr none ↦ (let e : place ≡ 0 = omega (arith, none) in
+      rw e (begun_none delim (lines_of delim (byte ∷ (x ++ y))) ∙ sym (begun_none delim (lines_of delim (byte ∷ x)))))
+]
+
+-- what begins before a place stays, where the text can get no more before it
+pub begun_stays : (unit : Unit) (delim place : ℕ) (x y : List ℕ) → place ≤ open_from unit delim x
+    → begun_before unit delim place (x ++ y) ≡ begun_before unit delim place x
+begun_stays Bytes delim place x y within = take-append-le place x y within
+begun_stays Lines delim place x y within = begun_stays_lines delim place x y within
+
+on_step : (delim byte place : ℕ) (x y : List ℕ)
+    → ((at : ℕ) → open_from Lines delim x < at
+    → begun_before Lines delim at (x ++ y) ≡ x ++ begun_before Lines delim (max (at - length x) 1) y)
+    → open_from Lines delim (byte ∷ x) < place → (ends : Bool) → eqb byte delim ≡ ends
+    → cond ends (begun_before Lines delim (place - 1) (x ++ y)) (begun_before Lines delim (max (place - 1) 1) (x ++ y))
+    ≡ x ++ begun_before Lines delim (max (place - suc (length x)) 1) y
+on_step delim byte place x y again past true is =
+    let e : max (place - 1 - length x) 1 ≡ max (place - suc (length x)) 1 = omega arith in
+    again (place - 1) (omega (arith, open_end delim byte x is))
+    ∙ ap (λ at. x ++ begun_before Lines delim at y) e
+on_step delim byte place x y again past false is =
+    let e : max (max (place - 1) 1 - length x) 1 ≡ max (place - suc (length x)) 1 = omega arith in
+    again (max (place - 1) 1) (before (cases_lt 0 (open_from Lines delim x)))
+    ∙ ap (λ at. x ++ begun_before Lines delim at y) e where
+      before : (0 < open_from Lines delim x) ⊎ (open_from Lines delim x ≤ 0)
+          → open_from Lines delim x < max (place - 1) 1
+      before (inl some) = omega (arith, open_more delim byte x is some)
+      before (inr none) = omega arith
+
+begun_on_lines : (delim place : ℕ) (x y : List ℕ) → open_from Lines delim x < place
+    → begun_before Lines delim place (x ++ y) ≡ x ++ begun_before Lines delim (max (place - length x) 1) y
+begun_on_lines delim place [] y past =
+    let e : place ≡ max (place - 0) 1 = omega arith in ap (λ at. begun_before Lines delim at y) e
+begun_on_lines delim place (byte ∷ x) y past =
+    begun_first delim byte place (x ++ y) (omega arith)
+    ∙ ap (λ more. byte ∷ more) (on_step delim byte place x y (λ at. begun_on_lines delim at x y) past
+    (eqb byte delim) refl)
+
+take_on : (place : ℕ) (x y : List ℕ) → length x < place → take place (x ++ y) ≡ x ++ take (max (place - length x) 1) y
+take_on place x y past = let e : place ≡ length x + max (place - length x) 1 = omega arith in
+    ap (λ at. take at (x ++ y)) e ∙ take-append-add x y (max (place - length x) 1)
+
+-- else all of it does, and what follows does up to that place, or to the end of the line that is open
+pub begun_on : (unit : Unit) (delim place : ℕ) (x y : List ℕ) → open_from unit delim x < place
+    → begun_before unit delim place (x ++ y) ≡ x ++ begun_before unit delim (max (place - length x) 1) y
+begun_on Bytes delim place x y past = take_on place x y past
+begun_on Lines delim place x y past = begun_on_lines delim place x y past
+
+pub begun_of_none : (unit : Unit) (delim place : ℕ) → begun_before unit delim place [] ≡ []
+begun_of_none Bytes delim zero = refl
+begun_of_none Bytes delim (suc place) = refl
+begun_of_none Lines delim place = refl
+
+pub begun_first_place : (unit : Unit) (delim : ℕ) (x : List ℕ) → begun_before unit delim 0 x ≡ []
+begun_first_place Bytes delim x = refl
+begun_first_place Lines delim x = begun_none delim (lines_of delim x)
+
+-- a text that can get more before a place stands before it
+pub begun_all : (unit : Unit) (delim place : ℕ) (x : List ℕ) → open_from unit delim x < place
+    → begun_before unit delim place x ≡ x
+begun_all unit delim place x past =
+    ap (begun_before unit delim place) (sym (append-nil x)) ∙ begun_on unit delim place x [] past
+    ∙ ap (λ more. x ++ more) (begun_of_none unit delim (max (place - length x) 1)) ∙ append-nil x
+
+pub lines_all : (lines : List (List ℕ)) (place : ℕ) → EachSome lines → length (joined lines) ≤ place
+    → lines_before place lines ≡ lines
+lines_all [] place each long = refl
+lines_all (line ∷ lines) place each long =
+    let l = length-append line (joined lines) in
+    rw (lt-ltb 0 place (omega (arith, each.0, l, long))) (ap (λ rest. line ∷ rest)
+    (lines_all lines (place - length line) each.1 (omega (arith, long, l))))
+
+-- so does one that ends before it
+pub begun_long : (unit : Unit) (delim place : ℕ) (x : List ℕ) → length x ≤ place → begun_before unit delim place x ≡ x
+begun_long Bytes delim place x long = take_all place x long
+begun_long Lines delim place x long = ap joined (lines_all (lines_of delim x) place (each_line delim x)
+    (omega (arith, ap length (joined-lines_of delim x)))) ∙ joined-lines_of delim x
+
+-- the lines that begin before a later place are those, and further ones
+pub lines_more : (place other : ℕ) (lines : List (List ℕ)) → place ≤ other
+    → (more : List (List ℕ)) × (lines_before other lines ≡ lines_before place lines ++ more)
+lines_more place other [] within = ([], refl)
+lines_more place other (line ∷ lines) within =
+    by (cases_lt 0 place) (lines_more (place - length line) (other - length line) lines (omega (arith, within))) where
+      by : (0 < place) ⊎ (place ≤ 0) → (more : List (List ℕ))
+          × (lines_before (other - length line) lines ≡ lines_before (place - length line) lines ++ more)
+          → (more : List (List ℕ)) × (lines_before other (line ∷ lines) ≡ lines_before place (line ∷ lines) ++ more)
+      by (inl some) (more, is) =
+          let here : nat_lt 0 place ≡ true = lt-ltb _ _ some in
+          let there : nat_lt 0 other ≡ true = lt-ltb _ _ (omega (arith, some, within)) in
+          rw (here, there) (more, ap (λ rest. line ∷ rest) is)
+      by (inr none) more = let e : place ≡ 0 = omega (arith, none) in rw e (lines_before other (line ∷ lines), refl)
+
+-- of a text, what begins before a place begins what begins before a later one
+pub begun_monotone : (unit : Unit) (delim : ℕ) {place other : ℕ} (x : List ℕ) → place ≤ other
+    → IsBeginning (begun_before unit delim place x) (begun_before unit delim other x)
+begun_monotone Bytes delim {place} {other} x within = (
+  drop place (take other x),
+  sym (take-append-drop place (take other x))
+      ∙ ap (λ front. front ++ drop place (take other x)) (take-take place other x within),
+)
+begun_monotone Lines delim {place} {other} x within = by (lines_more place other (lines_of delim x) within) where
+  by : (more : List (List ℕ))
+      × (lines_before other (lines_of delim x) ≡ lines_before place (lines_of delim x) ++ more)
+      → IsBeginning (begun_before Lines delim place x) (begun_before Lines delim other x)
+  by (more, is) = (joined more, ap joined is ∙ joined-append (lines_before place (lines_of delim x)) more)
+
+pub begun_begins : (unit : Unit) (delim place : ℕ) (x : List ℕ) → IsBeginning (begun_before unit delim place x) x
+begun_begins unit delim place x =
+    subst (IsBeginning (begun_before unit delim place x))
+    (begun_long unit delim (max place (length x)) x (omega arith))
+    (begun_monotone unit delim x (omega arith))
+
+pub begin_short : (low high : List ℕ) → IsBeginning low high → length low ≤ length high
+begin_short low high (rest, is) = omega (arith, ap length is, length-append low rest)
+
+pub begun_within : (unit : Unit) (delim place : ℕ) (x : List ℕ) → length (begun_before unit delim place x) ≤ length x
+begun_within unit delim place x = begin_short _ _ (begun_begins unit delim place x)
+
+pub begun_grows : (unit : Unit) (delim place : ℕ) (x y : List ℕ)
+    → IsBeginning (begun_before unit delim place x) (begun_before unit delim place (x ++ y))
+begun_grows unit delim place x y = elim (cases_lt (open_from unit delim x) place) [
+  | inl past ↦ rw (begun_all unit delim place x past, begun_on unit delim place x y past) (begins_more x _)
+  | inr within ↦ rw (begun_stays unit delim place x y within) (begins_itself _)
+]
+
+again_step : (delim place : ℕ) (x : List ℕ)
+    → ((at : ℕ) → begun_before Lines delim at (begun_before Lines delim at x) ≡ begun_before Lines delim at x)
+    → (ends : Bool) → let z = cond ends (begun_before Lines delim (place - 1) x)
+    (begun_before Lines delim (max (place - 1) 1) x) in
+    cond ends (begun_before Lines delim (place - 1) z) (begun_before Lines delim (max (place - 1) 1) z) ≡ z
+again_step delim place x again true = again (place - 1)
+again_step delim place x again false = again (max (place - 1) 1)
+
+begun_again_lines : (delim place : ℕ) (x : List ℕ)
+    → begun_before Lines delim place (begun_before Lines delim place x) ≡ begun_before Lines delim place x
+begun_again_lines delim place [] = refl
+begun_again_lines delim place (byte ∷ x) = elim (cases_lt 0 place) [
+  | inl some ↦ ap (begun_before Lines delim place) (begun_first delim byte place x some)
+      ∙ begun_first delim byte place _ some
+      ∙ ap (λ more. byte ∷ more) (again_step delim place x (λ at. begun_again_lines delim at x) (eqb byte delim))
+      ∙ sym (begun_first delim byte place x some)
+  | inr none ↦ (let e : place ≡ 0 = omega (arith, none) in
+      rw e (ap (begun_before Lines delim 0) (begun_none delim (lines_of delim (byte ∷ x)))
+      ∙ sym (begun_none delim (lines_of delim (byte ∷ x)))))
+]
+
+-- what begins before a place does so by itself
+pub begun_again : (unit : Unit) (delim place : ℕ) (x : List ℕ)
+    → begun_before unit delim place (begun_before unit delim place x) ≡ begun_before unit delim place x
+begun_again Bytes delim place x = take-take place place x (omega arith)
+begun_again Lines delim place x = begun_again_lines delim place x
+
+-- Where its open line is
+
+pub open_within : (unit : Unit) (delim : ℕ) (x : List ℕ) → open_from unit delim x ≤ length x
+open_within Bytes delim x = omega arith
+open_within Lines delim x = length-first_lines-le delim (delimiters delim x) x
+
+open_grows_lines : (delim : ℕ) (x y : List ℕ) → open_from Lines delim x ≤ open_from Lines delim (x ++ y)
+open_grows_lines delim x y =
+    let d = delimiters-append delim x y in
+    let on = first_lines-append delim (delimiters delim (x ++ y)) x y in
+    let more = length-append (first_lines delim (delimiters delim (x ++ y)) x)
+    (first_lines delim (delimiters delim (x ++ y) - delimiters delim x) y) in
+    let front = begin_short _ _ (first_lines_begin delim (delimiters delim x) (delimiters delim (x ++ y)) x
+    (omega (arith, d))) in
+    omega (arith, ap length on, more, front)
+
+pub open_grows : (unit : Unit) (delim : ℕ) (x y : List ℕ) → open_from unit delim x ≤ open_from unit delim (x ++ y)
+open_grows Bytes delim x y = omega (arith, length-append x y)
+open_grows Lines delim x y = open_grows_lines delim x y
+
+append_by : (delim byte : ℕ) (x y : List ℕ) (more : Bool) → nat_lt 0 (delimiters delim y) ≡ more
+    → open_from Lines delim (x ++ y) ≡ cond more (length x + open_from Lines delim y) (open_from Lines delim x)
+    → (ends : Bool) → eqb byte delim ≡ ends → open_from Lines delim ((byte ∷ x) ++ y)
+    ≡ cond more (length (byte ∷ x) + open_from Lines delim y) (open_from Lines delim (byte ∷ x))
+append_by delim byte x y true has again true is =
+    omega (arith, open_end delim byte (x ++ y) is, again)
+append_by delim byte x y false has again true is =
+    omega (arith, open_end delim byte (x ++ y) is, open_end delim byte x is, again)
+append_by delim byte x y true has again false is =
+    omega (
+      arith,
+      open_more delim byte (x ++ y) is
+          (omega (arith, again, some_open delim y (ltb-true _ _ has))),
+      again,
+    )
+append_by delim byte x y false has again false is = elim (cases_lt 0 (open_from Lines delim x)) [
+  | inl some ↦ omega (
+    arith,
+    open_more delim byte (x ++ y) is (omega (arith, again, some)),
+    open_more delim byte x is some,
+    again,
+  )
+  | inr none ↦ omega (
+    arith,
+    open_still delim byte (x ++ y) is (omega (arith, again, none)),
+    open_still delim byte x is (omega (arith, none)),
+  )
+]
+
+-- a text that goes on has its open line after the last delimiter of what follows
+pub open_append : (delim : ℕ) (x y : List ℕ) → open_from Lines delim (x ++ y)
+    ≡ cond (nat_lt 0 (delimiters delim y)) (length x + open_from Lines delim y) (open_from Lines delim x)
+open_append delim [] y = by (nat_lt 0 (delimiters delim y)) refl where
+  by : (more : Bool) → nat_lt 0 (delimiters delim y) ≡ more
+      → open_from Lines delim y ≡ cond more (0 + open_from Lines delim y) 0
+  by true has = omega arith
+  by false none = none_open delim y (omega (arith, ltb-false _ _ none))
+open_append delim (byte ∷ x) y = append_by delim byte x y (nat_lt 0 (delimiters delim y)) refl (open_append delim x y)
+    (eqb byte delim) refl

@@ -1,0 +1,306 @@
+-- Laws that traits cite: those of the work on chunks, and of lines dealt in turn of which one file's are written.
+use Rattle.std.proofs.lemmas.Bool.Decides.{nat_tests}
+use Rattle.std.proofs.Common.{◌≡◌, ℕ, ◌+◌, ◌-◌, ◌<◌, ◌≤◌, max, zero, suc, eqb, nat_le, Bool, true, false, List, [], ◌∷◌, ◌++◌, length, take, drop, map, get_or, Option, Some, None, inl, inr, refl, sym, ◌∙◌, ap, subst, arith}
+use Rattle.std.proofs.lemmas.Bool.{cases_lt, false≢true, le-leb, leb-true, lt-ltb, ltb-true}
+use Rattle.std.proofs.lemmas.List.{append-nil, append_assoc, drop-append-le, length-append, length-take, map-append, take_all, take-append-le, take-take}
+use Rattle.std.proofs.lemmas.List.Elements.{filter-append}
+use Rattle.std.proofs.lemmas.List.FromFn.{length-map-range_with_len}
+use Rattle.std.specs.List.{range_with_len}
+use Rattle.seg_core.specs.declared.cut.Chunks.{Chunks}
+use Rattle.seg_core.specs.declared.unit.Unit.TheVariants.{Bytes}
+use Rattle.ports_core.specs.Draft.{Manner, draft_part, part_of, shares_of}
+use Rattle.ports_core.specs.Part.{IsBeginning, only_out}
+use Rattle.ports_core.specs.Work.{IsComplete, IsLawful}
+use Rattle.ports_core.specs.inner.Shares.{SharesBegin}
+use Rattle.ports_core.specs.declared.file_writer.Opening.TheVariants.{Late}
+use Rattle.ports_core.specs.declared.slot.State.{State}
+use Rattle.ports_core.specs.declared.slot.State.TheVariants.{Open, Closed}
+use Rattle.ports_core.proofs.PartLemmas.{begins_itself, begins_more, nothing_begins, out_begins}
+use Rattle.ports_core.proofs.ShareLemmas.{made_begin, shares_after}
+use Rattle.split_core.specs.Chunks.{before_chunk, begun_before, chunk_at, chunk_start, chunks_of, chunks_within, decided, ended, has_ended, in_the_end, passed, pieces_in}
+use Rattle.split_core.specs.ChunkWork.{ChunksPlan, chunk_work, chunks_work, draft_by, files_by, is_written, kept, piece_at, turn_work}
+use Rattle.split_core.specs.Parts.{CutUp, uncut, unless_empty}
+use Rattle.split_core.specs.Split.{is_some, manner_of, share}
+use Rattle.split_core.specs.inner.Chunks.{BeginsFirst, GoesOn, HaveEnded}
+use Rattle.split_core.specs.laws.BegunLaws.{begun_first_place, begun_grows, begun_within}
+use Rattle.split_core.specs.laws.ChunkLaws.{before_next, before_stays, chunks_are, cut_all, cut_before, decided_grows, ended_after, ended_is, ended_grows, full_stays, goes_on, map_parts, passed_full, passed_grows, rest_none, start_first, take_within}
+use Rattle.split_core.specs.laws.DealLaws.{dealt_append}
+use Rattle.split_core.specs.laws.ShareLaws.{part_begins}
+
+-- A text that is cut up goes on
+
+goes_itself : (cut : CutUp) → GoesOn cut cut
+goes_itself cut = record { more = []; full = sym (append-nil cut.full); rest = begins_itself cut.rest }
+
+drop_begins : (k : ℕ) (low high : List ℕ) → k ≤ length low → IsBeginning low high
+    → IsBeginning (drop k low) (drop k high)
+drop_begins k low high within (rest, is) = (rest, ap (drop k) is ∙ drop-append-le k low rest within)
+
+-- further chunks end with what follows
+goes_past : (chunks : Chunks) (size : ℕ) (x y : List ℕ) (more : ℕ) → 0 < chunks.count → length (x ++ y) ≤ size
+    → ended chunks size x + suc more ≡ ended chunks size (x ++ y)
+    → GoesOn (chunks_of chunks size x) (chunks_of chunks size (x ++ y))
+goes_past chunks size x y more some within ends =
+    subst (λ low. GoesOn low (chunks_of chunks size (x ++ y))) (sym (chunks_are chunks size x some less here))
+    (subst (GoesOn (cut_before chunks size x place)) (sym (chunks_are chunks size (x ++ y) some within there)) on) where
+      place : ℕ
+      place = ended chunks size x
+
+      less : length x ≤ size
+      less = omega (arith, within, length-append x y)
+
+      here : HaveEnded chunks size x place
+      here = ended_is chunks size x
+
+      there : HaveEnded chunks size (x ++ y) (place + suc more)
+      there = subst (HaveEnded chunks size (x ++ y)) (sym ends) (ended_is chunks size (x ++ y))
+
+      f : ℕ → List ℕ
+      f = chunk_at chunks size (x ++ y)
+
+      begun : List ℕ
+      begun = before_chunk chunks size place x
+
+      next : IsBeginning x (before_chunk chunks size (place + 1) (x ++ y))
+      next = subst (λ low. IsBeginning low (before_chunk chunks size (place + 1) (x ++ y)))
+          (before_next chunks size x place some less here)
+          (begun_grows chunks.unit chunks.delim (chunk_start chunks.count size (place + 1)) x y)
+
+      first : IsBeginning (drop (length begun) x) (f (0 + place))
+      first = subst (λ n. IsBeginning (drop (length begun) x) (f n)) (omega arith)
+          (subst (λ low. IsBeginning (drop (length begun) x)
+          (drop (length low) (before_chunk chunks size (place + 1) (x ++ y))))
+          (sym (before_stays chunks size place x y within here.before))
+          (drop_begins (length begun) x _ (begun_within chunks.unit chunks.delim _ x) next))
+
+      on : GoesOn (cut_before chunks size x place) (cut_before chunks size (x ++ y) (place + suc more))
+      on = record {
+        more = f (0 + place) ∷ map f (range_with_len (0 + place + 1) more);
+        full = map_parts f 0 place more
+            ∙ ap (λ front. front ++ f (0 + place) ∷ map f (range_with_len (0 + place + 1) more))
+            (full_stays chunks size place x y within here.before);
+        rest = first;
+      }
+
+goes_within : (chunks : Chunks) (size : ℕ) (x y : List ℕ) → 0 < chunks.count → length (x ++ y) ≤ size
+    → GoesOn (chunks_of chunks size x) (chunks_of chunks size (x ++ y))
+goes_within chunks size x y some within = elim (cases_lt (ended chunks size x) (ended chunks size (x ++ y))) [
+  | inl less ↦ goes_past chunks size x y (ended chunks size (x ++ y) - ended chunks size x - 1) some within
+      (omega (arith, less))
+  | inr same ↦ subst (GoesOn (chunks_of chunks size x)) (sym (goes_on chunks size x y some within
+      (omega (arith, same, ended_grows chunks size x y)))) (record {
+        more = [];
+        full = sym (append-nil (chunks_of chunks size x).full);
+        rest = begins_more (chunks_of chunks size x).rest y;
+      })
+]
+
+-- once more of it came in
+pub chunks_go_on : (chunks : Chunks) (size : ℕ) (x y : List ℕ) → 0 < chunks.count
+    → GoesOn (chunks_of chunks size x) (chunks_of chunks size (x ++ y))
+chunks_go_on chunks size x y some = by (begun_grows Bytes 0 size x y) where
+  again : (z : List ℕ) → chunks_of chunks size (take size z) ≡ chunks_of chunks size z
+  again z = ap (chunks_within chunks size) (take-take size size z (omega arith))
+
+  by : IsBeginning (take size x) (take size (x ++ y))
+      → GoesOn (chunks_of chunks size x) (chunks_of chunks size (x ++ y))
+  by (rest, is) = subst (λ low. GoesOn low (chunks_of chunks size (x ++ y))) (again x)
+      (subst (GoesOn (chunks_of chunks size (take size x))) (ap (chunks_of chunks size) (sym is) ∙ again (x ++ y))
+      (goes_within chunks size (take size x) rest some
+      (omega (arith, sym (ap length is), take_within size (x ++ y)))))
+
+pub decided_goes_on : (chunks : Chunks) (first : ℕ) (said : Option ℕ) (x y : List ℕ) → 0 < chunks.count
+    → first ≤ chunks.count → GoesOn (decided chunks first said x) (decided chunks first said (x ++ y))
+decided_goes_on chunks first None x y some within =
+    record { more = []; full = refl; rest = decided_grows chunks first x y some within }
+decided_goes_on chunks first (Some size) x y some within = chunks_go_on chunks size x y some
+
+begins_pieces : (f : ℕ → List ℕ) (n : ℕ) (low last : List ℕ) → 0 < n → IsBeginning low (f 0)
+    → BeginsFirst low (map f (range_with_len 0 n)) last
+begins_pieces f zero low last some begins = absurd (omega (arith, some))
+begins_pieces f (suc n) low last some begins = begins
+
+-- and in the end
+pub decided_ends : (chunks : Chunks) (said : Option ℕ) (x : List ℕ) → 0 < chunks.count
+    → GoesOn (decided chunks 1 said x) (in_the_end chunks said x)
+decided_ends chunks (Some size) x some = goes_itself (chunks_of chunks size x)
+decided_ends chunks None x some =
+    let f = chunk_at chunks (length x) (take (length x) x) in
+    let low = before_chunk chunks (length x) 1 x in
+    let none : before_chunk chunks (length x) 0 (take (length x) x) ≡ [] =
+    ap (λ at. begun_before chunks.unit chunks.delim at (take (length x) x)) (start_first chunks.count (length x))
+    ∙ begun_first_place chunks.unit chunks.delim (take (length x) x) in
+    let one : f 0 ≡ low =
+    ap (λ front. drop (length front) (before_chunk chunks (length x) (0 + 1) (take (length x) x))) none
+    ∙ ap (before_chunk chunks (length x) 1) (take_all (length x) x (omega arith)) in
+    subst (GoesOn (uncut low)) (sym (cut_all chunks (length x) x some (omega arith))) (record {
+      more = map f (range_with_len 0 chunks.count);
+      full = refl;
+      rest = begins_pieces f chunks.count low [] some (subst (IsBeginning low) (sym one) (begins_itself low));
+    })
+
+-- What files get of it
+
+pub some_begins : (byte : ℕ) (low piece : List ℕ) → IsBeginning (byte ∷ low) piece → is_some piece ≡ true
+some_begins byte low [] (rest, is) = absurd (omega (arith, ap length is))
+some_begins byte low (first ∷ piece) begins = refl
+
+pub first_kept : (elide : Bool) (piece : List ℕ) (pieces : List (List ℕ)) → is_some piece ≡ true
+    → kept elide (piece ∷ pieces) ≡ piece ∷ kept elide pieces
+first_kept true piece pieces some = rw some refl
+first_kept false piece pieces some = refl
+
+rest_on : (elide : Bool) (state : State) (low : List ℕ) (more : List (List ℕ)) (high : List ℕ)
+    → BeginsFirst low more high → SharesBegin (map (share Open) (unless_empty low))
+    (map (share Closed) (kept elide more) ++ map (share state) (unless_empty high))
+rest_on true state low [] high begins = made_begin Late state low high begins
+rest_on false state low [] high begins = made_begin Late state low high begins
+rest_on elide state [] (piece ∷ pieces) high begins = tt
+rest_on elide state (byte ∷ low) (piece ∷ pieces) high begins =
+    rw (first_kept elide piece pieces (some_begins byte low piece begins)) (inl refl, begins, tt)
+
+pub kept-append : (elide : Bool) (front more : List (List ℕ))
+    → kept elide (front ++ more) ≡ kept elide front ++ kept elide more
+kept-append true front more = filter-append is_some front more
+kept-append false front more = refl
+
+pub shares_on : (elide : Bool) (state : State) {low high : CutUp} → GoesOn low high
+    → SharesBegin (shares_of (draft_by elide low))
+    (map (share Closed) (kept elide high.full) ++ map (share state) (unless_empty high.rest))
+shares_on elide state {low} {high} on =
+    subst (SharesBegin (shares_of (draft_by elide low))) (sym (ap (λ full. map (share Closed) full
+    ++ map (share state) (unless_empty high.rest)) (ap (kept elide) on.full ∙ kept-append elide low.full on.more)
+    ∙ ap (λ shares. shares ++ map (share state) (unless_empty high.rest))
+    (map-append (share Closed) (kept elide low.full) (kept elide on.more))
+    ∙ append_assoc (map (share Closed) (kept elide low.full)) (map (share Closed) (kept elide on.more))
+    (map (share state) (unless_empty high.rest))))
+    (shares_after (map (share Closed) (kept elide low.full)) _ _
+    (rest_on elide state low.rest on.more high.rest on.rest))
+
+-- once all is there, it is the same
+whole_is : (manner : Manner) (elide : Bool) (cut : CutUp) → cut.rest ≡ []
+    → part_of manner (map (share Closed) (files_by elide cut)) ≡ draft_part manner (draft_by elide cut)
+whole_is manner elide cut none = rw none (ap (λ files. part_of manner (map (share Closed) files))
+    (append-nil (kept elide cut.full))
+    ∙ ap (part_of manner) (sym (append-nil (map (share Closed) (kept elide cut.full)))))
+
+cut_stays : (chunks : Chunks) (size : ℕ) (x y : List ℕ) → size ≤ length x
+    → chunks_of chunks size (x ++ y) ≡ chunks_of chunks size x
+cut_stays chunks size x y full = ap (chunks_within chunks size) (take-append-le size x y full)
+
+pub longer_differs : (size : ℕ) (x : List ℕ) → size < length x → eqb (length x) size ≡ false
+longer_differs size x longer = grind (arith, nat_tests)
+
+chunks_stay : (plan : ChunksPlan) (said : Option ℕ) (x y : List ℕ) → 0 < plan.chunks.count
+    → (chunks_work plan said).is_complete x ≡ true → IsComplete (chunks_work plan said) x y
+chunks_stay plan None x y some never = absurd (false≢true never)
+chunks_stay plan (Some size) x y some is =
+    let longer : size < length x = ltb-true _ _ is in
+    let more : size < length (x ++ y) = omega (arith, longer, length-append x y) in
+    let manner = manner_of plan.filing in
+    let same = cut_stays plan.chunks size x y (omega (arith, longer)) in record {
+      still = lt-ltb _ _ more;
+      settled_stays = ap (λ cut. draft_part manner (draft_by plan.elide cut)) same;
+      whole_stays = ap (λ cut. part_of manner (map (share Closed) (files_by plan.elide cut))) same
+          ∙ whole_is manner plan.elide (chunks_of plan.chunks size x)
+          (rest_none plan.chunks size x some (omega (arith, longer)));
+      verdict_stays = rw (longer_differs size x longer, longer_differs size (x ++ y) more) refl;
+    }
+
+pub chunks_lawful : (plan : ChunksPlan) (said : Option ℕ) → 0 < plan.chunks.count → IsLawful (chunks_work plan said)
+chunks_lawful plan said some = record {
+  grows = λ x y. part_begins plan.filing _ _ (shares_on plan.elide Open
+      (decided_goes_on plan.chunks 1 said x y some (omega (arith, some))));
+  ends = λ x. part_begins plan.filing _ _ (subst (SharesBegin (shares_of (draft_by plan.elide
+      (decided plan.chunks 1 said x)))) (sym (map-append (share Closed)
+      (kept plan.elide (in_the_end plan.chunks said x).full) (unless_empty (in_the_end plan.chunks said x).rest)))
+      (shares_on plan.elide Closed (decided_ends plan.chunks said x some)));
+  stays = λ x y. chunks_stay plan said x y some;
+}
+
+-- One chunk alone
+
+piece_step : (front more : List (List ℕ)) (low high : List ℕ) (place : ℕ) → BeginsFirst low more high
+    → IsBeginning (get_or (front ++ low ∷ []) place []) (get_or (front ++ (more ++ high ∷ [])) place [])
+piece_step [] [] low high zero begins = begins
+piece_step [] (piece ∷ more) low high zero begins = begins
+piece_step [] more low high (suc place) begins = nothing_begins _
+piece_step (first ∷ front) more low high zero begins = begins_itself first
+piece_step (first ∷ front) more low high (suc place) begins = piece_step front more low high place begins
+
+pieces_on : {low high : CutUp} (on : GoesOn low high)
+    → pieces_in high ≡ low.full ++ (on.more ++ high.rest ∷ [])
+pieces_on {low} {high} on =
+    ap (λ full. full ++ high.rest ∷ []) on.full ∙ append_assoc low.full on.more (high.rest ∷ [])
+
+pub piece_on : (place : ℕ) {low high : CutUp} → GoesOn low high
+    → IsBeginning (get_or (pieces_in low) place []) (get_or (pieces_in high) place [])
+piece_on place {low} {high} on =
+    subst (λ pieces. IsBeginning (get_or (pieces_in low) place []) (get_or pieces place []))
+    (sym (pieces_on on)) (piece_step low.full on.more low.rest high.rest place on.rest)
+
+pub same_piece : (front one other : List (List ℕ)) (place : ℕ) → place < length front
+    → get_or (front ++ one) place [] ≡ get_or (front ++ other) place []
+same_piece [] one other place within = absurd (omega (arith, within))
+same_piece (first ∷ front) one other zero within = refl
+same_piece (first ∷ front) one other (suc place) within = same_piece front one other place (omega (arith, within))
+
+passed_taken : (chunks : Chunks) (size : ℕ) (x : List ℕ) → passed chunks size (take size x) ≡ passed chunks size x
+passed_taken chunks size x = elim (cases_lt (length x) size) [
+  | inl short ↦ ap (passed chunks size) (take_all size x (omega (arith, short)))
+  | inr full ↦ passed_full chunks size (take size x) (omega (arith, length-take size x, full))
+      ∙ sym (passed_full chunks size x full)
+]
+
+-- a piece that has ended stays
+piece_stays : (chunks : Chunks) (size place : ℕ) (x y : List ℕ) → place < chunks.count
+    → has_ended chunks size x place ≡ true
+    → piece_at place (chunks_of chunks size (x ++ y)) ≡ piece_at place (chunks_of chunks size x)
+piece_stays chunks size place x y within has =
+    let z = take size x in
+    let low = chunks_of chunks size x in
+    let on = chunks_go_on chunks size x y (omega (arith, within)) in
+    let long : length low.full ≡ ended chunks size z =
+    length-map-range_with_len (chunk_at chunks size z) 0 (ended chunks size z) in
+    let also : has_ended chunks size z place ≡ true =
+    ap (nat_le (chunk_start chunks.count size (place + 1))) (passed_taken chunks size x) ∙ has in
+    let before : place < length low.full = omega (arith, long, ended_after chunks size z place within also) in
+    ap only_out (ap (λ pieces. get_or pieces place []) (pieces_on on)
+    ∙ same_piece low.full _ (low.rest ∷ []) place before)
+
+piece_ends : (place : ℕ) (chunks : Chunks) (said : Option ℕ) (x : List ℕ) → place < chunks.count
+    → IsBeginning (get_or (pieces_in (decided chunks (max place 1) said x)) place [])
+    (get_or (pieces_in (in_the_end chunks said x)) place [])
+piece_ends place chunks (Some size) x within = begins_itself _
+piece_ends zero chunks None x within = piece_on 0 (decided_ends chunks None x within)
+piece_ends (suc place) chunks None x within = nothing_begins _
+
+chunk_stays : (place : ℕ) (chunks : Chunks) (said : Option ℕ) (x y : List ℕ) → place < chunks.count
+    → is_written place chunks said x ≡ true → IsComplete (chunk_work place chunks said) x y
+chunk_stays place chunks None x y within never = absurd (false≢true never)
+chunk_stays place chunks (Some size) x y within has =
+    let still : has_ended chunks size (x ++ y) place ≡ true =
+    le-leb _ _ (omega (arith, leb-true _ _ has, passed_grows chunks size x y)) in record {
+      still = still;
+      settled_stays = piece_stays chunks size place x y within has;
+      whole_stays = piece_stays chunks size place x y within has;
+      verdict_stays = rw (has, still) refl;
+    }
+
+pub chunk_lawful : (place : ℕ) (chunks : Chunks) (said : Option ℕ) → place < chunks.count
+    → IsLawful (chunk_work place chunks said)
+chunk_lawful place chunks said within = record {
+  grows = λ x y. out_begins _ _ (piece_on place (decided_goes_on chunks (max place 1) said x y (omega (arith, within))
+      (omega (arith, within))));
+  ends = λ x. out_begins _ _ (piece_ends place chunks said x within);
+  stays = λ x y. chunk_stays place chunks said x y within;
+}
+
+-- Lines of one file alone
+
+pub turn_lawful : (place count delim : ℕ) → IsLawful (turn_work place count delim)
+turn_lawful place count delim = record {
+  grows = λ x y. out_begins _ _ (_, dealt_append delim count place 0 x y);
+  ends = λ x. out_begins _ _ (begins_itself _);
+  stays = λ x y never. absurd (false≢true never);
+}

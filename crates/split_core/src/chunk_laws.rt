@@ -1,0 +1,100 @@
+//! Laws of chunks, with no code: each stands on the contract of a function whose body is empty.
+ghost use Rattle.std.specs.Prelude.{◌≡◌, ◌<◌, ◌≤◌, ◌+◌, ◌-◌, ◌++◌, ◌/◌, ◌%◌, ℕ, List, [], Option, drop, false, get_or, length, take, true};
+ghost use Rattle.std.specs.List.{flat_map, range_with_len};
+ghost use Rattle.ports_core.specs.Agreed.{ArePlaced, DifferOn, IsAgreed, file_bytes};
+ghost use Rattle.ports_core.specs.Draft.{opening_line};
+ghost use Rattle.ports_core.specs.Part.{only_out, openings_for};
+ghost use Rattle.seg_core.specs.Line.{first_lines, joined, line_count, lines_of};
+ghost use Rattle.seg_core.specs.declared.cut.Chunks.{Chunks};
+ghost use Rattle.seg_core.specs.declared.cut.Cut.TheVariants.{Round};
+ghost use Rattle.seg_core.specs.declared.cut.Way.TheVariants as way;
+ghost use Rattle.seg_core.specs.declared.unit.Unit.TheVariants.{Bytes, Lines};
+ghost use Rattle.split_core.specs.Chunks.{IsInChunk, IsInPiece, chunk_start, chunks_in, is_as_said, is_longer};
+ghost use Rattle.split_core.specs.ChunkAgreed.{AgreeAt, CanFollow, chunk_spots, one_chunk_spots};
+ghost use Rattle.split_core.specs.Place.{beside_output};
+ghost use Rattle.split_core.specs.ChunkWork.{ChunksPlan, chunk_work, chunks_settled, chunks_whole, chunks_work, turn_work, way_work};
+ghost use Rattle.split_core.specs.Split.{Filing, are_named};
+
+/// What goes with each chunk of a whole text: there are as many of these pieces as were asked for, and together they
+/// are the text. Chunks of bytes have the bytes from where they begin to where the next one does; all have the same
+/// length, but for the first ones, which have one byte more where the length of the text asks for it. Under lines no
+/// line is cut, and each goes with the chunk in which its first byte is (GNU coreutils manual, split, `-n N` and
+/// `-n l/N`).
+pub fn chunks_are_even()
+    ensures count { (chunks : Chunks) (x : List ℕ) → 0 < chunks.count
+        → length (chunks_in chunks x) ≡ chunks.count }
+    ensures all { (chunks : Chunks) (x : List ℕ) → 0 < chunks.count → joined (chunks_in chunks x) ≡ x }
+    ensures bytes { (chunks : Chunks) (x : List ℕ) (place : ℕ) → place < chunks.count → chunks.unit ≡ Bytes
+        → get_or (chunks_in chunks x) place []
+        ≡ take (chunk_start chunks.count (length x) (place + 1) - chunk_start chunks.count (length x) place)
+        (drop (chunk_start chunks.count (length x) place) x) }
+    ensures longer { (chunks : Chunks) (x : List ℕ) (place : ℕ) → place < chunks.count → chunks.unit ≡ Bytes
+        → place < length x % chunks.count
+        → length (get_or (chunks_in chunks x) place []) ≡ length x / chunks.count + 1 }
+    ensures shorter { (chunks : Chunks) (x : List ℕ) (place : ℕ) → place < chunks.count → chunks.unit ≡ Bytes
+        → length x % chunks.count ≤ place
+        → length (get_or (chunks_in chunks x) place []) ≡ length x / chunks.count }
+    ensures lines { (chunks : Chunks) (x : List ℕ) → 0 < chunks.count → chunks.unit ≡ Lines
+        → flat_map (lines_of chunks.delim) (chunks_in chunks x) ≡ lines_of chunks.delim x }
+    ensures first_byte { (chunks : Chunks) (x : List ℕ) (place i : ℕ) → place < chunks.count → chunks.unit ≡ Lines
+        → i < line_count chunks.delim x
+        → IsInChunk chunks.count (length x) place (length (first_lines chunks.delim i x))
+        → IsInPiece (chunks_in chunks x) place (length (first_lines chunks.delim i x)) }
+{}
+
+/// What one chunk alone, or the lines of one file alone, write to standard output is what the file at that place would
+/// have, where all files have names and none is left out. So all chunks, one after another, are the text.
+pub fn one_chunk_is_its_file()
+    ensures chunk { (chunks : Chunks) (filing : Filing) (said : Option ℕ) (place : ℕ) (x : List ℕ)
+        → 0 < chunks.count → are_named filing.names chunks.count ≡ true
+        → (way_work (way.Chunk place chunks) false filing said).whole x
+        ≡ only_out (get_or (file_bytes ((way_work (way.Chunks chunks) false filing said).whole x)) place []) }
+    ensures turn { (count delim : ℕ) (filing : Filing) (said : Option ℕ) (place : ℕ) (x : List ℕ)
+        → place < count → are_named filing.names count ≡ true
+        → (way_work (way.Turn place count delim) false filing said).whole x
+        ≡ only_out (get_or (file_bytes ((way_work (way.Cut (Round count delim)) false filing said).whole x)) place []) }
+    ensures all { (chunks : Chunks) (said : Option ℕ) (x : List ℕ)
+        → 0 < chunks.count → is_as_said said x ≡ true
+        → flat_map (λ place. ((chunk_work place chunks said).whole x).out) (range_with_len 0 chunks.count) ≡ x }
+{}
+
+/// What is settled is what all continuations agree on, and the bytes that wait are those that two continuations put to
+/// different places, or one of them nowhere. So nothing is written that could still go into another file, and nothing
+/// is kept back that can't. Where the size was said, continuations are those with which the input has it, and no byte
+/// waits. Where a byte goes is said by spots, which are right.
+pub fn chunks_agree()
+    ensures outputs { (plan : ChunksPlan) (said : Option ℕ) (x : List ℕ)
+        → 0 < plan.chunks.count → plan.filing.verbose ≡ false
+        → are_named plan.filing.names plan.chunks.count ≡ true → is_longer said x ≡ false
+        → AgreeAt (CanFollow said x) (chunks_work plan said) x ((chunks_work plan said).settled x) }
+    ensures files { (plan : ChunksPlan) (said : Option ℕ) (x : List ℕ)
+        → 0 < plan.chunks.count → are_named plan.filing.names plan.chunks.count ≡ true → is_longer said x ≡ false
+        → AgreeAt (CanFollow said x) (beside_output (chunks_work plan said)) x
+        (record ((chunks_work plan said).settled x) { out = [] }) }
+    ensures waits { (plan : ChunksPlan) (said : Option ℕ) (x : List ℕ)
+        → 0 < plan.chunks.count → are_named plan.filing.names plan.chunks.count ≡ true → is_longer said x ≡ false
+        → DifferOn (CanFollow said x) (chunk_spots plan said) x ((chunks_work plan said).waiting x) }
+    ensures placed { (plan : ChunksPlan) (said : Option ℕ)
+        → 0 < plan.chunks.count → are_named plan.filing.names plan.chunks.count ≡ true
+        → ArePlaced (beside_output (chunks_work plan said)) (chunk_spots plan said) }
+    ensures chunk { (place : ℕ) (chunks : Chunks) (said : Option ℕ) (x : List ℕ)
+        → place < chunks.count → is_longer said x ≡ false
+        → AgreeAt (CanFollow said x) (chunk_work place chunks said) x ((chunk_work place chunks said).settled x) }
+    ensures chunk_waits { (place : ℕ) (chunks : Chunks) (said : Option ℕ) (x : List ℕ) → place < chunks.count
+        → DifferOn (CanFollow said x) (one_chunk_spots place chunks said) x ((chunk_work place chunks said).waiting x) }
+    ensures chunk_placed { (place : ℕ) (chunks : Chunks) (said : Option ℕ) → place < chunks.count
+        → ArePlaced (chunk_work place chunks said) (one_chunk_spots place chunks said) }
+    ensures turn { (place count delim : ℕ) (x : List ℕ)
+        → IsAgreed (turn_work place count delim) x ((turn_work place count delim).settled x) }
+{}
+
+/// Where standard output is told of the files of chunks, it has a line for each that was opened, in their order, and
+/// nothing else: once some bytes came in, and in the end. Else it has nothing.
+pub fn lines_are_of_chunk_files()
+    ensures settled { (plan : ChunksPlan) (said : Option ℕ) → plan.filing.verbose ≡ true → (x : List ℕ)
+        → (chunks_settled plan said x).out ≡ openings_for opening_line (chunks_settled plan said x).files }
+    ensures whole { (plan : ChunksPlan) (said : Option ℕ) → plan.filing.verbose ≡ true → (x : List ℕ)
+        → (chunks_whole plan said x).out ≡ openings_for opening_line (chunks_whole plan said x).files }
+    ensures none { (plan : ChunksPlan) (said : Option ℕ) → plan.filing.verbose ≡ false → (x : List ℕ)
+        → (chunks_settled plan said x).out ++ (chunks_whole plan said x).out ≡ [] }
+{}

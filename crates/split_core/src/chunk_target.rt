@@ -1,0 +1,169 @@
+//! Where chunks go: each to a file of its own, or one of them to standard output.
+ghost use Rattle.std.specs.Prelude.{◌≡◌, ◌+◌, ◌<◌, ◌^◌, [], if◌then◌else◌, IsTrue, IfErr};
+ghost use Rattle.ports_core.specs.FileWriter.{IsReady, IsWrite, seen_writer};
+ghost use Rattle.ports_core.specs.Slot.{is_writable};
+ghost use Rattle.ports_core.specs.Turn.{fault_in};
+ghost use Rattle.ports_core.specs.inner.Write.{Wrote};
+ghost use Rattle.split_core.specs.ChunkerState.{IsAimed, course_of, first_on};
+ghost use Rattle.split_core.specs.inner.Seen.{new_files, new_output, is_each_on, is_past_on, seen_target};
+ghost use Rattle.split_core.specs.inner.Sends.{Changes, Ends, Files, empties_by, ends_by, with_full, with_rest};
+
+use crate::files::write_bytes;
+use ports_core::{Fault, FileWriter, Keeps, Naming, Opening, Outs, Tells};
+use std::alloc::Global;
+
+/// Where chunks go.
+#[derive(Drop)]
+pub(crate) enum Aim {
+    /// Each to a file; with `elide` those that stay empty are left out.
+    Files { writer: FileWriter, elide: bool },
+    /// The one at this place to standard output, the others nowhere.
+    Output { chunk: u64 },
+}
+
+/// Writes one chunk after another.
+#[derive(Drop)]
+pub(crate) struct Target {
+    /// The place of the chunk that was begun: all before it have ended.
+    pub(crate) place: u64,
+    pub(crate) aim: Aim,
+}
+
+impl Target {
+    /// Chunks go to files with these names.
+    pub(crate) fn files(alloc: Global, naming: Naming, elide: bool, tells: Tells) -> Target
+        ensures { seen_target result ≡ new_files naming elide tells }
+    {
+        let writer = FileWriter::new(alloc, naming, tells, Keeps::Open);
+        Target {
+            place: 0,
+            aim: Aim::Files { writer, elide },
+        }
+    }
+
+    /// The chunk at a place goes to standard output.
+    pub(crate) fn output(chunk: u64) -> Target
+        ensures { seen_target result ≡ new_output chunk }
+    {
+        Target {
+            place: 0,
+            aim: Aim::Output { chunk },
+        }
+    }
+
+    /// Whether the one chunk that is written has ended.
+    pub(crate) fn is_past(&self) -> bool
+        ensures { result ≡ is_past_on (seen_target self.now) }
+    {
+        match self.aim {
+            Aim::Files { .. } => false,
+            Aim::Output { chunk } => chunk < self.place,
+        }
+    }
+
+    /// Whether each chunk is written.
+    pub(crate) fn is_each(&self) -> bool
+        ensures { result ≡ is_each_on (seen_target self.now).aim }
+    {
+        matches!(self.aim, Aim::Files { .. })
+    }
+
+    /// The place up to which chunks are alike to it, and at least 1: before the input's size is known, all that stands
+    /// before the chunk at that place stays so.
+    pub(crate) fn first(&self) -> u64
+        ensures { result ≡ first_on (course_of (seen_target self.now).aim) }
+    {
+        match self.aim {
+            Aim::Files { .. } => 1,
+            Aim::Output { chunk } => chunk.max(1),
+        }
+    }
+
+    /// Writes more bytes of the chunk that was begun.
+    ///
+    /// # Errors
+    ///
+    /// Those of `FileWriter::put`; `Write(0)` where standard output broke.
+    pub(crate) fn put<O: Outs>(&mut self, bytes: &[u8], outs: &mut O) -> Result<(), Fault>
+        requires { IsAimed (seen_target self.old).aim (O.slots outs.old) }
+        ensures sends { Changes O.told (seen_target self.old) (with_rest bytes.now) (O.slots outs.old)
+            (O.slots outs.new) (seen_target self.new) (fault_in result) }
+        ensures place { (seen_target self.new).place ≡ (seen_target self.old).place }
+    {
+        let place = self.place;
+        match &mut self.aim {
+            Aim::Files { writer, .. } => writer.put(bytes, outs),
+            Aim::Output { chunk } => write_where(*chunk == place, bytes, outs),
+        }
+    }
+
+    /// Ends the chunk that was begun, and begins the next.
+    ///
+    /// # Errors
+    ///
+    /// Those of `FileWriter::next`.
+    pub(crate) fn next<O: Outs>(&mut self, outs: &mut O) -> Result<(), Fault>
+        requires ready { IsAimed (seen_target self.old).aim (O.slots outs.old) }
+        requires fits { (seen_target self.old).place + 1 < 2 ^ 64 }
+        ensures sends { Changes O.told (seen_target self.old) with_full (O.slots outs.old) (O.slots outs.new)
+            (seen_target self.new) (fault_in result) }
+        ensures place { (seen_target self.new).place ≡ (seen_target self.old).place + 1 }
+    {
+        self.place += 1;
+        match &mut self.aim {
+            Aim::Files { writer, elide } => end_file(writer, *elide, outs),
+            Aim::Output { .. } => Ok(()),
+        }
+    }
+
+    /// Ends the last chunk.
+    ///
+    /// # Errors
+    ///
+    /// `Write` where its file broke.
+    pub(crate) fn end<O: Outs>(&mut self, outs: &mut O) -> Result<(), Fault>
+        requires { IsAimed (seen_target self.old).aim (O.slots outs.old) }
+        ensures brings { Ends O.told (seen_target self.old) (O.slots outs.old) (O.slots outs.new) (seen_target self.new)
+            (fault_in result) }
+        ensures broke { IfErr result IsWrite }
+        ensures place { (seen_target self.new).place ≡ (seen_target self.old).place }
+    {
+        match &mut self.aim {
+            Aim::Files { writer, .. } => writer.end(outs),
+            Aim::Output { .. } => Ok(()),
+        }
+    }
+}
+
+/// Writes these bytes to standard output, if they are to go there.
+fn write_where<O: Outs>(goes: bool, bytes: &[u8], outs: &mut O) -> Result<(), Fault>
+    requires { IsTrue (is_writable (O.slots outs.old) 0) }
+    ensures { Wrote O.told 0 (if goes then bytes.now else []) (O.slots outs.old) (O.slots outs.new) (fault_in result) }
+{
+    if !goes {
+        return Ok(());
+    }
+    write_bytes(0, bytes, outs)
+}
+
+/// Ends a file, and begins the next with its first byte. With `elide` what has no byte has no file.
+fn end_file<O: Outs>(writer: &mut FileWriter, elide: bool, outs: &mut O) -> Result<(), Fault>
+    requires { IsReady (seen_writer writer.old) (O.slots outs.old) }
+    ensures { Files O.told (seen_writer writer.old) (ends_by elide) (O.slots outs.old) (O.slots outs.new)
+        (seen_writer writer.new) (fault_in result) }
+{
+    make_empty(writer, elide, outs)?;
+    writer.next(Opening::Late, outs)
+}
+
+/// Makes the file of what has no byte, unless it is left out.
+fn make_empty<O: Outs>(writer: &mut FileWriter, elide: bool, outs: &mut O) -> Result<(), Fault>
+    requires { IsReady (seen_writer writer.old) (O.slots outs.old) }
+    ensures { Files O.told (seen_writer writer.old) (empties_by elide) (O.slots outs.old) (O.slots outs.new)
+        (seen_writer writer.new) (fault_in result) }
+{
+    if elide || writer.is_open() {
+        return Ok(());
+    }
+    writer.next(Opening::AtOnce, outs)
+}

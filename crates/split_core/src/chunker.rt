@@ -1,0 +1,227 @@
+//! Chunks of an input (GNU coreutils manual, split, `-n N`, `-n l/N`, `-n K/N` and `-n l/K/N`).
+ghost use Rattle.std.specs.Prelude.{◌≡◌, ◌+◌, ◌<◌, ◌≤◌, ◌^◌, [], Some, None, length, true, false, List, ℕ, ◌++◌, IfOk, IfErr, IfSome};
+ghost use Rattle.ports_core.specs.Turn.{fault_in};
+ghost use Rattle.split_core.specs.ChunkerState.{Carries, HasAll, Holds, Ready, can_cut, course, course_of, total, work, work_on};
+ghost use Rattle.split_core.specs.Parts.{uncut};
+ghost use Rattle.ports_core.specs.Engine.{MayGet};
+ghost use Rattle.split_core.specs.Ways as ways;
+ghost use Rattle.split_core.specs.declared.splitter.Splitter.TheVariants as way;
+ghost use Rattle.split_core.specs.inner.Seen.{seen_target};
+ghost use Rattle.split_core.specs.inner.Chunker.{EndsAs, PassesAs, TakesSaid};
+
+use crate::chunk_cut::chunk_start;
+use crate::chunk_cutter::ChunkCutter;
+use crate::chunk_target::{Aim, Target};
+use ports_core::{Fault, Outs, Verdict};
+use seg_core::byte_window::ByteWindow;
+use seg_core::cut::Chunks;
+use std::alloc::Global;
+use std::marker::Model;
+
+/// Cuts its input into chunks. Where the input says its length before, nothing waits. Else the place where a chunk begins
+/// can only move on as more comes: what stands before that of the second one is settled, or before that of the one that is
+/// written, and the rest waits.
+#[derive(Drop)]
+pub struct Chunker {
+    /// How long the input is, where it said that before.
+    said: Option<u64>,
+    cutter: ChunkCutter,
+    /// The bytes that wait.
+    waiting: ByteWindow,
+    /// How many bytes came after the output was complete.
+    spare: u64,
+}
+
+impl Model for Chunker {
+    ghost use Rattle.std.specs.Prelude.{◌≡◌, ◌<◌, ◌^◌, ◌+◌, ◌-◌, length, true};
+    ghost use Rattle.split_core.specs.ChunkerState.{ChunkerState, can_cut, course};
+    ghost use Rattle.split_core.specs.inner.Cutter.{seen_cutter};
+
+    ghost Value = { ChunkerState };
+
+    ghost view = { λ c. record {
+      said = c.said;
+      cutter = seen_cutter c.cutter;
+      waiting = c.waiting.held;
+      spare = c.spare;
+    } };
+
+    ghost invariant = { λ c. (can_cut (course (seen_cutter c.cutter)) c.cutter.chunks.count ≡ true)
+        × (c.waiting.most ≡ 2 ^ 64 - 1) × (c.cutter.at + length c.waiting.held < 2 ^ 63) };
+}
+
+impl Chunker {
+    /// Chunks of an input of which no byte came in yet, which is this long if it said that.
+    ///
+    /// # Errors
+    ///
+    /// `Memory` where there is no room for what waits.
+    pub(crate) fn open(
+        alloc: Global,
+        chunks: Chunks,
+        said: Option<u64>,
+        target: Target,
+    ) -> Result<Chunker, Fault>
+        requires can { can_cut (course_of (seen_target target).aim) chunks.count ≡ true }
+        requires all { HasAll (course_of (seen_target target).aim) chunks.count }
+        requires long { IfSome said (λ size. 0 < size) }
+        requires fresh { Carries (seen_target target) (uncut []) }
+        ensures holds { IfOk result (λ chunker. Holds chunker []) }
+        ensures does { IfOk result (λ chunker. work chunker
+            ≡ work_on (course_of (seen_target target).aim) chunks said) }
+        ensures none { IfOk result (λ chunker. total chunker ≡ 0) }
+        ensures aim { IfOk result (λ chunker. chunker.cutter.target.aim ≡ (seen_target target).aim) }
+        ensures err { IfErr result (λ fault. fault ≡ Fault.Memory) }
+    {
+        let Ok(waiting) = ByteWindow::new(alloc, u64::MAX) else {
+            return Err(Fault::Memory);
+        };
+        let cutter = ChunkCutter {
+            chunks,
+            at: 0,
+            is_within: false,
+            target,
+        };
+        Ok(Chunker {
+            said,
+            cutter,
+            waiting,
+            spare: 0,
+        })
+    }
+
+    /// Takes in a piece: what is settled with it is written, and what isn't waits.
+    ///
+    /// # Errors
+    ///
+    /// `Write` where an output broke, `Open` where a file can't be opened, `Memory` where there is no room for what waits,
+    /// for a name or its line; `Verdict` with `Changed` where the input has more bytes than it said.
+    pub(crate) fn pass<O: Outs>(&mut self, piece: &[u8], outs: &mut O) -> Result<(), Fault>
+        requires ready { Ready self.old (O.slots outs.old) }
+        requires fits { total self.old + length piece.now < 2 ^ 63 }
+        ensures { PassesAs O.told self.old piece.now (O.slots outs.old) (O.slots outs.new) self.new result }
+    {
+        match self.said {
+            Some(size) => self.pass_said(size, piece, outs),
+            None => self.pass_unsaid(piece, outs),
+        }
+    }
+
+    /// Ends the input: what waits is cut into chunks.
+    ///
+    /// # Errors
+    ///
+    /// As `pass`; `Changed` where the input has fewer bytes than it said.
+    pub(crate) fn finish<O: Outs>(&mut self, outs: &mut O) -> Result<(), Fault>
+        requires ready { Ready self.old (O.slots outs.old) }
+        ensures { EndsAs O.told self.old (O.slots outs.old) (O.slots outs.new) self.new result }
+    {
+        match self.said {
+            Some(size) => self.finish_said(size, outs),
+            None => self.finish_unsaid(outs),
+        }
+    }
+
+    /// How many bytes wait.
+    pub(crate) fn held(&self) -> u64
+        ensures { result ≡ length self.now.waiting }
+    {
+        self.waiting.len()
+    }
+
+    /// How many bytes came after the output was complete.
+    pub(crate) fn past(&self) -> u64
+        ensures { result ≡ self.now.spare }
+    {
+        self.spare
+    }
+
+    /// Whether the output is complete.
+    pub(crate) fn is_complete(&self) -> bool
+        ensures { (x : List ℕ) → Holds self.now x → result ≡ (work self.now).is_complete x }
+    {
+        self.said.is_some() && self.cutter.target.is_past()
+    }
+
+    /// How many bytes the next piece may have: where one chunk is written, as many as are missing to its end; one at least.
+    pub(crate) fn most_wanted(&self) -> u64
+        ensures some { 0 < result }
+        ensures few { MayGet ways.Holds ways.work (way.Chunks self.now) result }
+    {
+        match (self.said, &self.cutter.target.aim) {
+            (Some(size), Aim::Output { chunk }) => {
+                let end = chunk_start(self.cutter.chunks.count, size, *chunk + 1);
+                end.saturating_sub(self.cutter.at).max(1)
+            }
+            _ => u64::MAX,
+        }
+    }
+
+    /// Takes in a piece of an input of this size, and returns how many of its bytes don't belong to the output any more.
+    fn take_said<O: Outs>(&mut self, size: u64, piece: &[u8], outs: &mut O) -> Result<usize, Fault>
+        requires ready { Ready self.old (O.slots outs.old) }
+        requires fits { total self.old + length piece.now < 2 ^ 63 }
+        ensures { TakesSaid O.told self.old size piece.now (O.slots outs.old) (O.slots outs.new) self.new result }
+    {
+        let own = piece
+            .len()
+            .min(size.saturating_sub(self.cutter.at) as usize);
+        let left = self.cutter.cut(size, &piece[..own], outs)?;
+        Ok(left + (piece.len() - own))
+    }
+
+    /// Takes in a piece of an input of this size.
+    fn pass_said<O: Outs>(&mut self, size: u64, piece: &[u8], outs: &mut O) -> Result<(), Fault>
+        requires said { self.old.said ≡ Some size }
+        requires ready { Ready self.old (O.slots outs.old) }
+        requires fits { total self.old + length piece.now < 2 ^ 63 }
+        ensures { PassesAs O.told self.old piece.now (O.slots outs.old) (O.slots outs.new) self.new result }
+    {
+        let past = self.take_said(size, piece, outs)?;
+        if past > 0 && self.cutter.target.is_each() {
+            return Err(Fault::Verdict(Verdict::Changed));
+        }
+        self.spare += past as u64;
+        Ok(())
+    }
+
+    /// Takes in a piece of an input that doesn't say its length.
+    fn pass_unsaid<O: Outs>(&mut self, piece: &[u8], outs: &mut O) -> Result<(), Fault>
+        requires said { self.old.said ≡ None }
+        requires ready { Ready self.old (O.slots outs.old) }
+        requires fits { total self.old + length piece.now < 2 ^ 63 }
+        ensures { PassesAs O.told self.old piece.now (O.slots outs.old) (O.slots outs.new) self.new result }
+    {
+        match self.waiting.put(piece) {
+            Ok(()) => {}
+            Err(_) => return Err(Fault::Memory),
+        }
+        let size = self.cutter.at + self.waiting.len();
+        let first = self.cutter.target.first();
+        let end = chunk_start(self.cutter.chunks.count, size, first);
+        self.cutter.settle(&mut self.waiting, end, outs)
+    }
+
+    /// Ends an input of this size.
+    fn finish_said<O: Outs>(&mut self, size: u64, outs: &mut O) -> Result<(), Fault>
+        requires said { self.old.said ≡ Some size }
+        requires ready { Ready self.old (O.slots outs.old) }
+        ensures { EndsAs O.told self.old (O.slots outs.old) (O.slots outs.new) self.new result }
+    {
+        self.cutter.target.end(outs)?;
+        if self.cutter.at < size && !self.cutter.target.is_past() {
+            return Err(Fault::Verdict(Verdict::Changed));
+        }
+        Ok(())
+    }
+
+    /// Ends an input that didn't say its length.
+    fn finish_unsaid<O: Outs>(&mut self, outs: &mut O) -> Result<(), Fault>
+        requires said { self.old.said ≡ None }
+        requires ready { Ready self.old (O.slots outs.old) }
+        ensures { EndsAs O.told self.old (O.slots outs.old) (O.slots outs.new) self.new result }
+    {
+        let size = self.cutter.at + self.waiting.len();
+        self.cutter.finish(&mut self.waiting, size, outs)
+    }
+}

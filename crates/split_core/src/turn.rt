@@ -1,0 +1,69 @@
+ghost use Rattle.std.specs.Prelude.{◌≡◌, ◌<◌, [], IfOk, IfErr};
+ghost use Rattle.split_core.specs.ChunkWork.{turn_work};
+ghost use Rattle.split_core.specs.Turn.{Holds, Ready, work};
+ghost use Rattle.split_core.specs.inner.Turn.{Picks};
+
+use crate::deal::Deal;
+use crate::files::write_bytes;
+use ports_core::{Fault, Outs};
+use std::alloc::Global;
+use std::marker::Model;
+
+/// Writes to standard output what one file would have of lines that are dealt in turn (GNU coreutils manual, split,
+/// `-n r/K/N`). What it has of a piece is gathered first, as that of all files is, and is written at once: that takes as
+/// much memory as the piece.
+#[derive(Drop)]
+pub struct Turn {
+    deal: Deal,
+    /// The place of the file.
+    place: usize,
+}
+
+impl Model for Turn {
+    ghost use Rattle.std.specs.Prelude.{◌<◌, length};
+    ghost use Rattle.split_core.specs.Turn.{TurnState};
+
+    ghost Value = { TurnState };
+
+    ghost view = { λ t. record {
+      delim = t.deal.delim;
+      count = length t.deal.gathered;
+      place = t.place;
+      next = t.deal.next;
+    } };
+
+    ghost invariant = { λ t. t.place < length t.deal.gathered };
+}
+
+impl Turn {
+    /// Deals lines, which end with `delim`, among `count` files, and writes those of the file at this place.
+    ///
+    /// # Errors
+    ///
+    /// `Memory` where there is no room for the list of files.
+    pub(crate) fn open(alloc: Global, place: u64, count: u64, delim: u8) -> Result<Turn, Fault>
+        requires { place < count }
+        ensures holds { IfOk result (λ turn. Holds turn []) }
+        ensures does { IfOk result (λ turn. work turn ≡ turn_work place count delim) }
+        ensures err { IfErr result (λ fault. fault ≡ Fault.Memory) }
+    {
+        Ok(Turn {
+            deal: Deal::new(alloc, count, delim)?,
+            place: place as usize,
+        })
+    }
+
+    /// Deals a piece, and writes what the file has of it.
+    ///
+    /// # Errors
+    ///
+    /// `Memory` where there is no room for the piece, of which nothing is written then; `Write(0)` where standard output
+    /// broke.
+    pub(crate) fn pass<O: Outs>(&mut self, piece: &[u8], outs: &mut O) -> Result<(), Fault>
+        requires { Ready (O.slots outs.old) }
+        ensures { Picks O.told self.old piece.now (O.slots outs.old) (O.slots outs.new) self.new result }
+    {
+        self.deal.gather(piece)?;
+        write_bytes(0, self.deal.at(self.place), outs)
+    }
+}

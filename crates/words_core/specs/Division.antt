@@ -1,0 +1,52 @@
+-- What the value of `-n` of `split` says: GNU coreutils manual, split, CHUNKS.
+use Rattle.std.specs.Prelude.{ℕ, ◌-◌, ◌==◌, ◌&&◌, nat_lt, List, [], ◌∷◌, length, Option, Some, None, Result, Ok, Err, if◌then◌else◌}
+use Rattle.seg_core.specs.Count.{after_digits, digits_of, leading_digits}
+use Rattle.seg_core.specs.declared.cut.Cut.TheVariants.{Round}
+use Rattle.seg_core.specs.declared.cut.Way.{Way}
+use Rattle.seg_core.specs.declared.cut.Way.TheVariants as way
+use Rattle.seg_core.specs.declared.unit.Unit.TheVariants as unit
+use Rattle.ports_core.specs.declared.fault.UsageKind.{UsageKind}
+use Rattle.ports_core.specs.declared.fault.UsageKind.TheVariants.{BadNumber}
+use Rattle.words_core.specs.declared.division.Dealing.{Dealing}
+use Rattle.words_core.specs.declared.division.Dealing.TheVariants.{Bytes, Lines, Turns}
+use Rattle.words_core.specs.declared.division.Division.{Division}
+use Rattle.words_core.specs.Number.{not_zero, then_check, up_to}
+
+-- the number of all files, 1 to 65,535
+abbrev pub all_in : Dealing → List ℕ → Result Division UsageKind
+all_in dealing files = then_check (then_check (up_to 65535 (digits_of files)) not_zero) (λ n.
+    Ok (record { dealing = dealing; files = n; only = None }))
+
+-- the number of one, which words count from 1, and of all; it is told that it is larger than that before either is 0
+abbrev pub one_in : Dealing → List ℕ → List ℕ → Result Division UsageKind
+one_in dealing number files = then_check (up_to 65535 (digits_of files)) (λ n.
+    then_check (then_check (up_to n (digits_of number)) not_zero) (λ k.
+    Ok (record { dealing = dealing; files = n; only = Some (k - 1) })))
+
+-- `N` or `K/N` (47 is `/`): first the leading digits, then what stands after them
+abbrev pub numbers_in : Dealing → List ℕ → List ℕ → Result Division UsageKind
+numbers_in dealing front [] = all_in dealing front
+numbers_in dealing front (byte ∷ rest) =
+    if byte == 47 && nat_lt 0 (length front) then one_in dealing front rest else Err BadNumber
+
+abbrev pub divided_in : Dealing → List ℕ → Result Division UsageKind
+divided_in dealing text = numbers_in dealing (leading_digits text) (after_digits text)
+
+-- with `l/` (108, 47) before it, `r/` (114, 47), or nothing
+abbrev pub division_in : List ℕ → Result Division UsageKind
+division_in (byte ∷ next ∷ text) =
+    if byte == 108 && next == 47 then divided_in Lines text
+    else (if byte == 114 && next == 47 then divided_in Turns text else divided_in Bytes (byte ∷ next ∷ text))
+division_in text = divided_in Bytes text
+
+-- what becomes of the input, whose lines end with this byte
+abbrev pub dealt_by : ℕ → Dealing → ℕ → Option ℕ → Way
+dealt_by delim Bytes n None = way.Chunks (record { count = n; unit = unit.Bytes; delim = delim })
+dealt_by delim Bytes n (Some place) = way.Chunk place (record { count = n; unit = unit.Bytes; delim = delim })
+dealt_by delim Lines n None = way.Chunks (record { count = n; unit = unit.Lines; delim = delim })
+dealt_by delim Lines n (Some place) = way.Chunk place (record { count = n; unit = unit.Lines; delim = delim })
+dealt_by delim Turns n None = way.Cut (Round n delim)
+dealt_by delim Turns n (Some place) = way.Turn place n delim
+
+abbrev pub way_of_division : ℕ → Division → Way
+way_of_division delim division = dealt_by delim division.dealing division.files division.only
