@@ -16,7 +16,7 @@ pub enum Dealing {
     Bytes,
     /// Each gets the lines that begin in a chunk.
     Lines,
-    /// Each gets every so many lines: they are dealt in turn.
+    /// Lines are dealt to them in turn.
     Turns,
 }
 

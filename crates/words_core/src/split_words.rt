@@ -217,7 +217,7 @@ fn way_of_division(delim: u8, division: Division) -> Way
     }
 }
 
-/// What becomes of an input whose lines are dealt in turn to so many files, or if only one of these is written.
+/// What becomes of an input whose lines are dealt in turn to this many files, or if only one of these is written.
 fn way_of_turns(delim: u8, files: u64, only: Option<u64>) -> Way
     ensures { result ≡ dealt_by delim Turns files only }
 {
