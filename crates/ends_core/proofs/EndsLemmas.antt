@@ -23,7 +23,9 @@ use Rattle.ends_core.specs.Head.{head_work, IsDone, ahead_of}
 use Rattle.ends_core.specs.Stage.{Stretch, the_first, from_the_nth, the_last, keeps, work_in, stretch_of, delim_of, unit_of, count_of, left_of, waiting_of, waiting, past_in, past_of, may_lack, work, Holds, is_done, all_but_last}
 use Rattle.ends_core.specs.inner.Stage.{IsSilent, due, due_at_end, left_waiting, is_full, unused_of, FullLacksNone, SameAsked, piece_for, wanted_by}
 use Rattle.ends_core.specs.Kept.{most_of, delim_of as kept_delim, unit_of as kept_unit}
-use Rattle.ends_core.specs.inner.Kept.{Passes, Stops}
+use Rattle.ports_core.specs.Inputs.{PassesOver}
+use Rattle.ports_core.proofs.LoadLemmas.{passes_so}
+use Rattle.ends_core.specs.inner.Kept.{Stops}
 use Rattle.ends_core.specs.laws.WorkLaws.{full_head}
 use Rattle.ends_core.specs.laws.EndsLaws.{ends_together, first_then_after, measure-append, first_of-append, first_of-short, after_of-append, last_of-append, but_last_of-append, first_of-full}
 use Rattle.ends_core.proofs.KeptLemmas.{measure-delimiters, first_of-more, but_last_grows, first_of-nil, last_none, after-past, stays}
@@ -203,21 +205,15 @@ goes_on (Last kept) next x silent = inr refl
 goes_on ends next x silent = inl silent.0
 
 pub loads : (told : Bool) (most slot count : ℕ) (ends next : Ends) (old new : List Source) → Holds ends [] → SameAsked ends next → past_of next ≡ past_of ends
-    → Passes told most slot count (λ x. (waiting_of next ≡ waiting ends x) × IsSilent ends next x) old new → FullLacksNone next → Loads Holds (λ (those : Ends) slots. IsTrue (is_writable slots 0)) OwnsNone work told most slot count ends next old new
-loads told most slot count ends next old new fresh same past passes full =
-    let piece = as_piece ends next passes.front fresh passes.keeps.0 past passes.keeps.1 in record {
-      front = passes.front;
-      long = passes.long;
-      there = passes.there;
-      mid = passes.mid;
-      looked = passes.looked;
-      passed = passes.passed;
-      holds = takes_in ends passes.front same piece.0 piece.1 piece.2 full [] fresh;
+    → PassesOver told most slot count (λ x. (waiting_of next ≡ waiting ends x) × IsSilent ends next x) old new → FullLacksNone next → Loads Holds (λ (those : Ends) slots. IsTrue (is_writable slots 0)) OwnsNone work told most slot count ends next old new
+loads told most slot count ends next old new fresh same past passes full = passes_so _ passes (λ x long keeps.
+    let piece = as_piece ends next x fresh keeps.0 past keeps.1 in record {
+      holds = takes_in ends x same piece.0 piece.1 piece.2 full [] fresh;
       ready = λ slots is. is;
       owns = λ first slots is. is;
-      idle = silent_out ends next passes.front fresh passes.keeps.1;
-      going = goes_on ends next passes.front passes.keeps.1;
-    }
+      idle = silent_out ends next x fresh keeps.1;
+      going = goes_on ends next x keeps.1;
+    })
 
 -- What waits in an engine that was fed a text.
 module _ (engine : GuardState Ends) (x : List ℕ) (holds : HoldsIn Holds engine x) where

@@ -10,7 +10,8 @@ ghost use Rattle.ends_core.specs.Tail.{tail_work};
 ghost use Rattle.ends_core.specs.inner.Stage.{FullLacksNone, IsSilent, SameAsked, due, due_at_end, is_full, left_waiting, unused_of, wanted_by};
 ghost use Rattle.ends_core.specs.Stage.{is_done, Holds, IsAsked, all_but_last, delim_of, from_the_nth, left_of, may_lack, past_of, stretch_of, the_first, the_last, unit_of, waiting, waiting_of, work};
 ghost use Rattle.ends_core.specs.laws.WorkLaws.{lawful};
-ghost use Rattle.ends_core.specs.inner.Kept.{Passes, Writes};
+ghost use Rattle.ports_core.specs.Inputs.{PassesOver};
+ghost use Rattle.ends_core.specs.inner.Kept.{Writes};
 
 use crate::Unit;
 use crate::front::{Front, pass_after, pass_front};
@@ -188,7 +189,7 @@ impl Stage for Ends {
         requires full { FullLacksNone self.old }
         ensures same { SameAsked self.old self.new }
         ensures past { past_of self.new ≡ past_of self.old }
-        ensures passes { Passes I.told (length buffer.old) slot result
+        ensures passes { PassesOver I.told (length buffer.old) slot result
             (λ x. (waiting_of self.new ≡ waiting self.old x) × IsSilent self.old self.new x) (I.sources inputs.old)
             (I.sources inputs.new) }
         ensures full { FullLacksNone self.new }

@@ -1,12 +1,14 @@
 -- Lemmas on what an engine takes in without a read.
 use Rattle.std.proofs.lemmas.Grind.{common_steps}
-use Rattle.std.proofs.Common.{◌≡◌, ℕ, ◌≤◌, max, zero, suc, not, ◌&&◌, Bool, IsTrue, List, [], ◌∷◌, inl, refl, ◌∙◌, ap, arith}
+use Rattle.std.proofs.Common.{◌≡◌, ℕ, ◌≤◌, max, zero, suc, not, ◌&&◌, Bool, true, false, IsTrue, List, [], ◌∷◌, length, take, drop, replicate, Option, Some, None, if◌then◌else◌, inl, refl, sym, ◌∙◌, ap, subst, arith}
+use Rattle.std.proofs.lemmas.Bool.{false≢true}
+use Rattle.std.proofs.lemmas.List.{length-replicate, length-take-le, nil_from_length, take-append-drop}
 use Rattle.ports_core.specs.Slot.{Slot, changed_at}
-use Rattle.ports_core.specs.Source.{Source, source_at, is_readable, looks, skips}
-use Rattle.ports_core.specs.Inputs.{HasLooked}
+use Rattle.ports_core.specs.Source.{Content, Source, count_left, source_at, is_readable, looks, skips}
+use Rattle.ports_core.specs.Inputs.{HasLooked, PassesOver}
 use Rattle.ports_core.specs.Work.{Work}
 use Rattle.ports_core.proofs.InputsLemmas.{changed_source, keeps_again, keeps_itself, keeps_others}
-use Rattle.ports_core.specs.Engine.{Loads}
+use Rattle.ports_core.specs.Engine.{Loads, TookIn}
 use Rattle.ports_core.proofs.SlotLemmas.{changed_there}
 use Rattle.ports_core.proofs.SourceLemmas.{readable_within}
 
@@ -42,19 +44,97 @@ looked_again {slot = slot} {old} {mid} {new} first next few = record {
 pub looked_readable : {most slot : ℕ} {old new : List Source} → HasLooked most slot old new → IsTrue (is_readable old slot) → IsTrue (is_readable new slot)
 looked_readable looked can = ap (λ (source : Source). source.is_open && not source.is_broken) looked.looked ∙ can
 
+-- where none is passed over, what holds of nothing holds
+pub passes_none : (told : Bool) {most slot : ℕ} (Keeps : List ℕ → Type 0) {old new : List Source} → HasLooked most slot old new → Keeps []
+    → PassesOver told most slot 0 Keeps old new
+passes_none told {slot = slot} Keeps {new = new} looked keeps = record {
+  front = [];
+  long = refl;
+  there = λ tells. sym (ap (λ (source : Source). source.left.bytes) looked.looked);
+  mid = new;
+  looked = looked;
+  passed = none_passed slot new;
+  keeps = keeps;
+}
+
+-- a front of the bytes that are left was passed over
+
+counted : (content : Content) {left : ℕ} → count_left content ≡ Some left → length content.bytes ≡ left
+counted content is = by content.breaks_off is where
+  by : (breaks_off : Bool) {left : ℕ} → (if breaks_off then None else Some (length content.bytes)) ≡ Some left → length content.bytes ≡ left
+  by true is = absurd (cc)
+  by false is = cc
+
+pub passes_front : (told : Bool) {most slot count left : ℕ} {old mid new : List Source} → IsTrue (is_readable old slot)
+    → (told ≡ true → count_left (source_at old slot).left ≡ Some left) → count ≤ left → HasLooked most slot old mid
+    → new ≡ changed_at slot (skips count) mid → PassesOver told most slot count (λ x. Unit {0}) old new
+passes_front true {slot = slot} {count} {left} {old} {mid} {new} can counts within looked passed =
+    let bytes = (source_at old slot).left.bytes in
+    let long : length (take count bytes) ≡ count = length-take-le count bytes (omega (arith, within, counted (source_at old slot).left (counts refl))) in record {
+      front = take count bytes;
+      long = sym long;
+      there = λ t. rw (ap (λ (source : Source). source.left.bytes) (passed_at slot count mid new (looked_readable looked can) passed) ∙ ap (λ (source : Source). drop count source.left.bytes) looked.looked) (sym (take-append-drop count bytes));
+      mid = mid;
+      looked = looked;
+      passed = passed;
+      keeps = tt;
+    }
+passes_front false {count = count} {mid = mid} can counts within looked passed = record {
+  front = replicate count 0;
+  long = sym (length-replicate count 0);
+  there = λ t. absurd (false≢true t);
+  mid = mid;
+  looked = looked;
+  passed = passed;
+  keeps = tt;
+}
+
+-- or none was, where that can't be done
+pub passes_if : (told done : Bool) {most slot count left : ℕ} {old mid new : List Source} → IsTrue (is_readable old slot)
+    → (told ≡ true → count_left (source_at old slot).left ≡ Some left) → count ≤ left → HasLooked most slot old mid
+    → (IsTrue done → new ≡ changed_at slot (skips count) mid) → (done ≡ false → new ≡ mid)
+    → PassesOver told most slot (if done then count else 0) (λ x. Unit {0}) old new
+passes_if told true can counts within looked passed stays = passes_front told can counts within looked (passed refl)
+passes_if told false can counts within looked passed stays = rw (stays refl) (passes_none told _ looked tt)
+
+-- whether they were is known
+pub passes_by : {told : Bool} {most slot : ℕ} {Keeps : List ℕ → Type 0} {old new : List Source} (count : ℕ) (done : Bool) {is : Bool} → done ≡ is
+    → PassesOver told most slot (if done then count else 0) Keeps old new → PassesOver told most slot (if is then count else 0) Keeps old new
+passes_by {told} {most} {slot} {Keeps} {old} {new} count done is passes =
+    subst (λ done. PassesOver told most slot (if done then count else 0) Keeps old new) is passes
+
+-- what holds of the bytes that were passed over
+pub passes_so : {told : Bool} {most slot count : ℕ} {Before : List ℕ → Type 0} (Keeps : List ℕ → Type 0) {old new : List Source}
+    → PassesOver told most slot count Before old new → ((x : List ℕ) → count ≡ length x → Before x → Keeps x)
+    → PassesOver told most slot count Keeps old new
+passes_so Keeps passes so = record {
+  front = passes.front;
+  long = passes.long;
+  there = passes.there;
+  mid = passes.mid;
+  looked = passes.looked;
+  passed = passes.passed;
+  keeps = so passes.front passes.long passes.keeps;
+}
+
+-- an engine that takes in none stays as it was
+
 module _ {E : Type 0} (Holds : E → List ℕ → Type 0) (Ready : E → List Slot → Type 0) (Owns : E → ℕ → List Slot → Type 0) (work : E → Work) where
-  -- an engine that takes in none stays as it was
-  pub loads_none : (told : Bool) (most : ℕ) {slot : ℕ} {engine : E} {sources : List Source} → Holds engine [] → Loads Holds Ready Owns work told most slot 0 engine engine sources sources
-  loads_none told most {slot} {sources} fresh = record {
-    front = [];
-    long = refl;
-    there = λ t. refl;
-    mid = sources;
-    looked = looked_none most slot sources;
-    passed = none_passed slot sources;
+  took_none : {engine : E} → Holds engine [] → TookIn Holds Ready Owns work engine engine []
+  took_none fresh = record {
     holds = fresh;
     ready = λ slots is. is;
     owns = λ first slots is. is;
     idle = refl;
     going = inl refl;
   }
+
+  pub loads_none : (told : Bool) (most : ℕ) {slot : ℕ} {engine : E} {sources : List Source} → Holds engine []
+      → Loads Holds Ready Owns work told most slot 0 engine engine sources sources
+  loads_none told most {slot} {sources = sources} fresh = passes_none told _ (looked_none most slot sources) (took_none fresh)
+
+  -- also where the input was looked at
+  pub loads_still : {told : Bool} {most slot : ℕ} {Before : List ℕ → Type 0} {engine : E} {old new : List Source} → Holds engine []
+      → PassesOver told most slot 0 Before old new → Loads Holds Ready Owns work told most slot 0 engine engine old new
+  loads_still {engine = engine} fresh passes = passes_so _ passes
+      (λ x long is. subst (TookIn Holds Ready Owns work engine engine) (sym (nil_from_length x (sym long))) (took_none fresh))

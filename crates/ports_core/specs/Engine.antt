@@ -1,9 +1,9 @@
 -- What each call of an engine owes. `Holds engine x` says that the engine can have been fed x, `work engine` is what it
 -- makes of its input, and `Owns engine first slots` says that the slots from `first` on are those that it opened.
 use Rattle.std.specs.Prelude.{◌≡◌, ℕ, ◌+◌, ◌≤◌, ◌^◌, Bool, true, false, List, [], ◌++◌, ◌⊎◌, None, length}
-use Rattle.ports_core.specs.Slot.{Slot, Rose, changed_at}
-use Rattle.ports_core.specs.Source.{Source, source_at, skips}
-use Rattle.ports_core.specs.Inputs.{HasLooked}
+use Rattle.ports_core.specs.Slot.{Slot, Rose}
+use Rattle.ports_core.specs.Source.{Source}
+use Rattle.ports_core.specs.Inputs.{PassesOver}
 use Rattle.ports_core.specs.Part.{Part, Output, OutputsAt, StoppedBetween, writes}
 use Rattle.ports_core.specs.Swept.{Swept, AreThere}
 use Rattle.ports_core.specs.Work.{Work, Means, Needs, IsSettled, IsSpare, Judges}
@@ -105,23 +105,22 @@ KeepsThere files old new before after = AreThere (files old) before → AreThere
 abbrev pub Clears : {E : Type 0} → (E → ℕ → List Slot → Type 0) → (E → Work) → E → List Slot → List Slot → Type 0
 Clears Owns work engine old new = (first : ℕ) → Owns engine first old → Swept (work engine).clears first old new
 
--- An engine that was fed nothing took in the first `count` bytes of what an input has left, which were passed over
--- there and not read: looks asked for at most `most` at once. It is as if it had been fed them: nothing is settled with
--- them, and its output isn't complete.
-pub record Loads {E : Type 0} (Holds : E → List ℕ → Type 0) (Ready : E → List Slot → Type 0)
-    (Owns : E → ℕ → List Slot → Type 0) (work : E → Work) (told : Bool) (most slot count : ℕ) (before after : E)
-    (old new : List Source) : Type 0 where
-  pub front : List ℕ
-  pub long : count ≡ length front
-  pub there : told ≡ true → (source_at old slot).left.bytes ≡ front ++ (source_at new slot).left.bytes
-  pub mid : List Source
-  pub looked : HasLooked most slot old mid
-  pub passed : new ≡ changed_at slot (skips count) mid
+-- An engine that was fed nothing became one that was fed this text: nothing is settled with it, and the output isn't
+-- complete.
+pub record TookIn {E : Type 0} (Holds : E → List ℕ → Type 0) (Ready : E → List Slot → Type 0)
+    (Owns : E → ℕ → List Slot → Type 0) (work : E → Work) (before after : E) (front : List ℕ) : Type 0 where
   pub holds : Holds after front
   pub ready : (slots : List Slot) → Ready before slots → Ready after slots
   pub owns : (first : ℕ) (slots : List Slot) → Owns before first slots → Owns after first slots
   pub idle : (work before).settled front ≡ (work before).settled []
   pub going : (front ≡ []) ⊎ ((work before).is_complete front ≡ false)
+
+-- It took in the first `count` bytes of what an input has left, which were passed over there and not read: looks asked
+-- for at most `most` at once.
+abbrev pub Loads : {E : Type 0} → (E → List ℕ → Type 0) → (E → List Slot → Type 0) → (E → ℕ → List Slot → Type 0)
+    → (E → Work) → Bool → ℕ → ℕ → ℕ → E → E → List Source → List Source → Type 0
+Loads Holds Ready Owns work told most slot count before after old new =
+    PassesOver told most slot count (TookIn Holds Ready Owns work before after) old new
 
 -- The next piece may have this many bytes. Whatever x the engine was fed, if more can change the output: where a piece of
 -- no more bytes than that completes it, those of its bytes that are not used, n at its end, are at most `ahead`.

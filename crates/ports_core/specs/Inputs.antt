@@ -1,6 +1,7 @@
 -- What a run knows of its inputs, and what it leaves of them.
-use Rattle.std.specs.Prelude.{◌≡◌, ℕ, ◌≤◌, Bool, true, false, List, [], length}
-use Rattle.ports_core.specs.Source.{Content, Source, looks, source_at}
+use Rattle.std.specs.Prelude.{◌≡◌, ℕ, ◌≤◌, Bool, true, false, List, [], ◌++◌, length}
+use Rattle.ports_core.specs.Slot.{changed_at}
+use Rattle.ports_core.specs.Source.{Content, Source, looks, skips, source_at}
 
 abbrev pub empty : Content
 empty = record { bytes = []; breaks_off = false }
@@ -26,6 +27,18 @@ pub record HasLooked (most slot : ℕ) (old new : List Source) : Type 0 where
   pub within : size ≤ most
   pub looked : source_at new slot ≡ looks size (source_at old slot)
   pub others : KeepsOthers slot old new
+
+-- The next `count` bytes of an input were passed over, after looks of at most `most` bytes each, and of these `Keeps`
+-- holds.
+pub record PassesOver (told : Bool) (most slot count : ℕ) (Keeps : List ℕ → Type 0) (old new : List Source)
+    : Type 0 where
+  pub front : List ℕ
+  pub long : count ≡ length front
+  pub there : told ≡ true → (source_at old slot).left.bytes ≡ front ++ (source_at new slot).left.bytes
+  pub mid : List Source
+  pub looked : HasLooked most slot old mid
+  pub passed : new ≡ changed_at slot (skips count) mid
+  pub keeps : Keeps front
 
 -- no read asked for more than `most` bytes, and no look
 abbrev pub AsksAtMost : ℕ → List Source → Type 0

@@ -12,6 +12,7 @@ pub mod TurnLemmas
 pub mod ChunkerWays
 pub mod WantedLemmas
 pub mod FreshLemmas
+mod FrontLemmas
 pub mod PartsLemmas
 pub mod CutterLemmas
 pub mod ChunkerLemmas

@@ -87,7 +87,7 @@ all_cut state size x said going holds = let has : IsSaid state size x = is_said 
   | inr complete ↦ absurd (false≢true (sym going ∙ sym (complete_is state x (ap is_some said) holds) ∙ past_is (cut_is has) ∙ complete))
 ]
 
-made_by : (state : ChunkerState) (on : Course) (x : List ℕ) → Holds state x → course state.cutter ≡ on
+pub made_by : (state : ChunkerState) (on : Course) (x : List ℕ) → Holds state x → course state.cutter ≡ on
     → work state ≡ work_on on state.cutter.chunks state.said
 made_by state on x holds is = works_so state (holds_can state.said state x holds) ∙ ap (λ on. work_on on state.cutter.chunks state.said) is
 

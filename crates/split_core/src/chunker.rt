@@ -1,20 +1,22 @@
 //! Chunks of an input (GNU coreutils manual, split, `-n N`, `-n l/N`, `-n K/N` and `-n l/K/N`).
-ghost use Rattle.std.specs.Prelude.{◌≡◌, ◌+◌, ◌<◌, ◌≤◌, ◌^◌, [], Some, None, length, true, false, List, ℕ, ◌++◌, IfOk, IfErr, IfSome};
+ghost use Rattle.std.specs.Prelude.{◌≡◌, ◌+◌, ◌<◌, ◌≤◌, ◌^◌, [], Some, None, length, true, false, List, ℕ, ◌++◌, IfOk, IfErr, IfSome, IsTrue};
 ghost use Rattle.ports_core.specs.Turn.{fault_in};
 ghost use Rattle.split_core.specs.ChunkerState.{Carries, HasAll, Holds, Ready, can_cut, course, course_of, total, work, work_on};
 ghost use Rattle.split_core.specs.Parts.{uncut};
-ghost use Rattle.ports_core.specs.Engine.{MayGet};
+ghost use Rattle.ports_core.specs.Engine.{Loads, MayGet};
+ghost use Rattle.ports_core.specs.Source.{is_readable};
 ghost use Rattle.split_core.specs.Ways as ways;
 ghost use Rattle.split_core.specs.declared.splitter.Splitter.TheVariants as way;
 ghost use Rattle.split_core.specs.inner.Seen.{seen_target};
-ghost use Rattle.split_core.specs.inner.Chunker.{EndsAs, PassesAs, TakesSaid};
+ghost use Rattle.split_core.specs.inner.Chunker.{EndsAs, PassesAs, StandsAfter, TakesSaid};
 
 use crate::chunk_cut::chunk_start;
 use crate::chunk_cutter::ChunkCutter;
 use crate::chunk_target::{Aim, Target};
-use ports_core::{Fault, Outs, Verdict};
+use ports_core::{Fault, Inputs, Outs, Verdict, pass_over};
 use seg_core::byte_window::ByteWindow;
 use seg_core::cut::Chunks;
+use seg_core::unit::Unit;
 use std::alloc::Global;
 use std::marker::Model;
 
@@ -105,6 +107,57 @@ impl Chunker {
             Some(size) => self.pass_said(size, piece, outs),
             None => self.pass_unsaid(piece, outs),
         }
+    }
+
+    /// Passes over what stands before the chunk that is written, where bytes are counted and the input said its length, and
+    /// returns how many bytes these are. 0 where the chunk is empty, or they can't be passed over.
+    pub(crate) fn load<I: Inputs>(
+        &mut self,
+        slot: usize,
+        buffer: &mut [u8],
+        inputs: &mut I,
+    ) -> u64
+        requires room { 0 < length buffer.old }
+        requires fresh { Holds self.old [] }
+        requires none { total self.old ≡ 0 }
+        requires input { IsTrue (is_readable (I.sources inputs.old) slot) }
+        ensures same { work self.new ≡ work self.old }
+        ensures size { total self.new ≤ result }
+        ensures loads { Loads ways.Holds ways.Ready ways.Owns ways.work I.told (length buffer.old) slot result
+            (way.Chunks self.old) (way.Chunks self.new) (I.sources inputs.old) (I.sources inputs.new) }
+        ensures laid { I.laid inputs.new ≡ I.laid inputs.old }
+        ensures bound { result < 2 ^ 63 }
+    {
+        let Some((front, place)) = self.front() else {
+            return 0;
+        };
+        let Some(left) = inputs.left(slot) else {
+            return 0;
+        };
+        if !pass_over(slot, front, left, buffer, inputs) {
+            return 0;
+        }
+        self.cutter.at = front;
+        self.cutter.target.place = place;
+        front
+    }
+
+    /// How many bytes stand before the one chunk that is written, and its place: where that doesn't depend on what they are,
+    /// and the chunk has a byte.
+    fn front(&self) -> Option<(u64, u64)>
+        ensures { IfSome result (λ found. StandsAfter self.now found.0 found.1) }
+    {
+        let size = self.said?;
+        let (Aim::Output { chunk }, Unit::Bytes) = (&self.cutter.target.aim, self.cutter.chunks.unit)
+        else {
+            return None;
+        };
+        let count = self.cutter.chunks.count;
+        let front = chunk_start(count, size, *chunk);
+        if front < chunk_start(count, size, *chunk + 1) {
+            return Some((front, *chunk));
+        }
+        None
     }
 
     /// Ends the input: what waits is cut into chunks.

@@ -20,7 +20,7 @@ use crate::parts::Parts;
 use crate::round_splitter::RoundSplitter;
 use crate::turn::Turn;
 use crate::{Cut, Way};
-use ports_core::{Fault, Guarded, Naming, Outs, Stage, Tells};
+use ports_core::{Fault, Guarded, Inputs, Naming, Outs, Stage, Tells};
 use std::alloc::Global;
 
 /// Cuts its input into files, or writes what one of them would have (POSIX.1-2017, XCU split; `-C` and `-n` are GNU's). A
@@ -133,6 +133,14 @@ impl Stage for Splitter {
             Splitter::Chunks(chunker) => chunker.pass(piece, outs),
             Splitter::Turn(turn) => turn.pass(piece, outs),
         }
+    }
+
+    /// Where one chunk is written, what stands before it.
+    fn load<I: Inputs>(&mut self, slot: usize, buffer: &mut [u8], inputs: &mut I) -> u64 {
+        let Splitter::Chunks(chunker) = self else {
+            return 0;
+        };
+        chunker.load(slot, buffer, inputs)
     }
 
     fn finish<O: Outs>(&mut self, outs: &mut O) -> Result<(), Fault>

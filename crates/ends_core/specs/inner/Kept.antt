@@ -1,14 +1,12 @@
 -- What private calls say of what waits: how it is written, how that stops, and how it is taken in from an end.
-use Rattle.std.specs.Prelude.{◌≡◌, ◌≤◌, false, length, ℕ, Bool, true, List, ◌++◌, Result, OnOk, IfErr}
+use Rattle.std.specs.Prelude.{◌≡◌, ◌≤◌, false, length, ℕ, Bool, true, List, Result, OnOk, IfErr}
 use Rattle.seg_core.specs.declared.unit.Unit.TheVariants as unit
 use Rattle.ends_core.specs.declared.kept.Kept.{Kept}
 use Rattle.ends_core.specs.Kept.{unit_of, delim_of, most_of, held_of, may_lack_of}
-use Rattle.ports_core.specs.Slot.{Slot, with_written, told_of, changed_at}
+use Rattle.ports_core.specs.Slot.{Slot, with_written, told_of}
 use Rattle.ports_core.specs.Write.{BrokeAfter}
 use Rattle.ports_core.specs.declared.fault.Fault.{Fault}
 use Rattle.ports_core.specs.declared.fault.Fault.TheVariants as fault
-use Rattle.ports_core.specs.Source.{Source, source_at, skips}
-use Rattle.ports_core.specs.Inputs.{HasLooked}
 
 -- if it keeps bytes and is full, no memory can be wanting
 abbrev pub FullLacksNone : Kept → Type 0
@@ -38,14 +36,3 @@ pub record HasSeen (told : Bool) (text : List ℕ) (len : ℕ) (Keeps : List ℕ
   pub long : length seen ≡ len
   pub there : told ≡ true → seen ≡ text
   pub keeps : Keeps seen
-
--- The next `count` bytes of an input were passed over, after looks of at most `most` bytes each, and of these `Keeps`
--- holds.
-pub record Passes (told : Bool) (most slot count : ℕ) (Keeps : List ℕ → Type 0) (old new : List Source) : Type 0 where
-  pub front : List ℕ
-  pub long : count ≡ length front
-  pub there : told ≡ true → (source_at old slot).left.bytes ≡ front ++ (source_at new slot).left.bytes
-  pub mid : List Source
-  pub looked : HasLooked most slot old mid
-  pub passed : new ≡ changed_at slot (skips count) mid
-  pub keeps : Keeps front

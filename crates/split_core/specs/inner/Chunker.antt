@@ -1,12 +1,14 @@
 -- What private calls say: chunks of an input, as a stage.
-use Rattle.std.specs.Prelude.{◌≡◌, ℕ, ◌+◌, ◌-◌, ◌≤◌, ◌⊎◌, min, Bool, true, List, ◌++◌, length, take, Option, Some, None, IfNone, Result, Ok, Err}
+use Rattle.std.specs.Prelude.{◌≡◌, ℕ, ◌+◌, ◌-◌, ◌<◌, ◌≤◌, ◌⊎◌, min, Bool, true, List, ◌++◌, length, take, Option, Some, None, IfNone, Result, Ok, Err}
 use Rattle.ports_core.specs.Part.{Part}
 use Rattle.ports_core.specs.Slot.{Slot}
 use Rattle.ports_core.specs.Work.{Work, IsNeeded, IsSettled, Judges}
 use Rattle.ports_core.specs.declared.fault.Fault.{Fault}
 use Rattle.ports_core.specs.declared.verdict.Verdict.TheVariants.{Changed}
 use Rattle.ports_core.specs.declared.fault.Fault.TheVariants.{Memory, Verdict}
-use Rattle.split_core.specs.ChunkerState.{ChunkerState, Holds, can_cut, course, total, work_on}
+use Rattle.seg_core.specs.declared.unit.Unit.TheVariants.{Bytes}
+use Rattle.split_core.specs.Chunks.{chunk_start}
+use Rattle.split_core.specs.ChunkerState.{ChunkerState, Holds, can_cut, course, to_output, total, work_on}
 use Rattle.split_core.specs.inner.Cutter.{Cuts, IsCut}
 use Rattle.split_core.specs.inner.Seen.{is_past_on}
 use Rattle.split_core.specs.inner.Sends.{Brings}
@@ -14,6 +16,21 @@ use Rattle.split_core.specs.inner.Sends.{Brings}
 -- what it makes of its input
 abbrev pub made : ChunkerState → Work
 made chunker = work_on (course chunker.cutter) chunker.cutter.chunks chunker.said
+
+-- the one chunk that is written has a byte, at its place, and before it stand as many bytes as `front`, whatever they are
+pub record StandsAfter (chunker : ChunkerState) (front place : ℕ) : Type 0 where
+  pub size : ℕ
+  pub said : chunker.said ≡ Some size
+  pub aim : chunker.cutter.target.aim ≡ to_output place
+  pub unit : chunker.cutter.chunks.unit ≡ Bytes
+  pub begins : front ≡ chunk_start chunker.cutter.chunks.count size place
+  pub some : front < chunk_start chunker.cutter.chunks.count size (place + 1)
+
+-- these were passed over
+abbrev pub passed_to : ChunkerState → ℕ → ℕ → ChunkerState
+passed_to chunker front place = record chunker {
+  cutter = record chunker.cutter { at = front; target = record chunker.cutter.target { place = place } };
+}
 
 -- it was asked for the same
 pub record IsLike (chunker next : ChunkerState) : Type 0 where

@@ -1,7 +1,6 @@
 use Rattle.std.proofs.Common.{sym, ◌∙◌}
 use Rattle.ends_core.specs.Stage.{count_of, delim_of, stretch_of, unit_of}
-use Rattle.ports_core.proofs.LoadLemmas.{looked_none}
-use Rattle.ends_core.proofs.KeptLemmas.{passes_none}
+use Rattle.ports_core.proofs.LoadLemmas.{looked_none, passes_none}
 use Rattle.ends_core.proofs.EndsLemmas.{silent_none, waits_none}
 use Rattle.ends_core.proofs.ends.EndsStage.load.Goals as goal
 

@@ -1,5 +1,5 @@
-use Rattle.ports_core.proofs.LoadLemmas.{looked_none}
-use Rattle.ends_core.proofs.KeptLemmas.{passes_none, stays}
+use Rattle.ports_core.proofs.LoadLemmas.{looked_none, passes_none}
+use Rattle.ends_core.proofs.KeptLemmas.{stays}
 use Rattle.ends_core.proofs.front.Front.pass_over.Goals as goal
 
 pub returns-in-Lines-clause-passes : goal.returns-in-Lines-clause-passes

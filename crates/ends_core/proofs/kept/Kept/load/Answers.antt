@@ -1,8 +1,8 @@
 use Rattle.std.proofs.Common.{arith}
 use Rattle.std.proofs.lemmas.Grind.{common_steps}
 use Rattle.std.proofs.lemmas.List.{drop_all}
-use Rattle.ends_core.proofs.KeptLemmas.{passes_none, passes_seen, last_none}
-use Rattle.ports_core.proofs.LoadLemmas.{looked_none}
+use Rattle.ends_core.proofs.KeptLemmas.{passes_seen, last_none}
+use Rattle.ports_core.proofs.LoadLemmas.{looked_none, passes_none}
 use Rattle.ends_core.proofs.kept.Kept.load.Goals.{else-hold_last-via-then-hold_last+else-skip, else-hold_last-via-else-hold_last}
 use Rattle.ends_core.proofs.kept.Kept.load.Goals as goal
 

@@ -1,0 +1,20 @@
+use Rattle.std.proofs.Common.{IfSome, subst}
+use Rattle.ports_core.proofs.LoadLemmas.{loads_none, loads_still, passes_by}
+use Rattle.split_core.specs.inner.Chunker.{StandsAfter}
+use Rattle.split_core.proofs.FrontLemmas.{loads_front}
+use Rattle.split_core.proofs.chunker.Chunker.load.Goals as goal
+
+pub returns-in_default-clause-loads : goal.returns-in_default-clause-loads
+returns-in_default-clause-loads g c = loads_none _ _ _ _ _ _ c.requires.fresh
+
+pub returns-in_default-left-clause-loads : goal.returns-in_default-left-clause-loads
+returns-in_default-left-clause-loads g c = loads_none _ _ _ _ _ _ c.requires.fresh
+
+pub returns-then-not-pass_over-clause-loads : goal.returns-then-not-pass_over-clause-loads
+returns-then-not-pass_over-clause-loads g c = loads_still _ _ _ _ c.requires.fresh
+    (passes_by _ c.pass_over.result c.if-not-pass_over.true c.pass_over.ensures.passes)
+
+pub returns-clause-loads : goal.returns-clause-loads
+returns-clause-loads g c = loads_front c.self.view_is
+    (subst (λ found. IfSome found (λ found. StandsAfter c.args.self.now found.0 found.1)) c.in-Some.is c.front.ensures) c.requires.fresh
+    (passes_by _ c.pass_over.result c.if-not-pass_over.false c.pass_over.ensures.passes)
