@@ -1,8 +1,9 @@
 //! Chunks of an input, and one turn of its lines, row by row.
-ghost use Rattle.std.specs.Prelude.{◌≡◌, ◌≤◌, ◌<◌, length, IfOk, IfSome, IsTrue};
+ghost use Rattle.std.specs.Prelude.{◌≡◌, ◌≤◌, ◌<◌, [], length, IfOk, IfSome, IsTrue};
+ghost use Rattle.ports_core.specs.Guard.{HoldsIn};
 ghost use Rattle.ports_core.specs.Slot.{is_writable};
 ghost use Rattle.split_core.specs.Split.{TellsNoSizes};
-ghost use Rattle.split_core.specs.Ways.{Ready};
+ghost use Rattle.split_core.specs.Ways.{Holds, Ready};
 
 use crate::play::{Step, close, feed, has_files, play};
 use mem_core::MemOut;
@@ -23,7 +24,7 @@ pub(crate) const TWO: Chunks = Chunks {
     delim: b'\n',
 };
 
-const THREE: Chunks = Chunks { count: 3, ..TWO };
+pub(crate) const THREE: Chunks = Chunks { count: 3, ..TWO };
 
 pub(crate) const LINES: Chunks = Chunks {
     unit: Unit::Lines,
@@ -576,7 +577,8 @@ pub(crate) fn open(
     requires tells { TellsNoSizes tells }
     requires streams { 2 ≤ length outs.old }
     requires output { IsTrue (is_writable outs.old 0) }
-    ensures { IfOk result (λ splitter. Ready splitter.stage outs.new) }
+    ensures ready { IfOk result (λ splitter. Ready splitter.stage outs.new) }
+    ensures fresh { IfOk result (λ splitter. HoldsIn Holds splitter []) }
 {
     let naming = Naming::new(alloc, "x", Numbering::Widening(Alphabet::Letters, 2), "")?;
     let said = said_by(said);

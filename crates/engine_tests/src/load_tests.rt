@@ -1,13 +1,14 @@
-//! What a tail takes in of an input without reading all of it, by blocks that are shorter than the texts.
+//! What a tail, or one chunk, takes in of an input without reading all of it, by blocks that are shorter than the texts.
 ghost use Rattle.std.specs.Prelude.{[]};
-ghost use Rattle.ends_core.specs.Stage.{Holds};
 ghost use Rattle.ports_core.specs.Guard.{HoldsIn};
 
+use crate::chunk_tests::{CHANGED, LINES as LINES_OF_THREE, THREE, open as open_chunks};
 use crate::ends_plain::{Asked, Side};
 use crate::play::{Step, open_ends, play};
-use ends_core::{Ends, Unit};
+use ends_core::Unit;
 use mem_core::{MemIn, MemOut};
-use ports_core::{Guarded, Inputs};
+use ports_core::{Guarded, Inputs, Stage, Tells};
+use split_core::Way;
 use std::alloc::Global;
 use std::process::Abort;
 use std::test::Fail;
@@ -250,20 +251,168 @@ fn load_row(
     Ok(())
 }
 
-/// Whether a tail takes in this many bytes of a file with this text, and the file has the others left.
-fn takes_in(
+/// Whether an engine takes in this many bytes of a file with this text, and the file has the others left.
+fn takes_in<S: Stage>(
     rt: &impl Abort,
     alloc: Global,
-    tail: &mut Guarded<Ends>,
+    engine: &mut Guarded<S>,
     text: &[u8],
     taken: u64,
 ) -> bool
-    requires { HoldsIn Holds tail.old [] }
+    requires { HoldsIn S.Holds engine.old [] }
 {
     let mut inputs = MemIn::new(alloc).expect(rt, "there is memory");
     inputs.file("f", text).expect(rt, "there is memory");
     let slot = inputs.open("f").expect(rt, "there is memory");
-    let is_taken = tail.load(slot, &mut [0u8; BLOCK], &mut inputs) == taken;
+    let is_taken = engine.load(slot, &mut [0u8; BLOCK], &mut inputs) == taken;
     let left = inputs.left(slot).unwrap_or(u64::MAX);
     is_taken && left.saturating_add(taken) == text.len() as u64
+}
+
+/// What becomes of an input, how long it says that it is (0: it doesn't say), its text, how many bytes of it are passed over,
+/// and what is done with the splitter after that.
+type ChunkRow<'a> = (Way, u64, &'a [u8], u64, &'a [Step<'a>]);
+
+#[test]
+fn what_stands_before_a_chunk_is_passed_over(rt: HostRuntime) -> Result<(), Fail> {
+    for (number, row) in CHUNKS.iter().enumerate() {
+        pass_row(&rt, rt.alloc(), number, row)?;
+    }
+    Ok(())
+}
+
+/// Chunks of 30 bytes have 10 each.
+const CHUNKS: &[ChunkRow<'static>] = &[
+    (
+        Way::Chunk(1, THREE),
+        30,
+        TEXT,
+        10,
+        &[
+            Step::Done(false),
+            Step::Feed(b"h\nij\nkl\nm"),
+            Step::Done(false),
+            Step::Feed(b"n\nop"),
+            Step::Done(true),
+            Step::Close,
+            Step::Wrote(b"h\nij\nkl\nmn"),
+        ],
+    ),
+    (
+        Way::Chunk(2, THREE),
+        30,
+        TEXT,
+        20,
+        &[
+            Step::Feed(b"\nop\nqr\nst\n"),
+            Step::Wrote(b"\nop\nqr\nst\n"),
+            Step::Done(true),
+            Step::Close,
+        ],
+    ),
+    // The input ends before it has all bytes that it said.
+    (
+        Way::Chunk(2, THREE),
+        30,
+        TEXT,
+        20,
+        &[
+            Step::Feed(b"\nop"),
+            Step::CloseFails(CHANGED),
+            Step::Wrote(b"\nop"),
+        ],
+    ),
+    // It has more than it said, and they are cut as it said.
+    (
+        Way::Chunk(2, THREE),
+        15,
+        TEXT,
+        10,
+        &[
+            Step::Feed(b"h\nij\nkl"),
+            Step::Wrote(b"h\nij\n"),
+            Step::Done(true),
+            Step::Close,
+        ],
+    ),
+    // It has fewer than stand before the chunk.
+    (
+        Way::Chunk(2, THREE),
+        60,
+        TEXT,
+        0,
+        &[Step::Feed(TEXT), Step::CloseFails(CHANGED), Step::Wrote(b"")],
+    ),
+    // Nothing stands before the first chunk, and what one block holds is fed.
+    (
+        Way::Chunk(0, THREE),
+        30,
+        TEXT,
+        0,
+        &[Step::Feed(TEXT), Step::Wrote(b"ab\ncd\nef\ng"), Step::Close],
+    ),
+    (
+        Way::Chunk(2, THREE),
+        6,
+        b"abcdef",
+        0,
+        &[Step::Feed(b"abcdef"), Step::Wrote(b"ef"), Step::Close],
+    ),
+    // The last chunk is empty.
+    (
+        Way::Chunk(2, THREE),
+        2,
+        b"ab",
+        0,
+        &[Step::Feed(b"ab"), Step::Wrote(b""), Step::Close],
+    ),
+    // Where the length isn't said, more may stand before the chunk.
+    (
+        Way::Chunk(2, THREE),
+        0,
+        TEXT,
+        0,
+        &[Step::Feed(TEXT), Step::Close, Step::Wrote(b"\nop\nqr\nst\n")],
+    ),
+    // Under lines the last line before the chunk may go on into it.
+    (
+        Way::Chunk(2, LINES_OF_THREE),
+        30,
+        TEXT,
+        0,
+        &[Step::Feed(TEXT), Step::Wrote(b"op\nqr\nst\n"), Step::Close],
+    ),
+    // Where all are written, and where lines are dealt, nothing is passed over.
+    (
+        Way::Chunks(THREE),
+        30,
+        TEXT,
+        0,
+        &[Step::Feed(TEXT), Step::Files(&[b"ab\ncd\nef\ng", b"h\nij\nkl\nmn", b"\nop\nqr\nst\n"]), Step::Close],
+    ),
+    (
+        Way::Turn(1, 3, b'\n'),
+        30,
+        TEXT,
+        0,
+        &[Step::Feed(b"ab\ncd\n"), Step::Wrote(b"cd\n"), Step::Close],
+    ),
+];
+
+fn pass_row(
+    rt: &impl Abort,
+    alloc: Global,
+    number: usize,
+    row: &ChunkRow<'_>,
+) -> Result<(), Fail> {
+    let (way, said, text, taken, steps) = *row;
+    let mut outs = MemOut::new(alloc)?;
+    let mut splitter = open_chunks(alloc, way, said, false, Tells::Nothing, &mut outs)
+        .expect(rt, "there is memory");
+    assert!(rt;
+        takes_in(rt, alloc, &mut splitter, text, taken),
+        "in row {number}"
+    );
+    play(rt, &mut splitter, &mut outs, number, steps);
+    Ok(())
 }

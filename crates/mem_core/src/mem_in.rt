@@ -389,14 +389,14 @@ impl Inputs for MemIn {
     }
 
     /// Passes over the next bytes, which it always can.
-    fn skip(&mut self, slot: usize, count: u64, left: u64) -> bool
+    fn skip(&mut self, slot: usize, count: u64, least: u64) -> bool
         requires input { IsTrue (is_readable self.old.sources slot) }
-        requires left { count_left (source_at self.old.sources slot).left ≡ Some left }
-        requires within { count ≤ left }
+        requires has { least ≤ length (source_at self.old.sources slot).left.bytes }
+        requires within { count ≤ least }
         ensures could { IsTrue result }
         ensures rest { self.new ≡ record self.old { sources = changed_at slot (skips count) self.old.sources } }
     {
-        let _ = left;
+        let _ = least;
         self.sources[slot].skip(count);
         true
     }

@@ -57,7 +57,7 @@ passes_none told {slot = slot} Keeps {new = new} looked keeps = record {
   keeps = keeps;
 }
 
--- a front of the bytes that are left was passed over
+-- an input has as many bytes as it says
 
 counted : (content : Content) {left : ℕ} → count_left content ≡ Some left → length content.bytes ≡ left
 counted content is = by content.breaks_off is where
@@ -65,12 +65,17 @@ counted content is = by content.breaks_off is where
   by true is = absurd (cc)
   by false is = cc
 
-pub passes_front : (told : Bool) {most slot count left : ℕ} {old mid new : List Source} → IsTrue (is_readable old slot)
-    → (told ≡ true → count_left (source_at old slot).left ≡ Some left) → count ≤ left → HasLooked most slot old mid
+pub has_left : {told : Bool} {said : Option ℕ} (content : Content) {left : ℕ} → (told ≡ true → said ≡ count_left content) → said ≡ Some left
+    → told ≡ true → left ≤ length content.bytes
+has_left content counts is tells = omega (arith, counted content (sym (counts tells) ∙ is))
+
+-- a front of the bytes that are left was passed over
+pub passes_front : (told : Bool) {most slot count least : ℕ} {old mid new : List Source} → IsTrue (is_readable old slot)
+    → (told ≡ true → least ≤ length (source_at old slot).left.bytes) → count ≤ least → HasLooked most slot old mid
     → new ≡ changed_at slot (skips count) mid → PassesOver told most slot count (λ x. Unit {0}) old new
-passes_front true {slot = slot} {count} {left} {old} {mid} {new} can counts within looked passed =
+passes_front true {slot = slot} {count} {old = old} {mid} {new} can has within looked passed =
     let bytes = (source_at old slot).left.bytes in
-    let long : length (take count bytes) ≡ count = length-take-le count bytes (omega (arith, within, counted (source_at old slot).left (counts refl))) in record {
+    let long : length (take count bytes) ≡ count = length-take-le count bytes (omega (arith, within, has refl)) in record {
       front = take count bytes;
       long = sym long;
       there = λ t. rw (ap (λ (source : Source). source.left.bytes) (passed_at slot count mid new (looked_readable looked can) passed) ∙ ap (λ (source : Source). drop count source.left.bytes) looked.looked) (sym (take-append-drop count bytes));
@@ -79,7 +84,7 @@ passes_front true {slot = slot} {count} {left} {old} {mid} {new} can counts with
       passed = passed;
       keeps = tt;
     }
-passes_front false {count = count} {mid = mid} can counts within looked passed = record {
+passes_front false {count = count} {mid = mid} can has within looked passed = record {
   front = replicate count 0;
   long = sym (length-replicate count 0);
   there = λ t. absurd (false≢true t);
@@ -90,12 +95,12 @@ passes_front false {count = count} {mid = mid} can counts within looked passed =
 }
 
 -- or none was, where that can't be done
-pub passes_if : (told done : Bool) {most slot count left : ℕ} {old mid new : List Source} → IsTrue (is_readable old slot)
-    → (told ≡ true → count_left (source_at old slot).left ≡ Some left) → count ≤ left → HasLooked most slot old mid
+pub passes_if : (told done : Bool) {most slot count least : ℕ} {old mid new : List Source} → IsTrue (is_readable old slot)
+    → (told ≡ true → least ≤ length (source_at old slot).left.bytes) → count ≤ least → HasLooked most slot old mid
     → (IsTrue done → new ≡ changed_at slot (skips count) mid) → (done ≡ false → new ≡ mid)
     → PassesOver told most slot (if done then count else 0) (λ x. Unit {0}) old new
-passes_if told true can counts within looked passed stays = passes_front told can counts within looked (passed refl)
-passes_if told false can counts within looked passed stays = rw (stays refl) (passes_none told _ looked tt)
+passes_if told true can has within looked passed stays = passes_front told can has within looked (passed refl)
+passes_if told false can has within looked passed stays = rw (stays refl) (passes_none told _ looked tt)
 
 -- whether they were is known
 pub passes_by : {told : Bool} {most slot : ℕ} {Keeps : List ℕ → Type 0} {old new : List Source} (count : ℕ) (done : Bool) {is : Bool} → done ≡ is

@@ -134,7 +134,10 @@ impl Chunker {
         let Some(left) = inputs.left(slot) else {
             return 0;
         };
-        if !pass_over(slot, front, left, buffer, inputs) {
+        if left < front {
+            return 0;
+        }
+        if !pass_over(slot, front, front, buffer, inputs) {
             return 0;
         }
         self.cutter.at = front;

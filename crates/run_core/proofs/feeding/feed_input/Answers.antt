@@ -16,13 +16,14 @@ use Rattle.run_core.proofs.feeding.feed_input.Goals as goal
 pub pieces-init : goal.pieces-init
 pieces-init g c =
     let loads = c.load.ensures.loads in
+    let took = loads.keeps in
     let passed = passed_at _ _ _ _ (looked_readable loads.looked c.requires.input) loads.passed ∙ ap (skips c.load.result) loads.looked.looked in record {
       fed = loads.front;
       feeds = record {
         same = c.load.ensures.same;
-        holds = record { live = c.load.ensures.live; count = c.load.ensures.fed ∙ loads.long; within = loads.holds };
-        owns = λ first own. loads.owns first _ own;
-        outputs = λ before own at. rw c.load.ensures.same (rw loads.idle at);
+        holds = record { live = c.load.ensures.live; count = c.load.ensures.fed ∙ loads.long; within = took.holds };
+        owns = λ first own. took.owns first _ own;
+        outputs = λ before own at. rw c.load.ensures.same (rw took.idle at);
         bound = rw c.load.ensures.fed c.load.ensures.bound;
       };
       readable = rw (passed, c.requires.input);
@@ -32,17 +33,17 @@ pieces-init g c =
         taken = rw (passed, loads.there told, loads.long, take_at loads.front _ (length loads.front) refl);
         far = λ unread. omega (arith, ap (λ (source : Source). source.reached) passed, unread.1);
       };
-      last = λ told. needed_front loads.going;
+      last = λ told. needed_front took.going;
       -- of what is taken in without a read all is used
-      few = λ standard n spare. elim loads.going [
+      few = λ standard n spare. elim took.going [
         | inl none ↦ omega (arith, ap length none, ap length spare.joined ∙ length-append spare.used spare.rest, spare.long)
         | inr going ↦ omega (arith, none_spare _ loads.front n (g.met.S.Stage.lawful _) going spare)
       ];
       room = c.load.auto.buffer;
-      needed = needed_front loads.going;
+      needed = needed_front took.going;
       asked = λ within. omega (arith, ap (λ (source : Source). source.asked) passed, within, loads.looked.within);
       laid = c.load.ensures.laid;
-      ready = loads.ready _ c.requires.output;
+      ready = took.ready _ c.requires.output;
     }
 
 -- where the read broke off

@@ -1,5 +1,5 @@
-use Rattle.std.proofs.Common.{IfSome, subst}
-use Rattle.ports_core.proofs.LoadLemmas.{loads_none, loads_still, passes_by}
+use Rattle.std.proofs.Common.{IfSome, arith, subst}
+use Rattle.ports_core.proofs.LoadLemmas.{has_left, loads_none, loads_still, passes_by}
 use Rattle.split_core.specs.inner.Chunker.{StandsAfter}
 use Rattle.split_core.proofs.FrontLemmas.{loads_front}
 use Rattle.split_core.proofs.chunker.Chunker.load.Goals as goal
@@ -9,6 +9,12 @@ returns-in_default-clause-loads g c = loads_none _ _ _ _ _ _ c.requires.fresh
 
 pub returns-in_default-left-clause-loads : goal.returns-in_default-left-clause-loads
 returns-in_default-left-clause-loads g c = loads_none _ _ _ _ _ _ c.requires.fresh
+
+pub returns-then-left-front-clause-loads : goal.returns-then-left-front-clause-loads
+returns-then-left-front-clause-loads g c = loads_none _ _ _ _ _ _ c.requires.fresh
+
+pub pass_over-requires-clause-has : goal.pass_over-requires-clause-has
+pass_over-requires-clause-has g c tells = omega (arith, has_left _ c.left.ensures c.in-Some-left.is tells, c.if-left-front.false)
 
 pub returns-then-not-pass_over-clause-loads : goal.returns-then-not-pass_over-clause-loads
 returns-then-not-pass_over-clause-loads g c = loads_still _ _ _ _ c.requires.fresh
