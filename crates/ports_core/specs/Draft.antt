@@ -52,10 +52,9 @@ files_from manner place (one ∷ shares) = if manner.has_name place
 
 -- what standard output is told of files
 abbrev pub told_of_files : Output → List File → List ℕ
-told_of_files gets_none files = []
-told_of_files gets_bytes files = []
 told_of_files (gets_lines line) files = lines_for line files
 told_of_files (gets_openings line) files = openings_for line files
+told_of_files output files = []
 
 -- and before a file with this name is opened
 abbrev pub told_before : Output → List ℕ → List ℕ

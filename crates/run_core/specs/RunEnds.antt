@@ -2,9 +2,9 @@
 use Rattle.std.specs.Prelude.{◌≡◌, ℕ, ◌≤◌, Bool, true, false, List, [], ◌∷◌, ◌++◌, length, Option, Some}
 use Rattle.ports_core.specs.Slot.{Slot}
 use Rattle.ports_core.specs.Source.{Content, Source}
-use Rattle.ports_core.specs.Part.{Part, OutputsAt, StoppedBetween, only_out, gets_none, gets_bytes}
+use Rattle.ports_core.specs.Part.{Output, Part, OutputsAt, StoppedBetween, only_out, gets_none, gets_bytes}
 use Rattle.ports_core.specs.Swept.{Swept}
-use Rattle.ports_core.specs.Work.{Work, no_needs}
+use Rattle.ports_core.specs.Work.{Needs, Work, no_needs}
 use Rattle.ports_core.specs.Text.{message_of}
 use Rattle.ports_core.specs.Message.{SaysAll, output_named}
 use Rattle.ports_core.specs.Inputs.{largest_piece}
@@ -20,31 +20,26 @@ use Rattle.run_core.specs.Task.{Task, made_by, after_part, header_text, are_miss
 abbrev pub step_after : Part → Step → Step
 step_after first step = record step { low = after_part first step.low; high = after_part first step.high }
 
--- a step that writes nothing, and may want memory
-abbrev pub memory_step : Part → Step
-memory_step so_far = record {
-  low = so_far;
-  high = so_far;
-  output = gets_none;
+-- a step of the run itself, between these parts
+abbrev pub own_step : Part → Part → Output → Needs → Step
+own_step low high output needs = record {
+  low = low;
+  high = high;
+  output = output;
   files = false;
-  needs = record { memory = true; files = false };
+  needs = needs;
   read = [];
   ended = false;
   ahead = 0;
 }
 
--- a step that writes a header
+-- it writes nothing, and may want memory
+abbrev pub memory_step : Part → Step
+memory_step so_far = own_step so_far so_far gets_none (record { memory = true; files = false })
+
+-- it writes a header
 abbrev pub header_step : Part → List ℕ → Step
-header_step so_far header = record {
-  low = so_far;
-  high = after_part so_far (only_out header);
-  output = gets_bytes;
-  files = false;
-  needs = no_needs;
-  read = [];
-  ended = false;
-  ahead = 0;
-}
+header_step so_far header = own_step so_far (after_part so_far (only_out header)) gets_bytes no_needs
 
 -- One step at an input, on which this work is done, after what was written before it: there is no room to open it; or
 -- none for its header, where headers are; or that is written; or its engine is called. The input didn't break, and no

@@ -68,12 +68,8 @@ ends_badly work content = if is_enough work content then is_some (work.verdict c
 -- header, what the tool makes of it, and a message for the verdict with which its work ends, or where the input breaks
 -- off. After either the files go if the work clears them.
 abbrev pub of_content : Task → Work → Bool → List ℕ → Option Content → Outcome
-of_content task work is_first name None = record {
-  part = nothing;
-  messages = message_of task.tool (Open 0) name ∷ [];
-  failed = true;
-  sweeps = false;
-}
+of_content task work is_first name None =
+    record no_outcome { messages = message_of task.tool (Open 0) name ∷ []; failed = true }
 of_content task work is_first name (Some content) = record {
   part = after_part (only_out (header_text task.with_header is_first name)) (made_of work content);
   messages = if is_enough work content then verdict_messages task (work.verdict content.bytes)

@@ -3,6 +3,7 @@ use Rattle.std.proofs.lemmas.Bool.{cases_lt, eq-eqb, false≢true, le-leb, le-lt
 use Rattle.std.proofs.lemmas.List.{append-nil, drop_all, take_at, take-append-drop, take-take, length-append, length-drop, length-take}
 use Rattle.std.proofs.Common.{◌≡◌, ℕ, ◌+◌, ◌-◌, ◌<◌, ◌≤◌, min, Bool, true, false, eqb, nat_lt, List, [], ◌++◌, ◌⊎◌, length, take, drop, Option, Some, None, inl, inr, refl, sym, ◌∙◌, ap, subst, arith, append_assoc}
 use Rattle.std.proofs.lemmas.Bool.Decides.{eqb_tells}
+use Rattle.ports_core.specs.FileWriter.{IsWrite}
 use Rattle.ports_core.specs.Part.{Begins}
 use Rattle.ports_core.specs.Slot.{Slot}
 use Rattle.ports_core.specs.Work.{IsLawful, IsNeeded, IsSettled, IsSpare, Judges, Work}
@@ -374,8 +375,8 @@ module _ {chunker next : ChunkerState} {size : ℕ} {told : Bool} {old new : Lis
       (λ x holds. let has = is_said said holds in subst (λ used. Carries chunker.cutter.target (chunks_within chunker.cutter.chunks size used)) (sym (used_is has)) has.cut.carries)
       (low_is chunker said same.can) (λ x holds. whole_said (is_said said holds) ∙ ap (λ (work : Work). work.whole x) (made_is chunker said)) ends
 
-  pub said_stops : {why : Fault} → TargetEnds told chunker.cutter.target old new next.cutter.target (Some why) → Ends told chunker old new next (Some why)
-  said_stops {why} ends = record { same = same; bound = bound; comes = end_comes (Some why) ends; well = tt }
+  pub said_stops : {why : Fault} → TargetEnds told chunker.cutter.target old new next.cutter.target (Some why) → IsWrite why → Ends told chunker old new next (Some why)
+  said_stops {why} ends broke = record { same = same; bound = bound; comes = end_comes (Some why) ends; well = tt; few = λ some. broke }
 
   pub said_ends : TargetEnds told chunker.cutter.target old new next.cutter.target None → (is_past_on chunker.cutter.target ≡ true) ⊎ (size ≤ chunker.cutter.at) → Ends told chunker old new next None
   said_ends ends full = record {
@@ -387,6 +388,7 @@ module _ {chunker next : ChunkerState} {size : ℕ} {told : Bool} {old new : Lis
           | inl past ↦ inl (sym (past_is (cut_is has)) ∙ past)
           | inr all ↦ inr (omega (arith, all, has.cut.at))
         ]);
+    few = λ some. tt;
   }
 
   pub said_changed : TargetEnds told chunker.cutter.target old new next.cutter.target None → is_past_on chunker.cutter.target ≡ false → chunker.cutter.at < size

@@ -1,4 +1,5 @@
 -- Lemmas on chunks of an input, as one of the ways to split.
+use Rattle.std.specs.Option.{is_none}
 use Rattle.std.proofs.lemmas.Grind.{common_steps}
 use Rattle.std.proofs.Common.{◌≡◌, ℕ, ◌+◌, ◌≤◌, Bool, true, false, IsTrue, List, ◌++◌, length, Option, Some, None, Result, Ok, Err, inl, inr, refl, sym, ◌∙◌, ap, subst, arith, if◌then◌else◌}
 use Rattle.std.proofs.lemmas.Bool.{false≢true, ltb-true}
@@ -7,10 +8,10 @@ use Rattle.std.proofs.lemmas.List.{length-append}
 use Rattle.ports_core.specs.Engine.{EndsThere, EndsWith, IsMet, StandsAt, is_verdict}
 use Rattle.ports_core.specs.Engine as engine
 use Rattle.ports_core.specs.Draft.{Manner}
-use Rattle.ports_core.specs.FileWriter.{Breaks}
+use Rattle.ports_core.specs.FileWriter.{Breaks, IsWrite}
 use Rattle.ports_core.specs.Part.{OutputsAt, gets_bytes, writes}
 use Rattle.ports_core.specs.Slot.{Slot, is_writable}
-use Rattle.ports_core.specs.Work.{IsSettled, IsSpare, Judges, Needs, Work}
+use Rattle.ports_core.specs.Work.{IsSettled, IsSpare, Judges, Means, Needs, Work, on_output}
 use Rattle.ports_core.specs.declared.fault.Fault.{Fault}
 use Rattle.ports_core.specs.declared.fault.Fault.TheVariants.{Memory, Open, Verdict, Write}
 use Rattle.ports_core.specs.declared.verdict.Verdict.{Verdict as Judgement}
@@ -22,14 +23,14 @@ use Rattle.ports_core.proofs.SpareLemmas.{all_used}
 use Rattle.seg_core.specs.declared.cut.Chunks.{Chunks}
 use Rattle.split_core.specs.ChunkerState.{AimState, ChunkerState, Course, Holds, HoldsBy, IsAimed, can_cut, course, course_of, first_on, to_files, to_output, in_files, in_output, made_if, total, work, work_on}
 use Rattle.split_core.specs.Chunks.{is_longer, undecided}
-use Rattle.split_core.specs.Split.{Filing}
+use Rattle.split_core.specs.Split.{Filing, manner_of}
 use Rattle.split_core.specs.Ways as ways
 use Rattle.split_core.specs.declared.splitter.Splitter.TheVariants as way
 use Rattle.split_core.specs.inner.Chunker.{Changes, Ends, EndsAs, IsLike, LacksRoom, Passes, PassesAs, made}
 use Rattle.split_core.specs.inner.Sends.{AtAim, IsOf, manner_on, output_on}
 use Rattle.split_core.specs.inner.Ways.{FinishesBy, PassesBy}
 use Rattle.split_core.specs.laws.WorkLaws.{lawful}
-use Rattle.split_core.proofs.PartsLemmas.{told_writable}
+use Rattle.split_core.proofs.PartsLemmas.{met_files, told_writable}
 
 -- What is made
 
@@ -68,36 +69,32 @@ unjudged manner old new (Open slot) breaks other = refl
 unjudged manner old new (Verdict Suffixes) breaks other = absurd (other refl)
 unjudged manner old new fault breaks other = absurd breaks
 
-module _ (chunks : Chunks) (said : Option ℕ) (needs : Needs) (Lacks : Type 0) (Why : Judgement → Type 0) (old new : List Slot) where
-  met_files : (filing : Filing) (elide : Bool) (fault : Fault) → (needs.memory ≡ true) × Lacks → needs.files ≡ true
-      → Breaks (manner_on (in_files filing elide)) old new fault → (fault ≡ Verdict Suffixes → Why Suffixes)
-      → IsMet (work_on (in_files filing elide) chunks said).means needs Lacks Why old new fault
-  met_files filing elide Memory memory files breaks ends = memory
-  met_files filing elide (Write slot) memory files breaks ends = (breaks.0, (λ none. absurd (false≢true (sym none))), breaks.1)
-  met_files filing elide (Open slot) memory files breaks ends = (refl, files, breaks)
-  met_files filing elide (Verdict Suffixes) memory files breaks ends = ends refl
-  met_files filing elide fault memory files breaks ends = absurd breaks
+met_output : (needs : Needs) (Lacks : Type 0) (Why : Judgement → Type 0) (old new : List Slot) (chunk : ℕ) (fault : Fault)
+    → Breaks (manner_on (in_output chunk)) old new fault → fault ≡ Write 0 → IsMet (on_output true) needs Lacks Why old new fault
+met_output needs Lacks Why old new chunk (Write slot) breaks is = ((λ none. refl), (λ none. cc), breaks.1)
+met_output needs Lacks Why old new chunk fault breaks is = absurd (cc)
 
-  met_output : (chunk : ℕ) (fault : Fault) → Breaks (manner_on (in_output chunk)) old new fault → fault ≡ Write 0
-      → IsMet (work_on (in_output chunk) chunks said).means needs Lacks Why old new fault
-  met_output chunk (Write slot) breaks is = ((λ none. refl), (λ none. cc), breaks.1)
-  met_output chunk fault breaks is = absurd (cc)
+module _ (chunks : Chunks) (Why : Judgement → Type 0) (old new : List Slot) (fault : Fault) (ends : fault ≡ Verdict Suffixes → Why Suffixes) where
+  met_feeding : (on : Course) (said : Option ℕ) → Breaks (manner_on on) old new fault → IsOf on fault
+      → IsMet (work_on on chunks said).means (work_on on chunks said).means.feeding (true ≡ true) Why old new fault
+  met_feeding (in_files filing elide) said breaks of =
+      met_files (is_none said) _ _ Why (manner_of filing) filing.verbose old new fault (refl, refl) refl refl breaks ends
+  met_feeding (in_output chunk) said breaks of = met_output _ _ Why old new chunk fault breaks of
 
-met_feeding : (on : Course) (chunks : Chunks) (said : Option ℕ) (Why : Judgement → Type 0) (old new : List Slot) (fault : Fault)
-    → Breaks (manner_on on) old new fault → IsOf on fault → (fault ≡ Verdict Suffixes → Why Suffixes)
-    → IsMet (work_on on chunks said).means (work_on on chunks said).means.feeding (true ≡ true) Why old new fault
-met_feeding (in_files filing elide) chunks said Why old new fault breaks of ends =
-    met_files chunks said _ _ Why old new filing elide fault (refl, refl) refl breaks ends
-met_feeding (in_output chunk) chunks said Why old new fault breaks of ends =
-    met_output chunks said _ _ Why old new chunk fault breaks of
+  -- where an output broke, no need matters
+  met_broken : (means : Means) (needs other : Needs) (Lacks Or : Type 0) → IsWrite fault
+      → IsMet means needs Lacks Why old new fault → IsMet means other Or Why old new fault
+  met_broken means needs other Lacks Or (slot, is) met =
+      subst (IsMet means other Or Why old new) (sym is) (subst (IsMet means needs Lacks Why old new) is met)
 
-met_closing : (on : Course) (chunks : Chunks) (said : Option ℕ) (Why : Judgement → Type 0) (old new : List Slot) (fault : Fault)
-    → Breaks (manner_on on) old new fault → IsOf on fault → (fault ≡ Verdict Suffixes → Why Suffixes)
-    → IsMet (work_on on chunks said).means (work_on on chunks said).means.closing (Unit {0}) Why old new fault
-met_closing (in_files filing elide) chunks said Why old new fault breaks of ends =
-    met_files chunks said _ _ Why old new filing elide fault (refl, tt) refl breaks ends
-met_closing (in_output chunk) chunks said Why old new fault breaks of ends =
-    met_output chunks said _ _ Why old new chunk fault breaks of
+  met_closing : (on : Course) (said : Option ℕ) → Breaks (manner_on on) old new fault → IsOf on fault
+      → (is_none said ≡ false → IsWrite fault)
+      → IsMet (work_on on chunks said).means (work_on on chunks said).means.closing (Unit {0}) Why old new fault
+  met_closing on (Some size) breaks of few = let means = (work_on on chunks (Some size)).means in
+      met_broken means means.feeding means.closing (true ≡ true) (Unit {0}) (few refl) (met_feeding on (Some size) breaks of)
+  met_closing (in_files filing elide) None breaks of few =
+      met_files true _ _ Why (manner_of filing) filing.verbose old new fault (refl, tt) refl refl breaks ends
+  met_closing (in_output chunk) None breaks of few = met_output _ _ Why old new chunk fault breaks of
 
 -- What a piece leaves
 
@@ -142,7 +139,7 @@ module _ (told : Bool) (old new : ChunkerState) (piece : List ℕ) (before after
         (passes.comes.reaches x at.holds start (at_aim passes.same.can at)))));
     met = subst (λ (those : Work). IsMet those.means those.means.feeding (true ≡ true) (EndsWith ways.Holds ways.work (way.Chunks old) piece) before after why)
         (sym (works_so old passes.same.can))
-        (met_feeding (course old.cutter) old.cutter.chunks old.said _ before after why passes.comes.slots passes.comes.only (λ is x holds. absurd (passes.comes.named is x holds)));
+        (met_feeding old.cutter.chunks _ before after why (λ is x holds. absurd (passes.comes.named is x holds)) (course old.cutter) old.said passes.comes.slots passes.comes.only);
   }
 
   passes_lacking : LacksRoom old piece before after new
@@ -223,7 +220,7 @@ module _ (told : Bool) (old new : ChunkerState) (before after : List Slot) where
         (ends.comes.reaches x at.holds start (at_aim ends.same.can at)))));
     met = subst (λ (those : Work). IsMet those.means those.means.closing (Unit {0}) (EndsThere ways.Holds ways.work (way.Chunks old)) before after why)
         (sym (works_so old ends.same.can))
-        (met_closing (course old.cutter) old.cutter.chunks old.said _ before after why ends.comes.slots ends.comes.only (λ is x holds. absurd (ends.comes.named is x holds)));
+        (met_closing old.cutter.chunks _ before after why (λ is x holds. absurd (ends.comes.named is x holds)) (course old.cutter) old.said ends.comes.slots ends.comes.only ends.few);
   }
 
   ends_changed : total new ≤ total old → Changes told old (made old).whole (λ x. Judges (made old) x Changed) before after new

@@ -31,6 +31,7 @@ use Rattle.seg_core.specs.Cut.{most}
 use Rattle.seg_core.specs.declared.cut.Limit.{Limit}
 use Rattle.split_core.specs.Parts.{cut_up, parts, settled_rest, unless_empty, waiting_rest}
 use Rattle.split_core.specs.PartsState.{PartsState, IsReady, Lacks, Stands, filing_of, work}
+use Rattle.ports_core.specs.Work.{Needs}
 use Rattle.split_core.specs.Split.{Filing, TellsNoSizes, are_named, is_verbose, tells_by, draft_of, manner_of, output_by, settled_parts, split_means}
 use Rattle.split_core.specs.Ways as ways
 use Rattle.split_core.specs.declared.splitter.Splitter.TheVariants as way
@@ -63,15 +64,21 @@ unjudged manner old new fault breaks named = absurd breaks
 pub none_lacks : (verbose : Bool) (old new : List Slot) {fault : Fault} → Breaks (always_named verbose) old new fault → fault ≡ fault_is.Verdict Suffixes → ⊥
 none_lacks verbose old new breaks is = search rules
 
-pub met_files : (Why : Verdict → Type 0) (manner : Manner) (verbose : Bool) (old new : List Slot) (fault : Fault) → manner.output ≡ output_by verbose → Breaks manner old new fault → (fault ≡ fault_is.Verdict Suffixes → Why Suffixes) → IsMet (split_means verbose) (split_means verbose).feeding (true ≡ true) Why old new fault
-met_files Why manner verbose old new Memory same breaks ends = (refl, refl)
-met_files Why manner verbose old new (Write slot) same (out, rose) ends = (λ none. subst (λ output. writes output ≡ true) same (out none), (λ none. absurd (cc)), rose)
-met_files Why manner verbose old new (Open slot) same breaks ends = (refl, refl, breaks)
-met_files Why manner verbose old new (fault_is.Verdict Suffixes) same breaks ends = ends refl
-met_files Why manner verbose old new fault same breaks ends = absurd breaks
+module _ (late : Bool) (needs : Needs) (Lacks : Type 0) (Why : Verdict → Type 0) (manner : Manner) (verbose : Bool) (old new : List Slot) where
+  pub met_files : (fault : Fault) → (needs.memory ≡ true) × Lacks → needs.files ≡ true → manner.output ≡ output_by verbose
+      → Breaks manner old new fault → (fault ≡ fault_is.Verdict Suffixes → Why Suffixes)
+      → IsMet (split_means verbose late) needs Lacks Why old new fault
+  met_files Memory memory files same breaks ends = memory
+  met_files (Write slot) memory files same (out, rose) ends = (λ none. subst (λ output. writes output ≡ true) same (out none), (λ none. absurd (cc)), rose)
+  met_files (Open slot) memory files same breaks ends = (refl, files, breaks)
+  met_files (fault_is.Verdict Suffixes) memory files same breaks ends = ends refl
+  met_files fault memory files same breaks ends = absurd breaks
 
-pub met_closing : (verbose : Bool) (Why : Verdict → Type 0) (old new : List Slot) {fault : Fault} → CannotClose old new fault → IsMet (split_means verbose) (split_means verbose).closing (Unit {0}) Why old new fault
-met_closing verbose Why old new (slot, is, two, rose) = subst (IsMet (split_means verbose) (split_means verbose).closing (Unit {0}) Why old new) (sym is) (λ none. absurd (omega (arith, none, two)), (λ none. absurd (cc)), rose)
+pub met_closing : (verbose : Bool) (Why : Verdict → Type 0) (old new : List Slot) {fault : Fault} → CannotClose old new fault
+    → IsMet (split_means verbose false) (split_means verbose false).closing (Unit {0}) Why old new fault
+met_closing verbose Why old new (slot, is, two, rose) =
+    subst (IsMet (split_means verbose false) (split_means verbose false).closing (Unit {0}) Why old new) (sym is)
+    (λ none. absurd (omega (arith, none, two)), (λ none. absurd (cc)), rose)
 
 -- sizes aren't counted
 pub always_counts : {tells : Tells} (size : ℕ) (bytes : List ℕ) → TellsNoSizes tells → CanCount tells size bytes
@@ -528,7 +535,7 @@ module _ (told : Bool) (state next : PartsState) (piece : List ℕ) (old new : L
     ready = tt;
     owns = takes.leaves.owns.owns;
     cut = cut_off f takes;
-    met = met_files (EndsWith ways.Holds ways.work (way.Parts state) piece) (manner_in state.writer) (filing_of state).verbose old new f (ap output_of ready.tells) takes.leaves.slots (λ is. settles f is takes);
+    met = met_files false _ _ (EndsWith ways.Holds ways.work (way.Parts state) piece) (manner_in state.writer) (filing_of state).verbose old new f (refl, refl) refl (ap output_of ready.tells) takes.leaves.slots (λ is. settles f is takes);
   }
 
 -- the end

@@ -161,7 +161,7 @@ passes_by told old new piece before after (Err why) deals = record {
   owns = deals.adds.owned;
   cut = λ start x at. cut (part.unjudged (always_named (is_verbose old.files.tells)) before after why deals.adds.caused (part.none_lacks (is_verbose old.files.tells) before after deals.adds.caused))
       (stopped_as (output_by (is_verbose old.files.tells)) told (stands_is at.holds) (made_is told old piece at) (stops_in_order (left_by told old piece at (Err why) deals.adds)));
-  met = part.met_files (EndsWith ways.Holds ways.work (way.Round old) piece) (always_named (is_verbose old.files.tells)) (is_verbose old.files.tells) before after why refl deals.adds.caused (λ is. absurd (part.none_lacks (is_verbose old.files.tells) before after deals.adds.caused is));
+  met = part.met_files false _ _ (EndsWith ways.Holds ways.work (way.Round old) piece) (always_named (is_verbose old.files.tells)) (is_verbose old.files.tells) before after why (refl, refl) refl refl deals.adds.caused (λ is. absurd (part.none_lacks (is_verbose old.files.tells) before after deals.adds.caused is));
 }
 
 -- The end

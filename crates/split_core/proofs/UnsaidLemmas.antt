@@ -1,4 +1,5 @@
 -- Chunks of an input that doesn't say its length.
+use Rattle.std.specs.Option.{is_none}
 use Rattle.std.proofs.lemmas.Bool.{cases_lt, false≢true, ltb-false, ltb-true}
 use Rattle.std.proofs.lemmas.List.{append-nil, get_or_past, drop_at, drop-append-le, take-append-drop, length-append, length-take}
 use Rattle.std.proofs.Common.{◌≡◌, ℕ, ◌+◌, ◌-◌, ◌<◌, ◌≤◌, max, zero, suc, Bool, true, false, ◌||◌, nat_lt, List, [], ◌∷◌, ◌++◌, ◌⊎◌, length, map, take, drop, replicate, get_or, ◌/◌, ◌*◌, Option, Some, None, Result, Ok, Err, inl, inr, refl, sym, ◌∙◌, ap, subst, arith, append_assoc}
@@ -454,6 +455,7 @@ ends_unsaid {chunker = chunker} {size = size} fault said same spare can size_is 
       (λ x holds. let has = is_unsaid said holds in ap (λ z. whole_on (course chunker.cutter) (chunks_within chunker.cutter.chunks size z)) (all_came has) ∙ ap (λ n. whole_on (course chunker.cutter) (chunks_within chunker.cutter.chunks n x)) (long x has)
       ∙ ap (whole_on (course chunker.cutter)) (sym (cut_of chunker.cutter.chunks (length x) x (omega arith))) ∙ sym (whole_none (course chunker.cutter) chunker.cutter.chunks x) ∙ ap (λ (work : Work). work.whole x) (made_none chunker said)) ends.brings;
   well = in_any fault (λ x holds. ap (λ (work : Work). work.verdict x) (sym (made_none chunker said)) ∙ well_none (course chunker.cutter) chunker.cutter.chunks x);
+  few = λ some. absurd (false≢true (sym some ∙ ap is_none said));
 } where
   long : (x : List ℕ) → IsUnsaid chunker x → size ≡ length x
   long x has = omega (arith, size_is, has.cut.at, length-append (cut_front chunker x) chunker.waiting, ap length (all_came has))

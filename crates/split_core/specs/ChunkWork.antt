@@ -1,5 +1,6 @@
 -- What `split` makes of an input that it cuts into chunks, or of which it writes what one file would have: GNU coreutils
 -- manual, split, `-n N`, `-n l/N`, `-n K/N`, `-n l/K/N` and `-n r/K/N`.
+use Rattle.std.specs.Option.{is_none}
 use Rattle.std.specs.Prelude.{◌≡◌, ℕ, ◌||◌, max, Bool, true, false, List, [], ◌++◌, map, filter, get_or, IsTrue, Option, Some, None, if◌then◌else◌}
 use Rattle.seg_core.specs.Line.{lines_of}
 use Rattle.ports_core.specs.Draft.{Draft, draft_part, part_of, share}
@@ -7,7 +8,7 @@ use Rattle.ports_core.specs.FileWriter.{CanTell}
 use Rattle.ports_core.specs.Name.{Naming}
 use Rattle.ports_core.specs.Part.{Part, only_out}
 use Rattle.ports_core.specs.Slot.{Slot, is_writable}
-use Rattle.ports_core.specs.Work.{Work, Means, always_well, on_output}
+use Rattle.ports_core.specs.Work.{Work, always_well, on_output}
 use Rattle.ports_core.specs.declared.fault.Fault.{Fault}
 use Rattle.ports_core.specs.declared.fault.Fault.TheVariants.{Memory}
 use Rattle.ports_core.specs.declared.verdict.Verdict.TheVariants.{Changed}
@@ -20,7 +21,7 @@ use Rattle.seg_core.specs.declared.cut.Way.TheVariants as way
 use Rattle.split_core.specs.Parts.{CutUp, dealt, unless_empty}
 use Rattle.split_core.specs.Chunks.{decided, has_ended, in_the_end, is_as_said, is_longer, pieces_in, undecided}
 use Rattle.split_core.specs.Sharing.{CannotOpen}
-use Rattle.split_core.specs.Split.{Filing, HasNames, are_named, is_some, is_verbose, manner_of, output_by, split_work}
+use Rattle.split_core.specs.Split.{Filing, HasNames, are_named, is_some, is_verbose, manner_of, split_means, split_work}
 
 -- To files
 
@@ -51,16 +52,8 @@ abbrev pub chunks_whole : ChunksPlan → Option ℕ → List ℕ → Part
 chunks_whole plan said x =
     part_of (manner_of plan.filing) (map (share Closed) (files_by plan.elide (in_the_end plan.chunks said x)))
 
--- It may open files as it takes in a piece, and at the end, and may want memory for their names and for what waits.
-abbrev pub chunks_means : Bool → Means
-chunks_means verbose = record {
-  output = output_by verbose;
-  files = true;
-  feeding = record { memory = true; files = true };
-  closing = record { memory = true; files = true };
-}
-
--- An input that has another length than it said has changed; what was written stays.
+-- An input that has another length than it said has changed; what was written stays. Where it said none, files are
+-- opened at the end too.
 abbrev pub chunks_work : ChunksPlan → Option ℕ → Work
 chunks_work plan said = record {
   settled = chunks_settled plan said;
@@ -69,7 +62,7 @@ chunks_work plan said = record {
   is_complete = is_longer said;
   verdict = λ x. if is_as_said said x then None else Some Changed;
   clears = false;
-  means = chunks_means plan.filing.verbose;
+  means = split_means plan.filing.verbose (is_none said);
   ahead = 0;
 }
 

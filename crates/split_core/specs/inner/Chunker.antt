@@ -1,5 +1,7 @@
 -- What private calls say: chunks of an input, as a stage.
-use Rattle.std.specs.Prelude.{◌≡◌, ℕ, ◌+◌, ◌-◌, ◌<◌, ◌≤◌, ◌⊎◌, min, Bool, true, List, ◌++◌, length, take, Option, Some, None, IfNone, Result, Ok, Err}
+use Rattle.std.specs.Option.{is_none}
+use Rattle.std.specs.Prelude.{◌≡◌, ℕ, ◌+◌, ◌-◌, ◌<◌, ◌≤◌, ◌⊎◌, min, Bool, true, false, List, ◌++◌, length, take, Option, Some, None, IfNone, IfSome, Result, Ok, Err}
+use Rattle.ports_core.specs.FileWriter.{IsWrite}
 use Rattle.ports_core.specs.Part.{Part}
 use Rattle.ports_core.specs.Slot.{Slot}
 use Rattle.ports_core.specs.Work.{Work, IsNeeded, IsSettled, Judges}
@@ -82,6 +84,7 @@ pub record Ends (told : Bool) (chunker : ChunkerState) (old new : List Slot) (ne
   pub bound : total next ≤ total chunker
   pub comes : Comes told chunker (made chunker).whole old new next fault
   pub well : IfNone fault ((x : List ℕ) → Holds chunker x → (made chunker).verdict x ≡ None)
+  pub few : is_none chunker.said ≡ false → IfSome fault IsWrite
 
 abbrev pub EndsAs : Bool → ChunkerState → List Slot → List Slot → ChunkerState → Result (Unit {0}) Fault → Type 0
 EndsAs told chunker old new next (Ok done) = Ends told chunker old new next None

@@ -8,7 +8,7 @@ use Rattle.split_core.proofs.chunker.Chunker.finish_said.Goals.{else-self-size-v
 
 pub returns-in_err-end : goal.returns-in_err-end
 returns-in_err-end g c = rw (← c.self.view_is) (result_is (EndsAs _ _ _ _ _) _ _ c.from_residual.ensures.1
-    (inl (said_stops (rw (← c.self.view_is) at c.requires.said) (record { can = c.self.invariant.0; said = refl; chunks = refl }) (omega arith) c.in_err-end.ensures.brings)))
+    (inl (said_stops (rw (← c.self.view_is) at c.requires.said) (record { can = c.self.invariant.0; said = refl; chunks = refl }) (omega arith) c.in_err-end.ensures.brings c.in_err-end.ensures.broke)))
 
 pub returns-then-not-is_past : goal.returns-then-not-is_past
 returns-then-not-is_past g c = rw (← c.self.view_is) (inr (
