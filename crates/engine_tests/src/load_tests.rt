@@ -341,7 +341,11 @@ const CHUNKS: &[ChunkRow<'static>] = &[
         60,
         TEXT,
         0,
-        &[Step::Feed(TEXT), Step::CloseFails(CHANGED), Step::Wrote(b"")],
+        &[
+            Step::Feed(TEXT),
+            Step::CloseFails(CHANGED),
+            Step::Wrote(b""),
+        ],
     ),
     // Nothing stands before the first chunk, and what one block holds is fed.
     (
@@ -372,7 +376,11 @@ const CHUNKS: &[ChunkRow<'static>] = &[
         0,
         TEXT,
         0,
-        &[Step::Feed(TEXT), Step::Close, Step::Wrote(b"\nop\nqr\nst\n")],
+        &[
+            Step::Feed(TEXT),
+            Step::Close,
+            Step::Wrote(b"\nop\nqr\nst\n"),
+        ],
     ),
     // Under lines the last line before the chunk may go on into it.
     (
@@ -388,7 +396,11 @@ const CHUNKS: &[ChunkRow<'static>] = &[
         30,
         TEXT,
         0,
-        &[Step::Feed(TEXT), Step::Files(&[b"ab\ncd\nef\ng", b"h\nij\nkl\nmn", b"\nop\nqr\nst\n"]), Step::Close],
+        &[
+            Step::Feed(TEXT),
+            Step::Files(&[b"ab\ncd\nef\ng", b"h\nij\nkl\nmn", b"\nop\nqr\nst\n"]),
+            Step::Close,
+        ],
     ),
     (
         Way::Turn(1, 3, b'\n'),
@@ -399,16 +411,13 @@ const CHUNKS: &[ChunkRow<'static>] = &[
     ),
 ];
 
-fn pass_row(
-    rt: &impl Abort,
-    alloc: Global,
-    number: usize,
-    row: &ChunkRow<'_>,
-) -> Result<(), Fail> {
+fn pass_row(rt: &impl Abort, alloc: Global, number: usize, row: &ChunkRow<'_>) -> Result<(), Fail> {
     let (way, said, text, taken, steps) = *row;
     let mut outs = MemOut::new(alloc)?;
-    let mut splitter = open_chunks(alloc, way, said, false, Tells::Nothing, &mut outs)
-        .expect(rt, "there is memory");
+    let mut splitter = open_chunks(alloc, way, said, false, Tells::Nothing, &mut outs).expect(
+        rt,
+        "there is memory",
+    );
     assert!(rt;
         takes_in(rt, alloc, &mut splitter, text, taken),
         "in row {number}"

@@ -94,10 +94,11 @@ impl<S: Stage> Guarded<S> {
         }
     }
 
-    /// Takes in what an input has left, before any piece and without reading all of it: where the input can be looked at
-    /// from its end, and the work writes nothing before the end and needs the last part alone. It returns how many bytes it
-    /// took in; they are passed over, so that the reads that follow give what comes after them. 0 where it took in none, and
-    /// the input is to be read from its front.
+    /// Takes in bytes that an input has left, before any piece and without reading all of them: where the input can be
+    /// looked at and passed over, and the work writes none of these bytes now. They are all that it has left, where the last
+    /// part is wanted, or what stands before a part that is wanted alone. It returns how many bytes it took in; they are passed
+    /// over, so that the reads that follow give what comes after them. 0 where it took in none, and the input is to be read
+    /// from its front.
     pub fn load<I: Inputs>(&mut self, slot: usize, buffer: &mut [u8], inputs: &mut I) -> u64
         requires room { 0 < length buffer.old }
         requires fresh { HoldsIn S.Holds self.old [] }

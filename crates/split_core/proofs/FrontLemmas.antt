@@ -1,5 +1,5 @@
 -- Lemmas on what is passed over before the one chunk that is written.
-use Rattle.std.proofs.Common.{◌≡◌, ℕ, ◌+◌, ◌<◌, ◌≤◌, max, nat_lt, take, Bool, true, false, List, [], ◌++◌, length, Option, Some, None, inl, inr, refl, sym, ◌∙◌, ap, subst, arith, get_or}
+use Rattle.std.proofs.Common.{◌≡◌, ℕ, ◌+◌, ◌<◌, nat_lt, Bool, true, false, List, [], length, Some, inl, inr, refl, sym, ◌∙◌, ap, subst, arith, get_or}
 use Rattle.std.proofs.lemmas.Bool.{lt-leb, ltb-true}
 use Rattle.std.proofs.lemmas.List.{append-nil, length-append, nil_from_length, take_all}
 use Rattle.std.proofs.lemmas.List.FromFn.{length-map-range_with_len}
@@ -11,16 +11,13 @@ use Rattle.ports_core.proofs.LoadLemmas.{passes_so}
 use Rattle.ports_core.specs.Part.{only_out, nothing}
 use Rattle.ports_core.specs.Work.{Work}
 use Rattle.seg_core.specs.declared.cut.Chunks.{Chunks}
-use Rattle.seg_core.specs.declared.unit.Unit.{Unit as Counted}
 use Rattle.seg_core.specs.declared.unit.Unit.TheVariants.{Bytes}
 use Rattle.split_core.specs.Chunks.{before_chunk, begun_before, chunk_at, chunk_start, chunks_within, ended, has_ended, is_within, open_from, passed, pieces_in}
 use Rattle.split_core.specs.ChunkWork.{chunk_work, piece_at}
-use Rattle.split_core.specs.ChunkerState.{CanHave, ChunkerState, HasCut, Holds, HoldsBy, IsSaid, course, course_of, can_cut, in_output, total, work, work_on}
+use Rattle.split_core.specs.ChunkerState.{CanHave, ChunkerState, HasCut, Holds, HoldsBy, IsSaid, course, course_of, can_cut, in_output, work, work_on}
 use Rattle.split_core.specs.Ways as ways
 use Rattle.split_core.specs.declared.splitter.Splitter.TheVariants as way
 use Rattle.split_core.specs.inner.Chunker.{StandsAfter, passed_to}
-use Rattle.split_core.specs.inner.Chunks.{HaveEnded}
-use Rattle.split_core.specs.laws.BegunLaws.{open_within}
 use Rattle.split_core.specs.laws.ChunkLaws.{chunk_none, ended_only, passed_open, start_within}
 use Rattle.split_core.proofs.ChunkerLemmas.{is_said}
 use Rattle.split_core.proofs.FreshLemmas.{settled_none}
@@ -125,9 +122,14 @@ module _ (chunker : ChunkerState) (front place : ℕ) (stands : StandsAfter chun
       rest = [];
       joined = sym (append-nil x);
       long = sym spare_none;
-      needed = inr (x, [], sym (append-nil x), omega arith,
-          ap (λ (those : Work). those.is_complete x) (ap (λ on. work_on on chunks (Some stands.size)) on)
-          ∙ goes_on chunks stands.size place x less begins some stands.unit);
+      needed = inr (
+        x,
+        [],
+        sym (append-nil x),
+        omega arith,
+        ap (λ (those : Work). those.is_complete x) (ap (λ on. work_on on chunks (Some stands.size)) on)
+            ∙ goes_on chunks stands.size place x less begins some stands.unit,
+      );
       enough = inl refl;
     };
     within = omega (arith, within_size chunks stands.size place x less begins some stands.unit);
@@ -146,9 +148,6 @@ module _ (chunker : ChunkerState) (front place : ℕ) (stands : StandsAfter chun
         ∙ settled_none (in_output place) chunks (Some stands.size) can (omega (arith, within_size chunks stands.size place x less begins some stands.unit)));
     going = inr open_yet;
   }
-
-  pub count_front : total next ≤ front
-  count_front = omega (arith, spare_none, ap length none.waits)
 
 pub loads_front : {told : Bool} {most slot front place : ℕ} {Before : List ℕ → Type 0} {chunker inside : ChunkerState} {old new : List Source}
     → inside ≡ chunker → StandsAfter chunker front place → Holds chunker [] → PassesOver told most slot front Before old new

@@ -111,12 +111,7 @@ impl Chunker {
 
     /// Passes over what stands before the chunk that is written, where bytes are counted and the input said its length, and
     /// returns how many bytes these are. 0 where the chunk is empty, or they can't be passed over.
-    pub(crate) fn load<I: Inputs>(
-        &mut self,
-        slot: usize,
-        buffer: &mut [u8],
-        inputs: &mut I,
-    ) -> u64
+    pub(crate) fn load<I: Inputs>(&mut self, slot: usize, buffer: &mut [u8], inputs: &mut I) -> u64
         requires room { 0 < length buffer.old }
         requires fresh { Holds self.old [] }
         requires none { total self.old ≡ 0 }
@@ -151,8 +146,10 @@ impl Chunker {
         ensures { IfSome result (λ found. StandsAfter self.now found.0 found.1) }
     {
         let size = self.said?;
-        let (Aim::Output { chunk }, Unit::Bytes) = (&self.cutter.target.aim, self.cutter.chunks.unit)
-        else {
+        let (Aim::Output { chunk }, Unit::Bytes) = (
+            &self.cutter.target.aim,
+            self.cutter.chunks.unit,
+        ) else {
             return None;
         };
         let count = self.cutter.chunks.count;
