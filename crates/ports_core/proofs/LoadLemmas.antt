@@ -1,12 +1,11 @@
 -- Lemmas on what an engine takes in without a read.
 use Rattle.std.proofs.lemmas.Grind.{common_steps}
 use Rattle.std.proofs.Common.{◌≡◌, ℕ, ◌≤◌, max, zero, suc, not, ◌&&◌, Bool, IsTrue, List, [], ◌∷◌, inl, refl, ◌∙◌, ap, arith}
-use Rattle.ports_core.specs.Slot.{Slot, changed_at}
+use Rattle.ports_core.specs.Slot.{changed_at}
 use Rattle.ports_core.specs.Source.{Source, source_at, is_readable, looks, skips}
 use Rattle.ports_core.specs.Inputs.{HasLooked}
-use Rattle.ports_core.specs.Work.{Work}
 use Rattle.ports_core.proofs.InputsLemmas.{changed_source, keeps_again, keeps_itself, keeps_others}
-use Rattle.ports_core.specs.Engine.{Loads}
+use Rattle.ports_core.specs.Engine.{Duty, Loads}
 use Rattle.ports_core.proofs.SlotLemmas.{changed_there}
 use Rattle.ports_core.proofs.SourceLemmas.{readable_within}
 
@@ -42,19 +41,21 @@ looked_again {slot = slot} {old} {mid} {new} first next few = record {
 pub looked_readable : {most slot : ℕ} {old new : List Source} → HasLooked most slot old new → IsTrue (is_readable old slot) → IsTrue (is_readable new slot)
 looked_readable looked can = ap (λ (source : Source). source.is_open && not source.is_broken) looked.looked ∙ can
 
-module _ {E : Type 0} (Holds : E → List ℕ → Type 0) (Ready : E → List Slot → Type 0) (Owns : E → ℕ → List Slot → Type 0) (work : E → Work) where
-  -- an engine that takes in none stays as it was
-  pub loads_none : (told : Bool) (most : ℕ) {slot : ℕ} {engine : E} {sources : List Source} → Holds engine [] → Loads Holds Ready Owns work told most slot 0 engine engine sources sources
-  loads_none told most {slot} {sources} fresh = record {
-    front = [];
-    long = refl;
-    there = λ t. refl;
-    mid = sources;
-    looked = looked_none most slot sources;
-    passed = none_passed slot sources;
-    holds = fresh;
-    ready = λ slots is. is;
-    owns = λ first slots is. is;
-    idle = refl;
-    going = inl refl;
-  }
+-- a stage that takes in none stays as it was
+pub loads_none : {S : Type 0} (duty : Duty S) (told : Bool) (most : ℕ) {slot : ℕ} {stage : S} {sources : List Source} → duty.Holds stage [] → duty.size stage ≡ 0 → Loads duty told most slot 0 stage stage sources sources
+loads_none duty told most {slot} {sources = sources} fresh none = record {
+  same = refl;
+  size = omega (arith, none);
+  few = omega arith;
+  front = [];
+  long = refl;
+  there = λ t. refl;
+  mid = sources;
+  looked = looked_none most slot sources;
+  passed = none_passed slot sources;
+  holds = fresh;
+  ready = λ slots is. is;
+  owns = λ first slots is. is;
+  idle = refl;
+  going = inl refl;
+}
