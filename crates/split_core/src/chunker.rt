@@ -146,7 +146,7 @@ impl Chunker {
     /// How many bytes the next piece may have: where one chunk is written, as many as are missing to its end; one at least.
     pub(crate) fn most_wanted(&self) -> u64
         ensures some { 0 < result }
-        ensures few { MayGet ways.Holds ways.work (way.Chunks self.now) result }
+        ensures few { MayGet ways.duty (way.Chunks self.now) result }
     {
         match (self.said, &self.cutter.target.aim) {
             (Some(size), Aim::Output { chunk }) => {
