@@ -15,7 +15,7 @@ use Rattle.csplit_core.specs.Csplit.{settled_of, whole_of, verdict_of, waiting, 
 use Rattle.ports_core.specs.Draft.{Draft, draft_part, with_bytes, with_next}
 use Rattle.ports_core.specs.declared.file_writer.Opening.{Opening}
 use Rattle.ports_core.specs.declared.file_writer.Opening.TheVariants.{Never}
-use Rattle.ports_core.specs.FileWriter.{paused, Goes, Leaves, Reaches, At, KeepsFiles}
+use Rattle.ports_core.specs.FileWriter.{paused, Goes, Leaves, Reaches, At}
 use Rattle.ports_core.proofs.ShareLemmas.{bytes_begin, next_begins, nothing_part, nothing_told}
 use Rattle.csplit_core.specs.Input.{newline, all_lines, open_line}
 use Rattle.csplit_core.specs.Operand.{Operand, Line}
@@ -24,7 +24,7 @@ use Rattle.csplit_core.specs.Plan.{State, start, Ending, below, missed, above}
 use Rattle.csplit_core.specs.Planned.{plan, Plan}
 use Rattle.csplit_core.specs.laws.PlanLaws.{plan_runs, plan_once}
 use Rattle.csplit_core.specs.Progress.{state_of, AimsAt, EndsHere}
-use Rattle.csplit_core.specs.inner.Cutter.{BegunNot, new_for, writer_for, AreSeen, Turns, MovesOn, Opened, settled_part, whole_part, IsJudged, EndsAll, IsWhole, Takes, IsLine, Clears, Keeps, Closed, Closes, ended_so, Judges, Passes, Sweeps, ended_well, ended_short}
+use Rattle.csplit_core.specs.inner.Cutter.{BegunNot, new_for, writer_for, AreSeen, Turns, MovesOn, Opened, settled_part, whole_part, IsJudged, EndsAll, IsWhole, Takes, IsLine, Clears, Keeps, Closed, Closes, ended_so, Judges, Passes, ended_well, ended_short}
 use Rattle.csplit_core.specs.Section.{is_final, whole_end, bytes_of, waiting_lines, whole_sections}
 use Rattle.csplit_core.specs.declared.progress.Progress.{Progress}
 use Rattle.csplit_core.specs.declared.progress.Turn.{Turn}
@@ -46,12 +46,12 @@ use Rattle.csplit_core.proofs.WholeLemmas.{ends_after_all}
 use Rattle.std.proofs.lemmas.Bool.Decides.{nat_tests}
 use Rattle.std.proofs.lemmas.Grind.{common_steps}
 use Rattle.std.proofs.Math.Nat.{min-eq_left}
-use Rattle.csplit_core.specs.CsplitState.{CsplitState, Holds, whole_lines, IsReady, Owns, files, work}
+use Rattle.csplit_core.specs.CsplitState.{CsplitState, Holds, whole_lines, IsReady, Owns, duty, files, work}
 use Rattle.csplit_core.proofs.TakeLemmas.{past_plan, past_part, is_past, still_past, more_settled, takes_again, takes_none, takes_wider, took_past, none_there}
 use Rattle.ports_core.specs.Part.{Begins, OutputsAt, StoppedBetween, nothing, writes}
 use Rattle.ports_core.specs.Turn.{fault_in}
-use Rattle.ports_core.specs.Engine.{is_verdict, TakesIn, PutsOut, CutsOff, EndsShort, EndsWith, EndsThere, Finishes, StandsAt, IsMet, KeepsOwn}
-use Rattle.ports_core.specs.Swept.{AreThere, Swept, is_among}
+use Rattle.ports_core.specs.Engine.{is_verdict, CutsOff, EndsWith, EndsThere, Finishes, StandsAt, IsMet, IsMetWith, IsMetThere, Sweeps}
+use Rattle.ports_core.specs.Swept.{AreThere, RemovesIf, Swept, is_among}
 use Rattle.ports_core.proofs.SweepLemmas.{all_cleared}
 use Rattle.ports_core.specs.Engine as engine
 
@@ -485,7 +485,7 @@ pub last_line : {before stage : CsplitState} {n : ℕ} {text : List ℕ} → bef
 last_line {before} is text_is size some unbroken = grind (arith, common_steps, open_is_line)
 
 -- the work ends with a verdict, and the files are removed then
-pub judged_by : {told : Bool} {stage mid next : CsplitState} {reached new old : List Slot} {result : Option Verdict} {verdict : Verdict} → Closed told stage old reached mid None → result ≡ Some verdict → Judges mid.cutter result → Sweeps mid reached new next
+pub judged_by : {told : Bool} {stage mid next : CsplitState} {reached new old : List Slot} {result : Option Verdict} {verdict : Verdict} → Closed told stage old reached mid None → result ≡ Some verdict → Judges mid.cutter result → Sweeps duty mid next reached new
     → Closes told stage old new next (Err (fault_is.Verdict verdict))
 judged_by {mid = mid} {reached} {verdict = verdict} closed is judges swept = ended_so verdict mid reached closed (subst (Judges mid.cutter) is judges) swept
 
@@ -514,7 +514,7 @@ pub owns_on : {stage next : CsplitState} {old new : List Slot} {fault : Option F
 owns_on leaves first own = grind (arith, common_steps)
 
 -- the outputs at it, which are the writer's own
-stands_so : (told : Bool) {before : List Slot} {stage : CsplitState} {x : List ℕ} {now : List Slot} → StandsAt Holds Owns stage told before x ((work stage).settled x) now → At told stage.cutter.writer before (settled_part stage.cutter (whole_lines x)) now
+stands_so : (told : Bool) {before : List Slot} {stage : CsplitState} {x : List ℕ} {now : List Slot} → StandsAt duty stage told before x now → At told stage.cutter.writer before (settled_part stage.cutter (whole_lines x)) now
 stands_so told {before} {stage} {x} {now} at = grind (arith, common_steps, settled_is)
 
 -- faults
@@ -546,38 +546,42 @@ has_settled stage x = grind (arith, common_steps)
 
 -- why a fault came
 
-module _ (told : Bool) (stage next : CsplitState) (piece : List ℕ) (old new : List Slot) where
-  pub takes_in : (result : Result (Unit {0}) Fault) → Passes told stage piece old new next result → OnOk result (TakesIn Holds piece stage next)
-  takes_in (Ok done) passed = λ x holds. holds_by passed holds (below_or_not stage.cutter.aim)
-  takes_in (Err fault) stopped = tt
-
-  pub puts_out : (result : Result (Unit {0}) Fault) → Passes told stage piece old new next result → OnOk result (PutsOut Holds Owns work stage piece told old new)
-  puts_out (Ok done) passed = λ before x at. subst (λ part. OutputsAt told before part new) (settled_then piece at.holds)
-      ((passed.took.reaches (whole_lines x) (lines_whole x) at.holds.stands).there before (stands_so told at)).outputs
-  puts_out (Err fault) stopped = tt
-
-  pub cuts_off : (result : Result (Unit {0}) Fault) → Passes told stage piece old new next result → IsReady stage old → IfErr result (CutsOff Holds Owns work stage piece told old new)
-  cuts_off (Ok done) passed ready = tt
-  cuts_off (Err fault) stopped ready = λ before x at. engine.cut (not_verdict stage.cutter.style old new fault ready.manner stopped.took.keeps.writer.slots)
-      (subst (λ low. StoppedBetween (work stage).means.output told before low ((work stage).settled (x ++ piece)) fault new) (settled_is stage x)
-      (subst (λ high. StoppedBetween (work stage).means.output told before (settled_part stage.cutter (whole_lines x)) high fault new) (settled_then piece at.holds)
-      (stopped_in_turn (work stage).means.output told before _ _ fault new (has_settled stage (whole_lines x)) ((stopped.took.reaches (whole_lines x) (lines_whole x) at.holds.stands).there before (stands_so told at)))))
-
-  pub pass_ready : (result : Result (Unit {0}) Fault) → Passes told stage piece old new next result → IsReady stage old → next.taken ≡ stage.taken + length piece → stage.taken + length piece < 2 ^ 63 → OnOk result (IsReady next new)
-  pass_ready (Ok done) passes ready taken fits = record {
+pub passes_by : (told : Bool) (stage next : CsplitState) (piece : List ℕ) (old new : List Slot) (result : Result (Unit {0}) Fault) → Passes told stage piece old new next result → IsReady stage old → next.taken ≡ stage.taken + length piece → stage.taken + length piece < 2 ^ 63
+    → engine.Passes duty told piece stage next old new (IsMetWith duty piece stage) result
+passes_by told stage next piece old new (Ok done) passes is_ready taken fits = record {
+  same = same_by csplit_work passes.took.keeps;
+  size = omega (arith, taken);
+  holds = λ x holds. holds_by passes holds (below_or_not stage.cutter.aim);
+  outputs = λ before x at. subst (λ part. OutputsAt told before part new) (settled_then piece at.holds)
+      ((passes.took.reaches (whole_lines x) (lines_whole x) at.holds.stands).there before (stands_so told at)).outputs;
+  ready = record {
     writer = passes.took.keeps.writer.ready;
-    output = passes.took.keeps.writer.output ready.output;
-    manner = rw (passes.took.keeps.style, same_manner passes.took.keeps.writer) ready.manner;
+    output = passes.took.keeps.writer.output is_ready.output;
+    manner = rw (passes.took.keeps.style, same_manner passes.took.keeps.writer) is_ready.manner;
     sound = passes.took.went.sound;
     unbroken = passes.passed.unbroken;
-    room = (let size = passes.passed.size in let room = ready.room in omega (arith, size, room, taken));
+    room = (let size = passes.passed.size in let room = is_ready.room in omega (arith, size, room, taken));
     few = omega (arith, taken, fits);
-  }
-  pass_ready (Err fault) passes ready taken fits = tt
-
-  pub pass_met : (result : Result (Unit {0}) Fault) → Passes told stage piece old new next result → IsReady stage old → IfErr result (IsMet (work stage).means (work stage).means.feeding (true ≡ true) (EndsWith Holds work stage piece) old new)
-  pass_met (Ok done) passed ready = tt
-  pass_met (Err fault) passed ready = met_by refl (EndsWith Holds work stage piece) stage.cutter.style old new fault ready.manner passed.took.keeps.writer.slots
+  };
+  owns = owns_on passes.took.keeps.writer;
+  there = passes.took.keeps.writer.owns.there;
+  cut = tt;
+  met = tt;
+}
+passes_by told stage next piece old new (Err fault) stopped is_ready taken fits = record {
+  same = same_by csplit_work stopped.took.keeps;
+  size = omega (arith, taken);
+  holds = tt;
+  outputs = tt;
+  ready = tt;
+  owns = owns_on stopped.took.keeps.writer;
+  there = stopped.took.keeps.writer.owns.there;
+  cut = λ before x at. engine.cut (not_verdict stage.cutter.style old new fault is_ready.manner stopped.took.keeps.writer.slots)
+      (subst (λ low. StoppedBetween (work stage).means.output told before low ((work stage).settled (x ++ piece)) fault new) (settled_is stage x)
+      (subst (λ high. StoppedBetween (work stage).means.output told before (settled_part stage.cutter (whole_lines x)) high fault new) (settled_then piece at.holds)
+      (stopped_in_turn (work stage).means.output told before _ _ fault new (has_settled stage (whole_lines x)) ((stopped.took.reaches (whole_lines x) (lines_whole x) at.holds.stands).there before (stands_so told at)))));
+  met = met_by refl (EndsWith duty piece stage) stage.cutter.style old new fault is_ready.manner stopped.took.keeps.writer.slots;
+}
 
 -- the end
 
@@ -600,14 +604,14 @@ module _ (told : Bool) (stage next : CsplitState) (old new : List Slot) where
   pub judged_then : Closed told stage old new next None → {verdict : Option Verdict} → Judges next.cutter verdict → {x : List ℕ} → Holds stage x → verdict ≡ (work stage).verdict x
   judged_then closed judges {x} holds = judges (whole_lines x ++ stage.rest) (closed.judged (whole_lines x) (lines_whole x) holds.stands) ∙ verdict_then stage x holds closed.keeps
 
-  pub whole_out : Closed told stage old new next None → {before : List Slot} {x : List ℕ} → StandsAt Holds Owns stage told before x ((work stage).settled x) old → OutputsAt told before ((work stage).whole x) new
+  pub whole_out : Closed told stage old new next None → {before : List Slot} {x : List ℕ} → StandsAt duty stage told before x old → OutputsAt told before ((work stage).whole x) new
   whole_out closed {before} {x} at =
       subst (λ part. OutputsAt told before part new) (whole_then stage x at.holds) ((closed.reaches (whole_lines x) (lines_whole x) at.holds.stands).there before (stands_so told at)).outputs
 
-  pub ends_there : Closed told stage old new next None → {verdict : Verdict} → Judges next.cutter (Some verdict) → EndsThere Holds work stage verdict
+  pub ends_there : Closed told stage old new next None → {verdict : Verdict} → Judges next.cutter (Some verdict) → EndsThere duty stage verdict
   ends_there closed judges x holds = sym (judged_then closed judges holds)
 
-  pub ends_short : {fault : Fault} → Closed told stage old new next (Some fault) → IsReady stage old → EndsShort Holds Owns work stage told old new fault
+  pub ends_short : {fault : Fault} → Closed told stage old new next (Some fault) → IsReady stage old → CutsOff duty stage (work stage).whole told old new fault
   ends_short {fault} stopped ready before x at = engine.cut (not_verdict stage.cutter.style old new fault ready.manner stopped.keeps.writer.slots)
       (subst (λ low. StoppedBetween (work stage).means.output told before low ((work stage).whole x) fault new) (settled_is stage x)
       (subst (λ high. StoppedBetween (work stage).means.output told before (settled_part stage.cutter (whole_lines x)) high fault new) (whole_then stage x at.holds)
@@ -615,44 +619,47 @@ module _ (told : Bool) (stage next : CsplitState) (old new : List Slot) where
 
   -- the work ends with a verdict, and the files were cleared away after it
   pub ends_judged : Closed told stage old new next None → {verdict : Verdict} → (cleared : List Slot) → ((first : ℕ) → Owns next first new → Swept (work next).clears first new cleared)
-      → EndsShort Holds Owns work stage told old cleared (fault_is.Verdict verdict)
+      → CutsOff duty stage (work stage).whole told old cleared (fault_is.Verdict verdict)
   ends_judged closed cleared swept before x at =
       engine.judged refl new (whole_out closed at)
       (subst (λ (style : Style). Swept (not style.keep) (length before) new cleared) closed.keeps.style (swept (length before) (owns_on closed.keeps.writer (length before) at.owns)))
 
 -- what the end owes, however it went
-module _ (told : Bool) (stage next : CsplitState) (old new : List Slot) where
-  pub end_same : {result : Result (Unit {0}) Fault} → Closes told stage old new next result → work next ≡ work stage
-  end_same (ended_well closed none) = same_by csplit_work closed.keeps
-  end_same (ended_short fault stopped) = same_by csplit_work stopped.keeps
-  end_same (ended_so verdict mid reached closed judges swept) = swept.same ∙ same_by csplit_work closed.keeps
-
-  pub end_outputs : {result : Result (Unit {0}) Fault} → Closes told stage old new next result → OnOk result (Finishes Holds Owns work stage told old new)
-  end_outputs (ended_well closed none) = λ before x at.
-      (sym (judged_then told stage next old new closed none at.holds), whole_out told stage next old new closed at)
-  end_outputs closes = tt
-
-  pub end_writable : {result : Result (Unit {0}) Fault} → Closes told stage old new next result → IsReady stage old → OnOk result (writes (work stage).means.output ≡ true → IsTrue (is_writable new 0))
-  end_writable (ended_well closed none) ready = λ told. closed.keeps.writer.output ready.output
-  end_writable closes ready = tt
-
-  pub end_own : {result : Result (Unit {0}) Fault} → Closes told stage old new next result → KeepsOwn Owns stage next old new
-  end_own (ended_well closed none) first own = owns_on closed.keeps.writer first own
-  end_own (ended_short fault stopped) first own = owns_on stopped.keeps.writer first own
-  end_own (ended_so verdict mid reached closed judges swept) first own = swept.owns first (owns_on closed.keeps.writer first own)
-
-  pub end_there : (result : Result (Unit {0}) Fault) → Closes told stage old new next result → AreThere (files stage) old → AreThere (files next) new
-  end_there result fact are = grind (arith, common_steps)
-
-  pub end_cut : {result : Result (Unit {0}) Fault} → Closes told stage old new next result → IsReady stage old → IfErr result (EndsShort Holds Owns work stage told old new)
-  end_cut (ended_well closed none) ready = tt
-  end_cut (ended_short fault stopped) ready = ends_short told stage next old new stopped ready
-  end_cut (ended_so verdict mid reached closed judges swept) ready = ends_judged told stage mid old reached closed new swept.swept
-
-  pub end_met : {result : Result (Unit {0}) Fault} → Closes told stage old new next result → IsReady stage old → IfErr result (IsMet (work stage).means (work stage).means.closing (Unit {0}) (EndsThere Holds work stage) old new)
-  end_met (ended_well closed none) ready = tt
-  end_met (ended_short fault stopped) ready = met_by tt (EndsThere Holds work stage) stage.cutter.style old new fault ready.manner stopped.keeps.writer.slots
-  end_met (ended_so verdict mid reached closed judges swept) ready = ends_there told stage mid old reached closed judges
+pub finishes_by : (told : Bool) (stage next : CsplitState) (old new : List Slot) {result : Result (Unit {0}) Fault} → Closes told stage old new next result → IsReady stage old → next.taken ≤ stage.taken
+    → Finishes duty told stage next old new (IsMetThere duty stage) result
+finishes_by told stage next old new (ended_well closed none) is_ready few = record {
+  same = same_by csplit_work closed.keeps;
+  size = few;
+  well = λ x holds. sym (judged_then told stage next old new closed none holds);
+  outputs = λ before x at. whole_out told stage next old new closed at;
+  writable = λ told. closed.keeps.writer.output is_ready.output;
+  owns = owns_on closed.keeps.writer;
+  there = closed.keeps.writer.owns.there;
+  cut = tt;
+  met = tt;
+}
+finishes_by told stage next old new (ended_short fault stopped) is_ready few = record {
+  same = same_by csplit_work stopped.keeps;
+  size = few;
+  well = tt;
+  outputs = tt;
+  writable = tt;
+  owns = owns_on stopped.keeps.writer;
+  there = stopped.keeps.writer.owns.there;
+  cut = ends_short told stage next old new stopped is_ready;
+  met = met_by tt (EndsThere duty stage) stage.cutter.style old new fault is_ready.manner stopped.keeps.writer.slots;
+}
+finishes_by told stage next old new (ended_so verdict mid reached closed judges swept) is_ready few = record {
+  same = swept.same ∙ same_by csplit_work closed.keeps;
+  size = few;
+  well = tt;
+  outputs = tt;
+  writable = tt;
+  owns = λ first own. swept.owns first (owns_on closed.keeps.writer first own);
+  there = λ are. swept.there;
+  cut = ends_judged told stage mid old reached closed new swept.swept;
+  met = ends_there told stage mid old reached closed judges;
+}
 
 -- where nothing was written yet, the outputs are a new writer's
 none_stands : (told : Bool) (style : Style) {before slots : List Slot} → 2 ≤ length slots → OutputsAt told before nothing slots → At told (writer_for style) before nothing slots
@@ -674,15 +681,14 @@ cannot_begin told {style} {given} {new} {fault} same two stopped before at =
 
 -- The files are removed.
 
-module _ (view : CutterState) (stage : CsplitState) (next : CutterState) (old new : List Slot) (is : view ≡ stage.cutter) (clears_view : Clears view old new next) where
-  clears : Clears stage.cutter old new next
-  clears = subst (λ (cutter : CutterState). Clears cutter old new next) is clears_view
-
-  pub files_kept : KeepsFiles stage.cutter.writer next.writer old new
-  files_kept = files_left (ap (λ (c : CutterState). c.writer.keeps) clears.same) (ap (λ (c : CutterState). c.writer.current) clears.same) clears.removes
-
-  pub kept_own : {other : CsplitState} → other.cutter ≡ next → (first : ℕ) → Owns stage first old → Owns other first new
-  kept_own same first own = record { writer = rw same (files_kept.owns first own.writer); all = ap (λ (c : CutterState). c.writer.keeps) (same ∙ clears.same) ∙ own.all }
-
-  pub cleared_swept : (keep : Bool) → keep ≡ false → (first : ℕ) → Owns stage first old → Swept (not keep) first old new
-  cleared_swept keep none first own = subst (λ k. Swept (not k) first old new) (sym none) (all_cleared first stage.cutter.writer.files next.writer.files old new clears.removes own.writer.there own.writer.from (own.writer.own own.all))
+pub sweeps : {view : CutterState} (stage next : CsplitState) {old new : List Slot} → view ≡ stage.cutter → next.taken ≡ stage.taken → Clears view old new next.cutter → stage.cutter.style.keep ≡ false → AreThere (files stage) old → Sweeps duty stage next old new
+sweeps stage next {old} {new} is taken clears_view none are =
+    let clears = subst (λ (cutter : CutterState). Clears cutter old new next.cutter) is clears_view in
+    let kept = files_left (ap (λ (c : CutterState). c.writer.keeps) clears.same) (ap (λ (c : CutterState). c.writer.current) clears.same) clears.removes in record {
+      same = ap (λ (c : CutterState). csplit_work c.style c.operands) clears.same;
+      size = omega (arith, taken);
+      removes = subst (λ keep. RemovesIf (not keep) (files stage) old (files next) new) (sym none) clears.removes;
+      swept = λ first own. subst (λ keep. Swept (not keep) first old new) (sym none) (all_cleared first (files stage) (files next) old new clears.removes own.writer.there own.writer.from (own.writer.own own.all));
+      owns = λ first own. record { writer = kept.owns first own.writer; all = ap (λ (c : CutterState). c.writer.keeps) clears.same ∙ own.all };
+      there = kept.there are;
+    }

@@ -1,10 +1,11 @@
 -- What contracts see of the stage that takes in bytes, and what its calls do.
-use Rattle.std.specs.Prelude.{◌≡◌, ◌≢◌, ℕ, ◌+◌, ◌<◌, ◌≤◌, ◌^◌, List, [], length, IsTrue}
+use Rattle.std.specs.Prelude.{◌≡◌, ◌≢◌, ℕ, ◌+◌, ◌<◌, ◌≤◌, ◌^◌, true, List, [], length, IsTrue}
 use Rattle.seg_core.specs.Line.{delimiters, first_lines}
 use Rattle.ports_core.specs.FileWriter.{OwnsFiles, IsManner, IsReady as CanWrite, manner_in}
 use Rattle.ports_core.specs.Slot.{Slot, is_writable}
 use Rattle.ports_core.specs.declared.file_writer.Keeps.TheVariants.{All}
 use Rattle.ports_core.specs.Work.{Work}
+use Rattle.ports_core.specs.Engine.{Duty}
 use Rattle.csplit_core.specs.Csplit.{csplit_work}
 use Rattle.csplit_core.specs.Cutter.{CutterState, IsSound, Stands, load}
 use Rattle.csplit_core.specs.Output.{manner_of}
@@ -51,3 +52,15 @@ pub record Owns (stage : CsplitState) (first : ℕ) (slots : List Slot) : Type 0
 -- the outputs of the files that it made and didn't remove
 abbrev pub files : CsplitState → List ℕ
 files stage = stage.cutter.writer.files
+
+abbrev pub duty : Duty CsplitState
+duty = record {
+  Holds = Holds;
+  work = work;
+  IsDone = λ stage x. ⊥;
+  size = λ stage. stage.taken;
+  may_lack = λ stage piece. true;
+  Ready = IsReady;
+  Owns = Owns;
+  files = files;
+}

@@ -1,16 +1,15 @@
 -- Lemmas on the stage of `head` and `tail`, and on what it uses.
 use Rattle.std.proofs.lemmas.Grind.{common_steps}
-use Rattle.std.proofs.Common.{◌≡◌, ℕ, ◌+◌, ◌-◌, ◌<◌, ◌≤◌, ◌&&◌, not, List, [], ◌∷◌, ◌++◌, ◌⊎◌, length, Bool, true, false, IsTrue, Ok, Err, Result, OnOk, nat_le, inl, inr, None, refl, sym, ◌∙◌, ap, subst, arith, length-append, ◌↔◌, replicate, lit<, zero, suc, take, drop, rules}
+use Rattle.std.proofs.Common.{◌≡◌, ℕ, ◌+◌, ◌-◌, ◌<◌, ◌≤◌, ◌&&◌, not, List, [], ◌∷◌, ◌++◌, ◌⊎◌, ◌^◌, length, Bool, true, false, IsTrue, Ok, Err, Result, OnOk, nat_le, inl, inr, None, refl, sym, ◌∙◌, ap, subst, arith, length-append, ◌↔◌, replicate, lit<, zero, suc, take, drop, rules}
 use Rattle.std.proofs.lemmas.Bool.{false≢true, leb-false, cases_lt, le-leb, lt-leb, leb-true}
 use Rattle.std.proofs.lemmas.List.{nil_from_length, append-nil, append_cancel_left, take-append-drop, take-append-le, take_at, length-drop, length-take}
 use Rattle.std.proofs.lemmas.List.Elements.{All-replicate}
 use Rattle.ports_core.specs.Slot.{Slot, is_writable, with_written, told_of}
 use Rattle.ports_core.specs.Source.{Source}
-use Rattle.ports_core.specs.Part.{Output, Part, OutputsAt, StoppedBetween, gets_bytes, only_out}
+use Rattle.ports_core.specs.Part.{Part, OutputsAt, StoppedBetween, gets_bytes, only_out}
 use Rattle.ports_core.proofs.PartLemmas.{out_more}
 use Rattle.ports_core.specs.Work.{Means, Needs, on_output, IsNeeded, IsSpare}
-use Rattle.ports_core.specs.Engine.{Loads, TakesIn, PutsOut, CutsOff, Finishes, EndsShort, IsMet, cut, MayGet}
-use Rattle.ports_core.specs.inner.Engine.{OwnsNone}
+use Rattle.ports_core.specs.Engine.{Loads, TakesIn, PutsOut, CutsOff, IsMet, cut, MayGet}
 use Rattle.ports_core.specs.declared.fault.Fault.{Fault}
 use Rattle.ports_core.specs.declared.verdict.Verdict.{Verdict}
 use Rattle.seg_core.specs.declared.unit.Unit.{Unit as Counted}
@@ -20,7 +19,7 @@ use Rattle.ends_core.specs.declared.front.Front.{Front}
 use Rattle.ends_core.specs.declared.ends.Ends.TheVariants.{First, ButLast, FromNth, Last}
 use Rattle.ends_core.specs.Ends.{measure, first_of, after_of, last_of, but_last_of}
 use Rattle.ends_core.specs.Head.{head_work, IsDone, ahead_of}
-use Rattle.ends_core.specs.Stage.{Stretch, the_first, from_the_nth, the_last, keeps, work_in, stretch_of, delim_of, unit_of, count_of, left_of, waiting_of, waiting, past_in, past_of, may_lack, work, Holds, is_done, all_but_last}
+use Rattle.ends_core.specs.Stage.{Stretch, the_first, from_the_nth, the_last, keeps, work_in, stretch_of, delim_of, unit_of, count_of, left_of, waiting_of, waiting, past_in, past_of, may_lack, work, Holds, duty, is_done, all_but_last}
 use Rattle.ends_core.specs.inner.Stage.{IsSilent, due, due_at_end, left_waiting, is_full, unused_of, FullLacksNone, SameAsked, piece_for, wanted_by}
 use Rattle.ends_core.specs.Kept.{most_of, delim_of as kept_delim, unit_of as kept_unit}
 use Rattle.ports_core.specs.Inputs.{PassesOver}
@@ -52,40 +51,31 @@ pub always_well : (s : Stretch) (delim : ℕ) (unit : Counted) (n : ℕ) (x : Li
 always_well the_first delim unit n x = refl
 always_well s delim unit n x = refl
 
+-- with these bytes the output has what is due, whatever it was fed
+abbrev pub Makes : Ends → List ℕ → (List ℕ → Part) → Type 0
+Makes ends bytes whole = (x : List ℕ) → Holds ends x → record ((work ends).settled x) { out = ((work ends).settled x).out ++ bytes } ≡ whole x
+
 -- what is written with a piece is what the output gains by it
-went_out : (ends : Ends) {x : List ℕ} (piece : List ℕ) → Holds ends x → record ((work ends).settled x) { out = ((work ends).settled x).out ++ due ends piece } ≡ (work ends).settled (x ++ piece)
-went_out (First count front) {x} piece holds = grind (arith, common_steps, first_of-append)
-went_out (ButLast kept) {x} piece holds = grind (arith, common_steps, but_last_of-append)
-went_out (FromNth count front) {x} piece holds = grind (arith, common_steps, after_of-append)
-went_out (Last kept) piece holds = refl
+pub went_out : (ends : Ends) (piece : List ℕ) → Makes ends (due ends piece) (λ x. (work ends).settled (x ++ piece))
+went_out (First count front) piece x holds = grind (arith, common_steps, first_of-append)
+went_out (ButLast kept) piece x holds = grind (arith, common_steps, but_last_of-append)
+went_out (FromNth count front) piece x holds = grind (arith, common_steps, after_of-append)
+went_out (Last kept) piece x holds = refl
 
 -- and at the end
-rest_out : (ends : Ends) {x : List ℕ} → Holds ends x → record ((work ends).settled x) { out = ((work ends).settled x).out ++ due_at_end ends } ≡ (work ends).whole x
-rest_out (Last kept) holds = ap only_out holds.waits
-rest_out ends {x} holds = grind (arith, common_steps)
+pub rest_out : (ends : Ends) → Makes ends (due_at_end ends) (work ends).whole
+rest_out (Last kept) x holds = ap only_out holds.waits
+rest_out ends x holds = grind (arith, common_steps)
 
-pub puts_out : (told : Bool) (ends : Ends) (piece : List ℕ) {old new : List Slot} → new ≡ with_written 0 (told_of told (due ends piece)) old → PutsOut Holds OwnsNone work ends piece told old new
-puts_out told ends piece {old} {new} wrote before x at =
-    subst (λ part. OutputsAt told before part new) (went_out ends piece at.holds) (out_more told before _ old new (due ends piece) at.outputs wrote)
+module _ (told : Bool) (ends : Ends) (bytes : List ℕ) {whole : List ℕ → Part} (makes : Makes ends bytes whole) {old new : List Slot} where
+  pub puts_out : new ≡ with_written 0 (told_of told bytes) old → PutsOut duty ends whole told old new
+  puts_out wrote before x at = subst (λ part. OutputsAt told before part new) (makes x at.holds) (out_more told before _ old new bytes at.outputs wrote)
 
--- what stopped it stopped an output of bytes
-stops_bytes : {told : Bool} (ends : Ends) {before : List Slot} {low high : Part} {f : Fault} {new : List Slot} → StoppedBetween gets_bytes told before low high f new → StoppedBetween (work ends).means.output told before low high f new
-stops_bytes {told} ends {before} {low} {high} {f} {new} stops =
-    subst (λ (output : Output). StoppedBetween output told before low high f new) (sym (ap (λ means. means.output) (on_means (stretch_of ends) (delim_of ends) (unit_of ends) (count_of ends)))) stops
-
-pub cuts_off : (told : Bool) {lacks : Bool} (ends : Ends) (piece : List ℕ) {old new : List Slot} {f : Fault} → Stops told lacks (due ends piece) old new f → CutsOff Holds OwnsNone work ends piece told old new f
-cuts_off told ends piece {new} {f} stops before x at =
-    cut (stop.unjudged told stops) (stops_bytes ends (subst (λ part. StoppedBetween gets_bytes told before ((work ends).settled x) part f new) (went_out ends piece at.holds) (stop.between told at.outputs stops)))
-
-pub finishes : (told : Bool) (ends : Ends) {old new : List Slot} → new ≡ with_written 0 (told_of told (due_at_end ends)) old → Finishes Holds OwnsNone work ends told old new
-finishes told ends {old} {new} wrote before x at = (
-  always_well (stretch_of ends) (delim_of ends) (unit_of ends) (count_of ends) x,
-  subst (λ part. OutputsAt told before part new) (rest_out ends at.holds) (out_more told before _ old new (due_at_end ends) at.outputs wrote),
-)
-
-pub ends_short : (told : Bool) {lacks : Bool} (ends : Ends) {old new : List Slot} {f : Fault} → Stops told lacks (due_at_end ends) old new f → EndsShort Holds OwnsNone work ends told old new f
-ends_short told ends {new} {f} stops before x at =
-    cut (stop.unjudged told stops) (stops_bytes ends (subst (λ part. StoppedBetween gets_bytes told before ((work ends).settled x) part f new) (rest_out ends at.holds) (stop.between told at.outputs stops)))
+  -- what stopped it stopped an output of bytes
+  pub cuts_off : {lacks : Bool} {f : Fault} → Stops told lacks bytes old new f → CutsOff duty ends whole told old new f
+  cuts_off {f = f} stops before x at = cut (stop.unjudged told stops)
+      (subst (λ output. StoppedBetween output told before ((work ends).settled x) (whole x) f new) (sym (ap (λ means. means.output) (on_means (stretch_of ends) (delim_of ends) (unit_of ends) (count_of ends))))
+      (subst (λ part. StoppedBetween gets_bytes told before ((work ends).settled x) part f new) (makes x at.holds) (stop.between told at.outputs stops)))
 
 minus_both : (n a b : ℕ) → (n - a) - b ≡ n - (a + b)
 minus_both n a b = omega arith
@@ -173,7 +163,7 @@ waits_none from_the_nth delim unit n = refl
 waits_none s delim unit n = last_none delim unit n
 
 -- no more waits than came in
-pub waits_within : (s : Stretch) (delim : ℕ) (unit : Counted) (n : ℕ) (x : List ℕ) → length ((work_in s delim unit n).waiting x) ≤ length x
+waits_within : (s : Stretch) (delim : ℕ) (unit : Counted) (n : ℕ) (x : List ℕ) → length ((work_in s delim unit n).waiting x) ≤ length x
 waits_within the_first delim unit n x = omega arith
 waits_within from_the_nth delim unit n x = omega arith
 waits_within s delim unit n x = omega (arith, sym (length-append (but_last_of delim unit n x) (last_of delim unit n x)) ∙ ap length (ends_together delim unit n x))
@@ -195,7 +185,7 @@ as_piece ends next x fresh waits past silent = grind (arith, common_steps)
 
 silent_out : (ends next : Ends) (x : List ℕ) → Holds ends [] → IsSilent ends next x → (work ends).settled x ≡ (work ends).settled []
 silent_out (FromNth count front) next x fresh silent =
-    sym (went_out (FromNth count front) x fresh) ∙ ap (λ bytes. record ((work (FromNth count front)).settled []) { out = ((work (FromNth count front)).settled []).out ++ bytes }) silent.0 ∙ ap only_out (append-nil _)
+    sym (went_out (FromNth count front) x [] fresh) ∙ ap (λ bytes. record ((work (FromNth count front)).settled []) { out = ((work (FromNth count front)).settled []).out ++ bytes }) silent.0 ∙ ap only_out (append-nil _)
 silent_out (Last kept) next x fresh silent = refl
 silent_out ends next x fresh silent = ap (work ends).settled silent.0
 
@@ -204,10 +194,13 @@ goes_on (FromNth count front) next x silent = inr refl
 goes_on (Last kept) next x silent = inr refl
 goes_on ends next x silent = inl silent.0
 
-pub loads : (told : Bool) (most slot count : ℕ) (ends next : Ends) (old new : List Source) → Holds ends [] → SameAsked ends next → past_of next ≡ past_of ends
-    → PassesOver told most slot count (λ x. (waiting_of next ≡ waiting ends x) × IsSilent ends next x) old new → FullLacksNone next → Loads Holds (λ (those : Ends) slots. IsTrue (is_writable slots 0)) OwnsNone work told most slot count ends next old new
-loads told most slot count ends next old new fresh same past passes full = passes_so _ passes (λ x long keeps.
+pub loads : (told : Bool) (most slot count : ℕ) (ends next : Ends) (old new : List Source) → Holds ends [] → duty.size ends ≡ 0 → SameAsked ends next → past_of next ≡ past_of ends
+    → PassesOver told most slot count (λ x. (waiting_of next ≡ waiting ends x) × IsSilent ends next x) old new → FullLacksNone next → count < 2 ^ 63 → Loads duty told most slot count ends next old new
+loads told most slot count ends next old new fresh none same past passes full few = passes_so _ passes (λ x long keeps.
     let piece = as_piece ends next x fresh keeps.0 past keeps.1 in record {
+      same = same_work same;
+      size = omega (arith, none, past, ap length keeps.0, waits_within (stretch_of ends) (delim_of ends) (unit_of ends) (count_of ends) x);
+      few = omega (arith, few, long);
       holds = takes_in ends x same piece.0 piece.1 piece.2 full [] fresh;
       ready = λ slots is. is;
       owns = λ first slots is. is;
@@ -333,7 +326,7 @@ few_spare delim Lines count x piece spare is going enough within =
     let few = few_between delim x piece spare.used spare.rest spare.joined past in
     omega (arith, is, going, enough, within, past, few, spare.long, sym (length-append x piece) ∙ ap length spare.joined ∙ length-append spare.used spare.rest)
 
-pub may_get : (ends : Ends) → MayGet Holds work ends (wanted_by ends)
+pub may_get : (ends : Ends) → MayGet duty ends (wanted_by ends)
 may_get (First count front) x piece after n holds going within same later spare = elim spare.enough [
   | inl none ↦ omega (arith, spare.long, ap length none)
   | inr complete ↦ few_spare front.delim front.unit count x piece spare (holds.left refl) (leb-false count (measure front.delim front.unit x) going) (leb-true count (measure front.delim front.unit spare.used) complete) within

@@ -1,10 +1,8 @@
 -- The one stage of `head` and `tail`, as contracts see it.
-use Rattle.std.specs.Prelude.{◌≡◌, ℕ, ◌-◌, ◌<◌, ◌≤◌, Bool, true, false, List, [], length}
+use Rattle.std.specs.Prelude.{◌≡◌, ℕ, ◌+◌, ◌-◌, ◌<◌, ◌≤◌, Bool, true, false, List, [], length, IsTrue}
 use Rattle.ports_core.specs.Work.{Work}
-use Rattle.ports_core.specs.Slot.{Slot}
-use Rattle.ports_core.specs.Engine.{IsCaused, IsMet, EndsWith}
-use Rattle.ports_core.specs.Guard.{GuardState}
-use Rattle.ports_core.specs.declared.fault.Fault.{Fault}
+use Rattle.ports_core.specs.Slot.{is_writable}
+use Rattle.ports_core.specs.Engine.{Duty}
 use Rattle.seg_core.specs.declared.unit.Unit.{Unit as Counted}
 use Rattle.seg_core.specs.declared.unit.Unit.TheVariants.{Lines, Bytes}
 use Rattle.ends_core.specs.declared.ends.Ends.{Ends}
@@ -128,13 +126,6 @@ pub record Holds (ends : Ends) (x : List ℕ) : Type 0 where
   pub none : keeps (stretch_of ends) ≡ false → may_lack ends ≡ false
   pub full : unit_of ends ≡ Bytes → count_of ends ≤ length x → may_lack ends ≡ false
 
--- what is known of a fault of `feed`, by its clause `refused`
-abbrev pub IsRefused : GuardState Ends → List ℕ → List Slot → List Slot → Fault → Type 0
-IsRefused engine piece old new fault =
-    IsCaused (IsMet (work engine.stage).means (work engine.stage).means.feeding (may_lack engine.stage ≡ true)
-    (EndsWith Holds work engine.stage piece) old new)
-    engine.is_over engine.fed (length piece) old new fault
-
 -- whatever comes after x, a head stays; a tail is never done
 abbrev pub done_in : Stretch → ℕ → Counted → ℕ → List ℕ → Type 0
 done_in the_first delim unit n x = IsDone delim unit false n x
@@ -144,3 +135,16 @@ done_in the_last delim unit n x = ⊥
 
 abbrev pub is_done : Ends → List ℕ → Type 0
 is_done ends x = done_in (stretch_of ends) (delim_of ends) (unit_of ends) (count_of ends) x
+
+-- it writes to standard output alone
+abbrev pub duty : Duty Ends
+duty = record {
+  Holds = Holds;
+  work = work;
+  IsDone = is_done;
+  size = λ ends. length (waiting_of ends) + past_of ends;
+  may_lack = λ ends piece. may_lack ends;
+  Ready = λ ends slots. IsTrue (is_writable slots 0);
+  Owns = λ ends first slots. Unit {0};
+  files = λ ends. [];
+}

@@ -2,13 +2,12 @@
 ghost use Rattle.std.specs.Prelude.{◌≡◌, ◌+◌, ◌-◌, ◌^◌, ◌<◌, ◌≤◌, ℕ, List, [], true, false, if◌then◌else◌, length, IsTrue, IfOk, IfErr, OnOk};
 ghost use Rattle.ports_core.specs.Slot.{is_writable};
 ghost use Rattle.ports_core.specs.Source.{is_readable};
-ghost use Rattle.ports_core.specs.inner.Engine.{OwnsNone};
 ghost use Rattle.ports_core.specs.Guard.{HoldsIn};
 ghost use Rattle.ends_core.specs.Ends.{measure};
 ghost use Rattle.ends_core.specs.Head.{head_work};
 ghost use Rattle.ends_core.specs.Tail.{tail_work};
 ghost use Rattle.ends_core.specs.inner.Stage.{FullLacksNone, IsSilent, SameAsked, due, due_at_end, is_full, left_waiting, unused_of, wanted_by};
-ghost use Rattle.ends_core.specs.Stage.{is_done, Holds, IsAsked, all_but_last, delim_of, from_the_nth, left_of, may_lack, past_of, stretch_of, the_first, the_last, unit_of, waiting, waiting_of, work};
+ghost use Rattle.ends_core.specs.Stage.{Holds, IsAsked, all_but_last, delim_of, duty, from_the_nth, left_of, may_lack, past_of, stretch_of, the_first, the_last, unit_of, waiting, waiting_of, work};
 ghost use Rattle.ends_core.specs.laws.WorkLaws.{lawful};
 ghost use Rattle.ports_core.specs.Inputs.{PassesOver};
 ghost use Rattle.ends_core.specs.inner.Kept.{Writes};
@@ -137,19 +136,7 @@ impl Tail {
 }
 
 impl Stage for Ends {
-    ghost Holds = { Holds };
-
-    ghost work = { work };
-
-    ghost size = { λ ends. length (waiting_of ends) + past_of ends };
-
-    ghost IsDone = { is_done };
-
-    ghost may_lack = { λ ends piece. may_lack ends };
-
-    ghost Ready = { λ ends slots. IsTrue (is_writable slots 0) };
-
-    ghost Owns = { OwnsNone };
+    ghost duty = { duty };
 
     /// Takes in a piece, and writes to standard output what is decided now, of what waited and of the piece. What no
     /// longer has to wait, and isn't written, is dropped.

@@ -3,12 +3,11 @@ use Rattle.std.proofs.lemmas.Grind.{common_steps}
 use Rattle.std.proofs.Common.{◌≡◌, ℕ, ◌≤◌, max, zero, suc, not, ◌&&◌, Bool, true, false, IsTrue, List, [], ◌∷◌, length, take, drop, replicate, Option, Some, None, if◌then◌else◌, inl, refl, sym, ◌∙◌, ap, subst, arith}
 use Rattle.std.proofs.lemmas.Bool.{false≢true}
 use Rattle.std.proofs.lemmas.List.{length-replicate, length-take-le, nil_from_length, take-append-drop}
-use Rattle.ports_core.specs.Slot.{Slot, changed_at}
+use Rattle.ports_core.specs.Slot.{changed_at}
 use Rattle.ports_core.specs.Source.{Content, Source, count_left, source_at, is_readable, looks, skips}
 use Rattle.ports_core.specs.Inputs.{HasLooked, PassesOver}
-use Rattle.ports_core.specs.Work.{Work}
 use Rattle.ports_core.proofs.InputsLemmas.{changed_source, keeps_again, keeps_itself, keeps_others}
-use Rattle.ports_core.specs.Engine.{Loads, TookIn}
+use Rattle.ports_core.specs.Engine.{Duty, Loads, TookIn}
 use Rattle.ports_core.proofs.SlotLemmas.{changed_there}
 use Rattle.ports_core.proofs.SourceLemmas.{readable_within}
 
@@ -122,11 +121,14 @@ passes_so Keeps passes so = record {
   keeps = so passes.front passes.long passes.keeps;
 }
 
--- an engine that takes in none stays as it was
+-- a stage that takes in none stays as it was
 
-module _ {E : Type 0} (Holds : E → List ℕ → Type 0) (Ready : E → List Slot → Type 0) (Owns : E → ℕ → List Slot → Type 0) (work : E → Work) where
-  took_none : {engine : E} → Holds engine [] → TookIn Holds Ready Owns work engine engine []
-  took_none fresh = record {
+module _ {S : Type 0} (duty : Duty S) where
+  took_none : {stage : S} → duty.Holds stage [] → duty.size stage ≡ 0 → TookIn duty stage stage []
+  took_none fresh none = record {
+    same = refl;
+    size = omega (arith, none);
+    few = omega arith;
     holds = fresh;
     ready = λ slots is. is;
     owns = λ first slots is. is;
@@ -134,12 +136,12 @@ module _ {E : Type 0} (Holds : E → List ℕ → Type 0) (Ready : E → List Sl
     going = inl refl;
   }
 
-  pub loads_none : (told : Bool) (most : ℕ) {slot : ℕ} {engine : E} {sources : List Source} → Holds engine []
-      → Loads Holds Ready Owns work told most slot 0 engine engine sources sources
-  loads_none told most {slot} {sources = sources} fresh = passes_none told _ (looked_none most slot sources) (took_none fresh)
+  pub loads_none : (told : Bool) (most : ℕ) {slot : ℕ} {stage : S} {sources : List Source} → duty.Holds stage [] → duty.size stage ≡ 0
+      → Loads duty told most slot 0 stage stage sources sources
+  loads_none told most {slot} {sources = sources} fresh none = passes_none told _ (looked_none most slot sources) (took_none fresh none)
 
   -- also where the input was looked at
-  pub loads_still : {told : Bool} {most slot : ℕ} {Before : List ℕ → Type 0} {engine : E} {old new : List Source} → Holds engine []
-      → PassesOver told most slot 0 Before old new → Loads Holds Ready Owns work told most slot 0 engine engine old new
-  loads_still {engine = engine} fresh passes = passes_so _ passes
-      (λ x long is. subst (TookIn Holds Ready Owns work engine engine) (sym (nil_from_length x (sym long))) (took_none fresh))
+  pub loads_still : {told : Bool} {most slot : ℕ} {Before : List ℕ → Type 0} {stage : S} {old new : List Source} → duty.Holds stage []
+      → duty.size stage ≡ 0 → PassesOver told most slot 0 Before old new → Loads duty told most slot 0 stage stage old new
+  loads_still {stage = stage} fresh none passes = passes_so _ passes
+      (λ x long is. subst (TookIn duty stage stage) (sym (nil_from_length x (sym long))) (took_none fresh none))

@@ -1,35 +1,51 @@
--- What each call of an engine owes. `Holds engine x` says that the engine can have been fed x, `work engine` is what it
--- makes of its input, and `Owns engine first slots` says that the slots from `first` on are those that it opened.
-use Rattle.std.specs.Prelude.{◌≡◌, ℕ, ◌+◌, ◌≤◌, ◌^◌, Bool, true, false, List, [], ◌++◌, ◌⊎◌, None, length}
-use Rattle.ports_core.specs.Slot.{Slot, Rose}
+-- What each call of an engine owes.
+use Rattle.std.specs.Prelude.{◌≡◌, ℕ, ◌+◌, ◌≤◌, ◌<◌, ◌^◌, Bool, true, false, List, [], ◌++◌, ◌⊎◌, None, length, IsTrue, Result, OnOk, IfErr}
+use Rattle.ports_core.specs.Slot.{Slot, Rose, is_writable}
 use Rattle.ports_core.specs.Source.{Source}
 use Rattle.ports_core.specs.Inputs.{PassesOver}
 use Rattle.ports_core.specs.Part.{Part, Output, OutputsAt, StoppedBetween, writes}
-use Rattle.ports_core.specs.Swept.{Swept, AreThere}
+use Rattle.ports_core.specs.Swept.{Swept, AreThere, RemovesIf}
 use Rattle.ports_core.specs.Work.{Work, Means, Needs, IsSettled, IsSpare, Judges}
 use Rattle.ports_core.specs.declared.fault.Fault.{Fault}
 use Rattle.ports_core.specs.declared.fault.Fault.TheVariants.{Memory, Write, Open}
 use Rattle.ports_core.specs.declared.fault.Fault.TheVariants as fault_is
 use Rattle.ports_core.specs.declared.verdict.Verdict.{Verdict}
 
+-- What a stage says of each of its states: what its calls owe is told in these words.
+pub record Duty (S : Type 0) : Type 1 where
+  -- it can have been fed these bytes
+  pub Holds : S → List ℕ → Type 0
+  -- what it makes of its input
+  pub work : S → Work
+  -- nothing that follows these bytes changes the output, in the tool's own words
+  pub IsDone : S → List ℕ → Type 0
+  -- how many bytes it has to count; 0 where its own limit bounds them
+  pub size : S → ℕ
+  -- there may be no memory for this piece
+  pub may_lack : S → List ℕ → Bool
+  -- the outputs that it goes on with can be written
+  pub Ready : S → List Slot → Type 0
+  -- the slots from this place on are those that it opened
+  pub Owns : S → ℕ → List Slot → Type 0
+  -- the outputs of the files that it made and didn't remove; none where its work never clears them
+  pub files : S → List ℕ
+
 -- whatever the engine was fed before, it was fed this piece after it
 abbrev pub TakesIn : {E : Type 0} → (E → List ℕ → Type 0) → List ℕ → E → E → Type 0
 TakesIn Holds piece old new = (x : List ℕ) → Holds old x → Holds new (x ++ piece)
 
--- The outputs are at some part of what the engine makes of x, from the state `before` on, and those opened since are
--- its own.
-pub record StandsAt {E : Type 0} (Holds : E → List ℕ → Type 0) (Owns : E → ℕ → List Slot → Type 0) (engine : E)
-    (told : Bool) (before : List Slot) (x : List ℕ) (part : Part) (now : List Slot) : Type 0 where
-  pub holds : Holds engine x
-  pub owns : Owns engine (length before) now
-  pub outputs : OutputsAt told before part now
+-- It can have been fed x. The outputs have what is settled with x, from the state `before` on, and those opened since
+-- are its own.
+pub record StandsAt {S : Type 0} (duty : Duty S) (stage : S) (told : Bool) (before : List Slot) (x : List ℕ)
+    (now : List Slot) : Type 0 where
+  pub holds : duty.Holds stage x
+  pub owns : duty.Owns stage (length before) now
+  pub outputs : OutputsAt told before ((duty.work stage).settled x) now
 
--- if the outputs had what was settled before the piece, they have what is settled with it
-abbrev pub PutsOut : {E : Type 0} → (E → List ℕ → Type 0) → (E → ℕ → List Slot → Type 0) → (E → Work) → E → List ℕ
-    → Bool → List Slot → List Slot → Type 0
-PutsOut Holds Owns work engine piece told old new = (before : List Slot) (x : List ℕ)
-    → StandsAt Holds Owns engine told before x ((work engine).settled x) old
-    → OutputsAt told before ((work engine).settled (x ++ piece)) new
+-- whatever it was fed, if the outputs had what was settled with that, they have what is due
+abbrev pub PutsOut : {S : Type 0} → Duty S → S → (List ℕ → Part) → Bool → List Slot → List Slot → Type 0
+PutsOut duty stage due told old new = (before : List Slot) (x : List ℕ) → StandsAt duty stage told before x old
+    → OutputsAt told before (due x) new
 
 -- a fault with which a tool's work itself ends
 abbrev pub is_verdict : Fault → Bool
@@ -45,13 +61,12 @@ pub data Ended (output : Output) (told : Bool) (before : List Slot) (low high : 
   judged : is_verdict fault ≡ true → (reached : List Slot) → OutputsAt told before high reached
       → Swept clears (length before) reached now → Ended output told before low high clears fault now
 
--- how a fault leaves the outputs within an input
-abbrev pub CutsOff : {E : Type 0} → (E → List ℕ → Type 0) → (E → ℕ → List Slot → Type 0) → (E → Work) → E → List ℕ
-    → Bool → List Slot → List Slot → Fault → Type 0
-CutsOff Holds Owns work engine piece told old new fault = (before : List Slot) (x : List ℕ)
-    → StandsAt Holds Owns engine told before x ((work engine).settled x) old
-    → Ended (work engine).means.output told before ((work engine).settled x) ((work engine).settled (x ++ piece))
-    (work engine).clears fault new
+-- how a fault leaves the outputs between what was settled and what was due
+abbrev pub CutsOff : {S : Type 0} → Duty S → S → (List ℕ → Part) → Bool → List Slot → List Slot → Fault → Type 0
+CutsOff duty stage due told old new fault = (before : List Slot) (x : List ℕ)
+    → StandsAt duty stage told before x old
+    → Ended (duty.work stage).means.output told before ((duty.work stage).settled x) (due x) (duty.work stage).clears
+    fault new
 
 -- The causes of a fault that meets an engine which isn't over: `Lacks` where it may want memory, `Ends` where its work
 -- ends so.
@@ -63,14 +78,23 @@ IsMet means needs Lacks Ends old new (Open slot) = (means.files ≡ true) × (ne
 IsMet means needs Lacks Ends old new (fault_is.Verdict verdict) = Ends verdict
 IsMet means needs Lacks Ends old new fault = ⊥
 
--- whatever the engine was fed, with this piece its work ends so
-abbrev pub EndsWith : {E : Type 0} → (E → List ℕ → Type 0) → (E → Work) → E → List ℕ → Verdict → Type 0
-EndsWith Holds work engine piece verdict = (x : List ℕ) → Holds engine x
-    → IsSettled (work engine) (x ++ piece) verdict
+-- whatever the stage was fed, with this piece its work ends so
+abbrev pub EndsWith : {S : Type 0} → Duty S → List ℕ → S → Verdict → Type 0
+EndsWith duty piece stage verdict = (x : List ℕ) → duty.Holds stage x
+    → IsSettled (duty.work stage) (x ++ piece) verdict
 
--- whatever the engine was fed, at its end the work ends so
-abbrev pub EndsThere : {E : Type 0} → (E → List ℕ → Type 0) → (E → Work) → E → Verdict → Type 0
-EndsThere Holds work engine verdict = (x : List ℕ) → Holds engine x → Judges (work engine) x verdict
+-- whatever the stage was fed, at its end the work ends so
+abbrev pub EndsThere : {S : Type 0} → Duty S → S → Verdict → Type 0
+EndsThere duty stage verdict = (x : List ℕ) → duty.Holds stage x → Judges (duty.work stage) x verdict
+
+-- what causes a fault of a stage that takes in a piece
+abbrev pub IsMetWith : {S : Type 0} → Duty S → List ℕ → S → List Slot → List Slot → Fault → Type 0
+IsMetWith duty piece stage = IsMet (duty.work stage).means (duty.work stage).means.feeding
+    (duty.may_lack stage piece ≡ true) (EndsWith duty piece stage)
+
+-- what causes a fault of a stage at the end
+abbrev pub IsMetThere : {S : Type 0} → Duty S → S → List Slot → List Slot → Fault → Type 0
+IsMetThere duty stage = IsMet (duty.work stage).means (duty.work stage).means.closing (Unit {0}) (EndsThere duty stage)
 
 -- what causes each fault of a call that takes in `size` bytes, where `Met` causes those of an engine which isn't over
 pub data IsCaused (Met : Fault → Type 0) (is_over : Bool) (fed size : ℕ) (old new : List Slot) : Fault → Type 0 where
@@ -78,53 +102,95 @@ pub data IsCaused (Met : Fault → Type 0) (is_over : Bool) (fed size : ℕ) (ol
   long : is_over ≡ false → 2 ^ 63 ≤ fed + size → new ≡ old → IsCaused Met is_over fed size old new fault_is.TooLong
   met : (fault : Fault) → is_over ≡ false → Met fault → IsCaused Met is_over fed size old new fault
 
--- at the end the outputs have the whole part, where they had what was settled, and the work ends well
-abbrev pub Finishes : {E : Type 0} → (E → List ℕ → Type 0) → (E → ℕ → List Slot → Type 0) → (E → Work) → E → Bool
-    → List Slot → List Slot → Type 0
-Finishes Holds Owns work engine told old new = (before : List Slot) (x : List ℕ)
-    → StandsAt Holds Owns engine told before x ((work engine).settled x) old
-    → ((work engine).verdict x ≡ None) × OutputsAt told before ((work engine).whole x) new
-
--- how a fault leaves the outputs at the end
-abbrev pub EndsShort : {E : Type 0} → (E → List ℕ → Type 0) → (E → ℕ → List Slot → Type 0) → (E → Work) → E → Bool
-    → List Slot → List Slot → Fault → Type 0
-EndsShort Holds Owns work engine told old new fault = (before : List Slot) (x : List ℕ)
-    → StandsAt Holds Owns engine told before x ((work engine).settled x) old
-    → Ended (work engine).means.output told before ((work engine).settled x) ((work engine).whole x)
-    (work engine).clears fault new
-
--- the slots from this place on are the engine's own, before and after
-abbrev pub KeepsOwn : {E : Type 0} → (E → ℕ → List Slot → Type 0) → E → E → List Slot → List Slot → Type 0
-KeepsOwn Owns old new before after = (first : ℕ) → Owns old first before → Owns new first after
-
--- the files that it made are there, if they were before
-abbrev pub KeepsThere : {E : Type 0} → (E → List ℕ) → E → E → List Slot → List Slot → Type 0
-KeepsThere files old new before after = AreThere (files old) before → AreThere (files new) after
+-- the slots from this place on are the stage's own, before and after
+abbrev pub KeepsOwn : {S : Type 0} → Duty S → S → S → List Slot → List Slot → Type 0
+KeepsOwn duty old new before after = (first : ℕ) → duty.Owns old first before → duty.Owns new first after
 
 -- its files are cleared away if the work clears them, and else stay
-abbrev pub Clears : {E : Type 0} → (E → ℕ → List Slot → Type 0) → (E → Work) → E → List Slot → List Slot → Type 0
-Clears Owns work engine old new = (first : ℕ) → Owns engine first old → Swept (work engine).clears first old new
+abbrev pub Clears : {S : Type 0} → Duty S → S → List Slot → List Slot → Type 0
+Clears duty stage old new = (first : ℕ) → duty.Owns stage first old → Swept (duty.work stage).clears first old new
 
--- An engine that was fed nothing became one that was fed this text: nothing is settled with it, and the output isn't
--- complete.
-pub record TookIn {E : Type 0} (Holds : E → List ℕ → Type 0) (Ready : E → List Slot → Type 0)
-    (Owns : E → ℕ → List Slot → Type 0) (work : E → Work) (before after : E) (front : List ℕ) : Type 0 where
-  pub holds : Holds after front
-  pub ready : (slots : List Slot) → Ready before slots → Ready after slots
-  pub owns : (first : ℕ) (slots : List Slot) → Owns before first slots → Owns after first slots
-  pub idle : (work before).settled front ≡ (work before).settled []
-  pub going : (front ≡ []) ⊎ ((work before).is_complete front ≡ false)
+-- What a stage leaves that took in a piece, or where a fault came, which `Met` says the cause of.
+pub record Passes {S : Type 0} (duty : Duty S) (told : Bool) (piece : List ℕ) (old new : S) (before after : List Slot)
+    (Met : List Slot → List Slot → Fault → Type 0) (result : Result (Unit {0}) Fault) : Type 0 where
+  -- it makes of its input what it made
+  pub same : duty.work new ≡ duty.work old
+  -- it has no more to count than came in
+  pub size : duty.size new ≤ duty.size old + length piece
+  -- it was fed the piece after what it was fed before
+  pub holds : OnOk result (TakesIn duty.Holds piece old new)
+  -- outputs that had what was settled before the piece have what is settled with it
+  pub outputs : OnOk result (PutsOut duty old (λ x. (duty.work old).settled (x ++ piece)) told before after)
+  -- those that it goes on with can be written
+  pub ready : OnOk result (duty.Ready new after)
+  -- the slots that were its own are
+  pub owns : KeepsOwn duty old new before after
+  -- the files that it made are there, if they were before
+  pub there : AreThere (duty.files old) before → AreThere (duty.files new) after
+  -- a fault leaves a beginning of what is settled with the piece, or all of it where the work ends so
+  pub cut : IfErr result (CutsOff duty old (λ x. (duty.work old).settled (x ++ piece)) told before after)
+  -- and has a cause
+  pub met : IfErr result (Met before after)
+
+-- What a stage leaves at the end of its input, or where a fault came, which `Met` says the cause of.
+pub record Finishes {S : Type 0} (duty : Duty S) (told : Bool) (old new : S) (before after : List Slot)
+    (Met : List Slot → List Slot → Fault → Type 0) (result : Result (Unit {0}) Fault) : Type 0 where
+  -- it makes of its input what it made
+  pub same : duty.work new ≡ duty.work old
+  -- it has no more to count
+  pub size : duty.size new ≤ duty.size old
+  -- the work ends well
+  pub well : OnOk result ((x : List ℕ) → duty.Holds old x → (duty.work old).verdict x ≡ None)
+  -- outputs that had what was settled have the whole
+  pub outputs : OnOk result (PutsOut duty old (duty.work old).whole told before after)
+  -- standard output can be written to, if it writes there
+  pub writable : OnOk result (writes (duty.work old).means.output ≡ true → IsTrue (is_writable after 0))
+  -- the slots that were its own are
+  pub owns : KeepsOwn duty old new before after
+  -- the files that it made are there, if they were before
+  pub there : AreThere (duty.files old) before → AreThere (duty.files new) after
+  -- a fault leaves a beginning of the whole, or all of it where the work ends so
+  pub cut : IfErr result (CutsOff duty old (duty.work old).whole told before after)
+  -- and has a cause
+  pub met : IfErr result (Met before after)
+
+-- What a stage leaves that gives its files up: they are removed if its work clears them.
+pub record Sweeps {S : Type 0} (duty : Duty S) (old new : S) (before after : List Slot) : Type 0 where
+  -- it makes of its input what it made
+  pub same : duty.work new ≡ duty.work old
+  -- it has no more to count
+  pub size : duty.size new ≤ duty.size old
+  -- its files are removed, one after another, and those are left whose removal failed
+  pub removes : RemovesIf (duty.work old).clears (duty.files old) before (duty.files new) after
+  -- so none of the outputs that are its own has a file, but for those
+  pub swept : Clears duty old before after
+  -- the slots that were its own are
+  pub owns : KeepsOwn duty old new before after
+  -- the files that are left are there
+  pub there : AreThere (duty.files new) after
+
+-- A stage that was fed nothing became one that was fed this text.
+pub record TookIn {S : Type 0} (duty : Duty S) (before after : S) (front : List ℕ) : Type 0 where
+  -- it makes of its input what it made
+  pub same : duty.work after ≡ duty.work before
+  -- it has no more to count than that, and that is less than an engine takes
+  pub size : duty.size after ≤ length front
+  pub few : length front < 2 ^ 63
+  pub holds : duty.Holds after front
+  pub ready : (slots : List Slot) → duty.Ready before slots → duty.Ready after slots
+  pub owns : (first : ℕ) (slots : List Slot) → duty.Owns before first slots → duty.Owns after first slots
+  -- nothing is settled with it, and its output isn't complete
+  pub idle : (duty.work before).settled front ≡ (duty.work before).settled []
+  pub going : (front ≡ []) ⊎ ((duty.work before).is_complete front ≡ false)
 
 -- It took in the first `count` bytes of what an input has left, which were passed over there and not read: looks asked
 -- for at most `most` at once.
-abbrev pub Loads : {E : Type 0} → (E → List ℕ → Type 0) → (E → List Slot → Type 0) → (E → ℕ → List Slot → Type 0)
-    → (E → Work) → Bool → ℕ → ℕ → ℕ → E → E → List Source → List Source → Type 0
-Loads Holds Ready Owns work told most slot count before after old new =
-    PassesOver told most slot count (TookIn Holds Ready Owns work before after) old new
+abbrev pub Loads : {S : Type 0} → Duty S → Bool → ℕ → ℕ → ℕ → S → S → List Source → List Source → Type 0
+Loads duty told most slot count before after old new = PassesOver told most slot count (TookIn duty before after) old new
 
--- The next piece may have this many bytes. Whatever x the engine was fed, if more can change the output: where a piece of
+-- The next piece may have this many bytes. Whatever x the stage was fed, if more can change the output: where a piece of
 -- no more bytes than that completes it, those of its bytes that are not used, n at its end, are at most `ahead`.
-abbrev pub MayGet : {E : Type 0} → (E → List ℕ → Type 0) → (E → Work) → E → ℕ → Type 0
-MayGet {E = E} Holds work engine most = (x piece : List ℕ) (after : E) (n : ℕ) → Holds engine x
-    → (work engine).is_complete x ≡ false → length piece ≤ most → work after ≡ work engine → Holds after (x ++ piece)
-    → IsSpare (work engine) (x ++ piece) n → n ≤ (work engine).ahead
+abbrev pub MayGet : {S : Type 0} → Duty S → S → ℕ → Type 0
+MayGet {S = S} duty stage most = (x piece : List ℕ) (after : S) (n : ℕ) → duty.Holds stage x
+    → (duty.work stage).is_complete x ≡ false → length piece ≤ most → duty.work after ≡ duty.work stage
+    → duty.Holds after (x ++ piece) → IsSpare (duty.work stage) (x ++ piece) n → n ≤ (duty.work stage).ahead

@@ -1,4 +1,3 @@
-pub mod Engine
 pub mod FileWriter
 pub mod Name
 pub mod Names

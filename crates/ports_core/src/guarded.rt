@@ -1,13 +1,11 @@
 //! Engines: what all of them share around a tool's stage. They count what comes in, take no more than 2^63-1 bytes, and
 //! return `Failed` once a fault or the end came.
-ghost use Rattle.std.specs.Prelude.{◌≡◌, ◌+◌, ◌^◌, ◌<◌, ◌≤◌, ◌↔◌, ℕ, List, [], true, false, length, IfErr, OnOk, OnErr, IsErrOf, IsTrue};
-ghost use Rattle.ports_core.specs.Part.{writes};
-ghost use Rattle.ports_core.specs.Slot.{is_writable};
+ghost use Rattle.std.specs.Prelude.{◌≡◌, ◌+◌, ◌^◌, ◌<◌, ◌≤◌, ◌↔◌, ℕ, List, [], true, false, length, OnOk, OnErr, IsErrOf, IsTrue};
 ghost use Rattle.ports_core.specs.Source.{is_readable};
-ghost use Rattle.ports_core.specs.Engine.{Loads, TakesIn, PutsOut, CutsOff, Finishes, EndsShort, EndsWith, EndsThere, IsCaused, IsMet, KeepsOwn, KeepsThere, Clears, MayGet};
+ghost use Rattle.ports_core.specs.Engine.{Finishes, Loads, MayGet, Passes, Sweeps, TakesIn};
 ghost use Rattle.ports_core.specs.Work.{IsSpare};
-ghost use Rattle.ports_core.specs.Swept.{AreThere, RemovesIf};
-ghost use Rattle.ports_core.specs.Guard.{GuardState, HoldsIn};
+ghost use Rattle.ports_core.specs.Swept.{AreThere};
+ghost use Rattle.ports_core.specs.Guard.{GuardState, HoldsIn, IsRefused, IsRefusedEnd};
 
 use crate::{Fault, Inputs, Outs, Stage, fed_with};
 use std::marker::Model;
@@ -27,13 +25,13 @@ impl<S: Stage> Model for Guarded<S> {
 
     ghost view = { λ g. record { stage = g.stage; fed = g.fed; is_over = g.is_over } };
 
-    ghost invariant = { λ g. (g.fed < 2 ^ 63) × (S.size g.stage ≤ g.fed) };
+    ghost invariant = { λ g. (g.fed < 2 ^ 63) × (S.duty.size g.stage ≤ g.fed) };
 }
 
 impl<S: Stage> Guarded<S> {
     /// An engine of this stage, which has been fed nothing.
     pub fn new(stage: S) -> Guarded<S>
-        requires { S.size stage ≡ 0 }
+        requires { S.duty.size stage ≡ 0 }
         ensures { result ≡ record { stage = stage; fed = 0; is_over = false } }
     {
         Guarded {
@@ -54,23 +52,12 @@ impl<S: Stage> Guarded<S> {
     /// whatever comes: then the outputs have all that is settled, and the files are removed if the work clears them.
     /// After a fault, and after `close`, `Failed`: nothing is changed.
     pub fn feed<O: Outs>(&mut self, piece: &[u8], outs: &mut O) -> Result<(), Fault>
-        requires { self.old.is_over ≡ false → S.Ready self.old.stage (O.slots outs.old) }
-        ensures same { S.work self.new.stage ≡ S.work self.old.stage }
-        ensures holds { OnOk result (TakesIn (HoldsIn S.Holds) piece.now self.old self.new) }
-        ensures outputs { OnOk result (PutsOut S.Holds S.Owns S.work self.old.stage piece.now O.told (O.slots outs.old)
-            (O.slots outs.new)) }
-        ensures ready { OnOk result (S.Ready self.new.stage (O.slots outs.new)) }
+        requires { self.old.is_over ≡ false → S.duty.Ready self.old.stage (O.slots outs.old) }
+        ensures passes { Passes S.duty O.told piece.now self.old.stage self.new.stage (O.slots outs.old)
+            (O.slots outs.new) (IsRefused S.duty piece.now self.old) result }
+        ensures holds { OnOk result (TakesIn (HoldsIn S.duty.Holds) piece.now self.old self.new) }
         ensures fed { OnOk result (self.new.fed ≡ self.old.fed + length piece.now) }
         ensures bound { OnOk result (self.new.fed < 2 ^ 63) }
-        ensures owns { KeepsOwn S.Owns self.old.stage self.new.stage (O.slots outs.old) (O.slots outs.new) }
-        ensures there { KeepsThere S.files self.old.stage self.new.stage (O.slots outs.old) (O.slots outs.new) }
-        ensures cut { IfErr result
-            (CutsOff S.Holds S.Owns S.work self.old.stage piece.now O.told (O.slots outs.old) (O.slots outs.new)) }
-        ensures refused { IfErr result
-            (IsCaused (IsMet (S.work self.old.stage).means (S.work self.old.stage).means.feeding
-            (S.may_lack self.old.stage piece.now ≡ true) (EndsWith S.Holds S.work self.old.stage piece.now)
-            (O.slots outs.old) (O.slots outs.new)) self.old.is_over self.old.fed (length piece.now) (O.slots outs.old)
-            (O.slots outs.new)) }
         ensures long { self.old.is_over ≡ false → 2 ^ 63 ≤ self.old.fed + length piece.now
             → IsErrOf result Fault.TooLong × (O.slots outs.new ≡ O.slots outs.old) }
         ensures failed { self.old.is_over ≡ true → IsErrOf result Fault.Failed × (self.new ≡ self.old)
@@ -101,16 +88,13 @@ impl<S: Stage> Guarded<S> {
     /// from its front.
     pub fn load<I: Inputs>(&mut self, slot: usize, buffer: &mut [u8], inputs: &mut I) -> u64
         requires room { 0 < length buffer.old }
-        requires fresh { HoldsIn S.Holds self.old [] }
+        requires fresh { HoldsIn S.duty.Holds self.old [] }
         requires input { IsTrue (is_readable (I.sources inputs.old) slot) }
-        ensures same { S.work self.new.stage ≡ S.work self.old.stage }
-        ensures loads { Loads S.Holds S.Ready S.Owns S.work I.told
-            (length buffer.old) slot result self.old.stage self.new.stage (I.sources inputs.old)
-            (I.sources inputs.new) }
+        ensures loads { Loads S.duty I.told (length buffer.old) slot result self.old.stage self.new.stage
+            (I.sources inputs.old) (I.sources inputs.new) }
         ensures fed { self.new.fed ≡ result }
         ensures live { self.new.is_over ≡ false }
         ensures laid { I.laid inputs.new ≡ I.laid inputs.old }
-        ensures bound { result < 2 ^ 63 }
     {
         self.fed = self.stage.load(slot, buffer, inputs);
         self.fed
@@ -126,20 +110,9 @@ impl<S: Stage> Guarded<S> {
     /// of it, and the files are removed if the work clears them. `Failed` after a fault or after `close`: nothing is
     /// changed.
     pub fn close<O: Outs>(&mut self, outs: &mut O) -> Result<(), Fault>
-        requires { self.old.is_over ≡ false → S.Ready self.old.stage (O.slots outs.old) }
-        ensures same { S.work self.new.stage ≡ S.work self.old.stage }
-        ensures outputs { OnOk result (Finishes S.Holds S.Owns S.work self.old.stage O.told (O.slots outs.old)
-            (O.slots outs.new)) }
-        ensures writable { OnOk result (writes (S.work self.old.stage).means.output ≡ true
-            → IsTrue (is_writable (O.slots outs.new) 0)) }
-        ensures owns { KeepsOwn S.Owns self.old.stage self.new.stage (O.slots outs.old) (O.slots outs.new) }
-        ensures there { KeepsThere S.files self.old.stage self.new.stage (O.slots outs.old) (O.slots outs.new) }
-        ensures cut { IfErr result
-            (EndsShort S.Holds S.Owns S.work self.old.stage O.told (O.slots outs.old) (O.slots outs.new)) }
-        ensures refused { IfErr result
-            (IsCaused (IsMet (S.work self.old.stage).means (S.work self.old.stage).means.closing (Unit {0})
-            (EndsThere S.Holds S.work self.old.stage) (O.slots outs.old)
-            (O.slots outs.new)) self.old.is_over self.old.fed 0 (O.slots outs.old) (O.slots outs.new)) }
+        requires { self.old.is_over ≡ false → S.duty.Ready self.old.stage (O.slots outs.old) }
+        ensures finishes { Finishes S.duty O.told self.old.stage self.new.stage (O.slots outs.old) (O.slots outs.new)
+            (IsRefusedEnd S.duty self.old) result }
         ensures failed { self.old.is_over ≡ true → IsErrOf result Fault.Failed × (self.new ≡ self.old)
             × (O.slots outs.new ≡ O.slots outs.old) }
         ensures over { self.new.is_over ≡ true }
@@ -154,13 +127,8 @@ impl<S: Stage> Guarded<S> {
     /// there, in order, if its work clears them. One that can't be removed is broken and closed, and the next is tried.
     /// After a verdict, or when called again, it tries those whose removal failed before.
     pub fn abandon<O: Outs>(&mut self, outs: &mut O)
-        requires { AreThere (S.files self.old.stage) (O.slots outs.old) }
-        ensures same { S.work self.new.stage ≡ S.work self.old.stage }
-        ensures removes { RemovesIf (S.work self.old.stage).clears (S.files self.old.stage) (O.slots outs.old)
-            (S.files self.new.stage) (O.slots outs.new) }
-        ensures owns { KeepsOwn S.Owns self.old.stage self.new.stage (O.slots outs.old) (O.slots outs.new) }
-        ensures there { AreThere (S.files self.new.stage) (O.slots outs.new) }
-        ensures swept { Clears S.Owns S.work self.old.stage (O.slots outs.old) (O.slots outs.new) }
+        requires { AreThere (S.duty.files self.old.stage) (O.slots outs.old) }
+        ensures sweeps { Sweeps S.duty self.old.stage self.new.stage (O.slots outs.old) (O.slots outs.new) }
         ensures over { self.new.is_over ≡ true }
     {
         self.is_over = true;
@@ -169,8 +137,10 @@ impl<S: Stage> Guarded<S> {
 
     /// Whether the output is complete: whatever comes, it stays.
     pub fn done(&self) -> bool
-        ensures complete { (x : List ℕ) → HoldsIn S.Holds self.now x → result ≡ (S.work self.now.stage).is_complete x }
-        ensures exact { (x : List ℕ) → HoldsIn S.Holds self.now x → (IsTrue result ↔ S.IsDone self.now.stage x) }
+        ensures complete { (x : List ℕ) → HoldsIn S.duty.Holds self.now x
+            → result ≡ (S.duty.work self.now.stage).is_complete x }
+        ensures exact { (x : List ℕ) → HoldsIn S.duty.Holds self.now x
+            → (IsTrue result ↔ S.duty.IsDone self.now.stage x) }
     {
         self.stage.is_done()
     }
@@ -178,23 +148,24 @@ impl<S: Stage> Guarded<S> {
     /// How many bytes the next piece may have, so that no more of them than its work's `ahead` are not used: of an input that
     /// others read after it, such as a pipe, no more is to be read at once.
     pub fn wanted(&self) -> u64
-        ensures some { (x : List ℕ) → HoldsIn S.Holds self.now x → (S.work self.now.stage).is_complete x ≡ false
-            → 0 < result }
-        ensures few { MayGet S.Holds S.work self.now.stage result }
+        ensures some { (x : List ℕ) → HoldsIn S.duty.Holds self.now x
+            → (S.duty.work self.now.stage).is_complete x ≡ false → 0 < result }
+        ensures few { MayGet S.duty self.now.stage result }
     {
         self.stage.wanted()
     }
 
     /// How many of the bytes that came in are not used: those after the byte with which the output was complete.
     pub fn unused(&self) -> u64
-        ensures { (x : List ℕ) → HoldsIn S.Holds self.now x → IsSpare (S.work self.now.stage) x result }
+        ensures { (x : List ℕ) → HoldsIn S.duty.Holds self.now x → IsSpare (S.duty.work self.now.stage) x result }
     {
         self.stage.unused()
     }
 
     /// How many bytes wait, and so aren't written: those that came in and of which it isn't decided yet where they go.
     pub fn held(&self) -> u64
-        ensures { (x : List ℕ) → HoldsIn S.Holds self.now x → result ≡ length ((S.work self.now.stage).waiting x) }
+        ensures { (x : List ℕ) → HoldsIn S.duty.Holds self.now x
+            → result ≡ length ((S.duty.work self.now.stage).waiting x) }
     {
         self.stage.waits()
     }

@@ -28,7 +28,6 @@ use Rattle.split_core.specs.Ways as ways
 use Rattle.split_core.specs.declared.splitter.Splitter.TheVariants as way
 use Rattle.split_core.specs.inner.Chunker.{Changes, Ends, EndsAs, IsLike, LacksRoom, Passes, PassesAs, made}
 use Rattle.split_core.specs.inner.Sends.{AtAim, IsOf, manner_on, output_on}
-use Rattle.split_core.specs.inner.Ways.{FinishesBy, PassesBy}
 use Rattle.split_core.specs.laws.WorkLaws.{lawful}
 use Rattle.split_core.proofs.PartsLemmas.{met_files, told_writable}
 
@@ -100,7 +99,7 @@ module _ (chunks : Chunks) (Why : Judgement → Type 0) (old new : List Slot) (f
 
 at_aim : {told : Bool} {state : ChunkerState} {start : List Slot} {x : List ℕ} {now : List Slot}
     → can_cut (course state.cutter) state.cutter.chunks.count ≡ true
-    → StandsAt ways.Holds ways.Owns (way.Chunks state) told start x ((work state).settled x) now
+    → StandsAt ways.duty (way.Chunks state) told start x now
     → AtAim told state.cutter.target.aim start ((made state).settled x) now
 at_aim {told} {state} {start} {x} {now} can at = record {
   owns = at.owns;
@@ -109,48 +108,51 @@ at_aim {told} {state} {start} {x} {now} can at = record {
 
 module _ (told : Bool) (old new : ChunkerState) (piece : List ℕ) (before after : List Slot) where
   passes_well : Passes told old piece before after new None
-      → PassesBy told piece before after (Ok tt) (way.Chunks old) (way.Chunks new)
+      → engine.Passes ways.duty told piece (way.Chunks old) (way.Chunks new) before after (engine.IsMetWith ways.duty piece (way.Chunks old)) (Ok tt)
   passes_well passes = record {
     same = same_work old new passes.same passes.comes.stays;
-    bound = passes.bound;
+    size = passes.bound;
     holds = passes.stands;
     outputs = λ start x at. subst (λ (those : Work). OutputsAt told start (those.settled (x ++ piece)) after)
         (sym (works_so old passes.same.can)) (passes.comes.reaches x at.holds start (at_aim passes.same.can at)).outputs;
     ready = passes.comes.ready;
     owns = passes.comes.owns;
+    there = λ are. tt;
     cut = tt;
     met = tt;
   }
 
   passes_cut : (why : Fault) → Passes told old piece before after new (Some why)
-      → PassesBy told piece before after (Err why) (way.Chunks old) (way.Chunks new)
+      → engine.Passes ways.duty told piece (way.Chunks old) (way.Chunks new) before after (engine.IsMetWith ways.duty piece (way.Chunks old)) (Err why)
   passes_cut why passes = record {
     same = same_work old new passes.same passes.comes.stays;
-    bound = passes.bound;
+    size = passes.bound;
     holds = tt;
     outputs = tt;
     ready = tt;
     owns = passes.comes.owns;
+    there = λ are. tt;
     cut = λ start x at. subst (λ (those : Work). engine.Ended those.means.output told start (those.settled x) (those.settled (x ++ piece)) those.clears why after)
         (sym (works_so old passes.same.can))
         (engine.cut (unjudged (manner_on (course old.cutter)) before after why passes.comes.slots (λ is. passes.comes.named is x at.holds))
         (rw (output_is (course old.cutter) old.cutter.chunks old.said)
         (stopped_in_turn (output_on (course old.cutter)) told start _ _ why after (settled_lines (course old.cutter) old.cutter.chunks old.said x)
         (passes.comes.reaches x at.holds start (at_aim passes.same.can at)))));
-    met = subst (λ (those : Work). IsMet those.means those.means.feeding (true ≡ true) (EndsWith ways.Holds ways.work (way.Chunks old) piece) before after why)
+    met = subst (λ (those : Work). IsMet those.means those.means.feeding (true ≡ true) (EndsWith ways.duty piece (way.Chunks old)) before after why)
         (sym (works_so old passes.same.can))
         (met_feeding old.cutter.chunks _ before after why (λ is x holds. absurd (passes.comes.named is x holds)) (course old.cutter) old.said passes.comes.slots passes.comes.only);
   }
 
   passes_lacking : LacksRoom old piece before after new
-      → PassesBy told piece before after (Err Memory) (way.Chunks old) (way.Chunks new)
+      → engine.Passes ways.duty told piece (way.Chunks old) (way.Chunks new) before after (engine.IsMetWith ways.duty piece (way.Chunks old)) (Err Memory)
   passes_lacking lacks = record {
     same = same_work old new lacks.same (ap course_of lacks.aim);
-    bound = lacks.bound;
+    size = lacks.bound;
     holds = tt;
     outputs = tt;
     ready = tt;
     owns = λ first owns. rw (lacks.aim, lacks.slots) owns;
+    there = λ are. tt;
     cut = λ start x at. engine.cut refl (stopped_here (work old).means.output told start ((work old).settled x) ((work old).settled (x ++ piece))
         Memory before after at.outputs ((lawful (way.Chunks old)).grows x piece) lacks.slots tt tt);
     met = subst (λ (those : Work). (those.means.feeding.memory ≡ true) × (true ≡ true)) (sym (works_so old lacks.same.can))
@@ -159,14 +161,15 @@ module _ (told : Bool) (old new : ChunkerState) (piece : List ℕ) (before after
 
   passes_changed : total new ≤ total old + length piece
       → Changes told old (λ x. (made old).settled (x ++ piece)) (λ x. IsSettled (made old) (x ++ piece) Changed) before after new
-      → PassesBy told piece before after (Err (Verdict Changed)) (way.Chunks old) (way.Chunks new)
+      → engine.Passes ways.duty told piece (way.Chunks old) (way.Chunks new) before after (engine.IsMetWith ways.duty piece (way.Chunks old)) (Err (Verdict Changed))
   passes_changed bound changes = record {
     same = same_work old new changes.same changes.all.stays;
-    bound = bound;
+    size = bound;
     holds = tt;
     outputs = tt;
     ready = tt;
     owns = changes.all.owns;
+    there = λ are. tt;
     cut = λ start x at. subst (λ (those : Work). engine.Ended those.means.output told start (those.settled x) (those.settled (x ++ piece)) those.clears (Verdict Changed) after)
         (sym (works_so old changes.same.can))
         (engine.judged refl after (changes.all.reaches x at.holds start (at_aim changes.same.can at)).outputs
@@ -175,7 +178,7 @@ module _ (told : Bool) (old new : ChunkerState) (piece : List ℕ) (before after
   }
 
 pub passes_by : (told : Bool) (old new : ChunkerState) (piece : List ℕ) (before after : List Slot) (result : Result (Unit {0}) Fault)
-    → PassesAs told old piece before after new result → PassesBy told piece before after result (way.Chunks old) (way.Chunks new)
+    → PassesAs told old piece before after new result → engine.Passes ways.duty told piece (way.Chunks old) (way.Chunks new) before after (engine.IsMetWith ways.duty piece (way.Chunks old)) result
 passes_by told old new piece before after (Ok u) passes = passes_well told old new piece before after passes
 passes_by told old new piece before after (Err why) (inl passes) = passes_cut told old new piece before after why passes
 passes_by told old new piece before after (Err why) (inr (inl (is, lacks))) = rw is (passes_lacking told old new piece before after lacks)
@@ -191,46 +194,52 @@ aimed_writable (to_output chunk) chunks said slots aimed told = aimed
 
 module _ (told : Bool) (old new : ChunkerState) (before after : List Slot) where
   ends_well : IsAimed old.cutter.target.aim before → Ends told old before after new None
-      → FinishesBy told before after (Ok tt) (way.Chunks old) (way.Chunks new)
+      → engine.Finishes ways.duty told (way.Chunks old) (way.Chunks new) before after (engine.IsMetThere ways.duty (way.Chunks old)) (Ok tt)
   ends_well aimed ends = record {
     same = same_work old new ends.same ends.comes.stays;
-    bound = ends.bound;
-    outputs = λ start x at. subst (λ (those : Work). (those.verdict x ≡ None) × OutputsAt told start (those.whole x) after)
-        (sym (works_so old ends.same.can)) (ends.well x at.holds, (ends.comes.reaches x at.holds start (at_aim ends.same.can at)).outputs);
+    size = ends.bound;
+    well = λ x holds. subst (λ (those : Work). those.verdict x ≡ None) (sym (works_so old ends.same.can)) (ends.well x holds);
+    outputs = λ start x at. subst (λ (those : Work). OutputsAt told start (those.whole x) after)
+        (sym (works_so old ends.same.can)) (ends.comes.reaches x at.holds start (at_aim ends.same.can at)).outputs;
     writable = subst (λ (those : Work). writes those.means.output ≡ true → IsTrue (is_writable after 0)) (sym (works_so old ends.same.can))
         (λ told_is. ends.comes.output (aimed_writable old.cutter.target.aim old.cutter.chunks old.said before aimed told_is));
     owns = ends.comes.owns;
+    there = λ are. tt;
     cut = tt;
     met = tt;
   }
 
   ends_cut : (why : Fault) → Ends told old before after new (Some why)
-      → FinishesBy told before after (Err why) (way.Chunks old) (way.Chunks new)
+      → engine.Finishes ways.duty told (way.Chunks old) (way.Chunks new) before after (engine.IsMetThere ways.duty (way.Chunks old)) (Err why)
   ends_cut why ends = record {
     same = same_work old new ends.same ends.comes.stays;
-    bound = ends.bound;
+    size = ends.bound;
+    well = tt;
     outputs = tt;
     writable = tt;
     owns = ends.comes.owns;
+    there = λ are. tt;
     cut = λ start x at. subst (λ (those : Work). engine.Ended those.means.output told start (those.settled x) (those.whole x) those.clears why after)
         (sym (works_so old ends.same.can))
         (engine.cut (unjudged (manner_on (course old.cutter)) before after why ends.comes.slots (λ is. ends.comes.named is x at.holds))
         (rw (output_is (course old.cutter) old.cutter.chunks old.said)
         (stopped_in_turn (output_on (course old.cutter)) told start _ _ why after (settled_lines (course old.cutter) old.cutter.chunks old.said x)
         (ends.comes.reaches x at.holds start (at_aim ends.same.can at)))));
-    met = subst (λ (those : Work). IsMet those.means those.means.closing (Unit {0}) (EndsThere ways.Holds ways.work (way.Chunks old)) before after why)
+    met = subst (λ (those : Work). IsMet those.means those.means.closing (Unit {0}) (EndsThere ways.duty (way.Chunks old)) before after why)
         (sym (works_so old ends.same.can))
         (met_closing old.cutter.chunks _ before after why (λ is x holds. absurd (ends.comes.named is x holds)) (course old.cutter) old.said ends.comes.slots ends.comes.only ends.few);
   }
 
   ends_changed : total new ≤ total old → Changes told old (made old).whole (λ x. Judges (made old) x Changed) before after new
-      → FinishesBy told before after (Err (Verdict Changed)) (way.Chunks old) (way.Chunks new)
+      → engine.Finishes ways.duty told (way.Chunks old) (way.Chunks new) before after (engine.IsMetThere ways.duty (way.Chunks old)) (Err (Verdict Changed))
   ends_changed bound changes = record {
     same = same_work old new changes.same changes.all.stays;
-    bound = bound;
+    size = bound;
+    well = tt;
     outputs = tt;
     writable = tt;
     owns = changes.all.owns;
+    there = λ are. tt;
     cut = λ start x at. subst (λ (those : Work). engine.Ended those.means.output told start (those.settled x) (those.whole x) those.clears (Verdict Changed) after)
         (sym (works_so old changes.same.can))
         (engine.judged refl after (changes.all.reaches x at.holds start (at_aim changes.same.can at)).outputs
@@ -240,7 +249,7 @@ module _ (told : Bool) (old new : ChunkerState) (before after : List Slot) where
 
 pub finishes_by : (told : Bool) (old new : ChunkerState) (before after : List Slot) (result : Result (Unit {0}) Fault)
     → IsAimed old.cutter.target.aim before → EndsAs told old before after new result
-    → FinishesBy told before after result (way.Chunks old) (way.Chunks new)
+    → engine.Finishes ways.duty told (way.Chunks old) (way.Chunks new) before after (engine.IsMetThere ways.duty (way.Chunks old)) result
 finishes_by told old new before after (Ok u) aimed ends = ends_well told old new before after aimed ends
 finishes_by told old new before after (Err why) aimed (inl ends) = ends_cut told old new before after why ends
 finishes_by told old new before after (Err why) aimed (inr (is, bound, changes)) =

@@ -1,5 +1,5 @@
 -- Lemmas on what is passed over before the one chunk that is written.
-use Rattle.std.proofs.Common.{◌≡◌, ℕ, ◌+◌, ◌<◌, nat_lt, Bool, true, false, List, [], length, Some, inl, inr, refl, sym, ◌∙◌, ap, subst, arith, get_or}
+use Rattle.std.proofs.Common.{◌≡◌, ℕ, ◌+◌, ◌<◌, ◌≤◌, ◌^◌, nat_lt, Bool, true, false, List, [], length, Some, inl, inr, refl, sym, ◌∙◌, ap, subst, arith, get_or}
 use Rattle.std.proofs.lemmas.Bool.{lt-leb, ltb-true}
 use Rattle.std.proofs.lemmas.List.{append-nil, length-append, nil_from_length, take_all}
 use Rattle.std.proofs.lemmas.List.FromFn.{length-map-range_with_len}
@@ -137,8 +137,11 @@ module _ (chunker : ChunkerState) (front place : ℕ) (stands : StandsAfter chun
     waits = none.waits;
   })
 
-  pub took_in : TookIn ways.Holds ways.Ready ways.Owns ways.work (way.Chunks chunker) (way.Chunks next) x
-  took_in = record {
+  pub took_in : front < 2 ^ 63 → TookIn ways.duty (way.Chunks chunker) (way.Chunks next) x
+  took_in few = record {
+    same = refl;
+    size = omega (arith, spare_none, ap length none.waits, long);
+    few = omega (arith, few, long);
     holds = holds_front;
     ready = λ slots is. is;
     owns = λ first slots is. is;
@@ -150,8 +153,8 @@ module _ (chunker : ChunkerState) (front place : ℕ) (stands : StandsAfter chun
   }
 
 pub loads_front : {told : Bool} {most slot front place : ℕ} {Before : List ℕ → Type 0} {chunker inside : ChunkerState} {old new : List Source}
-    → inside ≡ chunker → StandsAfter chunker front place → Holds chunker [] → PassesOver told most slot front Before old new
-    → Loads ways.Holds ways.Ready ways.Owns ways.work told most slot front (way.Chunks chunker) (way.Chunks (passed_to inside front place)) old new
-loads_front {front = front} {place} {chunker = chunker} is stands fresh passes = passes_so _ passes (λ x long so.
-    subst (λ next. TookIn ways.Holds ways.Ready ways.Owns ways.work (way.Chunks chunker) (way.Chunks (passed_to next front place)) x) (sym is)
-    (took_in chunker front place stands fresh x long))
+    → inside ≡ chunker → StandsAfter chunker front place → Holds chunker [] → PassesOver told most slot front Before old new → front < 2 ^ 63
+    → Loads ways.duty told most slot front (way.Chunks chunker) (way.Chunks (passed_to inside front place)) old new
+loads_front {front = front} {place} {chunker = chunker} is stands fresh passes few = passes_so _ passes (λ x long so.
+    subst (λ next. TookIn ways.duty (way.Chunks chunker) (way.Chunks (passed_to next front place)) x) (sym is)
+    (took_in chunker front place stands fresh x long few))

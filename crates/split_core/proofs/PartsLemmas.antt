@@ -41,7 +41,6 @@ use Rattle.split_core.specs.inner.CutLaws.{cut_so, named}
 use Rattle.split_core.specs.inner.Sharing.{CannotClose, always_named}
 use Rattle.split_core.specs.inner.Step.{IsTurned, Leads}
 use Rattle.split_core.specs.inner.Takes.{Emptying, Extends, Finishes, LacksNames, Moves, Steps, Takes, Turns, numbers, settled_part, turns, whole_part}
-use Rattle.split_core.specs.inner.Ways.{FinishesBy, PassesBy}
 use Rattle.split_core.specs.laws.CutLaws.{cut_none, cut_on, first_some, settled_some, settled_then_waiting}
 use Rattle.split_core.specs.laws.ShareLaws.{are_named_more, named_short, part_begins, settled_count, settled_grow, shares_fewer}
 use Rattle.split_core.proofs.AgreedLemmas.{one_of}
@@ -496,70 +495,76 @@ never_done stands = sym (ap not (all_have_names stands))
 work_by : (state next : PartsState) → next.limit ≡ state.limit → filing_of next ≡ filing_of state → work next ≡ work state
 work_by state next limit names = cc
 
-at_writer : {told : Bool} {before : List Slot} {state : PartsState} {x : List ℕ} {now : List Slot} → StandsAt ways.Holds ways.Owns (way.Parts state) told before x ((work state).settled x) now → At told state.writer before (settled_part state x) now
+at_writer : {told : Bool} {before : List Slot} {state : PartsState} {x : List ℕ} {now : List Slot} → StandsAt ways.duty (way.Parts state) told before x now → At told state.writer before (settled_part state x) now
 at_writer at = search rules
 
 module _ (told : Bool) (state next : PartsState) (piece : List ℕ) (old new : List Slot) where
   -- names ran out: the files that have a name are written, and nothing can change that
-  settles : (f : Fault) → f ≡ fault_is.Verdict Suffixes → Takes told state piece old new next (Some f) → EndsWith ways.Holds ways.work (way.Parts state) piece Suffixes
+  settles : (f : Fault) → f ≡ fault_is.Verdict Suffixes → Takes told state piece old new next (Some f) → EndsWith ways.duty piece (way.Parts state) Suffixes
   settles f is stop x stands =
       let none = have_names state (x ++ piece) (stop.short is x stands).none in
       (ap not none, ap (λ (have : Bool). cond (not have) (Some Suffixes) None) none)
 
-  cut_by : {f : Fault} → is_verdict f ≡ false → Takes told state piece old new next (Some f) → CutsOff ways.Holds ways.Owns ways.work (way.Parts state) piece told old new f
+  cut_by : {f : Fault} → is_verdict f ≡ false → Takes told state piece old new next (Some f) → CutsOff ways.duty (way.Parts state) (λ x. (work state).settled (x ++ piece)) told old new f
   cut_by {f} kind stop before x at = engine.cut kind (stopped_in_turn (output_by (filing_of state).verbose) told before _ _ f new (has_told _ _) ((stop.reaches x at.holds).there before (at_writer at)))
 
-  cut_off : (f : Fault) → Takes told state piece old new next (Some f) → CutsOff ways.Holds ways.Owns ways.work (way.Parts state) piece told old new f
+  cut_off : (f : Fault) → Takes told state piece old new next (Some f) → CutsOff ways.duty (way.Parts state) (λ x. (work state).settled (x ++ piece)) told old new f
   cut_off (fault_is.Verdict Suffixes) stop = λ before x at. engine.judged refl new ((stop.short refl x at.holds).all before (at_writer at)) refl
   cut_off Memory stop = cut_by refl stop
   cut_off (Write slot) stop = cut_by refl stop
   cut_off (Open slot) stop = cut_by refl stop
   cut_off f stop = absurd stop.leaves.slots
 
-  pub passes_by : (result : Result (Unit {0}) Fault) → IsReady state old → Takes told state piece old new next (fault_in result) → PassesBy told piece old new result (way.Parts state) (way.Parts next)
+  pub passes_by : (result : Result (Unit {0}) Fault) → IsReady state old → Takes told state piece old new next (fault_in result) → engine.Passes ways.duty told piece (way.Parts state) (way.Parts next) old new (engine.IsMetWith ways.duty piece (way.Parts state)) result
   passes_by (Ok done) ready takes = record {
     same = work_by state next takes.limit (filing_same state next takes.leaves);
-    bound = omega arith;
+    size = omega arith;
     holds = takes.stands;
     outputs = λ before x at. ((takes.reaches x at.holds).there before (at_writer at)).outputs;
     ready = still_ready ready takes;
     owns = takes.leaves.owns.owns;
+    there = λ are. tt;
     cut = tt;
     met = tt;
   }
   passes_by (Err f) ready takes = record {
     same = work_by state next takes.limit (filing_same state next takes.leaves);
-    bound = omega arith;
+    size = omega arith;
     holds = tt;
     outputs = tt;
     ready = tt;
     owns = takes.leaves.owns.owns;
+    there = λ are. tt;
     cut = cut_off f takes;
-    met = met_files false _ _ (EndsWith ways.Holds ways.work (way.Parts state) piece) (manner_in state.writer) (filing_of state).verbose old new f (refl, refl) refl (ap output_of ready.tells) takes.leaves.slots (λ is. settles f is takes);
+    met = met_files false _ _ (EndsWith ways.duty piece (way.Parts state)) (manner_in state.writer) (filing_of state).verbose old new f (refl, refl) refl (ap output_of ready.tells) takes.leaves.slots (λ is. settles f is takes);
   }
 
 -- the end
 
-end_met : (state : PartsState) (old new : List Slot) (f : Fault) → IsWrite f → TellsNoSizes state.writer.tells → Breaks (manner_in state.writer) old new f → IsMet (work state).means (work state).means.closing (Unit {0}) (EndsThere ways.Holds ways.work (way.Parts state)) old new f
+end_met : (state : PartsState) (old new : List Slot) (f : Fault) → IsWrite f → TellsNoSizes state.writer.tells → Breaks (manner_in state.writer) old new f → IsMet (work state).means (work state).means.closing (Unit {0}) (EndsThere ways.duty (way.Parts state)) old new f
 end_met state old new f (slot, is) tells breaks = rw is (let (out, rose) = rw is at breaks in (λ none. subst (λ output. writes output ≡ true) (ap output_of tells) (out none), (λ none. absurd (cc)), rose))
 
 pub finishes_by : (told : Bool) (state next : PartsState) (old new : List Slot) (result : Result (Unit {0}) Fault) → IsReady state old → Finishes told state old new next (fault_in result)
-    → FinishesBy told old new result (way.Parts state) (way.Parts next)
+    → engine.Finishes ways.duty told (way.Parts state) (way.Parts next) old new (engine.IsMetThere ways.duty (way.Parts state)) result
 finishes_by told state next old new (Ok done) ready ends = record {
   same = work_by state next ends.limit (filing_same state next ends.leaves);
-  bound = omega arith;
-  outputs = λ before x at. (grind (arith, common_steps, all_have_names), ((ends.reaches x at.holds).there before (at_writer at)).outputs);
+  size = omega arith;
+  well = λ x holds. grind (arith, common_steps, all_have_names);
+  outputs = λ before x at. ((ends.reaches x at.holds).there before (at_writer at)).outputs;
   writable = λ told_is. (ends.leaves.output (told_writable state.writer.tells old ready.writer.output told_is));
   owns = ends.leaves.owns.owns;
+  there = λ are. tt;
   cut = tt;
   met = tt;
 }
 finishes_by told state next old new (Err f) ready ends = record {
   same = work_by state next ends.limit (filing_same state next ends.leaves);
-  bound = omega arith;
+  size = omega arith;
+  well = tt;
   outputs = tt;
   writable = tt;
   owns = ends.leaves.owns.owns;
+  there = λ are. tt;
   cut = λ before x at. engine.cut (rw ends.broke.1 refl) (stopped_in_turn (output_by (filing_of state).verbose) told before _ _ f new (has_told _ _) ((ends.reaches x at.holds).there before (at_writer at)));
   met = end_met state old new f ends.broke ready.tells ends.leaves.slots;
 }

@@ -16,6 +16,7 @@ use Rattle.ports_core.specs.Part.{Part, OutputsAt, StoppedBetween, gets_bytes, n
 use Rattle.ports_core.specs.Work.{IsSpare, Judges, Work}
 use Rattle.ports_core.specs.declared.verdict.Verdict.TheVariants.{Suffixes}
 use Rattle.ports_core.specs.Engine.{MayGet, TakesIn, EndsWith, EndsThere, StandsAt, is_verdict, cut}
+use Rattle.ports_core.specs.Engine as engine
 use Rattle.ports_core.proofs.SpareLemmas.{none_spare}
 use Rattle.split_core.specs.laws.WorkLaws.{lawful}
 use Rattle.ports_core.specs.declared.fault.Fault.{Fault}
@@ -36,7 +37,7 @@ use Rattle.split_core.specs.RoundState.{RoundState}
 use Rattle.split_core.specs.Round.{round_plan, round_work, work, opened_by, Holds, OwnsFiles}
 use Rattle.split_core.specs.Ways as ways
 use Rattle.split_core.specs.declared.splitter.Splitter.TheVariants as way
-use Rattle.split_core.specs.inner.Ways.{Deals, PassesBy, FinishesBy, held}
+use Rattle.split_core.specs.inner.Ways.{Deals, held}
 use Rattle.split_core.specs.inner.Sharing.{file_at, files_by, always_named, part_by, all_open, closed_first, StandAt, Adds, Opens, Leaves, ClosesAll}
 use Rattle.split_core.specs.laws.DealLaws.{dealt_append, dealt_none, dealt_files_are, share_none}
 use Rattle.split_core.proofs.AgreedLemmas.{each_named, shared_bytes, waiting_is}
@@ -118,7 +119,7 @@ stands_is : {round : RoundState} {x : List ℕ} → Holds round x
     → part_by (filing_in round.files) (all_open (share_of round.delim round.count x)) (length round.files.outputs) ≡ (work round).settled x
 stands_is {round} {x} holds = ap (part_by (filing_in round.files) (all_open (share_of round.delim round.count x))) holds.opened ∙ sym (filed_are round.delim Open (filing_in round.files) round.elide round.count x holds.named)
 
-stand_at : (told : Bool) (round : RoundState) {before : List Slot} {x : List ℕ} {now : List Slot} → StandsAt ways.Holds ways.Owns (way.Round round) told before x ((work round).settled x) now
+stand_at : (told : Bool) (round : RoundState) {before : List Slot} {x : List ℕ} {now : List Slot} → StandsAt ways.duty (way.Round round) told before x now
     → StandAt told round.files before (share_of round.delim round.count x) now
 stand_at told round {before} {x} {now} at = search (rules, stands_is, none_yet)
 
@@ -127,7 +128,7 @@ count_is : {round : RoundState} {x : List ℕ} (piece : List ℕ) → Holds roun
 count_is {round} {x} piece holds = search (rules, length-map-range_with_len, opened_after)
 
 module _ (told : Bool) (round : RoundState) (piece : List ℕ) {old before : List Slot} {x : List ℕ}
-    (at : StandsAt ways.Holds ways.Owns (way.Round round) told before x ((work round).settled x) old) where
+    (at : StandsAt ways.duty (way.Round round) told before x old) where
   made_is : part_by (filing_in round.files) (all_open (share_of round.delim round.count (x ++ piece)))
       (max (length round.files.outputs) (length (dealt_first round.delim round.count round.next piece))) ≡ (work round).settled (x ++ piece)
   made_is = ap (part_by (filing_in round.files) (all_open (share_of round.delim round.count (x ++ piece)))) (count_is piece at.holds) ∙ sym (filed_are round.delim Open (filing_in round.files) round.elide round.count (x ++ piece) at.holds.named)
@@ -135,33 +136,35 @@ module _ (told : Bool) (round : RoundState) (piece : List ℕ) {old before : Lis
   left_by : {next : FilesState} {new : List Slot} (result : Result (Unit {0}) Fault) → Adds told round.files (λ i. get_or (dealt_first round.delim round.count round.next piece) i []) 0 (length (dealt_first round.delim round.count round.next piece)) old next new result
       → Leaves told before (filing_in round.files) (all_open (share_of round.delim round.count x)) (length round.files.outputs) (all_open (share_of round.delim round.count (x ++ piece)))
       (max (length round.files.outputs) (length (dealt_first round.delim round.count round.next piece))) 0 (length (dealt_first round.delim round.count round.next piece)) new result
-  left_by result adds = search (rules, stand_at, share_after)
+  left_by result adds = adds.leaves before _ _ (stand_at told round at) (λ i. rw at.holds.next (share_after round.delim round.count x piece at.holds.some i))
 
 takes_in : (told : Bool) {old new : RoundState} {piece : List ℕ} {before after : List Slot} → Deals told old piece before after new (Ok tt) → TakesIn ways.Holds piece (way.Round old) (way.Round new)
 takes_in told {old} {new} {piece} deals x holds = grind (arith, common_steps, mod-add-mod, delimiters-append, count_is)
 
 pub passes_by : (told : Bool) (old new : RoundState) (piece : List ℕ) (before after : List Slot) (result : Result (Unit {0}) Fault)
-    → Deals told old piece before after new result → PassesBy told piece before after result (way.Round old) (way.Round new)
+    → Deals told old piece before after new result → engine.Passes ways.duty told piece (way.Round old) (way.Round new) before after (engine.IsMetWith ways.duty piece (way.Round old)) result
 passes_by told old new piece before after (Ok u) deals = record {
   same = same_work old new deals.delim deals.count deals.elide deals.adds.filing;
-  bound = omega arith;
+  size = omega arith;
   holds = takes_in told deals;
   outputs = λ start x at. subst (λ part. OutputsAt told start part after) (made_is told old piece at) (left_by told old piece at (Ok u) deals.adds);
   ready = deals.adds.ready;
   owns = deals.adds.owned;
+  there = λ are. tt;
   cut = tt;
   met = tt;
 }
 passes_by told old new piece before after (Err why) deals = record {
   same = same_work old new deals.delim deals.count deals.elide deals.adds.filing;
-  bound = omega arith;
+  size = omega arith;
   holds = tt;
   outputs = tt;
   ready = tt;
   owns = deals.adds.owned;
+  there = λ are. tt;
   cut = λ start x at. cut (part.unjudged (always_named (is_verbose old.files.tells)) before after why deals.adds.caused (part.none_lacks (is_verbose old.files.tells) before after deals.adds.caused))
       (stopped_as (output_by (is_verbose old.files.tells)) told (stands_is at.holds) (made_is told old piece at) (stops_in_order (left_by told old piece at (Err why) deals.adds)));
-  met = part.met_files false _ _ (EndsWith ways.Holds ways.work (way.Round old) piece) (always_named (is_verbose old.files.tells)) (is_verbose old.files.tells) before after why (refl, refl) refl refl deals.adds.caused (λ is. absurd (part.none_lacks (is_verbose old.files.tells) before after deals.adds.caused is));
+  met = part.met_files false _ _ (EndsWith ways.duty piece (way.Round old)) (always_named (is_verbose old.files.tells)) (is_verbose old.files.tells) before after why (refl, refl) refl refl deals.adds.caused (λ is. absurd (part.none_lacks (is_verbose old.files.tells) before after deals.adds.caused is));
 }
 
 -- The end
@@ -174,24 +177,28 @@ closed_part {round} {x} holds =
     ∙ ap (part_by filing (λ i. share Closed (has i))) holds.opened ∙ sym (filed_are round.delim Closed filing round.elide round.count x holds.named)
 
 pub finishes_by : (told : Bool) (round : RoundState) (old new : List Slot) (result : Result (Unit {0}) Fault)
-    → ClosesAll told round.files old new result → FinishesBy told old new result (way.Round round) (way.Round round)
+    → ClosesAll told round.files old new result → engine.Finishes ways.duty told (way.Round round) (way.Round round) old new (engine.IsMetThere ways.duty (way.Round round)) result
 finishes_by told round old new (Ok u) closes = record {
   same = refl;
-  bound = omega arith;
-  outputs = λ before x at. (refl, subst (λ part. OutputsAt told before part new) (closed_part at.holds) (closes.closed before _ (stand_at told round at)));
+  size = omega arith;
+  well = λ x holds. refl;
+  outputs = λ before x at. subst (λ part. OutputsAt told before part new) (closed_part at.holds) (closes.closed before _ (stand_at told round at));
   writable = part.told_writable round.files.tells new closes.output;
   owns = closes.owned;
+  there = λ are. tt;
   cut = tt;
   met = tt;
 }
 finishes_by told round old new (Err why) closes = record {
   same = refl;
-  bound = omega arith;
+  size = omega arith;
+  well = tt;
   outputs = tt;
   writable = tt;
   owns = closes.owned;
+  there = λ are. tt;
   cut = λ before x at. cut (ap is_verdict closes.caused.1) (stopped_as (output_by (is_verbose round.files.tells)) told (stands_is at.holds) (closed_part at.holds) (closes.cut before _ (stand_at told round at)));
-  met = part.met_closing (is_verbose round.files.tells) (EndsThere ways.Holds ways.work (way.Round round)) old new closes.caused;
+  met = part.met_closing (is_verbose round.files.tells) (EndsThere ways.duty (way.Round round)) old new closes.caused;
 }
 
 -- The start
@@ -306,7 +313,7 @@ spares : (splitter after : Splitter) (z : List ℕ) (n : ℕ) → ways.work afte
 spares splitter after z n same going spare = omega (arith, none_spare _ z n (lawful splitter) going spare)
 
 pub spares_none : (most : ℕ) (splitter : Splitter) → ((state : ChunkerState) → splitter ≡ way.Chunks state → ⊥)
-    → MayGet ways.Holds ways.work splitter most
+    → MayGet ways.duty splitter most
 spares_none most (way.Parts parts) other x piece after n holds going within same later spare =
     spares (way.Parts parts) after (x ++ piece) n same
     (open_after _ (parts_state.filing_of parts).verbose refl after (x ++ piece) same later) spare

@@ -5,6 +5,7 @@ use Rattle.std.proofs.Math.Nat.{mod-add-mod, mod-mod}
 use Rattle.std.proofs.lemmas.List.FromFn.{get_or-map-range_with_len}
 use Rattle.seg_core.proofs.Delimiters.{delimiters-append}
 use Rattle.ports_core.specs.Engine.{EndsWith, IsMet, TakesIn, cut, is_verdict}
+use Rattle.ports_core.specs.Engine as engine
 use Rattle.ports_core.specs.Part.{OutputsAt, Part, StoppedBetween, gets_bytes}
 use Rattle.ports_core.specs.Slot.{Slot, is_writable, told_of, with_written}
 use Rattle.ports_core.specs.Work.{on_output}
@@ -21,7 +22,6 @@ use Rattle.split_core.specs.inner.Dealt.{dealt_piece}
 use Rattle.split_core.specs.Turn.{Holds, TurnState, work}
 use Rattle.split_core.specs.Ways as ways
 use Rattle.split_core.specs.declared.splitter.Splitter.TheVariants as way
-use Rattle.split_core.specs.inner.Ways.{FinishesBy, PassesBy}
 use Rattle.split_core.specs.laws.DealLaws.{dealt_append}
 use Rattle.split_core.proofs.CutLaws.{dealt_same}
 use Rattle.split_core.specs.inner.Turn.{Picks, StopsShort, due}
@@ -73,40 +73,44 @@ met Ends {told} {bytes} {old} {new} can (stop.broke n broke) = ((λ is. refl), (
 
 pub passes_by : (told : Bool) (old new : TurnState) (piece : List ℕ) (before after : List Slot) (result : Result (Unit {0}) Fault)
     → IsTrue (is_writable before 0) → Picks told old piece before after new result
-    → PassesBy told piece before after result (way.Turn old) (way.Turn new)
+    → engine.Passes ways.duty told piece (way.Turn old) (way.Turn new) before after (engine.IsMetWith ways.duty piece (way.Turn old)) result
 passes_by told old new piece before after (Ok u) can picks = record {
   same = same_work old new picks.delim picks.count picks.place;
-  bound = omega arith;
+  size = omega arith;
   holds = takes_in picks;
   outputs = λ start x at. subst (λ part. OutputsAt told start part after) (went_out piece at.holds)
       (out_more told start _ before after (due old piece) at.outputs picks.out);
   ready = written_writable before after 0 0 _ can picks.out;
   owns = λ first own. tt;
+  there = λ are. tt;
   cut = tt;
   met = tt;
 }
 passes_by told old new piece before after (Err why) can picks = record {
   same = same_work old new picks.delim picks.count picks.place;
-  bound = omega arith;
+  size = omega arith;
   holds = tt;
   outputs = tt;
   ready = tt;
   owns = λ first own. tt;
+  there = λ are. tt;
   cut = λ start x at. cut (unjudged picks.cut)
       (subst (λ part. StoppedBetween gets_bytes told start ((work old).settled x) part why after) (went_out piece at.holds)
       (between told _ at.outputs picks.cut));
-  met = met (EndsWith ways.Holds ways.work (way.Turn old) piece) can picks.cut;
+  met = met (EndsWith ways.duty piece (way.Turn old)) can picks.cut;
 }
 
 -- At the end nothing is left to be written.
 pub finishes_by : (told : Bool) (turn : TurnState) (slots : List Slot) → IsTrue (is_writable slots 0)
-    → FinishesBy told slots slots (Ok tt) (way.Turn turn) (way.Turn turn)
+    → engine.Finishes ways.duty told (way.Turn turn) (way.Turn turn) slots slots (engine.IsMetThere ways.duty (way.Turn turn)) (Ok tt)
 finishes_by told turn slots can = record {
   same = refl;
-  bound = omega arith;
-  outputs = λ before x at. (refl, at.outputs);
+  size = omega arith;
+  well = λ x holds. refl;
+  outputs = λ before x at. at.outputs;
   writable = λ writes. can;
   owns = λ first own. tt;
+  there = λ are. tt;
   cut = tt;
   met = tt;
 }

@@ -1,7 +1,8 @@
 -- The ways to cut an input, as one stage.
-use Rattle.std.specs.Prelude.{ℕ, List}
+use Rattle.std.specs.Prelude.{◌≡◌, ℕ, List, [], true}
 use Rattle.ports_core.specs.Slot.{Slot}
 use Rattle.ports_core.specs.Work.{Work}
+use Rattle.ports_core.specs.Engine.{Duty}
 use Rattle.split_core.specs.declared.splitter.Splitter.{Splitter}
 use Rattle.split_core.specs.declared.splitter.Splitter.TheVariants.{Parts, Round, Chunks, Turn}
 use Rattle.split_core.specs.PartsState.{Stands, IsReady}
@@ -38,3 +39,16 @@ Owns (Turn state) first slots = Unit {0}
 abbrev pub size : Splitter → ℕ
 size (Chunks state) = chunker.total state
 size splitter = 0
+
+-- it removes no files
+abbrev pub duty : Duty Splitter
+duty = record {
+  Holds = Holds;
+  work = work;
+  IsDone = λ splitter x. (work splitter).is_complete x ≡ true;
+  size = size;
+  may_lack = λ splitter piece. true;
+  Ready = Ready;
+  Owns = Owns;
+  files = λ splitter. [];
+}

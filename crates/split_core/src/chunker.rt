@@ -116,12 +116,9 @@ impl Chunker {
         requires fresh { Holds self.old [] }
         requires none { total self.old ≡ 0 }
         requires input { IsTrue (is_readable (I.sources inputs.old) slot) }
-        ensures same { work self.new ≡ work self.old }
-        ensures size { total self.new ≤ result }
-        ensures loads { Loads ways.Holds ways.Ready ways.Owns ways.work I.told (length buffer.old) slot result
-            (way.Chunks self.old) (way.Chunks self.new) (I.sources inputs.old) (I.sources inputs.new) }
+        ensures loads { Loads ways.duty I.told (length buffer.old) slot result (way.Chunks self.old)
+            (way.Chunks self.new) (I.sources inputs.old) (I.sources inputs.new) }
         ensures laid { I.laid inputs.new ≡ I.laid inputs.old }
-        ensures bound { result < 2 ^ 63 }
     {
         let Some((front, place)) = self.front() else {
             return 0;
@@ -199,7 +196,7 @@ impl Chunker {
     /// How many bytes the next piece may have: where one chunk is written, as many as are missing to its end; one at least.
     pub(crate) fn most_wanted(&self) -> u64
         ensures some { 0 < result }
-        ensures few { MayGet ways.Holds ways.work (way.Chunks self.now) result }
+        ensures few { MayGet ways.duty (way.Chunks self.now) result }
     {
         match (self.said, &self.cutter.target.aim) {
             (Some(size), Aim::Output { chunk }) => {

@@ -8,10 +8,10 @@ ghost use Rattle.split_core.specs.Split.{TellsNoSizes, is_verbose, output_by, se
 ghost use Rattle.seg_core.specs.Cut.{IsWay};
 ghost use Rattle.split_core.specs.ChunkWork.{CanGive, CannotBegin, HasAllNames, work_by};
 ghost use Rattle.split_core.specs.Split.{HasNames};
-ghost use Rattle.split_core.specs.Ways.{Holds, Owns, Ready, size, work};
+ghost use Rattle.split_core.specs.Ways.{Holds, Owns, Ready, duty, work};
 ghost use Rattle.ports_core.specs.Engine.{MayGet};
 ghost use Rattle.ports_core.specs.Work.{IsSpare};
-ghost use Rattle.split_core.specs.inner.Ways.{FinishesBy, PassesBy, held};
+ghost use Rattle.split_core.specs.inner.Ways.{held};
 ghost use Rattle.split_core.specs.laws.WorkLaws.{lawful};
 
 use crate::chunk_target::Target;
@@ -108,25 +108,9 @@ impl Splitter {
 }
 
 impl Stage for Splitter {
-    ghost Holds = { Holds };
+    ghost duty = { duty };
 
-    ghost work = { work };
-
-    ghost may_lack = { λ splitter piece. true };
-
-    ghost Ready = { Ready };
-
-    ghost Owns = { Owns };
-
-    ghost size = { size };
-
-    ghost IsDone = { λ splitter x. (work splitter).is_complete x ≡ true };
-
-    fn pass<O: Outs>(&mut self, piece: &[u8], outs: &mut O) -> Result<(), Fault>
-        requires fits { size self.old + length piece.now < 2 ^ 63 }
-        requires ready { Ready self.old (O.slots outs.old) }
-        ensures { PassesBy O.told piece.now (O.slots outs.old) (O.slots outs.new) result self.old self.new }
-    {
+    fn pass<O: Outs>(&mut self, piece: &[u8], outs: &mut O) -> Result<(), Fault> {
         match self {
             Splitter::Parts(parts) => parts.pass(piece, outs),
             Splitter::Round(round) => round.pass(piece, outs),
@@ -143,10 +127,7 @@ impl Stage for Splitter {
         chunker.load(slot, buffer, inputs)
     }
 
-    fn finish<O: Outs>(&mut self, outs: &mut O) -> Result<(), Fault>
-        requires { Ready self.old (O.slots outs.old) }
-        ensures { FinishesBy O.told (O.slots outs.old) (O.slots outs.new) result self.old self.new }
-    {
+    fn finish<O: Outs>(&mut self, outs: &mut O) -> Result<(), Fault> {
         match self {
             Splitter::Parts(parts) => parts.finish(outs),
             Splitter::Round(round) => round.finish(outs),
@@ -185,7 +166,7 @@ impl Stage for Splitter {
     /// Where one chunk is written, as many as are missing to its end, and one at least; else any number.
     fn wanted(&self) -> u64
         ensures some { 0 < result }
-        ensures few { MayGet Holds work self.now result }
+        ensures few { MayGet duty self.now result }
     {
         let Splitter::Chunks(chunker) = self else {
             return u64::MAX;

@@ -12,7 +12,7 @@ use Rattle.bre_core.specs.Search.{contains}
 use Rattle.seg_core.specs.Line.{lines_of, line_count, ends_with, delimiters}
 use Rattle.ports_core.specs.Part.{Part, Begins, nothing}
 use Rattle.ports_core.specs.Slot.{Slot, is_writable}
-use Rattle.ports_core.specs.Swept.{Removes, AreThere, RemovesIf, HasNoFiles}
+use Rattle.ports_core.specs.Swept.{Removes, HasNoFiles}
 use Rattle.ports_core.specs.declared.fault.Fault.{Fault}
 use Rattle.ports_core.specs.declared.fault.Fault.TheVariants.{Memory}
 use Rattle.ports_core.specs.declared.fault.Fault.TheVariants as fault_is
@@ -34,8 +34,8 @@ use Rattle.csplit_core.specs.declared.line_cutter.Cut.{Cut}
 use Rattle.csplit_core.specs.declared.line_cutter.LineCutter.{LineCutter}
 use Rattle.csplit_core.specs.declared.line_cutter.Passed.{Passed}
 use Rattle.csplit_core.specs.Cutter.{CutterState, AimHolds, seen, suppress_in, state_in, kept_by, IsFit, IsSound, load, draft_by, IsAt, EndsNow, IsLive, Stands}
-use Rattle.ports_core.specs.Engine.{Clears as EngineClears, KeepsOwn}
-use Rattle.csplit_core.specs.CsplitState.{CsplitState, Owns, files, whole_lines, work}
+use Rattle.ports_core.specs.Engine.{Sweeps}
+use Rattle.csplit_core.specs.CsplitState.{CsplitState, duty, whole_lines}
 
 -- There are `total` lines; of the next operand it is known whether it matches the last one, if its search reaches that
 -- line, and that it matches none between the beginning of its search and the last line.
@@ -464,14 +464,6 @@ abbrev pub Judges : CutterState → Option Verdict → Type 0
 Judges cutter verdict = (x : List ℕ) → IsJudged cutter x
     → verdict ≡ verdict_of (plan (suppress_in cutter) cutter.operands (all_lines x)).ending
 
--- The files of a stage were removed, unless they are to be kept.
-pub record Sweeps (stage : CsplitState) (old new : List Slot) (next : CsplitState) : Type 0 where
-  pub same : work next ≡ work stage
-  pub removes : RemovesIf (work stage).clears (files stage) old (files next) new
-  pub swept : EngineClears Owns work stage old new
-  pub owns : KeepsOwn Owns stage next old new
-  pub there : AreThere (files next) new
-
 -- How the end went: well; or a fault came before it; or it came, and the work ends with a verdict.
 pub data Closes (told : Bool) (stage : CsplitState) (old new : List Slot) (next : CsplitState) : Result (Unit {0}) Fault
     → Type 0 where
@@ -479,5 +471,5 @@ pub data Closes (told : Bool) (stage : CsplitState) (old new : List Slot) (next 
   ended_short : (fault : Fault) → Closed told stage old new next (Some fault)
       → Closes told stage old new next (Err fault)
   ended_so : (verdict : Verdict) (mid : CsplitState) (reached : List Slot) → Closed told stage old reached mid None
-      → Judges mid.cutter (Some verdict) → Sweeps mid reached new next
+      → Judges mid.cutter (Some verdict) → Sweeps duty mid next reached new
       → Closes told stage old new next (Err (fault_is.Verdict verdict))

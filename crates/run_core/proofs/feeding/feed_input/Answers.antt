@@ -20,11 +20,11 @@ pieces-init g c =
     let passed = passed_at _ _ _ _ (looked_readable loads.looked c.requires.input) loads.passed ∙ ap (skips c.load.result) loads.looked.looked in record {
       fed = loads.front;
       feeds = record {
-        same = c.load.ensures.same;
+        same = took.same;
         holds = record { live = c.load.ensures.live; count = c.load.ensures.fed ∙ loads.long; within = took.holds };
         owns = λ first own. took.owns first _ own;
-        outputs = λ before own at. rw c.load.ensures.same (rw took.idle at);
-        bound = rw c.load.ensures.fed c.load.ensures.bound;
+        outputs = λ before own at. rw took.same (rw took.idle at);
+        bound = omega (arith, c.load.ensures.fed, loads.long, took.few);
       };
       readable = rw (passed, c.requires.input);
       others = keeps_again _ _ _ _ loads.looked.others (keeps_others _ _ _ _ loads.passed);
@@ -51,12 +51,12 @@ pieces-init g c =
 pub returns-in-Err : goal.returns-in-Err
 returns-in-Err g c =
     let so_far = c.pieces.invariant in
-    let going : (g.S.Stage.work c.pieces.engine.stage).is_complete so_far.fed ≡ false = sym (c.done.ensures.complete so_far.fed so_far.feeds.holds) ∙ c.pieces-test.true in record {
+    let going : (g.S.Stage.duty.work c.pieces.engine.stage).is_complete so_far.fed ≡ false = sym (c.done.ensures.complete so_far.fed so_far.feeds.holds) ∙ c.pieces-test.true in record {
       ends = λ before opening own at.
           of_read g.I.Inputs.told _ so_far.fed true _ _ (λ told. read_broken _ _ _ _ (so_far.read told) (c.in-Err.ensures.break_off told)) (λ content. came_broken g.I.Inputs.told _ _ _ _ so_far.readable c.in-Err.ensures.err)
           (λ content is bytes breaks came. (
             rw (← so_far.feeds.same)
-                (broke_off breaks (ap (g.S.Stage.work c.pieces.engine.stage).is_complete bytes ∙ going) (g.O.Outs.slots c.pieces.outs) (rw bytes (so_far.feeds.outputs before own at)) (c.abandon.ensures.swept (length before) (so_far.feeds.owns (length before) own))),
+                (broke_off breaks (ap (g.S.Stage.duty.work c.pieces.engine.stage).is_complete bytes ∙ going) (g.O.Outs.slots c.pieces.outs) (rw bytes (so_far.feeds.outputs before own at)) (c.abandon.ensures.sweeps.swept (length before) (so_far.feeds.owns (length before) own))),
             λ ends sound going. absurd (false≢true (sym sound ∙ breaks)),
           ));
       others = keeps_again _ _ _ _ so_far.others (keeps_others _ _ _ _ c.in-Err.ensures.err);
@@ -77,7 +77,7 @@ returns-in-Err g c =
 pub returns-then-n-eq0 : goal.returns-then-n-eq0
 returns-then-n-eq0 g c =
     let so_far = c.pieces.invariant in
-    let going : (g.S.Stage.work c.pieces.engine.stage).is_complete so_far.fed ≡ false = sym (c.done.ensures.complete so_far.fed so_far.feeds.holds) ∙ c.pieces-test.true in
+    let going : (g.S.Stage.duty.work c.pieces.engine.stage).is_complete so_far.fed ≡ false = sym (c.done.ensures.complete so_far.fed so_far.feeds.holds) ∙ c.pieces-test.true in
     let nothing : take c.in-Ok.n c.read_part.new.buffer ≡ [] = ap (λ k. take k c.read_part.new.buffer) c.if-n-eq0.true in
     let at_end = ended_now _ _ c.in-Ok.n _ _ so_far.readable c.in-Ok.ensures.rest c.if-n-eq0.true c.piece_size-size.ensures.some in
     let far : g.I.Inputs.told ≡ true → IsUnread (source_at (g.I.Inputs.sources c.args.inputs.now) c.args.slot) → (source_at (g.I.Inputs.sources c.read_part.new.inputs) c.args.slot).reached ≤ length so_far.fed
@@ -87,7 +87,7 @@ returns-then-n-eq0 g c =
           (λ told. let at_end = (c.in-Ok.ensures.bytes told).ended c.if-n-eq0.true (omega (arith, c.requires.room, so_far.room)) in let all = read_to_end _ _ _ _ (so_far.read told) at_end.0 at_end.1 in (all.1, all.0))
           (λ content. came_sound g.I.Inputs.told _ c.args.slot (still_readable _ _ _ _ c.in-Ok.n c.in-Ok.ensures.rest so_far.readable))
           (λ content is bytes sound came. (
-            ended _ _ _ g.met.S.Stage.lawful _ _ so_far.feeds own at (sound, going, bytes) (to_end sound bytes) (alike_itself)
+            ended _ g.met.S.Stage.lawful _ _ so_far.feeds own at (sound, going, bytes) (to_end sound bytes) (alike_itself)
                 (rw so_far.feeds.same so_far.needed) (
                   record {
                     came = came;
@@ -111,7 +111,7 @@ returns-then-n-eq0 g c =
           so_far.needed (ap (λ (work : Work). work.is_complete so_far.fed) (sym so_far.feeds.same) ∙ going)
           (far told unread);
       asked = λ within. asked_again _ _ _ _ _ _ so_far.readable c.in-Ok.ensures.rest (omega (arith, c.piece_size-size.ensures.within, so_far.room)) (so_far.asked within);
-      broke = ends_sound _ _ _ _ _ (inl refl) c.end.ensures;
+      broke = ends_sound _ _ _ (inl refl) c.end.ensures;
       laid = c.read_part.ensures.kept ∙ so_far.laid;
     }
 
@@ -121,7 +121,7 @@ pub pieces-preserved : goal.pieces-preserved
 pieces-preserved g c =
     let so_far = c.pieces.invariant in record {
       fed = so_far.fed ++ take c.in-Ok.n c.read_part.new.buffer;
-      feeds = goes_on _ _ _ _ (take c.in-Ok.n c.read_part.new.buffer) so_far.feeds c.in-Ok-feed.ensures.same c.in-Ok-feed.ensures.holds c.in-Ok-feed.ensures.outputs c.in-Ok-feed.ensures.owns c.in-Ok-feed.ensures.bound;
+      feeds = goes_on _ _ (take c.in-Ok.n c.read_part.new.buffer) so_far.feeds c.in-Ok-feed.ensures.passes c.in-Ok-feed.ensures.holds c.in-Ok-feed.ensures.bound;
       readable = still_readable _ _ _ _ c.in-Ok.n c.in-Ok.ensures.rest so_far.readable;
       others = keeps_again _ _ _ _ so_far.others (keeps_others _ _ _ _ c.in-Ok.ensures.rest);
       read = λ told. read_more _ _ _ _ _ _ _ _ _ (so_far.read told) so_far.readable (c.in-Ok.ensures.bytes told) c.in-Ok.ensures.rest;
@@ -131,13 +131,13 @@ pieces-preserved g c =
           (c.wanted.ensures.few so_far.fed (take c.in-Ok.n c.read_part.new.buffer) c.feed.new.self.stage n so_far.feeds.holds.within
           (sym (c.done.ensures.complete so_far.fed so_far.feeds.holds) ∙ c.pieces-test.true)
           (omega (arith, piece_within c.read_part.new.buffer c.in-Ok.ensures.bound, c.piece_size-size.ensures.few standard))
-          c.in-Ok-feed.ensures.same (c.in-Ok-feed.ensures.holds so_far.fed so_far.feeds.holds).within
+          c.in-Ok-feed.ensures.passes.same (c.in-Ok-feed.ensures.holds so_far.fed so_far.feeds.holds).within
           (rw so_far.feeds.same spare));
       room = c.read_part.ensures.room ∙ so_far.room;
       needed = needed_more so_far.fed c.read_part.new.buffer (ap (λ (work : Work). work.is_complete so_far.fed) (sym so_far.feeds.same) ∙ sym (c.done.ensures.complete so_far.fed so_far.feeds.holds) ∙ c.pieces-test.true) (omega (arith, c.in-Ok.ensures.bound, c.piece_size-size.ensures.within, c.pieces.invariant.room));
       asked = λ within. asked_again _ _ _ _ _ _ so_far.readable c.in-Ok.ensures.rest (omega (arith, c.piece_size-size.ensures.within, so_far.room)) (so_far.asked within);
       laid = c.read_part.ensures.kept ∙ so_far.laid;
-      ready = c.in-Ok-feed.ensures.ready;
+      ready = c.in-Ok-feed.ensures.passes.ready;
     }
 
 -- where it failed
@@ -145,15 +145,15 @@ pieces-preserved g c =
 pub returns-in-Err-feed : goal.returns-in-Err-feed
 returns-in-Err-feed g c =
     let so_far = c.pieces.invariant in
-    let going : (g.S.Stage.work c.pieces.engine.stage).is_complete so_far.fed ≡ false = sym (c.done.ensures.complete so_far.fed so_far.feeds.holds) ∙ c.pieces-test.true in
-    let settles : is_stop (Err c.given_up.result) ≡ false → OfVerdict c.in-Err-feed.fault (IsSettled (g.S.Stage.work c.pieces.engine.stage) (so_far.fed ++ take c.in-Ok.n c.read_part.new.buffer))
-    = λ ends. let (verdict, is, settled) = judges (g.S.Stage.work c.pieces.engine.stage).means _ (EndsWith g.S.Stage.Holds g.S.Stage.work c.pieces.engine.stage (take c.in-Ok.n c.read_part.new.buffer)) (ap is_verdict (sym c.given_up.ensures.same) ∙ not-false (is_verdict c.given_up.result) ends) c.in-Err-feed.ensures.refused in (verdict, is, settled so_far.fed so_far.feeds.holds.within) in record {
+    let going : (g.S.Stage.duty.work c.pieces.engine.stage).is_complete so_far.fed ≡ false = sym (c.done.ensures.complete so_far.fed so_far.feeds.holds) ∙ c.pieces-test.true in
+    let settles : is_stop (Err c.given_up.result) ≡ false → OfVerdict c.in-Err-feed.fault (IsSettled (g.S.Stage.duty.work c.pieces.engine.stage) (so_far.fed ++ take c.in-Ok.n c.read_part.new.buffer))
+    = λ ends. let (verdict, is, settled) = judges (g.S.Stage.duty.work c.pieces.engine.stage).means _ (EndsWith g.S.Stage.duty (take c.in-Ok.n c.read_part.new.buffer) c.pieces.engine.stage) (ap is_verdict (sym c.given_up.ensures.same) ∙ not-false (is_verdict c.given_up.result) ends) c.in-Err-feed.ensures.passes.met in (verdict, is, settled so_far.fed so_far.feeds.holds.within) in record {
       ends = λ before opening own at.
           let within : length (take c.in-Ok.n c.read_part.new.buffer) ≤ length c.args.buffer.now = piece_within c.read_part.new.buffer (omega (arith, c.in-Ok.ensures.bound, c.piece_size-size.ensures.within, so_far.room)) in
           let more = λ (told : g.I.Inputs.told ≡ true). (read_more _ _ _ _ _ _ _ _ _ (so_far.read told) so_far.readable (c.in-Ok.ensures.bytes told) c.in-Ok.ensures.rest).bytes in
           of_more g.I.Inputs.told _ (so_far.fed ++ take c.in-Ok.n c.read_part.new.buffer) _ _ _ more (λ content. came_sound g.I.Inputs.told _ c.args.slot (still_readable _ _ _ _ c.in-Ok.n c.in-Ok.ensures.rest so_far.readable))
           (λ content is rest bytes came. (
-            rw c.given_up.ensures.same (stopped_feeding _ _ _ g.met.S.Stage.lawful _ c.feed.new.self _ (take c.in-Ok.n c.read_part.new.buffer) rest so_far.feeds own at bytes within going (
+            rw c.given_up.ensures.same (stopped_feeding _ g.met.S.Stage.lawful _ c.feed.new.self _ (take c.in-Ok.n c.read_part.new.buffer) rest so_far.feeds own at bytes within going (
               record {
                 came = came;
                 sound = sound_at (g.I.Inputs.sources c.read_part.new.inputs) c.args.slot (still_readable _ _ _ _ c.in-Ok.n c.in-Ok.ensures.rest so_far.readable);
@@ -162,7 +162,7 @@ returns-in-Err-feed g c =
               },
               λ told unread standard. omega (arith, (takes_more _ (so_far.took told) so_far.readable (c.in-Ok.ensures.bytes told) c.in-Ok.ensures.rest).far unread),
             )
-                c.in-Err-feed.ensures.cut c.in-Err-feed.ensures.refused c.feed.ensures.same (λ unjudged. c.feed.ensures.owns) c.given_up.ensures.judged c.given_up.ensures.swept),
+                c.in-Err-feed.ensures.passes c.given_up.ensures.judged c.given_up.ensures.swept),
             λ ends. rw (← so_far.feeds.same) (told_by_complete (source_at (g.I.Inputs.sources c.read_part.new.inputs) c.args.slot) rest (g.met.S.Stage.lawful _) (settles ends).2.0 bytes),
           ));
       others = keeps_again _ _ _ _ so_far.others (keeps_others _ _ _ _ c.in-Ok.ensures.rest);
@@ -193,17 +193,17 @@ give_back-requires-clause-within g c told =
 pub returns : goal.returns
 returns g c =
     let so_far = c.pieces.invariant in
-    let done : (g.S.Stage.work c.pieces.engine.stage).is_complete so_far.fed ≡ true = sym (c.done.ensures.complete so_far.fed so_far.feeds.holds) ∙ c.pieces-test.false in
+    let done : (g.S.Stage.duty.work c.pieces.engine.stage).is_complete so_far.fed ≡ true = sym (c.done.ensures.complete so_far.fed so_far.feeds.holds) ∙ c.pieces-test.false in
     let spare = c.unused-unused.ensures so_far.fed so_far.feeds.holds in
-    let few : c.args.slot ≡ 0 → c.unused-unused.result ≤ (g.S.Stage.work c.pieces.engine.stage).ahead = λ standard. rw so_far.feeds.same (so_far.few standard _ (rw so_far.feeds.same at spare)) in
+    let few : c.args.slot ≡ 0 → c.unused-unused.result ≤ (g.S.Stage.duty.work c.pieces.engine.stage).ahead = λ standard. rw so_far.feeds.same (so_far.few standard _ (rw so_far.feeds.same at spare)) in
     let back = c.give_back.ensures.rest in record {
-      broke = ends_sound _ _ _ _ _ (inr refl) c.end-2.ensures;
+      broke = ends_sound _ _ _ (inr refl) c.end-2.ensures;
       ends = λ before opening own at.
           let used = complete_used _ so_far.fed _ spare done in
           let readable = ap (λ (source : Source). source.is_open && not source.is_broken) (changed_source _ (gets_back _) _ _ so_far.readable back) ∙ so_far.readable in
           of_more g.I.Inputs.told _ so_far.fed _ _ _ (λ told. (so_far.read told).bytes) (λ content. came_sound g.I.Inputs.told (g.I.Inputs.sources c.give_back.new.self) c.args.slot readable)
           (λ content is rest bytes came. (
-            ended _ _ _ g.met.S.Stage.lawful _ _ so_far.feeds own at (done, (rest, bytes))
+            ended _ g.met.S.Stage.lawful _ _ so_far.feeds own at (done, (rest, bytes))
                 (enough (spare.rest ++ rest) (bytes ∙ ap (λ those. those ++ rest) spare.joined ∙ append_assoc spare.used spare.rest rest) used) (alike_after spare.rest (g.met.S.Stage.lawful _) used spare.joined)
                 (needed_within c.requires.room spare.needed) (
                   record {

@@ -22,4 +22,4 @@ returns-in-Some-clause-closes g c =
     judged_by {stage = c.args.self.now} {mid = record { cutter = seen c.end.new.self; rest = c.self.inside.rest.items; taken = c.self.inside.taken }} {next = c.clear.new.self} {result = c.verdict.result} {verdict = c.in-Some.verdict}
     (closed_on c.take_last.new.self (ap (λ (stage : CsplitState). stage.cutter) c.self.view_is) c.in_ok-take_last.ensures.takes c.in_ok-end.ensures)
     c.in-Some.is c.verdict.ensures
-    (record { same = c.clear.ensures.same; removes = c.clear.ensures.removes; swept = c.clear.ensures.swept; owns = c.clear.ensures.owns; there = c.clear.ensures.there })
+    c.clear.ensures

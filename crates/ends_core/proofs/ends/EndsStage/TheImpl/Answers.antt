@@ -1,12 +1,13 @@
 use Rattle.std.proofs.lemmas.Grind.{common_steps}
-use Rattle.std.proofs.Common.{◌<◌, sym, subst, arith, rules}
+use Rattle.std.proofs.Common.{◌<◌, sym, subst, arith}
 use Rattle.std.proofs.lemmas.Bool.{false≢true}
 use Rattle.std.proofs.lemmas.Result.{on_ok_weaker, IfErr-weaker}
 use Rattle.ports_core.specs.Work.{IsSpare}
 use Rattle.ports_core.specs.Engine.{EndsThere, EndsWith, MayGet}
-use Rattle.ends_core.specs.Stage.{Holds, work}
+use Rattle.ends_core.specs.Stage.{count_of, delim_of, duty, stretch_of, unit_of, work}
+use Rattle.ends_core.specs.inner.Stage.{due, due_at_end}
 use Rattle.ports_core.proofs.SlotSteps.{written_writable}
-use Rattle.ends_core.proofs.EndsLemmas.{on_ok_each, same_work, takes_in, puts_out, cuts_off, lacks_kept, met, finishes, ends_short, loads, waits_within, full_is, done_is_exact, may_get, spare_here, wants_some}
+use Rattle.ends_core.proofs.EndsLemmas.{always_well, on_ok_each, same_work, takes_in, puts_out, cuts_off, lacks_kept, met, went_out, rest_out, loads, full_is, done_is_exact, may_get, spare_here, wants_some}
 use Rattle.ends_core.proofs.ends.EndsStage.TheImpl.Goals as goal
 
 pub pass-tells : goal.pass-tells
@@ -16,12 +17,12 @@ pass-tells g c =
       same = same_work c.ensures.same;
       size = c.ensures.bound;
       holds = on_ok_each c.result (λ left waits full. takes_in ends piece c.ensures.same c.ensures.past left waits full) c.ensures.left c.ensures.waits c.ensures.full;
-      outputs = on_ok_weaker c.result (λ wrote. puts_out g.O.Outs.told ends piece wrote) c.ensures.wrote.out;
+      outputs = on_ok_weaker c.result (puts_out g.O.Outs.told ends (due ends piece) (went_out ends piece)) c.ensures.wrote.out;
       ready = on_ok_weaker c.result (λ wrote. written_writable _ _ 0 0 _ c.requires.ready wrote) c.ensures.wrote.out;
       owns = λ first own. tt;
       there = λ are. tt;
-      cut = IfErr-weaker c.result _ _ (λ fault stops. cuts_off g.O.Outs.told ends piece stops) c.ensures.wrote.cut;
-      met = IfErr-weaker c.result _ _ (λ fault stops. met g.O.Outs.told ends (λ means. means.feeding) _ (EndsWith Holds work ends piece)
+      cut = IfErr-weaker c.result _ _ (λ fault stops. cuts_off g.O.Outs.told ends (due ends piece) (went_out ends piece) stops) c.ensures.wrote.cut;
+      met = IfErr-weaker c.result _ _ (λ fault stops. met g.O.Outs.told ends (λ means. means.feeding) _ (EndsWith duty piece ends)
           (λ lacking. (lacks_kept ends lacking, lacking)) c.requires.ready stops) c.ensures.wrote.cut;
     }
 
@@ -30,17 +31,21 @@ finish-tells g c =
     let ends = c.args.self.now in record {
       same = same_work c.ensures.same;
       size = c.ensures.bound;
-      outputs = on_ok_weaker c.result (λ wrote. finishes g.O.Outs.told ends wrote) c.ensures.wrote.out;
+      well = on_ok_weaker c.result (λ wrote x holds. always_well (stretch_of ends) (delim_of ends) (unit_of ends) (count_of ends) x) c.ensures.wrote.out;
+      outputs = on_ok_weaker c.result (puts_out g.O.Outs.told ends (due_at_end ends) (rest_out ends)) c.ensures.wrote.out;
       writable = on_ok_weaker c.result (λ wrote output. written_writable _ _ 0 0 _ c.requires.ready wrote) c.ensures.wrote.out;
       owns = λ first own. tt;
       there = λ are. tt;
-      cut = IfErr-weaker c.result _ _ (λ fault stops. ends_short g.O.Outs.told ends stops) c.ensures.wrote.cut;
-      met = IfErr-weaker c.result _ _ (λ fault stops. met g.O.Outs.told ends (λ means. means.closing) _ (EndsThere Holds work ends)
+      cut = IfErr-weaker c.result _ _ (λ fault stops. cuts_off g.O.Outs.told ends (due_at_end ends) (rest_out ends) stops) c.ensures.wrote.cut;
+      met = IfErr-weaker c.result _ _ (λ fault stops. met g.O.Outs.told ends (λ means. means.closing) _ (EndsThere duty ends)
           (λ never. absurd (false≢true never)) c.requires.ready stops) c.ensures.wrote.cut;
     }
 
 pub load-tells : goal.load-tells
-load-tells g c = search (rules, same_work, waits_within, loads)
+load-tells g c = record {
+  loads = loads _ _ _ _ _ _ _ _ c.requires.fresh c.requires.none c.ensures.same c.ensures.past c.ensures.passes c.ensures.full c.ensures.bound;
+  laid = c.ensures.laid;
+}
 
 pub is_done-tells : goal.is_done-tells
 is_done-tells c = grind (arith, common_steps, full_is, done_is_exact)
@@ -48,7 +53,7 @@ is_done-tells c = grind (arith, common_steps, full_is, done_is_exact)
 pub wanted-tells : goal.wanted-tells
 wanted-tells c = record {
   some = λ x holds going. subst (λ n. 0 < n) (sym c.ensures) (wants_some c.args.self.now holds going);
-  few = subst (MayGet Holds work c.args.self.now) (sym c.ensures) (may_get c.args.self.now);
+  few = subst (MayGet duty c.args.self.now) (sym c.ensures) (may_get c.args.self.now);
 }
 
 pub unused-tells : goal.unused-tells

@@ -5,22 +5,22 @@ use Rattle.split_core.proofs.FrontLemmas.{loads_front}
 use Rattle.split_core.proofs.chunker.Chunker.load.Goals as goal
 
 pub returns-in_default-clause-loads : goal.returns-in_default-clause-loads
-returns-in_default-clause-loads g c = loads_none _ _ _ _ _ _ c.requires.fresh
+returns-in_default-clause-loads g c = loads_none _ _ _ c.requires.fresh c.requires.none
 
 pub returns-in_default-left-clause-loads : goal.returns-in_default-left-clause-loads
-returns-in_default-left-clause-loads g c = loads_none _ _ _ _ _ _ c.requires.fresh
+returns-in_default-left-clause-loads g c = loads_none _ _ _ c.requires.fresh c.requires.none
 
 pub returns-then-left-front-clause-loads : goal.returns-then-left-front-clause-loads
-returns-then-left-front-clause-loads g c = loads_none _ _ _ _ _ _ c.requires.fresh
+returns-then-left-front-clause-loads g c = loads_none _ _ _ c.requires.fresh c.requires.none
 
 pub pass_over-requires-clause-has : goal.pass_over-requires-clause-has
 pass_over-requires-clause-has g c tells = omega (arith, has_left _ c.left.ensures c.in-Some-left.is tells, c.if-left-front.false)
 
 pub returns-then-not-pass_over-clause-loads : goal.returns-then-not-pass_over-clause-loads
-returns-then-not-pass_over-clause-loads g c = loads_still _ _ _ _ c.requires.fresh
+returns-then-not-pass_over-clause-loads g c = loads_still _ c.requires.fresh c.requires.none
     (passes_by _ c.pass_over.result c.if-not-pass_over.true c.pass_over.ensures.passes)
 
 pub returns-clause-loads : goal.returns-clause-loads
 returns-clause-loads g c = loads_front c.self.view_is
     (subst (λ found. IfSome found (λ found. StandsAfter c.args.self.now found.0 found.1)) c.in-Some.is c.front.ensures) c.requires.fresh
-    (passes_by _ c.pass_over.result c.if-not-pass_over.false c.pass_over.ensures.passes)
+    (passes_by _ c.pass_over.result c.if-not-pass_over.false c.pass_over.ensures.passes) (c.pass_over.ensures.bound c.if-not-pass_over.false)

@@ -1,13 +1,6 @@
-use Rattle.std.proofs.lemmas.Grind.{common_steps}
-use Rattle.std.proofs.Common.{◌∙◌, arith, sym}
+use Rattle.std.proofs.Common.{◌∙◌, sym}
 use Rattle.split_core.proofs.RoundLemmas.{held_is}
 use Rattle.split_core.proofs.splitter.SplitterStage.TheImpl.Goals as goal
-
-pub pass-tells : goal.pass-tells
-pass-tells g c = grind (arith, common_steps)
-
-pub finish-tells : goal.finish-tells
-finish-tells g c = grind (arith, common_steps)
 
 pub waits-tells : goal.waits-tells
 waits-tells c x few holds = c.ensures ∙ held_is c.args.self.now x holds

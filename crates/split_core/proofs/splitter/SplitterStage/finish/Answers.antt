@@ -5,13 +5,13 @@ use Rattle.split_core.proofs.ChunkerWays as chunks
 use Rattle.split_core.proofs.splitter.SplitterStage.finish.Goals as goal
 
 pub returns-in-Parts : goal.returns-in-Parts
-returns-in-Parts g c = rw c.in-Parts.is (part.finishes_by _ _ _ _ _ c.finish.result (rw c.in-Parts.is at c.requires) c.finish.ensures)
+returns-in-Parts g c = rw c.in-Parts.is (part.finishes_by _ _ _ _ _ c.finish.result (rw c.in-Parts.is at c.requires.ready) c.finish.ensures)
 
 pub returns-in-Round : goal.returns-in-Round
 returns-in-Round g c = rw c.in-Round.is (dealing.finishes_by _ _ _ _ _ c.finish-in-Round.ensures)
 
 pub returns-in-Turn : goal.returns-in-Turn
-returns-in-Turn g c = rw c.in-Turn.is (turn.finishes_by _ _ _ (rw c.in-Turn.is at c.requires))
+returns-in-Turn g c = rw c.in-Turn.is (turn.finishes_by _ _ _ (rw c.in-Turn.is at c.requires.ready))
 
 pub returns-in-Chunks : goal.returns-in-Chunks
-returns-in-Chunks g c = rw c.in-Chunks.is (chunks.finishes_by _ _ _ _ _ c.finish-in-Chunks.result (rw c.in-Chunks.is at c.requires) c.finish-in-Chunks.ensures)
+returns-in-Chunks g c = rw c.in-Chunks.is (chunks.finishes_by _ _ _ _ _ c.finish-in-Chunks.result (rw c.in-Chunks.is at c.requires.ready) c.finish-in-Chunks.ensures)
