@@ -3,15 +3,15 @@ use Rattle.std.proofs.Common.{◌≡◌, ℕ, List, [], ◌∷◌, Option, Some,
 use Rattle.ports_core.specs.declared.fault.Fault.{Fault}
 use Rattle.ports_core.specs.declared.tool.Tool.{Tool}
 use Rattle.words_core.specs.declared.settings.Settings.{Settings}
-use Rattle.words_core.specs.declared.settings.TailSettings.{TailSettings}
+use Rattle.words_core.specs.declared.tail_words.TailSettings.{TailSettings}
 use Rattle.follow_core.proofs.FollowLemmas.{ends_by, most_made}
 use Rattle.words_core.specs.declared.settings.Settings.TheVariants.{Head, Tail, Split, Csplit, Tee, About}
 use Rattle.words_core.specs.declared.settings.Topic.{Topic}
-use Rattle.words_core.specs.CsplitWords.{HasBadOperand, csplit_asked}
-use Rattle.words_core.specs.EndsWords.{ends_asked}
+use Rattle.words_core.specs.CsplitWords.{HasBadOperand, csplit_asked, CsplitAsked}
+use Rattle.words_core.specs.EndsWords.{ends_asked, EndsAsked}
 use Rattle.words_core.specs.SplitWords.{split_asked}
 use Rattle.words_core.specs.TailWords.{tail_asked}
-use Rattle.words_core.specs.TeeWords.{tee_asked}
+use Rattle.words_core.specs.TeeWords.{tee_asked, TeeAsked}
 use Rattle.words_core.specs.Given.{Given}
 use Rattle.words_core.specs.Spelling.{given_by, IsRefused}
 use Rattle.words_core.specs.Value.{then_check}
@@ -38,9 +38,6 @@ use Rattle.run_core.proofs.InputLemmas.{none_touched}
 use Rattle.seg_core.specs.declared.count.Count.{Count}
 use Rattle.seg_core.specs.declared.unit.Unit.{Unit as Counted}
 use Rattle.tee_core.specs.Run.{IsUnread, all_copied, EndsAs as TeeCopies}
-use Rattle.words_core.specs.EndsAsked.{EndsAsked}
-use Rattle.words_core.specs.CsplitAsked.{CsplitAsked}
-use Rattle.words_core.specs.TeeAsked.{TeeAsked}
 use Rattle.operand_core.specs.Reading.{no_memory}
 use Rattle.words_core.specs.declared.settings.Headers.{Headers}
 use Rattle.ports_core.specs.declared.fault.UsageKind.TheVariants.{BadFollow}

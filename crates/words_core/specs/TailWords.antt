@@ -4,15 +4,15 @@ use Rattle.std.specs.List.{list_any}
 use Rattle.ports_core.specs.declared.fault.Fault.{Fault}
 use Rattle.ports_core.specs.declared.fault.Fault.TheVariants.{Usage}
 use Rattle.ports_core.specs.declared.fault.UsageKind.TheVariants.{BadFollow}
-use Rattle.words_core.specs.declared.table.Choice.{Choice}
-use Rattle.words_core.specs.declared.table.Choice.TheVariants as choice
+use Rattle.words_core.specs.declared.choice.Choice.{Choice}
+use Rattle.words_core.specs.declared.choice.Choice.TheVariants.{Follow, FollowNames, Retry, Looks, Pause, Process}
 use Rattle.words_core.specs.declared.tail_words.FollowOptions.{FollowOptions}
 use Rattle.words_core.specs.declared.value.Followed.{Followed}
 use Rattle.words_core.specs.declared.value.Followed.TheVariants.{Descriptor, Name}
 use Rattle.words_core.specs.EndsWords.{ends_asked}
 use Rattle.words_core.specs.Given.{asked_by, Given, texts_of}
-use Rattle.words_core.specs.declared.settings.TailSettings.{TailSettings}
-use Rattle.words_core.specs.Value.{Meant, Following, Looks, Pause, Process, then_check}
+use Rattle.words_core.specs.declared.tail_words.TailSettings.{TailSettings}
+use Rattle.words_core.specs.Value.{then_check}
 
 -- without options nothing is followed, and a pause lasts a second at most
 abbrev pub no_following : FollowOptions
@@ -21,15 +21,14 @@ no_following = record { followed = None; retry = false; looks = 2 ^ 63 - 1; paus
 -- With one more option: the last that says what is followed decides, and so do the last number of looks, the last
 -- pause and the last process.
 
-abbrev pub follow_by : FollowOptions → Choice → Meant → FollowOptions
-follow_by asked choice.Follow (Following followed) = record asked { followed = Some followed }
-follow_by asked choice.Follow value = record asked { followed = Some Descriptor }
-follow_by asked choice.FollowNames value = record asked { followed = Some Name; retry = true }
-follow_by asked choice.Retry value = record asked { retry = true }
-follow_by asked choice.Looks (Looks looks) = record asked { looks = looks }
-follow_by asked choice.Pause (Pause pause) = record asked { pause = pause }
-follow_by asked choice.Process (Process process) = record asked { process = Some process }
-follow_by asked choice value = asked
+abbrev pub follow_by : FollowOptions → Choice → FollowOptions
+follow_by asked (Follow followed) = record asked { followed = Some followed }
+follow_by asked FollowNames = record asked { followed = Some Name; retry = true }
+follow_by asked Retry = record asked { retry = true }
+follow_by asked (Looks looks) = record asked { looks = looks }
+follow_by asked (Pause pause) = record asked { pause = pause }
+follow_by asked (Process process) = record asked { process = Some process }
+follow_by asked choice = asked
 
 -- whether standard input is among the operands
 abbrev pub has_hyphen : List (List ℕ) → Bool

@@ -4,13 +4,12 @@ ghost use Rattle.words_core.specs.CsplitWords.{HasBadOperand, HasRead, chosen_by
 ghost use Rattle.words_core.specs.Format.{format_seen};
 ghost use Rattle.words_core.specs.Given.{option_seen};
 ghost use Rattle.words_core.specs.Spelling.{IsRefused};
-ghost use Rattle.words_core.specs.Value.{seen};
+ghost use Rattle.words_core.specs.Choice.{seen};
 
+use crate::choice::Choice;
 use crate::csplit_settings::{CsplitSettings, read_settings};
 use crate::format::{Format, push_plain};
 use crate::spelled::{Chosen, Spelled};
-use crate::table::Choice;
-use crate::value::Value;
 use operand_core::Style;
 use ports_core::{Base, Fault, Filling, Form, UsageKind};
 use std::alloc::Global;
@@ -69,40 +68,19 @@ fn plain<'a>() -> CsplitOptions<'a>
 }
 
 impl<'a> CsplitOptions<'a> {
-    /// The same, and what one more option asks for.
-    fn with(self, option: &Chosen<'a>) -> Self
-        ensures { result ≡ csplit_by self.entry option.now.choice (seen option.now.value) }
+    /// Takes in what one more option asks for.
+    fn take(&mut self, choice: Choice<'a>)
+        ensures { self.new ≡ csplit_by self.old (seen choice.entry) }
     {
-        match option.choice {
-            Choice::Prefix => match option.value {
-                Value::Text(prefix) => CsplitOptions { prefix, ..self },
-                _ => self,
-            },
-            Choice::Digits => match option.value {
-                Value::Width(digits) => CsplitOptions { digits, ..self },
-                _ => self,
-            },
-            Choice::SuffixFormat => match option.value {
-                Value::Format(format) => CsplitOptions {
-                    format: Some(format),
-                    ..self
-                },
-                _ => self,
-            },
-            Choice::KeepFiles => CsplitOptions { keep: true, ..self },
-            Choice::Quiet => CsplitOptions {
-                quiet: true,
-                ..self
-            },
-            Choice::ElideEmptyFiles => CsplitOptions {
-                elide: true,
-                ..self
-            },
-            Choice::SuppressMatched => CsplitOptions {
-                suppress: true,
-                ..self
-            },
-            _ => self,
+        match choice {
+            Choice::Prefix(prefix) => self.prefix = prefix,
+            Choice::Width(digits) => self.digits = digits,
+            Choice::Format(format) => self.format = Some(format),
+            Choice::KeepFiles => self.keep = true,
+            Choice::Quiet => self.quiet = true,
+            Choice::ElideEmptyFiles => self.elide = true,
+            Choice::SuppressMatched => self.suppress = true,
+            _ => {}
         }
     }
 
@@ -180,7 +158,7 @@ fn choose_csplit<'a>(options: &[Chosen<'a>]) -> CsplitOptions<'a>
 {
     let mut asked = plain();
     for option in options {
-        asked = asked.with(option);
+        asked.take(option.choice);
     }
     asked
 }

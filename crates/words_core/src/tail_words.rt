@@ -4,15 +4,30 @@ ghost use Rattle.std.specs.Prelude.{◌≡◌, map, IfOk, IfErr};
 ghost use Rattle.words_core.specs.Given.{asked_by, operand_seen, option_seen, texts_of};
 ghost use Rattle.words_core.specs.Spelling.{Reads};
 ghost use Rattle.words_core.specs.TailWords.{by_descriptor, by_name, follow_by, followed_in, has_hyphen, no_following, tail_asked};
-ghost use Rattle.words_core.specs.Value.{seen};
+ghost use Rattle.words_core.specs.Choice.{seen};
 
-use crate::ends_words::settle_ends;
-use crate::settings::TailSettings;
+use crate::choice::Choice;
+use crate::ends_words::{EndsSettings, settle_ends};
 use crate::spelled::{Chosen, Operand, Spelled};
-use crate::table::Choice;
-use crate::value::{Followed, MOST_LOOKS, Value};
+use crate::value::{Followed, MOST_LOOKS};
 use ports_core::{Fault, STANDARD_INPUT, UsageKind};
 use std::alloc::Global;
+
+/// What `tail` is to write of its inputs.
+#[derive(Drop)]
+pub struct TailSettings<'a> {
+    /// What is written of each input at first.
+    pub ends: EndsSettings<'a>,
+    /// What is followed after that, if anything is.
+    pub followed: Option<Followed>,
+    /// How often inputs that are followed are looked at, 1 to 2^63-1.
+    pub looks: u64,
+    /// How many milliseconds they are waited for at most where nothing is seen to change, at most 2^63-1. Nothing that is written
+    /// depends on it.
+    pub pause: u64,
+    /// The process after whose end following ends, 1 to 2^31-1. None where it goes on.
+    pub process: Option<u32>,
+}
 
 /// What the options of `tail` ask for after the last part of each input.
 #[derive(Clone, Copy)]
@@ -45,46 +60,21 @@ const NO_FOLLOWING: FollowOptions = FollowOptions {
 const BAD_FOLLOW: Fault = Fault::Usage(UsageKind::BadFollow, 0);
 
 impl FollowOptions {
-    /// The same, and what one more option asks for.
-    fn with(self, option: &Chosen<'_>) -> Self
-        ensures { result ≡ follow_by self option.now.choice (seen option.now.value) }
+    /// Takes in what one more option asks for.
+    fn take(&mut self, choice: Choice<'_>)
+        ensures { self.new ≡ follow_by self.old (seen choice.entry) }
     {
-        match option.choice {
-            Choice::Follow => match option.value {
-                Value::Following(followed) => FollowOptions {
-                    followed: Some(followed),
-                    ..self
-                },
-                _ => FollowOptions {
-                    followed: Some(Followed::Descriptor),
-                    ..self
-                },
-            },
-            Choice::FollowNames => FollowOptions {
-                followed: Some(Followed::Name),
-                retry: true,
-                ..self
-            },
-            Choice::Retry => FollowOptions {
-                retry: true,
-                ..self
-            },
-            Choice::Looks => match option.value {
-                Value::Looks(looks) => FollowOptions { looks, ..self },
-                _ => self,
-            },
-            Choice::Pause => match option.value {
-                Value::Pause(pause) => FollowOptions { pause, ..self },
-                _ => self,
-            },
-            Choice::Process => match option.value {
-                Value::Process(process) => FollowOptions {
-                    process: Some(process),
-                    ..self
-                },
-                _ => self,
-            },
-            _ => self,
+        match choice {
+            Choice::Follow(followed) => self.followed = Some(followed),
+            Choice::FollowNames => {
+                self.followed = Some(Followed::Name);
+                self.retry = true;
+            }
+            Choice::Retry => self.retry = true,
+            Choice::Looks(looks) => self.looks = looks,
+            Choice::Pause(pause) => self.pause = pause,
+            Choice::Process(process) => self.process = Some(process),
+            _ => {}
         }
     }
 }
@@ -116,7 +106,7 @@ fn choose_following(options: &[Chosen<'_>]) -> FollowOptions
 {
     let mut asked = NO_FOLLOWING;
     for option in options {
-        asked = asked.with(option);
+        asked.take(option.choice);
     }
     asked
 }
