@@ -1,17 +1,18 @@
 -- The words of the laws: which options ask for what, and the operands among words.
-use Rattle.std.specs.Prelude.{◌≡◌, ◌≢◌, ℕ, ◌+◌, ◌-◌, ◌^◌, ◌<◌, ◌==◌, not, Bool, true, false, List, [], ◌∷◌, ◌++◌, length, codes, Option, Some, None, Result, Err, ◌⊎◌}
+use Rattle.std.specs.Prelude.{◌≡◌, ◌≢◌, ℕ, ◌+◌, ◌-◌, ◌^◌, ◌<◌, ◌==◌, not, Bool, true, false, List, [], ◌∷◌, ◌++◌, length, codes, Option, Some, None, Result, Ok, Err, ◌⊎◌}
 use Rattle.std.specs.List.{list_any}
 use Rattle.seg_core.specs.declared.count.Count.{Count}
 use Rattle.seg_core.specs.declared.unit.Unit.{Unit as Measured}
-use Rattle.ports_core.specs.declared.alphabet.Alphabet.{Alphabet}
 use Rattle.ports_core.specs.declared.form.Base.TheVariants.{Decimal}
 use Rattle.ports_core.specs.declared.form.Filling.TheVariants.{BlanksBefore}
 use Rattle.ports_core.specs.declared.fault.Fault.{Fault}
-use Rattle.seg_core.specs.declared.cut.Way.{Way}
+use Rattle.ports_core.specs.declared.on_broken.OnBroken.{OnBroken}
+use Rattle.ports_core.specs.declared.slot.Mode.{Mode}
 use Rattle.operand_core.specs.Style.{Style}
 use Rattle.words_core.specs.declared.choice.Choice.{Choice}
 use Rattle.words_core.specs.declared.choice.Choice.TheVariants as choice
 use Rattle.words_core.specs.declared.choice.Kind.{Kind}
+use Rattle.words_core.specs.declared.settings.Settings.TheVariants.{Head, Tail, Split, Csplit, Tee}
 use Rattle.words_core.specs.declared.settings.Topic.{Topic}
 use Rattle.words_core.specs.declared.spelled.Chosen.{Chosen}
 use Rattle.words_core.specs.declared.table.Takes.{Takes}
@@ -19,7 +20,6 @@ use Rattle.words_core.specs.declared.table.Takes.TheVariants as takes
 use Rattle.words_core.specs.declared.spelling.State.{State}
 use Rattle.words_core.specs.declared.spelling.State.TheVariants.{Reading}
 use Rattle.words_core.specs.declared.tail_words.FollowOptions.{FollowOptions}
-use Rattle.words_core.specs.declared.settings.Headers.{Headers}
 use Rattle.words_core.specs.declared.value.Followed.{Followed}
 use Rattle.words_core.specs.CsplitWords.{CsplitAsked}
 use Rattle.words_core.specs.EndsWords.{EndsAsked, ends_by, ten_lines}
@@ -30,6 +30,7 @@ use Rattle.words_core.specs.Spelling.{given_before, is_equals, spelled}
 use Rattle.words_core.specs.Table.{OptionRow, alone, option_named}
 use Rattle.words_core.specs.TailWords.{follow_by, no_following}
 use Rattle.words_core.specs.TeeWords.{TeeAsked, fresh, tee_by}
+use Rattle.words_core.specs.Words.{settings_of}
 
 -- what options ask of `head` or `tail`, of `split`, of `tail` that follows, and of `tee`
 
@@ -219,48 +220,48 @@ is_plain [] = true
 is_plain (byte ∷ []) = true
 is_plain (byte ∷ next ∷ rest) = not (byte == 45)
 
--- what is asked of `head` or `tail`, of `split`, and of `csplit` with the operand `1` in the word at this place, for
--- standard input
+-- What options ask for, given alone: of `head` and `tail` alike, for standard input; of `tail` that follows the file `f`; of
+-- `split`; of `csplit` with the operand `1`; and of `tee` for the file `f`.
 
-abbrev pub ends_as : Measured → Count → Headers → EndsAsked
-ends_as unit count headers = record {
-  unit = unit;
-  count = count;
-  headers = headers;
-  delim = 10;
-  names = codes "-" ∷ [];
-}
+abbrev pub ten_of_input : EndsAsked
+ten_of_input = ten_lines (codes "-" ∷ [])
 
--- the same of `tail`, where nothing is followed
-abbrev pub tail_as : EndsAsked → TailSettings
-tail_as ends = record { ends = ends; followed = None; looks = 2 ^ 63 - 1; pause = 1000; process = None }
+abbrev pub unfollowed : EndsAsked → TailSettings
+unfollowed ends = record { ends = ends; followed = None; looks = 2 ^ 63 - 1; pause = 1000; process = None }
 
--- where the file `f` is followed in this way, in as many looks
-abbrev pub following_as : Option Followed → ℕ → TailSettings
-following_as followed looks = record {
-  ends = ten_lines (codes "f" ∷ []);
-  followed = followed;
-  looks = looks;
-  pause = 1000;
-  process = None;
-}
+abbrev pub EndsAsk : List (List ℕ) → EndsAsked → Type 0
+EndsAsk words asked = (settings_of (codes "head" ∷ words) ≡ Ok (Head asked))
+    × (settings_of (codes "tail" ∷ words) ≡ Ok (Tail (unfollowed asked)))
 
-abbrev pub split_as : Way → Alphabet → ℕ → Bool → Bool → SplitAsked
-split_as way alphabet width auto elide = record {
-  way = way;
-  alphabet = alphabet;
-  width = width;
-  auto = auto;
-  from = None;
-  elide = elide;
-  verbose = false;
-  input = codes "-";
-  prefix = codes "x";
-  ending = [];
-}
+abbrev pub following : Followed → TailSettings
+following followed = record (unfollowed (ten_lines (codes "f" ∷ []))) { followed = Some followed }
 
-abbrev pub csplit_as : Style → ℕ → CsplitAsked
-csplit_as style place = record { style = style; input = codes "-"; operands = codes "1" ∷ []; places = place ∷ [] }
+abbrev pub FollowAsks : List (List ℕ) → TailSettings → Type 0
+FollowAsks words asked = settings_of (codes "tail" ∷ words ++ codes "f" ∷ []) ≡ Ok (Tail asked)
+
+-- files of 1,000 lines, with names that widen from two letters on
+abbrev pub thousands : SplitAsked
+thousands = record no_options { width = 2; auto = true }
+
+-- names of this width
+abbrev pub as_wide : ℕ → SplitAsked
+as_wide width = record no_options { width = width }
+
+abbrev pub SplitAsks : List (List ℕ) → SplitAsked → Type 0
+SplitAsks words asked = settings_of (codes "split" ∷ words) ≡ Ok (Split asked)
+
+abbrev pub CsplitAsks : List (List ℕ) → Style → Type 0
+CsplitAsks words style = settings_of (codes "csplit" ∷ words ++ codes "-" ∷ codes "1" ∷ [])
+    ≡ Ok (Csplit (record {
+      style = style;
+      input = codes "-";
+      operands = codes "1" ∷ [];
+      places = (length words + 2) ∷ [];
+    }))
+
+abbrev pub TeeAsks : List (List ℕ) → Mode → OnBroken → Type 0
+TeeAsks words mode on_broken = settings_of (codes "tee" ∷ words ++ codes "f" ∷ [])
+    ≡ Ok (Tee (record { mode = mode; on_broken = on_broken; names = codes "f" ∷ [] }))
 
 -- files as they are made without options
 abbrev pub plain_style : Style

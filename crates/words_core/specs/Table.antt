@@ -131,9 +131,11 @@ split_table =
     (codes "into N files: N, l/N, r/N; the Kth alone: K/N")
     ∷ option (codes "-a" ∷ codes "--suffix-length" ∷ []) (Value Width) (codes "WIDTH")
     (codes "names have WIDTH characters after the prefix")
-    ∷ option (codes "-d" ∷ codes "--numeric-suffixes" ∷ []) (Optional (asks.Suffixes Decimal None) NumericSuffixes) (codes "FROM")
+    ∷ option (codes "-d" ∷ codes "--numeric-suffixes" ∷ [])
+    (Optional (asks.Suffixes Decimal None) NumericSuffixes) (codes "FROM")
     (codes "digits in names, not letters, from FROM on")
-    ∷ option (codes "-x" ∷ codes "--hex-suffixes" ∷ []) (Optional (asks.Suffixes Hexadecimal None) HexSuffixes) (codes "FROM")
+    ∷ option (codes "-x" ∷ codes "--hex-suffixes" ∷ [])
+    (Optional (asks.Suffixes Hexadecimal None) HexSuffixes) (codes "FROM")
     (codes "hexadecimal digits in names, from FROM on")
     ∷ option (codes "-e" ∷ codes "--elide-empty-files" ∷ []) (Nothing asks.ElideEmptyFiles) []
     (codes "with -n, make no empty files")

@@ -12,11 +12,10 @@ ghost use Rattle.words_core.specs.Division.{division_in, way_of_division};
 ghost use Rattle.words_core.specs.Choice.{choice_in};
 ghost use Rattle.words_core.specs.CsplitWords.{chosen_by, decimal_form, style_of};
 ghost use Rattle.words_core.specs.Format.{Format, format_in};
-ghost use Rattle.words_core.specs.Laws.{AreAmong, Gives, IsLast, IsLetter, IsName, IsSwitch, LastDecides, LeaveTheRest, amount_of, appends, as_operands, counts, counts_looks, counts_pause, csplit_as, drops_sizes, elides_files, tells_of_files, ends_as, ends_of, ends_with_zero, follow_of, following_as, gives_ending, gives_format, has, heads, is_plain, keeps_files, leaves_lines_out, names_prefix, names_process, plain_style, retries, says_followed, says_on_broken, separates, spells, split_as, split_of, tail_as, tee_of, widens};
+ghost use Rattle.words_core.specs.Laws.{AreAmong, CsplitAsks, EndsAsk, FollowAsks, Gives, IsLast, IsLetter, IsName, IsSwitch, LastDecides, LeaveTheRest, SplitAsks, TeeAsks, amount_of, appends, as_operands, as_wide, counts, counts_looks, counts_pause, drops_sizes, elides_files, ends_of, ends_with_zero, follow_of, following, gives_ending, gives_format, has, heads, is_plain, keeps_files, leaves_lines_out, names_prefix, names_process, plain_style, retries, says_followed, says_on_broken, separates, spells, split_of, tee_of, tells_of_files, ten_of_input, thousands, widens};
 ghost use Rattle.words_core.specs.Lettered.{is_lettered, unit_of, with_letters};
-ghost use Rattle.words_core.specs.SplitWords.{SplitAsked, is_way, least_width, split_asked, way_in, way_of, separator_in, thousand_lines};
+ghost use Rattle.words_core.specs.SplitWords.{SplitAsked, is_way, least_width, split_asked, way_in, way_of, separator_in};
 ghost use Rattle.words_core.specs.Spelling.{given_before, mixed, spelled};
-ghost use Rattle.words_core.specs.EndsWords.{ten_lines};
 ghost use Rattle.words_core.specs.Table.{OptionRow, beginning, head_table, option_called, option_named, tail_table};
 ghost use Rattle.words_core.specs.declared.table.Letters.TheVariants.{OfHead, OfTail};
 ghost use Rattle.words_core.specs.TeeWords.{tee_asked};
@@ -271,136 +270,93 @@ pub fn letters_take_no_option_away()
 /// What the options of `head` and `tail` ask for, each alone: lines and bytes with their count, headers never or
 /// always (POSIX.1-2017, XCU head and tail; GNU coreutils manual).
 pub fn ends_options_ask()
-    ensures head_lines { (value : List ℕ) (count : Count) → count_of value ≡ Ok count
-        → settings_of (codes "head" ∷ codes "-n" ∷ value ∷ [])
-        ≡ Ok (Settings.Head (ends_as Unit.Lines count Headers.ForSeveral)) }
-    ensures head_bytes { (value : List ℕ) (count : Count) → count_of value ≡ Ok count
-        → settings_of (codes "head" ∷ codes "-c" ∷ value ∷ [])
-        ≡ Ok (Settings.Head (ends_as Unit.Bytes count Headers.ForSeveral)) }
-    ensures tail_lines { (value : List ℕ) (count : Count) → count_of value ≡ Ok count
-        → settings_of (codes "tail" ∷ codes "-n" ∷ value ∷ [])
-        ≡ Ok (Settings.Tail (tail_as (ends_as Unit.Lines count Headers.ForSeveral))) }
-    ensures tail_bytes { (value : List ℕ) (count : Count) → count_of value ≡ Ok count
-        → settings_of (codes "tail" ∷ codes "-c" ∷ value ∷ [])
-        ≡ Ok (Settings.Tail (tail_as (ends_as Unit.Bytes count Headers.ForSeveral))) }
-    ensures head_quiet { settings_of (codes "head" ∷ codes "-q" ∷ [])
-        ≡ Ok (Settings.Head (ends_as Unit.Lines (ten_lines []).count Headers.Never)) }
-    ensures head_verbose { settings_of (codes "head" ∷ codes "-v" ∷ [])
-        ≡ Ok (Settings.Head (ends_as Unit.Lines (ten_lines []).count Headers.Always)) }
-    ensures tail_quiet { settings_of (codes "tail" ∷ codes "-q" ∷ [])
-        ≡ Ok (Settings.Tail (tail_as (ends_as Unit.Lines (ten_lines []).count Headers.Never))) }
-    ensures tail_verbose { settings_of (codes "tail" ∷ codes "-v" ∷ [])
-        ≡ Ok (Settings.Tail (tail_as (ends_as Unit.Lines (ten_lines []).count Headers.Always))) }
+    ensures lines { (value : List ℕ) (count : Count) → count_of value ≡ Ok count
+        → EndsAsk (codes "-n" ∷ value ∷ []) (record ten_of_input { count = count }) }
+    ensures bytes { (value : List ℕ) (count : Count) → count_of value ≡ Ok count
+        → EndsAsk (codes "-c" ∷ value ∷ []) (record ten_of_input { unit = Unit.Bytes; count = count }) }
+    ensures quiet { EndsAsk (codes "-q" ∷ []) (record ten_of_input { headers = Headers.Never }) }
+    ensures verbose { EndsAsk (codes "-v" ∷ []) (record ten_of_input { headers = Headers.Always }) }
 {}
 
 /// What the options of `tail` for following ask for: files that are opened once, or names; as many looks as can be, or this many;
 /// pauses of a second at most, or of this many milliseconds (POSIX.1-2017, XCU tail; GNU coreutils manual).
 #[tactic(auto, unfolding(crate::specs::Spelling::foremost, crate::specs::Table::tools, seg_core::specs::Count::digits_of))]
 pub fn tail_options_ask()
-    ensures follows { settings_of (codes "tail" ∷ codes "-f" ∷ codes "f" ∷ [])
-        ≡ Ok (Settings.Tail (following_as (Some Followed.Descriptor) (2 ^ 63 - 1))) }
-    ensures long { settings_of (codes "tail" ∷ codes "--follow" ∷ codes "f" ∷ [])
-        ≡ Ok (Settings.Tail (following_as (Some Followed.Descriptor) (2 ^ 63 - 1))) }
-    ensures descriptor { settings_of (codes "tail" ∷ codes "--follow=descriptor" ∷ codes "f" ∷ [])
-        ≡ Ok (Settings.Tail (following_as (Some Followed.Descriptor) (2 ^ 63 - 1))) }
-    ensures names { settings_of (codes "tail" ∷ codes "-F" ∷ codes "f" ∷ [])
-        ≡ Ok (Settings.Tail (following_as (Some Followed.Name) (2 ^ 63 - 1))) }
-    ensures retry { settings_of (codes "tail" ∷ codes "--follow=name" ∷ codes "--retry" ∷ codes "f" ∷ [])
-        ≡ Ok (Settings.Tail (following_as (Some Followed.Name) (2 ^ 63 - 1))) }
-    ensures looks { settings_of (codes "tail" ∷ codes "-f" ∷ codes "--looks=3" ∷ codes "f" ∷ [])
-        ≡ Ok (Settings.Tail (following_as (Some Followed.Descriptor) 3)) }
-    ensures pause { settings_of (codes "tail" ∷ codes "-f" ∷ codes "-s" ∷ codes "2.5" ∷ codes "f" ∷ [])
-        ≡ Ok (Settings.Tail (record (following_as (Some Followed.Descriptor) (2 ^ 63 - 1)) { pause = 2500 })) }
-    ensures process { settings_of (codes "tail" ∷ codes "-f" ∷ codes "--pid=7" ∷ codes "f" ∷ [])
-        ≡ Ok (Settings.Tail (record (following_as (Some Followed.Descriptor) (2 ^ 63 - 1)) { process = Some 7 })) }
-    ensures short_pause { settings_of (codes "tail" ∷ codes "-f" ∷ codes "--sleep-interval=.0501" ∷ codes "f" ∷ [])
-        ≡ Ok (Settings.Tail (record (following_as (Some Followed.Descriptor) (2 ^ 63 - 1)) { pause = 51 })) }
+    ensures follows { FollowAsks (codes "-f" ∷ []) (following Followed.Descriptor) }
+    ensures long { FollowAsks (codes "--follow" ∷ []) (following Followed.Descriptor) }
+    ensures descriptor { FollowAsks (codes "--follow=descriptor" ∷ []) (following Followed.Descriptor) }
+    ensures names { FollowAsks (codes "-F" ∷ []) (following Followed.Name) }
+    ensures retry { FollowAsks (codes "--follow=name" ∷ codes "--retry" ∷ []) (following Followed.Name) }
+    ensures looks { FollowAsks (codes "-f" ∷ codes "--looks=3" ∷ [])
+        (record (following Followed.Descriptor) { looks = 3 }) }
+    ensures pause { FollowAsks (codes "-f" ∷ codes "-s" ∷ codes "2.5" ∷ [])
+        (record (following Followed.Descriptor) { pause = 2500 }) }
+    ensures process { FollowAsks (codes "-f" ∷ codes "--pid=7" ∷ [])
+        (record (following Followed.Descriptor) { process = Some 7 }) }
+    ensures short_pause { FollowAsks (codes "-f" ∷ codes "--sleep-interval=.0501" ∷ [])
+        (record (following Followed.Descriptor) { pause = 51 }) }
 {}
 
 /// What the options of `split` ask for, each alone (POSIX.1-2017, XCU split; GNU coreutils manual).
 pub fn split_options_ask()
     ensures lines { (value : List ℕ) (size : ℕ) → size_in value ≡ Ok size
-        → settings_of (codes "split" ∷ codes "-l" ∷ value ∷ [])
-        ≡ Ok (Settings.Split (split_as (Way.Cut (Cut.Parts (Limit.Lines size 10))) Alphabet.Letters 2 true false)) }
+        → SplitAsks (codes "-l" ∷ value ∷ []) (record thousands { way = Way.Cut (Cut.Parts (Limit.Lines size 10)) }) }
     ensures bytes { (value : List ℕ) (size : ℕ) → size_in value ≡ Ok size
-        → settings_of (codes "split" ∷ codes "-b" ∷ value ∷ [])
-        ≡ Ok (Settings.Split (split_as (Way.Cut (Cut.Parts (Limit.Bytes size))) Alphabet.Letters 2 true false)) }
+        → SplitAsks (codes "-b" ∷ value ∷ []) (record thousands { way = Way.Cut (Cut.Parts (Limit.Bytes size)) }) }
     ensures line_bytes { (value : List ℕ) (size : ℕ) → size_in value ≡ Ok size
-        → settings_of (codes "split" ∷ codes "-C" ∷ value ∷ [])
-        ≡ Ok (Settings.Split (split_as (Way.Cut (Cut.Parts (Limit.LineBytes size 10))) Alphabet.Letters 2 true false)) }
+        → SplitAsks (codes "-C" ∷ value ∷ [])
+        (record thousands { way = Way.Cut (Cut.Parts (Limit.LineBytes size 10)) }) }
     ensures files { (value : List ℕ) (division : Division) → division_in value ≡ Ok division → division.only ≡ None
-        → settings_of (codes "split" ∷ codes "-n" ∷ value ∷ [])
-        ≡ Ok (Settings.Split (split_as (way_of_division 10 division) Alphabet.Letters
-        (least_width Alphabet.Letters division.files) false false)) }
+        → SplitAsks (codes "-n" ∷ value ∷ [])
+        (record (as_wide (least_width Alphabet.Letters division.files)) { way = way_of_division 10 division }) }
     ensures one { (value : List ℕ) (division : Division) (place : ℕ) → division_in value ≡ Ok division
-        → division.only ≡ Some place → settings_of (codes "split" ∷ codes "-n" ∷ value ∷ [])
-        ≡ Ok (Settings.Split (split_as (way_of_division 10 division) Alphabet.Letters 2 false false)) }
-    ensures digits { settings_of (codes "split" ∷ codes "-d" ∷ [])
-        ≡ Ok (Settings.Split (split_as (thousand_lines 10) Alphabet.Digits 2 true false)) }
-    ensures hexadecimal { settings_of (codes "split" ∷ codes "-x" ∷ [])
-        ≡ Ok (Settings.Split (split_as (thousand_lines 10) Alphabet.Hex 2 true false)) }
+        → division.only ≡ Some place
+        → SplitAsks (codes "-n" ∷ value ∷ []) (record (as_wide 2) { way = way_of_division 10 division }) }
+    ensures digits { SplitAsks (codes "-d" ∷ []) (record thousands { alphabet = Alphabet.Digits }) }
+    ensures hexadecimal { SplitAsks (codes "-x" ∷ []) (record thousands { alphabet = Alphabet.Hex }) }
     ensures digits_from { (value : List ℕ) (from : ℕ) → up_to (2 ^ 63 - 1) (digits_of value) ≡ Ok from → from < 100
-        → settings_of (codes "split" ∷ (codes "--numeric-suffixes=" ++ value) ∷ [])
-        ≡ Ok (Settings.Split
-        (record (split_as (thousand_lines 10) Alphabet.Digits 2 false false) { from = Some from })) }
+        → SplitAsks ((codes "--numeric-suffixes=" ++ value) ∷ [])
+        (record (as_wide 2) { alphabet = Alphabet.Digits; from = Some from }) }
     ensures hexadecimal_from { (value : List ℕ) (from : ℕ) → hex_in value ≡ Ok from → from < 256
-        → settings_of (codes "split" ∷ (codes "--hex-suffixes=" ++ value) ∷ [])
-        ≡ Ok (Settings.Split (record (split_as (thousand_lines 10) Alphabet.Hex 2 false false) { from = Some from })) }
+        → SplitAsks ((codes "--hex-suffixes=" ++ value) ∷ [])
+        (record (as_wide 2) { alphabet = Alphabet.Hex; from = Some from }) }
     ensures too_short { (value : List ℕ) (from : ℕ) → up_to (2 ^ 63 - 1) (digits_of value) ≡ Ok from → 100 ≤ from
         → settings_of (codes "split" ∷ (codes "--numeric-suffixes=" ++ value) ∷ [])
         ≡ Err (Fault.Usage SuffixTooShort 0) }
-    ensures split_verbose { settings_of (codes "split" ∷ codes "--verbose" ∷ [])
-        ≡ Ok (Settings.Split (record (split_as (thousand_lines 10) Alphabet.Letters 2 true false) { verbose = true })) }
-    ensures elide { settings_of (codes "split" ∷ codes "-e" ∷ [])
-        ≡ Ok (Settings.Split (split_as (thousand_lines 10) Alphabet.Letters 2 true true)) }
-    ensures width { settings_of (codes "split" ∷ codes "-a3" ∷ [])
-        ≡ Ok (Settings.Split (split_as (thousand_lines 10) Alphabet.Letters 3 false false)) }
+    ensures split_verbose { SplitAsks (codes "--verbose" ∷ []) (record thousands { verbose = true }) }
+    ensures elide { SplitAsks (codes "-e" ∷ []) (record thousands { elide = true }) }
+    ensures width { SplitAsks (codes "-a3" ∷ []) (as_wide 3) }
 {}
 
 /// What the options of `csplit` ask for, each alone, and what is asked for without any (POSIX.1-2017, XCU csplit; GNU
 /// coreutils manual).
 pub fn csplit_options_ask()
-    ensures nothing { settings_of (codes "csplit" ∷ codes "-" ∷ codes "1" ∷ [])
-        ≡ Ok (Settings.Csplit (csplit_as plain_style 2)) }
-    ensures prefix { (text : List ℕ) → settings_of (codes "csplit" ∷ codes "-f" ∷ text ∷ codes "-" ∷ codes "1" ∷ [])
-        ≡ Ok (Settings.Csplit (csplit_as (record plain_style { prefix = text }) 4)) }
+    ensures nothing { CsplitAsks [] plain_style }
+    ensures prefix { (text : List ℕ) → CsplitAsks (codes "-f" ∷ text ∷ []) (record plain_style { prefix = text }) }
     ensures digits { (value : List ℕ) (digits : ℕ) → up_to 255 (digits_of value) ≡ Ok digits
-        → settings_of (codes "csplit" ∷ codes "-n" ∷ value ∷ codes "-" ∷ codes "1" ∷ [])
-        ≡ Ok (Settings.Csplit (csplit_as (record plain_style { form = decimal_form digits }) 4)) }
+        → CsplitAsks (codes "-n" ∷ value ∷ []) (record plain_style { form = decimal_form digits }) }
     ensures format { (value : List ℕ) (format : Format) → format_in value ≡ Some format
-        → settings_of (codes "csplit" ∷ codes "-b" ∷ value ∷ codes "-" ∷ codes "1" ∷ [])
-        ≡ Ok (Settings.Csplit
-        (csplit_as (record plain_style {
+        → CsplitAsks (codes "-b" ∷ value ∷ []) (record plain_style {
           prefix = codes "xx" ++ format.before;
           form = format.form;
           ending = format.after;
-        }) 4)) }
-    ensures keep { settings_of (codes "csplit" ∷ codes "-k" ∷ codes "-" ∷ codes "1" ∷ [])
-        ≡ Ok (Settings.Csplit (csplit_as (record plain_style { keep = true }) 3)) }
-    ensures quiet { settings_of (codes "csplit" ∷ codes "-s" ∷ codes "-" ∷ codes "1" ∷ [])
-        ≡ Ok (Settings.Csplit (csplit_as (record plain_style { quiet = true }) 3)) }
-    ensures also_quiet { settings_of (codes "csplit" ∷ codes "-q" ∷ codes "-" ∷ codes "1" ∷ [])
-        ≡ Ok (Settings.Csplit (csplit_as (record plain_style { quiet = true }) 3)) }
-    ensures elide { settings_of (codes "csplit" ∷ codes "-z" ∷ codes "-" ∷ codes "1" ∷ [])
-        ≡ Ok (Settings.Csplit (csplit_as (record plain_style { elide = true }) 3)) }
-    ensures suppress { settings_of (codes "csplit" ∷ codes "--suppress-matched" ∷ codes "-" ∷ codes "1" ∷ [])
-        ≡ Ok (Settings.Csplit (csplit_as (record plain_style { suppress = true }) 3)) }
+        }) }
+    ensures keep { CsplitAsks (codes "-k" ∷ []) (record plain_style { keep = true }) }
+    ensures quiet { CsplitAsks (codes "-s" ∷ []) (record plain_style { quiet = true }) }
+    ensures also_quiet { CsplitAsks (codes "-q" ∷ []) (record plain_style { quiet = true }) }
+    ensures elide { CsplitAsks (codes "-z" ∷ []) (record plain_style { elide = true }) }
+    ensures suppress { CsplitAsks (codes "--suppress-matched" ∷ []) (record plain_style { suppress = true }) }
 {}
 
 /// What `tee` is asked for without options, with `-a`, and with an option that says what is done once an output is broken
 /// (POSIX.1-2017, XCU tee; GNU coreutils manual).
 #[tactic(auto, unfolding(crate::specs::Table::tools))]
 pub fn tee_options_ask()
-    ensures nothing { settings_of (codes "tee" ∷ codes "f" ∷ [])
-        ≡ Ok (Settings.Tee (record { mode = Mode.Fresh; on_broken = OnBroken.GoOn; names = codes "f" ∷ [] })) }
-    ensures append { settings_of (codes "tee" ∷ codes "-a" ∷ codes "f" ∷ [])
-        ≡ Ok (Settings.Tee (record { mode = Mode.Append; on_broken = OnBroken.GoOn; names = codes "f" ∷ [] })) }
-    ensures warn { settings_of (codes "tee" ∷ codes "-p" ∷ codes "f" ∷ [])
-        ≡ Ok (Settings.Tee (record { mode = Mode.Fresh; on_broken = OnBroken.GoOn; names = codes "f" ∷ [] })) }
-    ensures stop { settings_of (codes "tee" ∷ codes "--output-error=exit" ∷ codes "f" ∷ [])
-        ≡ Ok (Settings.Tee (record { mode = Mode.Fresh; on_broken = OnBroken.Stop; names = codes "f" ∷ [] })) }
-    ensures stop_at_no_pipe { settings_of (codes "tee" ∷ codes "--output-error=exit-nopipe" ∷ codes "f" ∷ [])
-        ≡ Ok (Settings.Tee (record { mode = Mode.Fresh; on_broken = OnBroken.Stop; names = codes "f" ∷ [] })) }
+    ensures nothing { TeeAsks [] Mode.Fresh OnBroken.GoOn }
+    ensures append { TeeAsks (codes "-a" ∷ []) Mode.Append OnBroken.GoOn }
+    ensures warn { TeeAsks (codes "-p" ∷ []) Mode.Fresh OnBroken.GoOn }
+    ensures stop { TeeAsks (codes "--output-error=exit" ∷ []) Mode.Fresh OnBroken.Stop }
+    ensures stop_at_no_pipe { TeeAsks (codes "--output-error=exit-nopipe" ∷ []) Mode.Fresh OnBroken.Stop }
 {}
 
 /// A hyphen and digits as the only word mean what `-n` means with these digits for `head` and `tail`, and what `-l` means for
