@@ -19,8 +19,7 @@ use Rattle.words_core.specs.declared.table.Takes.{Takes}
 use Rattle.words_core.specs.declared.table.Takes.TheVariants as takes
 use Rattle.words_core.specs.declared.spelling.State.{State}
 use Rattle.words_core.specs.declared.spelling.State.TheVariants.{Reading}
-use Rattle.words_core.specs.declared.tail_words.FollowOptions.{FollowOptions}
-use Rattle.words_core.specs.declared.value.Followed.{Followed}
+use Rattle.words_core.specs.declared.value.Followed.TheVariants.{Descriptor}
 use Rattle.words_core.specs.CsplitWords.{CsplitAsked}
 use Rattle.words_core.specs.EndsWords.{EndsAsked, ends_by, ten_lines}
 use Rattle.words_core.specs.SplitWords.{SplitAsked, no_options, split_by}
@@ -28,11 +27,11 @@ use Rattle.words_core.specs.declared.tail_words.TailSettings.{TailSettings}
 use Rattle.words_core.specs.Given.{asked_by, Given, GivenOperand, one_option}
 use Rattle.words_core.specs.Spelling.{given_before, is_equals, spelled}
 use Rattle.words_core.specs.Table.{OptionRow, alone, option_named}
-use Rattle.words_core.specs.TailWords.{follow_by, no_following}
+use Rattle.words_core.specs.TailWords.{tail_by, unfollowed}
 use Rattle.words_core.specs.TeeWords.{TeeAsked, fresh, tee_by}
 use Rattle.words_core.specs.Words.{settings_of}
 
--- what options ask of `head` or `tail`, of `split`, of `tail` that follows, and of `tee`
+-- what options ask of `head` or `tail`, of `split`, of `tail`, and of `tee`
 
 abbrev pub ends_of : List Chosen → EndsAsked
 ends_of options = asked_by ends_by (ten_lines []) options
@@ -40,8 +39,8 @@ ends_of options = asked_by ends_by (ten_lines []) options
 abbrev pub split_of : List Chosen → SplitAsked
 split_of options = asked_by split_by no_options options
 
-abbrev pub follow_of : List Chosen → FollowOptions
-follow_of options = asked_by follow_by no_following options
+abbrev pub tail_of : List Chosen → TailSettings
+tail_of options = asked_by tail_by (unfollowed (ten_lines [])) options
 
 abbrev pub tee_of : List Chosen → TeeAsked
 tee_of options = asked_by tee_by (fresh []) options
@@ -226,15 +225,12 @@ is_plain (byte ∷ next ∷ rest) = not (byte == 45)
 abbrev pub ten_of_input : EndsAsked
 ten_of_input = ten_lines (codes "-" ∷ [])
 
-abbrev pub unfollowed : EndsAsked → TailSettings
-unfollowed ends = record { ends = ends; followed = None; looks = 2 ^ 63 - 1; pause = 1000; process = None }
-
 abbrev pub EndsAsk : List (List ℕ) → EndsAsked → Type 0
 EndsAsk words asked = (settings_of (codes "head" ∷ words) ≡ Ok (Head asked))
     × (settings_of (codes "tail" ∷ words) ≡ Ok (Tail (unfollowed asked)))
 
-abbrev pub following : Followed → TailSettings
-following followed = record (unfollowed (ten_lines (codes "f" ∷ []))) { followed = Some followed }
+abbrev pub following : TailSettings
+following = record (unfollowed (ten_lines (codes "f" ∷ []))) { followed = Some Descriptor }
 
 abbrev pub FollowAsks : List (List ℕ) → TailSettings → Type 0
 FollowAsks words asked = settings_of (codes "tail" ∷ words ++ codes "f" ∷ []) ≡ Ok (Tail asked)

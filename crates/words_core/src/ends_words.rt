@@ -43,7 +43,7 @@ impl<'a> Model for EndsSettings<'a> {
 }
 
 /// What is asked for without options: ten lines of these.
-fn ten_lines(names: Vec<&str>) -> EndsSettings<'_>
+pub(crate) fn ten_lines(names: Vec<&str>) -> EndsSettings<'_>
     ensures { result ≡ ten_lines (map (λ name. name.now) names.entry.items) }
 {
     EndsSettings {
@@ -60,7 +60,7 @@ fn ten_lines(names: Vec<&str>) -> EndsSettings<'_>
 
 impl EndsSettings<'_> {
     /// Takes in what one more option asks for.
-    fn take(&mut self, choice: Choice<'_>)
+    pub(crate) fn take(&mut self, choice: Choice<'_>)
         ensures { self.new ≡ ends_by self.old (seen choice.entry) }
     {
         match choice {
@@ -93,7 +93,7 @@ pub fn settle_ends<'a>(alloc: Global, spelled: &Spelled<'a>) -> Result<EndsSetti
 }
 
 /// The names of the inputs: the operands, or standard input where there is none.
-fn names_of<'a>(alloc: Global, operands: &[Operand<'a>]) -> Result<Vec<&'a str>, Fault>
+pub(crate) fn names_of<'a>(alloc: Global, operands: &[Operand<'a>]) -> Result<Vec<&'a str>, Fault>
     ensures ok { IfOk result (λ names. map (λ name. name.now) names.items
         ≡ names_asked (map operand_seen operands.now)) }
     ensures err { IfErr result (λ fault. fault ≡ Fault.Memory) }

@@ -12,7 +12,7 @@ ghost use Rattle.words_core.specs.Division.{division_in, way_of_division};
 ghost use Rattle.words_core.specs.Choice.{choice_in};
 ghost use Rattle.words_core.specs.CsplitWords.{chosen_by, decimal_form, style_of};
 ghost use Rattle.words_core.specs.Format.{Format, format_in};
-ghost use Rattle.words_core.specs.Laws.{AreAmong, CsplitAsks, EndsAsk, FollowAsks, Gives, IsLast, IsLetter, IsName, IsSwitch, LastDecides, LeaveTheRest, SplitAsks, TeeAsks, amount_of, appends, as_operands, as_wide, counts, counts_looks, counts_pause, drops_sizes, elides_files, ends_of, ends_with_zero, follow_of, following, gives_ending, gives_format, has, heads, is_plain, keeps_files, leaves_lines_out, names_prefix, names_process, plain_style, retries, says_followed, says_on_broken, separates, spells, split_of, tee_of, tells_of_files, ten_of_input, thousands, widens};
+ghost use Rattle.words_core.specs.Laws.{AreAmong, CsplitAsks, EndsAsk, FollowAsks, Gives, IsLast, IsLetter, IsName, IsSwitch, LastDecides, LeaveTheRest, SplitAsks, TeeAsks, amount_of, appends, as_operands, as_wide, counts, counts_looks, counts_pause, drops_sizes, elides_files, ends_of, ends_with_zero, following, gives_ending, gives_format, has, heads, is_plain, keeps_files, leaves_lines_out, names_prefix, names_process, plain_style, retries, says_followed, says_on_broken, separates, spells, split_of, tail_of, tee_of, tells_of_files, ten_of_input, thousands, widens};
 ghost use Rattle.words_core.specs.Lettered.{is_lettered, unit_of, with_letters};
 ghost use Rattle.words_core.specs.SplitWords.{SplitAsked, is_way, least_width, split_asked, way_in, way_of, separator_in};
 ghost use Rattle.words_core.specs.Spelling.{given_before, mixed, spelled};
@@ -40,16 +40,17 @@ use seg_core::unit::Unit;
 pub fn last_of_ends_decides()
     ensures counts { LastDecides counts (λ options. amount_of (ends_of options)) (amount_of (ends_of [])) }
     ensures headers { LastDecides heads (λ options. (ends_of options).headers) (ends_of []).headers }
+    ensures tail { (options : List Chosen) → (tail_of options).ends ≡ ends_of options }
 {}
 
 /// Of several options that say what `tail` follows the last decides, as if it stood alone, whatever options stand before it,
 /// and so do the last number of looks, the last pause and the last process. A name that leads nowhere is looked for again where any option says so.
 pub fn last_of_tail_decides()
-    ensures followed { LastDecides says_followed (λ options. (follow_of options).followed) None }
-    ensures looks { LastDecides counts_looks (λ options. (follow_of options).looks) (2 ^ 63 - 1) }
-    ensures pause { LastDecides counts_pause (λ options. (follow_of options).pause) 1000 }
-    ensures process { LastDecides names_process (λ options. (follow_of options).process) None }
-    ensures retry { (options : List Chosen) → (follow_of options).retry ≡ has retries options }
+    ensures followed { LastDecides says_followed (λ options. (tail_of options).followed) None }
+    ensures looks { LastDecides counts_looks (λ options. (tail_of options).looks) (2 ^ 63 - 1) }
+    ensures pause { LastDecides counts_pause (λ options. (tail_of options).pause) 1000 }
+    ensures process { LastDecides names_process (λ options. (tail_of options).process) None }
+    ensures retry { (options : List Chosen) → (tail_of options).retry ≡ has retries options }
 {}
 
 /// Of several options for the characters of suffixes the last decides, as if it stood alone, whatever options stand before it,
@@ -282,19 +283,16 @@ pub fn ends_options_ask()
 /// pauses of a second at most, or of this many milliseconds (POSIX.1-2017, XCU tail; GNU coreutils manual).
 #[tactic(auto, unfolding(crate::specs::Spelling::foremost, crate::specs::Table::tools, seg_core::specs::Count::digits_of))]
 pub fn tail_options_ask()
-    ensures follows { FollowAsks (codes "-f" ∷ []) (following Followed.Descriptor) }
-    ensures long { FollowAsks (codes "--follow" ∷ []) (following Followed.Descriptor) }
-    ensures descriptor { FollowAsks (codes "--follow=descriptor" ∷ []) (following Followed.Descriptor) }
-    ensures names { FollowAsks (codes "-F" ∷ []) (following Followed.Name) }
-    ensures retry { FollowAsks (codes "--follow=name" ∷ codes "--retry" ∷ []) (following Followed.Name) }
-    ensures looks { FollowAsks (codes "-f" ∷ codes "--looks=3" ∷ [])
-        (record (following Followed.Descriptor) { looks = 3 }) }
-    ensures pause { FollowAsks (codes "-f" ∷ codes "-s" ∷ codes "2.5" ∷ [])
-        (record (following Followed.Descriptor) { pause = 2500 }) }
-    ensures process { FollowAsks (codes "-f" ∷ codes "--pid=7" ∷ [])
-        (record (following Followed.Descriptor) { process = Some 7 }) }
-    ensures short_pause { FollowAsks (codes "-f" ∷ codes "--sleep-interval=.0501" ∷ [])
-        (record (following Followed.Descriptor) { pause = 51 }) }
+    ensures follows { FollowAsks (codes "-f" ∷ []) following }
+    ensures long { FollowAsks (codes "--follow" ∷ []) following }
+    ensures descriptor { FollowAsks (codes "--follow=descriptor" ∷ []) following }
+    ensures names { FollowAsks (codes "-F" ∷ []) (record following { followed = Some Followed.Name; retry = true }) }
+    ensures retry { FollowAsks (codes "--follow=name" ∷ codes "--retry" ∷ [])
+        (record following { followed = Some Followed.Name; retry = true }) }
+    ensures looks { FollowAsks (codes "-f" ∷ codes "--looks=3" ∷ []) (record following { looks = 3 }) }
+    ensures pause { FollowAsks (codes "-f" ∷ codes "-s" ∷ codes "2.5" ∷ []) (record following { pause = 2500 }) }
+    ensures process { FollowAsks (codes "-f" ∷ codes "--pid=7" ∷ []) (record following { process = Some 7 }) }
+    ensures short_pause { FollowAsks (codes "-f" ∷ codes "--sleep-interval=.0501" ∷ []) (record following { pause = 51 }) }
 {}
 
 /// What the options of `split` ask for, each alone (POSIX.1-2017, XCU split; GNU coreutils manual).
