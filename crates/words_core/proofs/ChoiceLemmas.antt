@@ -15,10 +15,11 @@ use Rattle.words_core.specs.declared.choice.Choice.TheVariants as choice
 use Rattle.words_core.specs.declared.tail_words.TailSettings.{TailSettings}
 use Rattle.words_core.specs.declared.spelled.Chosen.{Chosen}
 use Rattle.words_core.specs.Given.{GivenOperand, asked_by, texts_of}
-use Rattle.words_core.specs.CsplitWords.{CsplitOptions, csplit_by, plain}
+use Rattle.words_core.specs.CsplitWords.{csplit_by, plain}
+use Rattle.words_core.specs.declared.csplit_words.CsplitOptions.{CsplitOptions}
 use Rattle.words_core.specs.EndsWords.{EndsAsked, ends_by, names_asked, ten_lines}
 use Rattle.words_core.specs.SplitWords.{SplitAsked, delim_by, is_way, no_options, only_way, separator_in, split_by, thousand_lines, way_in, way_of}
-use Rattle.words_core.specs.TailWords.{tail_by, unfollowed}
+use Rattle.words_core.specs.TailWords.{retry_by, tail_by, unfollowed}
 use Rattle.words_core.specs.TeeWords.{TeeAsked, fresh, tee_by}
 use Rattle.words_core.specs.Words.{about_or, or_later, settings_for, topic_in, topic_of, work_for}
 use Rattle.words_core.specs.Laws.{LastDecides, amount_of, appends, counts, counts_looks, counts_pause, names_process, drops_sizes, elides_files, tells_of_files, ends_with_zero, gives_ending, gives_format, has, heads, keeps_files, leaves_lines_out, names_prefix, retries, says_followed, says_on_broken, separates, spells, widens}
@@ -56,17 +57,20 @@ ends-sets asked other choice = (refl, refl, refl)
 pub tail-sets : (asked other : TailSettings) (choice : Choice)
     → ((tail_by asked choice).followed ≡ (if says_followed choice then (tail_by other choice).followed else asked.followed))
     × ((tail_by asked choice).looks ≡ (if counts_looks choice then (tail_by other choice).looks else asked.looks))
-    × ((tail_by asked choice).retry ≡ (if retries choice then true else asked.retry))
     × ((tail_by asked choice).pause ≡ (if counts_pause choice then (tail_by other choice).pause else asked.pause))
     × ((tail_by asked choice).process ≡ (if names_process choice then (tail_by other choice).process else asked.process))
     × ((tail_by asked choice).ends ≡ ends_by asked.ends choice)
-tail-sets asked other (choice.Follow followed) = (refl, refl, refl, refl, refl, refl)
-tail-sets asked other choice = (refl, refl, refl, refl, refl, refl)
+tail-sets asked other (choice.Follow followed) = (refl, refl, refl, refl, refl)
+tail-sets asked other choice = (refl, refl, refl, refl, refl)
+
+pub retry-sets : (asked : Bool) (choice : Choice) → retry_by asked choice ≡ (if retries choice then true else asked)
+retry-sets asked choice.Retry = refl
+retry-sets asked choice = refl
 
 -- what `tail` is asked for of each input at first is what `head` is
 pub tail_ends : (asked : TailSettings) (options : List Chosen) → (asked_by tail_by asked options).ends ≡ asked_by ends_by asked.ends options
 tail_ends asked [] = refl
-tail_ends asked (option ∷ options) = tail_ends (tail_by asked option.choice) options ∙ ap (λ ends. asked_by ends_by ends options) (tail-sets asked asked option.choice).5
+tail_ends asked (option ∷ options) = tail_ends (tail_by asked option.choice) options ∙ ap (λ ends. asked_by ends_by ends options) (tail-sets asked asked option.choice).4
 
 pub split-sets : (asked other : SplitAsked) (choice : Choice)
     → ((split_by asked choice).alphabet ≡ (if spells choice then (split_by other choice).alphabet else asked.alphabet))
@@ -83,7 +87,7 @@ delim-sets asked other (choice.Separator byte) = refl
 delim-sets asked other choice = refl
 
 pub csplit-sets : (asked other : CsplitOptions) (choice : Choice)
-    → ((csplit_by asked choice).prefix ≡ (if names_prefix choice then (csplit_by other choice).prefix else asked.prefix))
+    → ((csplit_by asked choice).prefix.now ≡ (if names_prefix choice then (csplit_by other choice).prefix.now else asked.prefix.now))
     × ((csplit_by asked choice).digits ≡ (if widens choice then (csplit_by other choice).digits else asked.digits))
     × ((csplit_by asked choice).format ≡ (if gives_format choice then (csplit_by other choice).format else asked.format))
     × ((csplit_by asked choice).keep ≡ (if keeps_files choice then true else asked.keep))
@@ -121,7 +125,7 @@ module _ (before after : List Chosen) (word : ℕ) where
 
   no_work : (which : Tool) (operands : List GivenOperand) → work_for which (record { options = with_it; operands = operands }) ≡ work_for which (record { options = before ++ after; operands = operands })
   no_work tool.Head operands = rw (left_out ends_by (ten_lines (names_asked operands)) (λ asked. refl)) refl
-  no_work tool.Tail operands = rw (left_out tail_by (unfollowed (ten_lines (names_asked operands))) (λ asked. refl)) refl
+  no_work tool.Tail operands = rw (left_out tail_by (unfollowed (ten_lines (names_asked operands))) (λ asked. refl), left_out retry_by false (λ asked. refl)) refl
   no_work tool.Split operands = rw (no_way, left_out delim_by 10 (λ asked. refl), left_out split_by no_options (λ asked. refl)) refl
   no_work tool.Csplit operands = rw (left_out csplit_by plain (λ asked. refl)) refl
   no_work tool.Tee operands = rw (left_out tee_by (fresh (texts_of operands)) (λ asked. refl)) refl

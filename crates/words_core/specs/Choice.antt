@@ -19,8 +19,8 @@ use Rattle.words_core.specs.declared.choice.Kind.TheVariants as kind
 abbrev pub text : List ℕ → Bor (List ℕ)
 text bytes = record { ref_ptr = (0, 0); now = bytes }
 
-abbrev pub formatted : Format → Choice
-formatted format = choice.Format (record { before = text format.before; form = format.form; after = text format.after })
+abbrev pub written : Format → Written
+written format = record { before = text format.before; form = format.form; after = text format.after }
 
 abbrev pub format_of : Written → Format
 format_of format = record { before = format.before.now; form = format.form; after = format.after.now }
@@ -28,7 +28,7 @@ format_of format = record { before = format.before.now; form = format.form; afte
 abbrev pub seen : Choice → Choice
 seen (choice.Ending ending) = choice.Ending (text ending.now)
 seen (choice.Prefix prefix) = choice.Prefix (text prefix.now)
-seen (choice.Format format) = formatted (format_seen format)
+seen (choice.Format format) = choice.Format (written (format_seen format))
 seen other = other
 
 -- what a value asks for, or what is wrong with it
@@ -39,7 +39,7 @@ asking make (Err fault) = Err fault
 -- a text with one conversion
 abbrev pub or_bad_format : Option Format → Result Choice UsageKind
 or_bad_format None = Err BadFormat
-or_bad_format (Some format) = Ok (formatted format)
+or_bad_format (Some format) = Ok (choice.Format (written format))
 
 -- what an option of this kind asks for with this value
 abbrev pub choice_in : Kind → List ℕ → Result Choice UsageKind

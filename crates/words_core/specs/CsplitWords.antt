@@ -1,5 +1,5 @@
 -- What options and operands ask of `csplit`, or what is wrong with them.
-use Rattle.std.specs.Prelude.{◌≡◌, ℕ, Bool, false, true, List, [], ◌∷◌, ◌++◌, codes, slice_index_or, Option, Some, None, Result, Ok, Err}
+use Rattle.std.specs.Prelude.{◌≡◌, ℕ, Bool, false, true, List, [], ◌∷◌, ◌++◌, codes, slice_index_or, Option, Some, None, option_map, Result, Ok, Err}
 use Rattle.bre_core.specs.Fault.{number_of, offset_of}
 use Rattle.operand_core.specs.Fault.{number_of_kind}
 use Rattle.operand_core.specs.Style.{Style}
@@ -15,10 +15,12 @@ use Rattle.ports_core.specs.declared.fault.UsageKind.{UsageKind}
 use Rattle.ports_core.specs.declared.fault.UsageKind.TheVariants.{MissingOperand, BadOperand, BadPattern, PatternTooLarge}
 use Rattle.words_core.specs.declared.choice.Choice.{Choice}
 use Rattle.words_core.specs.declared.choice.Choice.TheVariants as choice
-use Rattle.words_core.specs.Choice.{format_of}
+use Rattle.words_core.specs.Choice.{format_of, text, written}
 use Rattle.words_core.specs.declared.spelled.Chosen.{Chosen}
 use Rattle.words_core.specs.Given.{asked_by, Given, GivenOperand, places_of, texts_of}
-use Rattle.words_core.specs.Format.{Format}
+use Rattle.words_core.specs.Format.{Format, format_seen}
+use Rattle.words_core.specs.declared.csplit_words.CsplitOptions.{CsplitOptions}
+use Rattle.words_core.specs.declared.format.Format.{Format as Written}
 
 -- what words ask of `csplit`
 pub record CsplitAsked : Type 0 where
@@ -30,25 +32,17 @@ pub record CsplitAsked : Type 0 where
   pub operands : List (List ℕ)
   pub places : List ℕ
 
--- what options ask for
-pub record CsplitOptions : Type 0 where
-  -- what names begin with, how many digits they have at least, and their format
-  pub prefix : List ℕ
-  pub digits : ℕ
-  pub format : Option Format
-  -- files are kept after a fault
-  pub keep : Bool
-  -- no sizes are written
-  pub quiet : Bool
-  -- an empty section makes no file
-  pub elide : Bool
-  -- the line at a cut is left out
-  pub suppress : Bool
+-- what options ask for, with texts of which only the bytes count
+abbrev pub options_seen : CsplitOptions → CsplitOptions
+options_seen asked = record asked {
+  prefix = text asked.prefix.now;
+  format = option_map (λ format. written (format_seen format)) asked.format;
+}
 
 -- without any: names begin with `xx` and have two digits, and nothing is kept, dropped or left out
 abbrev pub plain : CsplitOptions
 plain = record {
-  prefix = codes "xx";
+  prefix = text (codes "xx");
   digits = 2;
   format = None;
   keep = false;
@@ -60,9 +54,9 @@ plain = record {
 -- with one more option: the last prefix decides, and so do the last number of digits and the last format
 
 abbrev pub csplit_by : CsplitOptions → Choice → CsplitOptions
-csplit_by asked (choice.Prefix prefix) = record asked { prefix = prefix.now }
+csplit_by asked (choice.Prefix prefix) = record asked { prefix = prefix }
 csplit_by asked (choice.Width digits) = record asked { digits = digits }
-csplit_by asked (choice.Format format) = record asked { format = Some (format_of format) }
+csplit_by asked (choice.Format format) = record asked { format = Some format }
 csplit_by asked choice.KeepFiles = record asked { keep = true }
 csplit_by asked choice.Quiet = record asked { quiet = true }
 csplit_by asked choice.ElideEmptyFiles = record asked { elide = true }
@@ -73,14 +67,14 @@ abbrev pub chosen_by : List Chosen → CsplitOptions
 chosen_by options = asked_by csplit_by plain options
 
 -- where there is a format, the number of digits has no effect
-abbrev pub format_or : ℕ → Option Format → Format
+abbrev pub format_or : ℕ → Option Written → Format
 format_or digits None = record { before = []; form = decimal_form digits; after = [] }
-format_or digits (Some format) = format
+format_or digits (Some format) = format_of format
 
 -- how files are made
 abbrev pub style_with : CsplitOptions → Format → Style
 style_with asked format = record {
-  prefix = asked.prefix ++ format.before;
+  prefix = asked.prefix.now ++ format.before;
   form = format.form;
   ending = format.after;
   keep = asked.keep;

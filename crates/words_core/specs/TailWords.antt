@@ -16,19 +16,25 @@ use Rattle.words_core.specs.Value.{then_check}
 -- without options nothing is followed, and a pause lasts a second at most
 abbrev pub unfollowed : EndsAsked → TailSettings
 unfollowed ends =
-    record { ends = ends; followed = None; retry = false; looks = 2 ^ 63 - 1; pause = 1000; process = None }
+    record { ends = ends; followed = None; looks = 2 ^ 63 - 1; pause = 1000; process = None }
 
 -- With one more option: the last that says what is followed decides, and so do the last number of looks, the last
 -- pause and the last process; what is written of each input at first is what `head` is asked for.
 
 abbrev pub tail_by : TailSettings → Choice → TailSettings
 tail_by asked (Follow followed) = record asked { followed = Some followed }
-tail_by asked FollowNames = record asked { followed = Some Name; retry = true }
-tail_by asked Retry = record asked { retry = true }
+tail_by asked FollowNames = record asked { followed = Some Name }
 tail_by asked (Looks looks) = record asked { looks = looks }
 tail_by asked (Pause pause) = record asked { pause = pause }
 tail_by asked (Process process) = record asked { process = Some process }
 tail_by asked choice = record asked { ends = ends_by asked.ends choice }
+
+-- whether a name that leads nowhere is looked for again, with one more option
+
+abbrev pub retry_by : Bool → Choice → Bool
+retry_by retry FollowNames = true
+retry_by retry Retry = true
+retry_by retry choice = retry
 
 -- whether standard input is among the operands
 abbrev pub has_hyphen : List (List ℕ) → Bool
@@ -58,5 +64,5 @@ followed_in followed retry names = bad_follow
 abbrev pub tail_asked : Given → Result TailSettings Fault
 tail_asked given =
     let asked = asked_by tail_by (unfollowed (ten_lines (names_asked given.operands))) given.options in
-    then_check (followed_in asked.followed asked.retry (texts_of given.operands))
+    then_check (followed_in asked.followed (asked_by retry_by false given.options) (texts_of given.operands))
     (λ followed. Ok (record asked { followed = followed }))

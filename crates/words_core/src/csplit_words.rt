@@ -1,6 +1,6 @@
 //! What `csplit` is asked for: POSIX.1-2017, XCU csplit; `-b`, `-z` and `--suppress-matched` are GNU's.
 ghost use Rattle.std.specs.Prelude.{◌≡◌, map, IfOk, IfErr};
-ghost use Rattle.words_core.specs.CsplitWords.{HasBadOperand, HasRead, chosen_by, csplit_by, csplit_asked, format_or, plain, style_of};
+ghost use Rattle.words_core.specs.CsplitWords.{HasBadOperand, HasRead, chosen_by, csplit_by, csplit_asked, format_or, options_seen, plain, style_of};
 ghost use Rattle.words_core.specs.Format.{format_seen};
 ghost use Rattle.words_core.specs.Given.{option_seen};
 ghost use Rattle.words_core.specs.Spelling.{IsRefused};
@@ -13,7 +13,6 @@ use crate::spelled::{Chosen, Spelled};
 use operand_core::Style;
 use ports_core::{Base, Fault, Filling, Form, UsageKind};
 use std::alloc::Global;
-use std::marker::Model;
 
 /// What the options of `csplit` ask for: how files are made.
 #[derive(Drop)]
@@ -34,27 +33,9 @@ struct CsplitOptions<'a> {
     suppress: bool,
 }
 
-impl<'a> Model for CsplitOptions<'a> {
-    ghost use Rattle.std.specs.Prelude.{option_map};
-    ghost use Rattle.words_core.specs.CsplitWords.{CsplitOptions};
-    ghost use Rattle.words_core.specs.Format.{format_seen};
-
-    ghost Value = { CsplitOptions };
-
-    ghost view = { λ s. record {
-      prefix = s.prefix.now;
-      digits = s.digits;
-      format = option_map format_seen s.format;
-      keep = s.keep;
-      quiet = s.quiet;
-      elide = s.elide;
-      suppress = s.suppress;
-    } };
-}
-
 /// What is asked for without options.
 fn plain<'a>() -> CsplitOptions<'a>
-    ensures { result ≡ plain }
+    ensures { options_seen result ≡ plain }
 {
     CsplitOptions {
         prefix: "xx",
@@ -70,7 +51,7 @@ fn plain<'a>() -> CsplitOptions<'a>
 impl<'a> CsplitOptions<'a> {
     /// Takes in what one more option asks for.
     fn take(&mut self, choice: Choice<'a>)
-        ensures { self.new ≡ csplit_by self.old (seen choice.entry) }
+        ensures { options_seen self.new ≡ csplit_by (options_seen self.old) (seen choice.entry) }
     {
         match choice {
             Choice::Prefix(prefix) => self.prefix = prefix,
@@ -86,7 +67,7 @@ impl<'a> CsplitOptions<'a> {
 
     /// The format of names: without one a number in decimal, filled with zeros to its digits.
     fn names(&self) -> Format<'a>
-        ensures { format_seen result ≡ format_or self.now.digits self.now.format }
+        ensures { format_seen result ≡ format_or self.now.digits (options_seen self.now).format }
     {
         if let Some(format) = self.format {
             return format;
@@ -154,7 +135,7 @@ fn choose_style(alloc: Global, options: &[Chosen<'_>]) -> Result<Style, Fault>
 
 /// What all options ask for.
 fn choose_csplit<'a>(options: &[Chosen<'a>]) -> CsplitOptions<'a>
-    ensures { result ≡ chosen_by (map option_seen options.now) }
+    ensures { options_seen result ≡ chosen_by (map option_seen options.now) }
 {
     let mut asked = plain();
     for option in options {

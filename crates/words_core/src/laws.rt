@@ -7,10 +7,11 @@ ghost use Rattle.words_core.specs.declared.spelling.State.TheVariants.{Reading};
 ghost use Rattle.seg_core.specs.declared.unit.Unit.{Unit as Measured};
 ghost use Rattle.seg_core.specs.Count.{count_of, digits_of, is_number, sized, value_of};
 ghost use Rattle.std.specs.Char.{is_ascii_digit};
-ghost use Rattle.words_core.specs.Given.{Given, GivenOperand, bare, joined, one_operand, one_option};
+ghost use Rattle.words_core.specs.Given.{Given, asked_by, GivenOperand, bare, joined, one_operand, one_option};
 ghost use Rattle.words_core.specs.Division.{division_in, way_of_division};
 ghost use Rattle.words_core.specs.Choice.{choice_in};
 ghost use Rattle.words_core.specs.CsplitWords.{chosen_by, decimal_form, style_of};
+ghost use Rattle.words_core.specs.declared.format.Format.{Format as Written};
 ghost use Rattle.words_core.specs.Format.{Format, format_in};
 ghost use Rattle.words_core.specs.Laws.{AreAmong, CsplitAsks, EndsAsk, FollowAsks, Gives, IsLast, IsLetter, IsName, IsSwitch, LastDecides, LeaveTheRest, SplitAsks, TeeAsks, amount_of, appends, as_operands, as_wide, counts, counts_looks, counts_pause, drops_sizes, elides_files, ends_of, ends_with_zero, following, gives_ending, gives_format, has, heads, is_plain, keeps_files, leaves_lines_out, names_prefix, names_process, plain_style, retries, says_followed, says_on_broken, separates, spells, split_of, tail_of, tee_of, tells_of_files, ten_of_input, thousands, widens};
 ghost use Rattle.words_core.specs.Lettered.{is_lettered, unit_of, with_letters};
@@ -18,6 +19,7 @@ ghost use Rattle.words_core.specs.SplitWords.{SplitAsked, is_way, least_width, s
 ghost use Rattle.words_core.specs.Spelling.{given_before, mixed, spelled};
 ghost use Rattle.words_core.specs.Table.{OptionRow, beginning, head_table, option_called, option_named, tail_table};
 ghost use Rattle.words_core.specs.declared.table.Letters.TheVariants.{OfHead, OfTail};
+ghost use Rattle.words_core.specs.TailWords.{retry_by};
 ghost use Rattle.words_core.specs.TeeWords.{tee_asked};
 ghost use Rattle.words_core.specs.Value.{counted, hex_in, size_in, up_to};
 ghost use Rattle.words_core.specs.Words.{settings_for, settings_of};
@@ -50,7 +52,7 @@ pub fn last_of_tail_decides()
     ensures looks { LastDecides counts_looks (λ options. (tail_of options).looks) (2 ^ 63 - 1) }
     ensures pause { LastDecides counts_pause (λ options. (tail_of options).pause) 1000 }
     ensures process { LastDecides names_process (λ options. (tail_of options).process) None }
-    ensures retry { (options : List Chosen) → (tail_of options).retry ≡ has retries options }
+    ensures retry { (options : List Chosen) → asked_by retry_by false options ≡ has retries options }
 {}
 
 /// Of several options for the characters of suffixes the last decides, as if it stood alone, whatever options stand before it,
@@ -67,15 +69,15 @@ pub fn last_of_split_decides()
 /// the last number of digits and the last format, with which the digits have no effect. Without one the prefix is `xx`,
 /// and there are two digits.
 pub fn last_of_csplit_decides()
-    ensures prefix { LastDecides names_prefix (λ options. (chosen_by options).prefix) (codes "xx") }
+    ensures prefix { LastDecides names_prefix (λ options. (chosen_by options).prefix.now) (codes "xx") }
     ensures digits { LastDecides widens (λ options. (chosen_by options).digits) 2 }
     ensures format { LastDecides gives_format (λ options. (chosen_by options).format) None }
     ensures plain { (options : List Chosen) → (chosen_by options).format ≡ None
-        → ((style_of options).prefix ≡ (chosen_by options).prefix)
+        → ((style_of options).prefix ≡ (chosen_by options).prefix.now)
         × ((style_of options).form ≡ decimal_form (chosen_by options).digits) × ((style_of options).ending ≡ []) }
-    ensures formatted { (options : List Chosen) (format : Format) → (chosen_by options).format ≡ Some format
-        → ((style_of options).prefix ≡ (chosen_by options).prefix ++ format.before)
-        × ((style_of options).form ≡ format.form) × ((style_of options).ending ≡ format.after) }
+    ensures formatted { (options : List Chosen) (format : Written) → (chosen_by options).format ≡ Some format
+        → ((style_of options).prefix ≡ (chosen_by options).prefix.now ++ format.before.now)
+        × ((style_of options).form ≡ format.form) × ((style_of options).ending ≡ format.after.now) }
 {}
 
 /// Of several options of `tee` that say what is done once an output is broken the last decides, as if it stood alone, whatever
@@ -286,9 +288,8 @@ pub fn tail_options_ask()
     ensures follows { FollowAsks (codes "-f" ∷ []) following }
     ensures long { FollowAsks (codes "--follow" ∷ []) following }
     ensures descriptor { FollowAsks (codes "--follow=descriptor" ∷ []) following }
-    ensures names { FollowAsks (codes "-F" ∷ []) (record following { followed = Some Followed.Name; retry = true }) }
-    ensures retry { FollowAsks (codes "--follow=name" ∷ codes "--retry" ∷ [])
-        (record following { followed = Some Followed.Name; retry = true }) }
+    ensures names { FollowAsks (codes "-F" ∷ []) (record following { followed = Some Followed.Name }) }
+    ensures retry { FollowAsks (codes "--follow=name" ∷ codes "--retry" ∷ []) (record following { followed = Some Followed.Name }) }
     ensures looks { FollowAsks (codes "-f" ∷ codes "--looks=3" ∷ []) (record following { looks = 3 }) }
     ensures pause { FollowAsks (codes "-f" ∷ codes "-s" ∷ codes "2.5" ∷ []) (record following { pause = 2500 }) }
     ensures process { FollowAsks (codes "-f" ∷ codes "--pid=7" ∷ []) (record following { process = Some 7 }) }

@@ -3,7 +3,7 @@
 ghost use Rattle.std.specs.Prelude.{◌≡◌, map, IfOk, IfErr};
 ghost use Rattle.words_core.specs.Given.{operand_seen, texts_of};
 ghost use Rattle.words_core.specs.Spelling.{Reads};
-ghost use Rattle.words_core.specs.TailWords.{by_descriptor, by_name, followed_in, has_hyphen, tail_asked, tail_by, unfollowed};
+ghost use Rattle.words_core.specs.TailWords.{by_descriptor, by_name, followed_in, has_hyphen, retry_by, tail_asked, tail_by, unfollowed};
 ghost use Rattle.words_core.specs.Choice.{seen};
 
 use crate::choice::Choice;
@@ -20,8 +20,6 @@ pub struct TailSettings<'a> {
     pub ends: EndsSettings<'a>,
     /// What is followed after that, if anything is.
     pub followed: Option<Followed>,
-    /// Whether names that lead nowhere are looked for again: so it is just where names are followed.
-    pub retry: bool,
     /// How often inputs that are followed are looked at, 1 to 2^63-1.
     pub looks: u64,
     /// How many milliseconds they are waited for at most where nothing is seen to change, at most 2^63-1. Nothing that is written
@@ -41,7 +39,6 @@ fn unfollowed(ends: EndsSettings<'_>) -> TailSettings<'_>
     TailSettings {
         ends,
         followed: None,
-        retry: false,
         looks: MOST_LOOKS,
         pause: SECOND,
         process: None,
@@ -58,16 +55,22 @@ impl TailSettings<'_> {
     {
         match choice {
             Choice::Follow(followed) => self.followed = Some(followed),
-            Choice::FollowNames => {
-                self.followed = Some(Followed::Name);
-                self.retry = true;
-            }
-            Choice::Retry => self.retry = true,
+            Choice::FollowNames => self.followed = Some(Followed::Name),
             Choice::Looks(looks) => self.looks = looks,
             Choice::Pause(pause) => self.pause = pause,
             Choice::Process(process) => self.process = Some(process),
             _ => self.ends.take(choice),
         }
+    }
+}
+
+/// Whether names that lead nowhere are looked for again, with one more option.
+fn with_retry(retry: bool, choice: Choice<'_>) -> bool
+    ensures { result ≡ retry_by retry (seen choice.entry) }
+{
+    match choice {
+        Choice::FollowNames | Choice::Retry => true,
+        _ => retry,
     }
 }
 
@@ -82,10 +85,12 @@ pub fn settle_tail<'a>(alloc: Global, spelled: &Spelled<'a>) -> Result<TailSetti
     ensures { Reads (tail_asked spelled.now) result }
 {
     let mut asked = unfollowed(ten_lines(names_of(alloc, &spelled.operands)?));
+    let mut retry = false;
     for option in &spelled.options {
         asked.take(option.choice);
+        retry = with_retry(retry, option.choice);
     }
-    asked.followed = check_following(asked.followed, asked.retry, &spelled.operands)?;
+    asked.followed = check_following(asked.followed, retry, &spelled.operands)?;
     Ok(asked)
 }
 
