@@ -1,5 +1,5 @@
 -- What options and operands ask of `csplit`, or what is wrong with them.
-use Rattle.std.specs.Prelude.{◌≡◌, ℕ, Bool, false, true, List, [], ◌∷◌, ◌++◌, codes, slice_index_or, Option, Some, None, option_map, Result, Ok, Err}
+use Rattle.std.specs.Prelude.{◌≡◌, ℕ, Bool, false, true, List, [], ◌∷◌, ◌++◌, codes, slice_index_or, Option, Some, None, Result, Ok, Err}
 use Rattle.bre_core.specs.Fault.{number_of, offset_of}
 use Rattle.operand_core.specs.Fault.{number_of_kind}
 use Rattle.operand_core.specs.Style.{Style}
@@ -15,10 +15,10 @@ use Rattle.ports_core.specs.declared.fault.UsageKind.{UsageKind}
 use Rattle.ports_core.specs.declared.fault.UsageKind.TheVariants.{MissingOperand, BadOperand, BadPattern, PatternTooLarge}
 use Rattle.words_core.specs.declared.choice.Choice.{Choice}
 use Rattle.words_core.specs.declared.choice.Choice.TheVariants as choice
-use Rattle.words_core.specs.Choice.{format_of, text, written}
+use Rattle.words_core.specs.Choice.{format_of, text}
 use Rattle.words_core.specs.declared.spelled.Chosen.{Chosen}
 use Rattle.words_core.specs.Given.{asked_by, Given, GivenOperand, places_of, texts_of}
-use Rattle.words_core.specs.Format.{Format, format_seen}
+use Rattle.words_core.specs.Format.{Format}
 use Rattle.words_core.specs.declared.csplit_words.CsplitOptions.{CsplitOptions}
 use Rattle.words_core.specs.declared.format.Format.{Format as Written}
 
@@ -32,14 +32,7 @@ pub record CsplitAsked : Type 0 where
   pub operands : List (List ℕ)
   pub places : List ℕ
 
--- what options ask for, with texts of which only the bytes count
-abbrev pub options_seen : CsplitOptions → CsplitOptions
-options_seen asked = record asked {
-  prefix = text asked.prefix.now;
-  format = option_map (λ format. written (format_seen format)) asked.format;
-}
-
--- without any: names begin with `xx` and have two digits, and nothing is kept, dropped or left out
+-- what is asked for without options: names begin with `xx` and have two digits, and nothing is kept, dropped or left out
 abbrev pub plain : CsplitOptions
 plain = record {
   prefix = text (codes "xx");

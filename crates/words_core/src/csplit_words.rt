@@ -1,6 +1,7 @@
 //! What `csplit` is asked for: POSIX.1-2017, XCU csplit; `-b`, `-z` and `--suppress-matched` are GNU's.
 ghost use Rattle.std.specs.Prelude.{◌≡◌, map, IfOk, IfErr};
-ghost use Rattle.words_core.specs.CsplitWords.{HasBadOperand, HasRead, chosen_by, csplit_by, csplit_asked, format_or, options_seen, plain, style_of};
+ghost use Rattle.words_core.specs.CsplitWords.{HasBadOperand, HasRead, chosen_by, csplit_by, csplit_asked, format_or, plain, style_of};
+ghost use Rattle.words_core.specs.inner.Choice.{options_seen};
 ghost use Rattle.words_core.specs.Format.{format_seen};
 ghost use Rattle.words_core.specs.Given.{option_seen};
 ghost use Rattle.words_core.specs.Spelling.{IsRefused};

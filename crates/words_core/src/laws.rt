@@ -289,11 +289,13 @@ pub fn tail_options_ask()
     ensures long { FollowAsks (codes "--follow" ∷ []) following }
     ensures descriptor { FollowAsks (codes "--follow=descriptor" ∷ []) following }
     ensures names { FollowAsks (codes "-F" ∷ []) (record following { followed = Some Followed.Name }) }
-    ensures retry { FollowAsks (codes "--follow=name" ∷ codes "--retry" ∷ []) (record following { followed = Some Followed.Name }) }
+    ensures retry { FollowAsks (codes "--follow=name" ∷ codes "--retry" ∷ [])
+        (record following { followed = Some Followed.Name }) }
     ensures looks { FollowAsks (codes "-f" ∷ codes "--looks=3" ∷ []) (record following { looks = 3 }) }
     ensures pause { FollowAsks (codes "-f" ∷ codes "-s" ∷ codes "2.5" ∷ []) (record following { pause = 2500 }) }
     ensures process { FollowAsks (codes "-f" ∷ codes "--pid=7" ∷ []) (record following { process = Some 7 }) }
-    ensures short_pause { FollowAsks (codes "-f" ∷ codes "--sleep-interval=.0501" ∷ []) (record following { pause = 51 }) }
+    ensures short_pause { FollowAsks (codes "-f" ∷ codes "--sleep-interval=.0501" ∷ [])
+        (record following { pause = 51 }) }
 {}
 
 /// What the options of `split` ask for, each alone (POSIX.1-2017, XCU split; GNU coreutils manual).
