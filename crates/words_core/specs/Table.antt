@@ -44,9 +44,9 @@ pub record ToolRow : Type 0 where
   pub operands : List ℕ
   pub does : List ℕ
 
--- The table of the manuals. After its names an option has what it asks for, by the kind of its value where it takes one;
--- `choice_in` says what each kind means.
+-- The table of the manuals. `choice_in` says what each kind of value means.
 
+-- a row: its names, whether it takes a value and what it asks for, what help calls the value, and what it does
 abbrev pub option : List (List ℕ) → Takes → List ℕ → List ℕ → OptionRow
 option names takes value does = record { names = names; takes = takes; value = value; does = does }
 
