@@ -1,5 +1,5 @@
 -- What options and operands ask of `csplit`, or what is wrong with them.
-use Rattle.std.specs.Prelude.{◌≡◌, ℕ, Bool, false, true, List, [], ◌∷◌, ◌++◌, codes, slice_index_or, Option, Some, None, Result, Ok, Err}
+use Rattle.std.specs.Prelude.{◌≡◌, ℕ, false, true, List, [], ◌∷◌, ◌++◌, codes, slice_index_or, Option, Some, None, Result, Ok, Err}
 use Rattle.bre_core.specs.Fault.{number_of, offset_of}
 use Rattle.operand_core.specs.Fault.{number_of_kind}
 use Rattle.operand_core.specs.Style.{Style}

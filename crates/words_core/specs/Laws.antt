@@ -1,5 +1,5 @@
 -- The words of the laws: which options ask for what, and the operands among words.
-use Rattle.std.specs.Prelude.{◌≡◌, ◌≢◌, ℕ, ◌+◌, ◌-◌, ◌^◌, ◌<◌, ◌==◌, not, Bool, true, false, List, [], ◌∷◌, ◌++◌, length, codes, Option, Some, None, Result, Ok, Err, ◌⊎◌}
+use Rattle.std.specs.Prelude.{◌≡◌, ◌≢◌, ℕ, ◌+◌, ◌<◌, ◌==◌, not, Bool, true, false, List, [], ◌∷◌, ◌++◌, length, codes, Some, Result, Ok, Err, ◌⊎◌}
 use Rattle.std.specs.List.{list_any}
 use Rattle.seg_core.specs.declared.count.Count.{Count}
 use Rattle.seg_core.specs.declared.unit.Unit.{Unit as Measured}
@@ -20,7 +20,6 @@ use Rattle.words_core.specs.declared.table.Takes.TheVariants as takes
 use Rattle.words_core.specs.declared.spelling.State.{State}
 use Rattle.words_core.specs.declared.spelling.State.TheVariants.{Reading}
 use Rattle.words_core.specs.declared.value.Followed.TheVariants.{Descriptor}
-use Rattle.words_core.specs.CsplitWords.{CsplitAsked}
 use Rattle.words_core.specs.EndsWords.{EndsAsked, ends_by, ten_lines}
 use Rattle.words_core.specs.SplitWords.{SplitAsked, no_options, split_by}
 use Rattle.words_core.specs.declared.tail_words.TailSettings.{TailSettings}

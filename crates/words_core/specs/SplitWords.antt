@@ -3,7 +3,7 @@ use Rattle.std.specs.Prelude.{ℕ, zero, suc, ◌+◌, ◌==◌, ◌≤◌, ◌<
 use Rattle.std.specs.Option.{unwrap_or}
 use Rattle.ports_core.specs.Name.{name_count}
 use Rattle.ports_core.specs.declared.alphabet.Alphabet.{Alphabet}
-use Rattle.ports_core.specs.declared.alphabet.Alphabet.TheVariants.{Letters, Digits as Decimal, Hex as Hexadecimal}
+use Rattle.ports_core.specs.declared.alphabet.Alphabet.TheVariants.{Letters}
 use Rattle.ports_core.specs.declared.fault.Fault.{Fault}
 use Rattle.ports_core.specs.declared.fault.Fault.TheVariants.{Usage}
 use Rattle.ports_core.specs.declared.fault.UsageKind.TheVariants.{TwoWays, SuffixTooShort, ExtraOperand}

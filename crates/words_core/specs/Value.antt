@@ -8,7 +8,7 @@ use Rattle.seg_core.specs.Count.{after_digits, count_of, digits_of, leading_digi
 use Rattle.ports_core.specs.declared.on_broken.OnBroken.{OnBroken}
 use Rattle.ports_core.specs.declared.on_broken.OnBroken.TheVariants as on_broken
 use Rattle.ports_core.specs.declared.fault.UsageKind.{UsageKind}
-use Rattle.ports_core.specs.declared.fault.UsageKind.TheVariants.{BadNumber, NumberTooLarge, Zero, BadSeparator, BadSuffix, BadFollow, BadMode}
+use Rattle.ports_core.specs.declared.fault.UsageKind.TheVariants.{BadNumber, NumberTooLarge, BadSeparator, BadSuffix, BadFollow, BadMode}
 pub use Rattle.words_core.specs.Number.{counted, not_zero, number_fault, then_check, up_to}
 use Rattle.words_core.specs.declared.value.Followed.{Followed}
 use Rattle.words_core.specs.declared.value.Followed.TheVariants as followed
