@@ -26,8 +26,8 @@ use Rattle.ends_core.specs.Head.{head_work}
 use Rattle.ends_core.specs.Tail.{tail_work}
 use Rattle.run_core.specs.Feeding.{Stops, call_of}
 use Rattle.run_core.specs.RunSteps.{Opens, OpensShort}
-use Rattle.words_core.specs.EndsAsked.{EndsAsked}
-use Rattle.words_core.specs.SplitAsked.{SplitAsked}
+use Rattle.words_core.specs.EndsWords.{EndsAsked}
+use Rattle.words_core.specs.SplitWords.{SplitAsked}
 use Rattle.tools_core.specs.Tasks.{is_minus, is_plus, head_task, naming_of, said_by, split_task, tail_task}
 use Rattle.std.proofs.lemmas.Bool.{false≢true}
 use Rattle.ports_core.specs.Swept.{Swept}

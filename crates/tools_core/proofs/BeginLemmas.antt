@@ -27,8 +27,7 @@ use Rattle.split_core.specs.Split.{Filing, are_named, split_work, whole_by}
 use Rattle.split_core.specs.Round.{round_plan}
 use Rattle.split_core.specs.Split.{HasNames}
 use Rattle.split_core.proofs.RoundLemmas.{not_short}
-use Rattle.words_core.specs.SplitAsked.{SplitAsked}
-use Rattle.words_core.specs.SplitWords.{AreNamed, CanSplit, IsInLimits, first_number}
+use Rattle.words_core.specs.SplitWords.{SplitAsked, AreNamed, CanSplit, IsInLimits, first_number}
 use Rattle.tools_core.specs.Tasks.{naming_of}
 use Rattle.split_core.specs.laws.WorkLaws.{parts_lawful, round_lawful}
 use Rattle.split_core.proofs.AgreedLemmas.{plan_by}
@@ -50,7 +49,7 @@ use Rattle.ports_core.specs.declared.tool.Tool.TheVariants as tool
 use Rattle.tools_core.specs.About.{TellsText, no_text, text_cut, text_whole}
 use Rattle.tee_core.specs.Run as tee
 use Rattle.tee_core.specs.Run.{FileLeft, FilesLeft, IsRead, OutputLeft, are_sound, fault_in, messages_of, output_names, said_before, said_in, said_of_input}
-use Rattle.words_core.specs.TeeAsked.{TeeAsked}
+use Rattle.words_core.specs.TeeWords.{TeeAsked}
 use Rattle.words_core.specs.declared.settings.Settings.{Settings}
 use Rattle.words_core.specs.declared.settings.Settings.TheVariants.{Tee}
 use Rattle.ports_core.specs.declared.slot.State.{State}

@@ -27,7 +27,7 @@ use Rattle.run_core.specs.Task.{Task, made_by, status_of}
 use Rattle.tee_core.proofs.EndLemmas.{sound_goes_on}
 use Rattle.tee_core.specs.Run as tee
 use Rattle.tee_core.specs.Run.{FilesLeft, IsRead, LeavesOf, are_sound, messages_of, said_of_input}
-use Rattle.words_core.specs.TeeAsked.{TeeAsked}
+use Rattle.words_core.specs.TeeWords.{TeeAsked}
 use Rattle.words_core.specs.Words.{HasOperands}
 use Rattle.words_core.specs.declared.settings.Settings.{Settings}
 use Rattle.words_core.specs.declared.settings.Settings.TheVariants.{Head, Tail, Split, Csplit, Tee, About}

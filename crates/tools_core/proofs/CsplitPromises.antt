@@ -35,7 +35,7 @@ use Rattle.csplit_core.specs.Section.{Section, section_of, bytes_of, is_final, i
 use Rattle.csplit_core.specs.laws.PlanLaws.{plan_runs}
 use Rattle.csplit_core.specs.laws.SectionLaws.{are_within}
 use Rattle.csplit_core.proofs.WholeLemmas.{ends_after_all, none_lost_at_end}
-use Rattle.words_core.specs.CsplitAsked.{CsplitAsked}
+use Rattle.words_core.specs.CsplitWords.{CsplitAsked}
 use Rattle.words_core.specs.declared.settings.Settings.TheVariants.{Csplit}
 use Rattle.tools_core.specs.Tasks.{csplit_task}
 use Rattle.tools_core.proofs.SplitPromises.{formatted_in_order, AreNamed, bytes_written, named_step}

@@ -21,7 +21,7 @@ use Rattle.ends_core.specs.Ends.{tail_of}
 use Rattle.ports_core.specs.Slot.{Slot, slot_at, streams}
 use Rattle.watch_core.specs.Watched.{Watched}
 use Rattle.follow_core.specs.FollowState.{is_alive}
-use Rattle.words_core.specs.EndsAsked.{EndsAsked}
+use Rattle.words_core.specs.EndsWords.{EndsAsked}
 use Rattle.words_core.specs.declared.value.Followed.{Followed}
 use Rattle.tools_core.specs.Following.{FollowingEndsAt, is_name, start_of}
 use Rattle.tools_core.specs.Program.{ProgramEndsAt, looks_at}

@@ -58,7 +58,7 @@ use Rattle.run_core.proofs.StopLemmas.{beside_error, swept_error}
 use Rattle.tee_core.specs.Run as tee
 use Rattle.tee_core.specs.Run.{IsRead, are_sound, messages_of, output_names, said_in, said_of_input}
 use Rattle.tee_core.proofs.EndLemmas.{nothing_before, nothing_in, sound_first, sound_goes_on, whole_files, whole_output}
-use Rattle.words_core.specs.TeeAsked.{TeeAsked}
+use Rattle.words_core.specs.TeeWords.{TeeAsked}
 use Rattle.words_core.specs.Words.{settings_of}
 use Rattle.words_core.specs.declared.settings.Settings.{Settings}
 use Rattle.words_core.specs.declared.settings.Settings.TheVariants.{Head, Tail, Split, Csplit, Tee, About}

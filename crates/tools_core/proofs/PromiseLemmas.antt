@@ -16,11 +16,11 @@ use Rattle.seg_core.specs.declared.count.Sign.TheVariants.{Plain, Minus, Plus}
 use Rattle.ends_core.specs.Ends.{head_of, tail_of, after_of, first_of}
 use Rattle.ends_core.specs.laws.EndsLaws.{first_then_after, ends_together}
 use Rattle.words_core.specs.declared.settings.Settings.TheVariants.{Tee, Head, Tail, Split, Csplit, About}
-use Rattle.words_core.specs.EndsAsked.{EndsAsked}
+use Rattle.words_core.specs.EndsWords.{EndsAsked}
 use Rattle.std.proofs.lemmas.List.Elements.{All-map}
 use Rattle.ports_core.specs.Source.{Content, Source}
 use Rattle.ports_core.specs.declared.slot.Mode.{Mode}
-use Rattle.words_core.specs.TeeAsked.{TeeAsked}
+use Rattle.words_core.specs.TeeWords.{TeeAsked}
 use Rattle.ends_core.specs.laws.WorkLaws.{head_lawful, tail_lawful}
 use Rattle.csplit_core.specs.laws.InputLaws as csplit_law
 use Rattle.words_core.specs.Words.{CanRun}

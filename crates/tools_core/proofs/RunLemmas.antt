@@ -3,15 +3,15 @@ use Rattle.std.proofs.Common.{◌≡◌, ℕ, List, [], ◌∷◌, Option, Some,
 use Rattle.ports_core.specs.declared.fault.Fault.{Fault}
 use Rattle.ports_core.specs.declared.tool.Tool.{Tool}
 use Rattle.words_core.specs.declared.settings.Settings.{Settings}
-use Rattle.words_core.specs.declared.settings.TailSettings.{TailSettings}
+use Rattle.words_core.specs.declared.tail_words.TailSettings.{TailSettings}
 use Rattle.follow_core.proofs.FollowLemmas.{ends_by, most_made}
 use Rattle.words_core.specs.declared.settings.Settings.TheVariants.{Head, Tail, Split, Csplit, Tee, About}
 use Rattle.words_core.specs.declared.settings.Topic.{Topic}
-use Rattle.words_core.specs.CsplitWords.{HasBadOperand, csplit_asked}
-use Rattle.words_core.specs.EndsWords.{ends_asked}
+use Rattle.words_core.specs.CsplitWords.{HasBadOperand, csplit_asked, CsplitAsked}
+use Rattle.words_core.specs.EndsWords.{ends_asked, EndsAsked}
 use Rattle.words_core.specs.SplitWords.{split_asked}
 use Rattle.words_core.specs.TailWords.{tail_asked}
-use Rattle.words_core.specs.TeeWords.{tee_asked}
+use Rattle.words_core.specs.TeeWords.{tee_asked, TeeAsked}
 use Rattle.words_core.specs.Given.{Given}
 use Rattle.words_core.specs.Spelling.{given_by, IsRefused}
 use Rattle.words_core.specs.Value.{then_check}
@@ -38,9 +38,6 @@ use Rattle.run_core.proofs.InputLemmas.{none_touched}
 use Rattle.seg_core.specs.declared.count.Count.{Count}
 use Rattle.seg_core.specs.declared.unit.Unit.{Unit as Counted}
 use Rattle.tee_core.specs.Run.{IsUnread, all_copied, EndsAs as TeeCopies}
-use Rattle.words_core.specs.EndsAsked.{EndsAsked}
-use Rattle.words_core.specs.CsplitAsked.{CsplitAsked}
-use Rattle.words_core.specs.TeeAsked.{TeeAsked}
 use Rattle.operand_core.specs.Reading.{no_memory}
 use Rattle.words_core.specs.declared.settings.Headers.{Headers}
 use Rattle.ports_core.specs.declared.fault.UsageKind.TheVariants.{BadFollow}
@@ -90,17 +87,17 @@ runs_as_named (name ∷ words) {settings} is = named (row_named tools name) name
 
 -- What words ask for can be done.
 
-can_given : (row : ToolRow) (words : List (List ℕ)) {settings : Settings} (given : Result Given Fault) → given_by row words ≡ given → then_check given (settings_for row.tool) ≡ Ok settings → CanRun settings
-can_given row words {settings} (Ok given) read is = read-can row words given row.tool (Ok settings) read is
-can_given row words (Err fault) read is = absurd (cc)
+can_given : (name : List ℕ) {row : ToolRow} (words : List (List ℕ)) {settings : Settings} (given : Result Given Fault) → Some row ≡ row_named tools name → given_by row words ≡ given → then_check given (settings_for row.tool) ≡ Ok settings → CanRun settings
+can_given name words {settings} (Ok given) named read is = read-can name words (Ok settings) refl named read is
+can_given name words (Err fault) named read is = absurd (cc)
 
-can_tool : (name : List ℕ) (words : List (List ℕ)) {settings : Settings} (row : Option ToolRow) → tool_settings name words row ≡ Ok settings → CanRun settings
-can_tool name words (Some row) is = can_given row words (given_by row words) refl is
-can_tool name words None is = (by_topic (topic_named name) is).1
+can_tool : (name : List ℕ) (words : List (List ℕ)) {settings : Settings} (row : Option ToolRow) → row ≡ row_named tools name → tool_settings name words row ≡ Ok settings → CanRun settings
+can_tool name words (Some row) named is = can_given name words (given_by row words) named refl is
+can_tool name words None named is = (by_topic (topic_named name) is).1
 
 pub can_run : (words : List (List ℕ)) {settings : Settings} → settings_of words ≡ Ok settings → CanRun settings
 can_run [] is = absurd (cc)
-can_run (name ∷ words) is = can_tool name words (row_named tools name) is
+can_run (name ∷ words) is = can_tool name words (row_named tools name) refl is
 
 -- Lemmas on how a run ends, by its words.
 

@@ -53,8 +53,7 @@ use Rattle.split_core.proofs.AgreedLemmas.{bytes_named, each_named}
 use Rattle.split_core.proofs.RoundLemmas.{joined_files, joined_some, named_fewer}
 use Rattle.split_core.proofs.SectionLemmas.{line_at, all_dealt, first_files, joined_parts, part_lines, part_bytes, lines_count, bytes_count, line_bytes_are_parts, line_bytes_once, line_bytes_within}
 use Rattle.words_core.specs.declared.settings.Settings.TheVariants.{Split}
-use Rattle.words_core.specs.SplitAsked.{SplitAsked}
-use Rattle.words_core.specs.SplitWords.{AreNamed as HasNumbers, CanSplit, IsInLimits}
+use Rattle.words_core.specs.SplitWords.{SplitAsked, AreNamed as HasNumbers, CanSplit, IsInLimits}
 use Rattle.tools_core.specs.Tasks.{filing_of, naming_of, said_by, split_task}
 use Rattle.tools_core.proofs.BeginLemmas.{all_have_names}
 use Rattle.tools_core.proofs.RunLemmas.{can_run}

@@ -26,7 +26,7 @@ use Rattle.tee_core.specs.Run.{FilesLeft, IsRead, OutputLeft, are_sound, message
 use Rattle.tee_core.specs.Run as tee
 use Rattle.tee_core.proofs.EndLemmas.{sound_goes_on}
 use Rattle.words_core.specs.Words.{HasBadOperands}
-use Rattle.words_core.specs.TeeAsked.{TeeAsked}
+use Rattle.words_core.specs.TeeWords.{TeeAsked}
 use Rattle.words_core.specs.declared.settings.Settings.{Settings}
 use Rattle.words_core.specs.declared.settings.Settings.TheVariants.{Head, Tail, Split, Csplit, Tee, About}
 use Rattle.words_core.specs.declared.settings.Topic.{Topic}

@@ -14,7 +14,7 @@ use Rattle.ports_core.specs.declared.slot.Mode.{Mode}
 use Rattle.ports_core.proofs.PartLemmas.{begins_itself, take_begins_after}
 use Rattle.tee_core.specs.Run as tee
 use Rattle.tee_core.specs.Run.{FileLeft, FilesLeft, IsRead, LeavesOf, OutputLeft, any_of, broke_before, broken_before}
-use Rattle.words_core.specs.TeeAsked.{TeeAsked}
+use Rattle.words_core.specs.TeeWords.{TeeAsked}
 use Rattle.words_core.specs.declared.settings.Settings.TheVariants.{Tee}
 use Rattle.tools_core.specs.Promises.{EndsWithBreak, HasUpTo, Ran, Run, TellsMet}
 use Rattle.ports_core.specs.Text.{message_of}

@@ -11,11 +11,11 @@ use Rattle.follow_core.specs.declared.start.Start.{Start}
 use Rattle.follow_core.specs.Ending.{FollowEndsBy}
 use Rattle.follow_core.specs.Look.{ways_of}
 use Rattle.words_core.specs.declared.settings.Settings.{Settings}
-use Rattle.words_core.specs.declared.settings.TailSettings.{TailSettings}
+use Rattle.words_core.specs.declared.tail_words.TailSettings.{TailSettings}
 use Rattle.words_core.specs.declared.settings.Settings.TheVariants.{Tail}
 use Rattle.words_core.specs.declared.value.Followed.{Followed}
 use Rattle.words_core.specs.declared.value.Followed.TheVariants.{Descriptor, Name}
-use Rattle.words_core.specs.EndsAsked.{EndsAsked}
+use Rattle.words_core.specs.EndsWords.{EndsAsked}
 use Rattle.words_core.specs.Words.{HasOperands, settings_of}
 use Rattle.tools_core.specs.Outcome.{RefusesFor, RefusesOperands}
 use Rattle.tools_core.specs.Tasks.{has_headers, is_plus}

@@ -17,8 +17,8 @@ use Rattle.ports_core.specs.Streams.{standard_error, streams_with}
 use Rattle.tee_core.specs.Run.{all_copied, EndsAs as TeeCopies}
 use Rattle.words_core.specs.declared.settings.Settings.{Settings}
 use Rattle.words_core.specs.declared.settings.Settings.TheVariants.{Head, Tail, Split, Csplit, Tee, About}
-use Rattle.words_core.specs.CsplitAsked.{CsplitAsked}
-use Rattle.words_core.specs.TeeAsked.{TeeAsked}
+use Rattle.words_core.specs.CsplitWords.{CsplitAsked}
+use Rattle.words_core.specs.TeeWords.{TeeAsked}
 use Rattle.words_core.specs.Help.{text_about}
 use Rattle.words_core.specs.Words.{HasBadOperands, tool_named, settings_of}
 use Rattle.tools_core.specs.About.{TellsText}

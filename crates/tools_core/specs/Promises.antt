@@ -43,13 +43,13 @@ use Rattle.run_core.specs.Task.{Task}
 use Rattle.tee_core.specs.Run.{EndsAs as TeeCopies, are_sound, copied, no_room as no_memory}
 use Rattle.words_core.specs.declared.settings.Settings.{Settings}
 use Rattle.words_core.specs.declared.settings.Settings.TheVariants.{Head, Tail, Split, Csplit, Tee, About}
-use Rattle.words_core.specs.EndsAsked.{EndsAsked}
+use Rattle.words_core.specs.EndsWords.{EndsAsked}
 use Rattle.words_core.specs.declared.value.Followed.{Followed}
 use Rattle.seg_core.specs.declared.cut.Chunks.{Chunks}
 use Rattle.seg_core.specs.declared.cut.Way.{Way}
 use Rattle.seg_core.specs.declared.cut.Way.TheVariants as way
 use Rattle.split_core.specs.Chunks.{IsInChunk, IsInPiece}
-use Rattle.words_core.specs.SplitAsked.{SplitAsked}
+use Rattle.words_core.specs.SplitWords.{SplitAsked}
 use Rattle.words_core.specs.Words.{HasBadOperands, settings_of}
 use Rattle.watch_core.specs.Snapshot.{Snapshot}
 use Rattle.watch_core.specs.Watched.{Watched}

@@ -21,10 +21,9 @@ use Rattle.words_core.specs.declared.settings.Headers.{Headers}
 use Rattle.words_core.specs.declared.settings.Headers.TheVariants.{ForSeveral, Never, Always}
 use Rattle.words_core.specs.declared.settings.Settings.{Settings}
 use Rattle.words_core.specs.declared.settings.Settings.TheVariants.{Head, Tail, Split, Csplit, Tee, About}
-use Rattle.words_core.specs.CsplitAsked.{CsplitAsked}
-use Rattle.words_core.specs.EndsAsked.{EndsAsked}
-use Rattle.words_core.specs.SplitAsked.{SplitAsked}
-use Rattle.words_core.specs.SplitWords.{first_number}
+use Rattle.words_core.specs.CsplitWords.{CsplitAsked}
+use Rattle.words_core.specs.EndsWords.{EndsAsked}
+use Rattle.words_core.specs.SplitWords.{SplitAsked, first_number}
 
 abbrev pub is_minus : Sign → Bool
 is_minus Plain = false

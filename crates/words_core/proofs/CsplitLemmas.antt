@@ -6,8 +6,7 @@ use Rattle.ports_core.specs.declared.fault.Fault.{Fault}
 use Rattle.ports_core.specs.declared.fault.Fault.TheVariants.{Memory}
 use Rattle.words_core.specs.declared.spelled.Chosen.{Chosen}
 use Rattle.words_core.specs.declared.spelled.Operand.{Operand}
-use Rattle.words_core.specs.CsplitAsked.{CsplitAsked}
-use Rattle.words_core.specs.CsplitWords.{HasBadOperand, asked_with, csplit_asked, style_of}
+use Rattle.words_core.specs.CsplitWords.{CsplitAsked, HasBadOperand, asked_with, csplit_asked, style_of}
 use Rattle.words_core.specs.Given.{Given, operand_seen, option_seen}
 use Rattle.words_core.specs.Spelling.{IsRefused}
 

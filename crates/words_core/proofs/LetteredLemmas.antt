@@ -17,14 +17,18 @@ use Rattle.words_core.specs.declared.table.Letters.TheVariants.{OfHead, OfTail}
 use Rattle.ports_core.specs.declared.fault.UsageKind.{UsageKind}
 use Rattle.words_core.specs.declared.spelling.State.{State}
 use Rattle.seg_core.specs.declared.count.Sign.TheVariants.{Plain}
-use Rattle.words_core.specs.declared.table.Choice.{Choice}
-use Rattle.words_core.specs.declared.table.Choice.TheVariants.{Lines}
+use Rattle.seg_core.specs.declared.unit.Unit.{Unit as Measured}
+use Rattle.seg_core.specs.declared.unit.Unit.TheVariants.{Lines}
+use Rattle.words_core.specs.declared.choice.Choice.{Choice}
+use Rattle.words_core.specs.declared.choice.Choice.TheVariants.{Amount}
 use Rattle.words_core.specs.declared.table.Takes.{Takes}
+use Rattle.words_core.specs.declared.table.Takes.TheVariants as takes
+use Rattle.words_core.specs.Laws.{IsSwitch}
 use Rattle.words_core.specs.Given.{Given, bare, joined, one_option}
-use Rattle.words_core.specs.Lettered.{counted_with, is_lettered, letter_named, unit_of, switches, without_digits, times, unit_in, with_letters}
+use Rattle.words_core.specs.Lettered.{counted_with, is_lettered, unit_of, switched, switches, without_digits, times, unit_in, with_letters}
 use Rattle.words_core.specs.Spelling.{given_at, mixed, option_lettered, reading}
-use Rattle.words_core.specs.Table.{OptionRow, head_table, is_among, tail_table}
-use Rattle.words_core.specs.Value.{Counted, counted}
+use Rattle.words_core.specs.Table.{OptionRow, alone, head_table, is_among, tail_table}
+use Rattle.words_core.specs.Value.{counted}
 use Rattle.words_core.specs.inner.Spelling.{Adds}
 
 adds_both : (old one more : Given) (new : Given) (result : Result State Fault) → Adds (reading more) (joined old one) new result → Adds (reading (joined one more)) old new result
@@ -32,12 +36,12 @@ adds_both old one more new (Ok next) is = grind (arith, common_steps)
 adds_both old one more new (Err fault) is = grind (arith, common_steps)
 
 -- the count was added, and then the options
-pub adds_count : (rows : List OptionRow) (place : ℕ) (text : List ℕ) (unit : Choice × ℕ) (counted : Result Count UsageKind) {count : Count} (old mid new : Given) (result : Result State Fault)
-    → unit ≡ unit_in (after_digits text) → counted ≡ times (leading_digits text) unit.1 → counted ≡ Ok count → mid ≡ joined old (one_option unit.0 (Counted count) place)
+pub adds_count : (rows : List OptionRow) (place : ℕ) (text : List ℕ) (unit : Measured × ℕ) (counted : Result Count UsageKind) {count : Count} (old mid new : Given) (result : Result State Fault)
+    → unit ≡ unit_in (after_digits text) → counted ≡ times (leading_digits text) unit.1 → counted ≡ Ok count → mid ≡ joined old (one_option (Amount unit.0 count) place)
     → Adds (reading (switches rows place (after_digits text))) mid new result → Adds (given_at place (with_letters rows place text)) old new result
 adds_count rows place text unit counted {count} old mid new result which many is met adds =
     let told : times (leading_digits text) (unit_in (after_digits text)).1 ≡ Ok count = rw (← which) (sym many ∙ is) in
-    rw told (rw (← which) (adds_both old (one_option unit.0 (Counted count) place) _ new result (rw met at adds)))
+    rw told (rw (← which) (adds_both old (one_option (Amount unit.0 count) place) _ new result (rw met at adds)))
 
 -- such a word means nothing else
 
@@ -102,16 +106,21 @@ not_empty : (digits : List ℕ) → is_number digits ≡ true → (length digits
 not_empty [] is = absurd (cc)
 not_empty (digit ∷ digits) is = grind (arith, nat_tests)
 
-unit_is_no_digit : (letter : ℕ) {unit : Choice × ℕ} → unit_of letter ≡ Some unit → is_ascii_digit letter ≡ false
+unit_is_no_digit : (letter : ℕ) {unit : Measured × ℕ} → unit_of letter ≡ Some unit → is_ascii_digit letter ≡ false
 unit_is_no_digit letter is = grind (arith, common_steps, nat_tests)
 
-pub unit_asks : (rows : List OptionRow) (digits : List ℕ) (letter place : ℕ) (unit : Choice × ℕ) (count : Count) → is_number digits ≡ true → unit_of letter ≡ Some unit → counted (sized Plain (value_of digits * unit.1)) ≡ Ok count
-    → with_letters rows place (digits ++ letter ∷ []) ≡ Ok (one_option unit.0 (Counted count) place)
+pub unit_asks : (rows : List OptionRow) (digits : List ℕ) (letter place : ℕ) (unit : Measured × ℕ) (count : Count) → is_number digits ≡ true → unit_of letter ≡ Some unit → counted (sized Plain (value_of digits * unit.1)) ≡ Ok count
+    → with_letters rows place (digits ++ letter ∷ []) ≡ Ok (one_option (Amount unit.0 count) place)
 unit_asks rows digits letter place unit count number is many =
     one_letter rows digits letter place number (unit_is_no_digit letter is) ∙ rw (is, not_empty digits number, many)
 
-pub option_asks : (rows : List OptionRow) (digits : List ℕ) (letter place : ℕ) (option : Choice × Takes) (count : Count) → is_number digits ≡ true → unit_of letter ≡ None → is_ascii_digit letter ≡ false → letter_named rows letter ≡ Some option
-    → counted (sized Plain (value_of digits)) ≡ Ok count → with_letters rows place (digits ++ letter ∷ []) ≡ Ok (joined (one_option Lines (Counted count) place) (bare option.0 place))
-option_asks rows digits letter place option count number is other named many =
+switched_so : (place : ℕ) (takes : Takes) {choice : Choice} → alone takes ≡ Some choice → switched place (Some takes) ≡ bare choice place
+switched_so place (takes.Nothing choice) is = cc
+switched_so place (takes.Optional choice kind) is = cc
+switched_so place other is = absurd (cc)
+
+pub option_asks : (rows : List OptionRow) (digits : List ℕ) (letter place : ℕ) (choice : Choice) (count : Count) → is_number digits ≡ true → unit_of letter ≡ None → is_ascii_digit letter ≡ false → IsSwitch rows letter choice
+    → counted (sized Plain (value_of digits)) ≡ Ok count → with_letters rows place (digits ++ letter ∷ []) ≡ Ok (joined (one_option (Amount Lines count) place) (bare choice place))
+option_asks rows digits letter place choice count number is other switch many =
     let once : counted (sized Plain (value_of digits * 1)) ≡ Ok count = rw (mul-one (value_of digits)) many in
-    one_letter rows digits letter place number other ∙ rw (is, not_empty digits number, once, named)
+    one_letter rows digits letter place number other ∙ rw (is, not_empty digits number, once, switch.named, switched_so place switch.takes switch.alone)

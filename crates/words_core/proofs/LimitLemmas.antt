@@ -2,7 +2,8 @@
 use Rattle.std.proofs.lemmas.Grind.{common_steps}
 use Rattle.std.proofs.Common.{◌≡◌, ℕ, zero, suc, ◌+◌, ◌-◌, ◌^◌, ◌≤◌, false, refl, arith, List, [], ◌∷◌, ◌++◌, Option, Some, None, Result, Ok, Err, IfOk, inl, inr, ◌⊎◌}
 use Rattle.std.proofs.lemmas.Bool.{cond_both}
-use Rattle.std.specs.Prelude.{⊤, filter, ◌==◌, if◌then◌else◌}
+use Rattle.std.specs.Option.{unwrap_or}
+use Rattle.std.specs.Prelude.{⊤, IfSome, filter, ◌==◌}
 use Rattle.ports_core.specs.declared.fault.Fault.{Fault}
 use Rattle.ports_core.specs.declared.alphabet.Alphabet.{Alphabet}
 use Rattle.ports_core.specs.declared.alphabet.Alphabet.TheVariants.{Letters, Digits, Hex, Capitals, Octal}
@@ -13,84 +14,85 @@ use Rattle.ports_core.specs.declared.tool.Tool.TheVariants as tool
 use Rattle.seg_core.specs.declared.cut.Cut.TheVariants as cut
 use Rattle.seg_core.specs.declared.cut.Way.{Way}
 use Rattle.seg_core.specs.declared.cut.Way.TheVariants as way
-use Rattle.words_core.specs.declared.table.Choice.{Choice}
-use Rattle.words_core.specs.declared.table.Choice.TheVariants as choice
+use Rattle.words_core.specs.declared.choice.Choice.{Choice}
+use Rattle.words_core.specs.declared.choice.Choice.TheVariants as choice
 use Rattle.words_core.specs.declared.spelling.State.{State}
 use Rattle.words_core.specs.declared.spelling.State.TheVariants.{Awaiting}
 use Rattle.words_core.specs.declared.settings.Settings.{Settings}
 use Rattle.words_core.specs.declared.settings.Topic.{Topic}
-use Rattle.words_core.specs.Table.{OptionRow, ToolRow}
-use Rattle.words_core.specs.Value.{Meant, Width, Number, Text, then_check}
-use Rattle.words_core.specs.Given.{asked_by, Given, GivenOption, GivenOperand}
+use Rattle.words_core.specs.Table.{OptionRow, ToolRow, row_named, tools}
+use Rattle.words_core.specs.Value.{then_check}
+use Rattle.words_core.specs.declared.spelled.Chosen.{Chosen}
+use Rattle.words_core.specs.Given.{asked_by, Given, GivenOperand}
 use Rattle.words_core.specs.CsplitWords.{csplit_asked}
 use Rattle.words_core.specs.Spelling.{Meaning, meaning_of, given_before, onward, spelled, start_of, given_by}
-use Rattle.words_core.specs.SplitAsked.{SplitAsked}
-use Rattle.words_core.specs.SplitWords.{AreNamed, CanSplit, IsInLimits, IsWidth, is_way, only_way, way_of, split_by, no_options, suffix_for, files_in, split_asked, separator_in, for_all, first_number, fixed, free, least_width, or_two, wide_enough}
+use Rattle.words_core.specs.SplitWords.{SplitAsked, AreNamed, CanSplit, IsInLimits, IsWidth, is_way, only_way, way_of, split_by, no_options, suffix_for, files_in, split_asked, separator_in, for_all, first_number, fixed, free, least_width, or_two, thousand_lines, way_in, wide_enough}
 use Rattle.words_core.specs.declared.split_words.Suffix.{Suffix}
 use Rattle.words_core.specs.Laws.{AreAmong, none, passed, taken}
 use Rattle.words_core.specs.Words.{CanRun, about_or, settings_for, topic_in, work_for}
-use Rattle.words_core.proofs.MeaningLemmas.{AreSound, GivesItself, IsSound, anything, meaning-gives, sound-append}
+use Rattle.words_core.proofs.MeaningLemmas.{AreSafe, AreSound, GivesItself, IsSound, anything, meaning-gives, sound-append}
 use Rattle.words_core.proofs.SpellingLemmas.{either}
 use Rattle.words_core.proofs.WidthLemmas.{least_within, least_writes}
 
 -- all words: their operands are some of them
 
-abbrev GivesAmong : ℕ → List (List ℕ) → Result Given Fault → Type 0
-GivesAmong place words given = IfOk given (λ given. AreSound given.options × AreAmong given.operands place words)
+abbrev GivesAmong : List OptionRow → ℕ → List (List ℕ) → Result Given Fault → Type 0
+GivesAmong rows place words given = IfOk given (λ given. (AreSafe rows → AreSound given.options) × AreAmong given.operands place words)
 
-before-among : {place : ℕ} {word : List ℕ} (words : List (List ℕ)) (front : Given) (rest : Result Given Fault)
-    → AreSound front.options × ((front.operands ≡ []) ⊎ (front.operands ≡ record { text = word; word = place } ∷ [])) → GivesAmong (place + 1) words rest → GivesAmong place (word ∷ words) (given_before front rest)
-before-among {place} {word} words front (Ok more) (sound, inl is) among =
+before-among : (rows : List OptionRow) {place : ℕ} {word : List ℕ} (words : List (List ℕ)) (front : Given) (rest : Result Given Fault)
+    → (AreSafe rows → AreSound front.options) × ((front.operands ≡ []) ⊎ (front.operands ≡ record { text = word; word = place } ∷ [])) → GivesAmong rows (place + 1) words rest → GivesAmong rows place (word ∷ words) (given_before front rest)
+before-among rows {place} {word} words front (Ok more) (sound, inl is) among =
     let P : List GivenOperand → Type 0 = λ operands. AreAmong (operands ++ more.operands) place (word ∷ words) in
-    (sound-append front.options more.options sound among.0, rw is (passed more.operands place word words among.1))
-before-among {place} {word} words front (Ok more) (sound, inr is) among =
+    (λ safe. sound-append front.options more.options (sound safe) (among.0 safe), rw is (passed more.operands place word words among.1))
+before-among rows {place} {word} words front (Ok more) (sound, inr is) among =
     let P : List GivenOperand → Type 0 = λ operands. AreAmong (operands ++ more.operands) place (word ∷ words) in
-    (sound-append front.options more.options sound among.0, rw is (taken more.operands place word words among.1))
-before-among words front (Err fault) is among = tt
+    (λ safe. sound-append front.options more.options (sound safe) (among.0 safe), rw is (taken more.operands place word words among.1))
+before-among rows words front (Err fault) is among = tt
 
-onward-among : (place : ℕ) (word : List ℕ) (words : List (List ℕ)) (rest : State → Result Given Fault) (meant : Result Meaning Fault)
-    → GivesItself place word meant → ((next : State) → GivesAmong (place + 1) words (rest next)) → GivesAmong place (word ∷ words) (onward rest meant)
-onward-among place word words rest (Ok meaning) is among = before-among words meaning.given (rest meaning.next) (is.0, is.1) (among meaning.next)
-onward-among place word words rest (Err fault) is among = tt
+onward-among : (rows : List OptionRow) (place : ℕ) (word : List ℕ) (words : List (List ℕ)) (rest : State → Result Given Fault) (meant : Result Meaning Fault)
+    → GivesItself rows place word meant → ((next : State) → GivesAmong rows (place + 1) words (rest next)) → GivesAmong rows place (word ∷ words) (onward rest meant)
+onward-among rows place word words rest (Ok meaning) is among = before-among rows words meaning.given (rest meaning.next) (is.0, is.1) (among meaning.next)
+onward-among rows place word words rest (Err fault) is among = tt
 
-spelled-gives : (rows : List OptionRow) (words : List (List ℕ)) (place : ℕ) (state : State) → GivesAmong place words (spelled rows words place state)
-spelled-gives rows [] place (Awaiting choice kind option) = tt
-spelled-gives rows [] place state = (tt, none place)
+spelled-gives : (rows : List OptionRow) (words : List (List ℕ)) (place : ℕ) (state : State) → GivesAmong rows place words (spelled rows words place state)
+spelled-gives rows [] place (Awaiting kind option) = tt
+spelled-gives rows [] place state = (λ _. tt, none place)
 spelled-gives rows (word ∷ words) place state =
-    onward-among place word words (spelled rows words (place + 1)) (meaning_of rows state place word) (meaning-gives rows place state word) (λ next. spelled-gives rows words (place + 1) next)
+    onward-among rows place word words (spelled rows words (place + 1)) (meaning_of rows state place word) (meaning-gives rows place state word) (λ next. spelled-gives rows words (place + 1) next)
 
 pub gives : (rows : List OptionRow) (words : List (List ℕ)) (place : ℕ) (state : State) (given : Given) → spelled rows words place state ≡ Ok given
-    → AreSound given.options × AreAmong given.operands place words
+    → (AreSafe rows → AreSound given.options) × AreAmong given.operands place words
 gives rows words place state given is = rw is at (spelled-gives rows words place state)
 
 -- what each option keeps, all keep
-asked-keeps : {A : Type 0} (by : A → Choice → Meant → A) (P : A → Type 0)
-    → ((asked : A) (choice : Choice) (value : Meant) → P asked → IsSound value → P (by asked choice value))
-    → (options : List GivenOption) (asked : A) → P asked → AreSound options → P (asked_by by asked options)
+asked-keeps : {A : Type 0} (by : A → Choice → A) (P : A → Type 0) → ((asked : A) (choice : Choice) → P asked → IsSound choice → P (by asked choice))
+    → (options : List Chosen) (asked : A) → P asked → AreSound options → P (asked_by by asked options)
 asked-keeps by P keeps [] asked holds are = holds
 asked-keeps by P keeps (option ∷ options) asked holds are =
-    asked-keeps by P keeps options (by asked option.choice option.value) (keeps asked option.choice option.value holds are.0) are.1
+    asked-keeps by P keeps options (by asked option.choice) (keeps asked option.choice holds are.0) are.1
 
 -- what the options of `split` ask for
 
 abbrev HasFew : SplitAsked → Type 0
 HasFew asked = (asked.width ≤ 255) × (first_number asked.from ≤ 2 ^ 63 - 1)
 
-split_by-few : (asked : SplitAsked) (choice : Choice) (value : Meant) → HasFew asked → IsSound value → HasFew (split_by asked choice value)
-split_by-few asked choice.SuffixLength (Width width) few is = (is, few.1)
-split_by-few asked choice.NumericSuffixes (Number from) few is = (few.0, is)
-split_by-few asked choice.NumericSuffixes value few is = (few.0, omega arith)
-split_by-few asked choice.HexSuffixes (Number from) few is = (few.0, is)
-split_by-few asked choice.HexSuffixes value few is = (few.0, omega arith)
-split_by-few asked choice.AdditionalSuffix (Text text) few is = few
-split_by-few asked choice value few is = few
+split_by-few : (asked : SplitAsked) (choice : Choice) → HasFew asked → IsSound choice → HasFew (split_by asked choice)
+split_by-few asked (choice.Width width) few is = (is, few.1)
+split_by-few asked (choice.Suffixes alphabet (Some from)) few is = (few.0, is)
+split_by-few asked (choice.Suffixes alphabet None) few is = (few.0, omega arith)
+split_by-few asked choice few is = few
 
-only_way-limits : (delim : ℕ) (ways : List GivenOption) → AreSound ways → IfOk (only_way delim ways) IsInLimits
+way-limits : (delim : ℕ) (choice : Choice) → IsSound choice → IsInLimits (unwrap_or (way_in delim choice) (thousand_lines delim))
+way-limits delim (choice.LinesEach size) is = is
+way-limits delim (choice.Divided division) is = grind (arith, common_steps)
+way-limits delim other is = omega (arith, is)
+
+only_way-limits : (delim : ℕ) (ways : List Chosen) → AreSound ways → IfOk (only_way delim ways) IsInLimits
 only_way-limits delim [] are = omega arith
-only_way-limits delim (way ∷ []) are = grind (arith, common_steps)
+only_way-limits delim (way ∷ []) are = way-limits delim way.choice are.0
 only_way-limits delim (way ∷ second ∷ more) are = tt
 
-ways-sound : (options : List GivenOption) → AreSound options → AreSound (filter is_way options)
+ways-sound : (options : List Chosen) → AreSound options → AreSound (filter is_way options)
 ways-sound [] are = tt
 ways-sound (option ∷ options) are = either AreSound (is_way option) _ _ (are.0, ways-sound options are.1) (ways-sound options are.1)
 
@@ -218,8 +220,16 @@ about-can which None work can = can
 settled-can : (which : Tool) (given : Given) → AreSound given.options → IfOk (settings_for which given) CanRun
 settled-can which given sound = about-can which (topic_in given.options) (work_for which given) (work-can which given sound)
 
+-- what the tools' options ask for without a value is within the limits
+tools-safe : (name : List ℕ) → IfSome (row_named tools name) (λ row. AreSafe row.options)
+unfolding tools
+tools-safe name = grind (arith, common_steps)
+
 -- what was read of words can be done
-pub read-can : (row : ToolRow) (words : List (List ℕ)) (given : Given) (which : Tool) (result : Result Settings Fault) → given_by row words ≡ Ok given → IfOk result (λ settings. settings_for which given ≡ Ok settings) → IfOk result CanRun
-read-can row words given which (Ok settings) read is =
-    rw is at (settled-can which given (gives row.options words 1 (start_of row.number) given read).0)
-read-can row words given which (Err fault) read is = tt
+pub read-can : (name : List ℕ) {rows : List ToolRow} {row : ToolRow} (words : List (List ℕ)) {given : Given} (result : Result Settings Fault) → rows ≡ tools → Some row ≡ row_named rows name → given_by row words ≡ Ok given → IfOk result (λ settings. settings_for row.tool given ≡ Ok settings)
+    → IfOk result CanRun
+read-can name {row = row} words {given} (Ok settings) all named read is =
+    let known : Some row ≡ row_named tools name = rw all at named in
+    let safe : AreSafe row.options = rw (← known) at (tools-safe name) in
+    rw is at (settled-can row.tool given ((gives row.options words 1 (start_of row.number) given read).0 safe))
+read-can name words (Err fault) all named read is = tt

@@ -1,25 +1,28 @@
 -- What a word means: options whose values are within their limits, and no operand but the word itself; its fault stands at it.
 use Rattle.std.proofs.lemmas.Grind.{common_steps}
 use Rattle.std.proofs.Common.{◌≡◌, refl, ℕ, ◌-◌, ◌^◌, ◌==◌, ◌&&◌, ◌≤◌, ◌<◌, arith, List, [], ◌∷◌, ◌++◌, Option, Some, None, Result, Ok, Err, IfOk, inl, inr, ◌⊎◌}
-use Rattle.std.specs.Prelude.{⊤, length, nat_lt}
+use Rattle.std.specs.Prelude.{⊤, IfSome, length, nat_lt}
 use Rattle.seg_core.specs.Count.{after_digits, is_number, leading_digits}
 use Rattle.seg_core.specs.declared.count.Count.{Count}
+use Rattle.seg_core.specs.declared.unit.Unit.{Unit as Measured}
 use Rattle.ports_core.specs.declared.fault.Fault.{Fault}
 use Rattle.ports_core.specs.declared.fault.UsageKind.{UsageKind}
 use Rattle.ports_core.specs.declared.fault.UsageKind.TheVariants.{BadNumber}
-use Rattle.words_core.specs.declared.table.Choice.{Choice}
-use Rattle.words_core.specs.declared.table.Kind.{Kind}
-use Rattle.words_core.specs.declared.table.Kind.TheVariants as kind
+use Rattle.words_core.specs.declared.choice.Choice.{Choice}
+use Rattle.words_core.specs.declared.choice.Choice.TheVariants as choice
+use Rattle.words_core.specs.declared.spelled.Chosen.{Chosen}
+use Rattle.words_core.specs.Choice.{asking, choice_in, seen}
+use Rattle.words_core.specs.declared.choice.Kind.{Kind}
+use Rattle.words_core.specs.declared.choice.Kind.TheVariants as kind
 use Rattle.words_core.specs.declared.table.Takes.{Takes}
 use Rattle.words_core.specs.declared.table.Takes.TheVariants as takes
 use Rattle.words_core.specs.declared.spelling.State.{State}
 use Rattle.words_core.specs.declared.spelling.State.TheVariants.{First, Reading, Awaiting, OnlyOperands, Ended}
-use Rattle.words_core.specs.Table.{OptionRow}
-use Rattle.words_core.specs.Value.{Meant, Size, Divided, Width, Number, as_value, value_in}
+use Rattle.words_core.specs.Table.{OptionRow, begins_one, beginning, full_or, is_among, only_one, option_called, option_named}
 use Rattle.words_core.specs.Division.{all_in, division_in, numbers_in, one_in}
 use Rattle.words_core.specs.declared.division.Dealing.{Dealing}
 use Rattle.words_core.specs.SplitWords.{AreFew}
-use Rattle.words_core.specs.Given.{Given, GivenOption, GivenOperand, bare, joined}
+use Rattle.words_core.specs.Given.{Given, GivenOperand, bare, joined}
 use Rattle.words_core.specs.Lettered.{counted_with, is_lettered, is_unit, letter_named, switched, switches, times, unit_in, with_letters}
 use Rattle.words_core.specs.Spelling.{Meaning, before, said, valued, lettered, option_lettered, cluster, after_equals, named, dashed, foremost, given_at, mixed, meaning_of}
 use Rattle.ports_core.specs.declared.fault.Fault.TheVariants.{Usage}
@@ -32,18 +35,55 @@ abbrev pub IsAmong : ℕ → Option ℕ → Type 0
 IsAmong files None = ⊤
 IsAmong files (Some place) = place < files
 
-abbrev pub IsSound : Meant → Type 0
-IsSound (Size size) = 1 ≤ size
-IsSound (Divided division) = AreFew division.files × IsAmong division.files division.only
-IsSound (Width width) = width ≤ 255
-IsSound (Number number) = number ≤ 2 ^ 63 - 1
-IsSound value = ⊤
+abbrev pub IsSound : Choice → Type 0
+IsSound (choice.LinesEach size) = 1 ≤ size
+IsSound (choice.BytesEach size) = 1 ≤ size
+IsSound (choice.LineBytesEach size) = 1 ≤ size
+IsSound (choice.Divided division) = AreFew division.files × IsAmong division.files division.only
+IsSound (choice.Width width) = width ≤ 255
+IsSound (choice.Suffixes alphabet (Some from)) = from ≤ 2 ^ 63 - 1
+IsSound other = ⊤
 
-abbrev pub AreSound : List GivenOption → Type 0
+abbrev pub AreSound : List Chosen → Type 0
 AreSound [] = ⊤
-AreSound (option ∷ options) = IsSound option.value × AreSound options
+AreSound (option ∷ options) = IsSound option.choice × AreSound options
 
-pub sound-append : (front options : List GivenOption) → AreSound front → AreSound options → AreSound (front ++ options)
+-- a table whose rows ask for nothing beyond the limits without a value
+
+abbrev pub IsSafe : Takes → Type 0
+IsSafe (takes.Nothing choice) = IsSound (seen choice)
+IsSafe (takes.Optional choice kind) = IsSound (seen choice)
+IsSafe takes = ⊤
+
+abbrev pub AreSafe : List OptionRow → Type 0
+AreSafe [] = ⊤
+AreSafe (row ∷ rows) = IsSafe row.takes × AreSafe rows
+
+found-safe : (rows : List OptionRow) (name : List ℕ) → AreSafe rows → IfSome (option_named rows name) IsSafe
+found-safe [] name safe = tt
+found-safe (row ∷ rows) name safe = either (λ found. IfSome found IsSafe) (is_among row.names name) _ _ safe.0 (found-safe rows name safe.1)
+
+lettered-safe : (rows : List OptionRow) (letter : ℕ) → AreSafe rows → IfSome (option_lettered rows letter) IsSafe
+lettered-safe rows letter safe = either (λ found. IfSome found IsSafe) (nat_lt letter 128) _ _ (found-safe rows (45 ∷ letter ∷ []) safe) tt
+
+begun-safe : (start : List ℕ) (rows : List OptionRow) → AreSafe rows → AreSafe (beginning start rows)
+begun-safe start [] safe = tt
+begun-safe start (row ∷ rows) safe = either AreSafe (begins_one start row.names) _ _ (safe.0, begun-safe start rows safe.1) (begun-safe start rows safe.1)
+
+only-safe : (rows : List OptionRow) → AreSafe rows → IfOk (only_one rows) IsSafe
+only-safe [] safe = tt
+only-safe (row ∷ []) safe = safe.0
+only-safe (row ∷ other ∷ rows) safe = tt
+
+full-safe : (found : Option Takes) (short : Result Takes UsageKind) → IfSome found IsSafe → IfOk short IsSafe → IfOk (full_or found short) IsSafe
+full-safe (Some found) short safe other = safe
+full-safe None short safe other = other
+
+called-safe : (rows : List OptionRow) (name : List ℕ) → AreSafe rows → IfOk (option_called rows name) IsSafe
+called-safe rows name safe =
+    full-safe (option_named rows name) _ (found-safe rows name safe) (only-safe _ (begun-safe name rows safe))
+
+pub sound-append : (front options : List Chosen) → AreSound front → AreSound options → AreSound (front ++ options)
 sound-append [] options first rest = rest
 sound-append (option ∷ front) options first rest = (first.0, sound-append front options first.1 rest)
 
@@ -55,7 +95,7 @@ anything (Err fault) = tt
 
 -- the option that awaits a value stands at this word or after it
 abbrev pub Awaits : ℕ → State → Type 0
-Awaits least (Awaiting choice kind option) = least ≤ option
+Awaits least (Awaiting kind option) = least ≤ option
 Awaits least state = ⊤
 
 -- a fault of the words stands at this word or after it
@@ -63,129 +103,130 @@ abbrev pub Tells : ℕ → Fault → Type 0
 Tells place (Usage kind word) = place ≤ word
 Tells place fault = ⊤
 
--- one word: options within their limits, and these operands; its fault stands at it, and so does the option that then awaits a value
+-- one word: options, within their limits where the table is, and these operands; its fault stands at it, and so does the option that then awaits a value
 
-abbrev pub Gives : (List GivenOperand → Type 0) → ℕ → Result Meaning Fault → Type 0
-Gives HasOperands place (Ok meaning) = AreSound meaning.given.options × HasOperands meaning.given.operands × Awaits place meaning.next
-Gives HasOperands place (Err fault) = Tells place fault
+abbrev pub Gives : (IfSo : Type 0) → (List GivenOperand → Type 0) → ℕ → Result Meaning Fault → Type 0
+Gives IfSo HasOperands place (Ok meaning) = (IfSo → AreSound meaning.given.options) × HasOperands meaning.given.operands × Awaits place meaning.next
+Gives IfSo HasOperands place (Err fault) = Tells place fault
 
 -- no operand, or the word itself
 
-abbrev GivesOptions : ℕ → Result Meaning Fault → Type 0
-GivesOptions place meant = Gives (λ operands. operands ≡ []) place meant
+abbrev GivesOptions : List OptionRow → ℕ → Result Meaning Fault → Type 0
+GivesOptions rows place meant = Gives (AreSafe rows) (λ operands. operands ≡ []) place meant
 
-abbrev pub GivesItself : ℕ → List ℕ → Result Meaning Fault → Type 0
-GivesItself place word meant = Gives (λ operands. (operands ≡ []) ⊎ (operands ≡ record { text = word; word = place } ∷ [])) place meant
-
-options_alone : (place : ℕ) (word : List ℕ) (meant : Result Meaning Fault) → GivesOptions place meant → GivesItself place word meant
-options_alone place word (Ok meaning) is = (is.0, inl is.1, is.2)
-options_alone place word (Err fault) is = is
+abbrev pub GivesItself : List OptionRow → ℕ → List ℕ → Result Meaning Fault → Type 0
+GivesItself rows place word meant = Gives (AreSafe rows) (λ operands. (operands ≡ []) ⊎ (operands ≡ record { text = word; word = place } ∷ [])) place meant
 
 -- what `-n` says
 
-all-sound : (dealing : Dealing) (files : List ℕ) → IfOk (all_in dealing files) (λ division. IsSound (Divided division))
+all-sound : (dealing : Dealing) (files : List ℕ) → IfOk (all_in dealing files) (λ division. IsSound (choice.Divided division))
 all-sound dealing files = grind (arith, common_steps)
 
 one-sound : (dealing : Dealing) (number files : List ℕ)
-    → IfOk (one_in dealing number files) (λ division. IsSound (Divided division))
+    → IfOk (one_in dealing number files) (λ division. IsSound (choice.Divided division))
 one-sound dealing number files = grind (arith, common_steps)
 
 numbers-sound : (dealing : Dealing) (front rest : List ℕ)
-    → IfOk (numbers_in dealing front rest) (λ division. IsSound (Divided division))
+    → IfOk (numbers_in dealing front rest) (λ division. IsSound (choice.Divided division))
 numbers-sound dealing front [] = all-sound dealing front
 numbers-sound dealing front (byte ∷ rest) =
-    either (λ division. IfOk division (λ division. IsSound (Divided division)))
+    either (λ division. IfOk division (λ division. IsSound (choice.Divided division)))
     (byte == 47 && nat_lt 0 (length front)) (one_in dealing front rest) (Err BadNumber) (one-sound dealing front rest) tt
 
-division-sound : (text : List ℕ) → IfOk (division_in text) (λ division. IsSound (Divided division))
+division-sound : (text : List ℕ) → IfOk (division_in text) (λ division. IsSound (choice.Divided division))
 division-sound text = grind (arith, common_steps, numbers-sound)
 
 -- a value is within its limits
-as-sound : {A : Type 0} (make : A → Meant) (value : Result A UsageKind) → IfOk value (λ value. IsSound (make value))
-    → IfOk (as_value make value) IsSound
+as-sound : {A : Type 0} (make : A → Choice) (value : Result A UsageKind) → IfOk value (λ value. IsSound (make value))
+    → IfOk (asking make value) IsSound
 as-sound make (Ok value) is = is
 as-sound make (Err fault) is = tt
 
-value-sound : (kind : Kind) (text : List ℕ) → IfOk (value_in kind text) IsSound
-value-sound kind.Division text = as-sound (λ division. Divided division) (division_in text) (division-sound text)
-value-sound which text = grind (arith, common_steps)
-
-said-gives : (choice : Choice) (option place : ℕ) (value : Result Meant UsageKind) → IfOk value IsSound
-    → GivesOptions place (said choice option place value)
-said-gives choice option place (Ok value) is = ((is, tt), refl, tt)
-said-gives choice option place (Err fault) is = omega arith
-
-valued-gives : (choice : Choice) (kind : Kind) (option place : ℕ) (text : List ℕ)
-    → GivesOptions place (valued choice kind option place text)
-valued-gives choice kind option place text = said-gives choice option place (value_in kind text) (value-sound kind text)
-
-bare-gives : (choice : Choice) (place : ℕ) (meant : Result Meaning Fault) → GivesOptions place meant → GivesOptions place (before (bare choice place) meant)
-bare-gives choice place (Ok meaning) is = ((tt, is.0), is.1, is.2)
-bare-gives choice place (Err fault) is = is
+choice-sound : (kind : Kind) (text : List ℕ) → IfOk (choice_in kind text) IsSound
+choice-sound kind.Divided text = as-sound (λ division. choice.Divided division) (division_in text) (division-sound text)
+choice-sound which text = grind (arith, common_steps)
 
 module _ (rows : List OptionRow) (place : ℕ) where
-  lettered-gives : (rest : List ℕ) (others : Result Meaning Fault) (option : Option (Choice × Takes)) → GivesOptions place others → GivesOptions place (lettered place rest others option)
-  lettered-gives rest others None is = omega arith
-  lettered-gives [] others (Some (choice, takes.Value kind)) is = (tt, refl, omega arith)
-  lettered-gives (byte ∷ text) others (Some (choice, takes.Value kind)) is = valued-gives choice kind place place (byte ∷ text)
-  lettered-gives rest others (Some (choice, takes.Last)) is = ((tt, tt), refl, tt)
-  lettered-gives rest others (Some (choice, other)) is = bare-gives choice place others is
+  options_alone : (word : List ℕ) (meant : Result Meaning Fault) → GivesOptions rows place meant → GivesItself rows place word meant
+  options_alone word (Ok meaning) is = (is.0, inl is.1, is.2)
+  options_alone word (Err fault) is = is
 
-  cluster-gives : (letters : List ℕ) → GivesOptions place (cluster rows place letters)
-  cluster-gives [] = (tt, refl, tt)
-  cluster-gives (letter ∷ rest) = lettered-gives rest (cluster rows place rest) (option_lettered rows letter) (cluster-gives rest)
+  said-gives : (option : ℕ) (value : Result Choice UsageKind) → IfOk value IsSound → GivesOptions rows place (said option place value)
+  said-gives option (Ok choice) is = (λ _. (is, tt), refl, tt)
+  said-gives option (Err fault) is = omega arith
 
-  named-gives : (option : Result (Choice × Takes) UsageKind) (value : Option (List ℕ)) → GivesOptions place (named place option value)
-  named-gives (Err fault) value = omega arith
-  named-gives (Ok (choice, takes.Nothing)) (Some text) = omega arith
-  named-gives (Ok (choice, takes.Last)) (Some text) = omega arith
-  named-gives (Ok (choice, takes.Value kind)) None = (tt, refl, omega arith)
-  named-gives (Ok (choice, other)) None = ((tt, tt), refl, tt)
-  named-gives (Ok (choice, takes.Value kind)) (Some text) = valued-gives choice kind place place text
-  named-gives (Ok (choice, takes.Optional kind)) (Some text) = valued-gives choice kind place place text
+  valued-gives : (kind : Kind) (option : ℕ) (text : List ℕ) → GivesOptions rows place (valued kind option place text)
+  valued-gives kind option text = said-gives option (choice_in kind text) (choice-sound kind text)
+
+  bare-gives : (choice : Choice) (meant : Result Meaning Fault) → (AreSafe rows → IsSound (seen choice)) → GivesOptions rows place meant → GivesOptions rows place (before (bare choice place) meant)
+  bare-gives choice (Ok meaning) sound is = (λ safe. (sound safe, is.0 safe), is.1, is.2)
+  bare-gives choice (Err fault) sound is = is
+
+  lettered-gives : (rest : List ℕ) (others : Result Meaning Fault) (option : Option Takes) → (AreSafe rows → IfSome option IsSafe) → GivesOptions rows place others → GivesOptions rows place (lettered place rest others option)
+  lettered-gives rest others None safe is = omega arith
+  lettered-gives [] others (Some (takes.Value kind)) safe is = (λ _. tt, refl, omega arith)
+  lettered-gives (byte ∷ text) others (Some (takes.Value kind)) safe is = valued-gives kind place (byte ∷ text)
+  lettered-gives rest others (Some (takes.Last topic)) safe is = (λ _. (tt, tt), refl, tt)
+  lettered-gives rest others (Some (takes.Nothing choice)) safe is = bare-gives choice others safe is
+  lettered-gives rest others (Some (takes.Optional choice kind)) safe is = bare-gives choice others safe is
+
+  cluster-gives : (letters : List ℕ) → GivesOptions rows place (cluster rows place letters)
+  cluster-gives [] = (λ _. tt, refl, tt)
+  cluster-gives (letter ∷ rest) = lettered-gives rest (cluster rows place rest) (option_lettered rows letter) (lettered-safe rows letter) (cluster-gives rest)
+
+  named-gives : (option : Result Takes UsageKind) (value : Option (List ℕ)) → (AreSafe rows → IfOk option IsSafe) → GivesOptions rows place (named place option value)
+  named-gives (Err fault) value safe = omega arith
+  named-gives (Ok (takes.Value kind)) (Some text) safe = valued-gives kind place text
+  named-gives (Ok (takes.Optional choice kind)) (Some text) safe = valued-gives kind place text
+  named-gives (Ok other) (Some text) safe = omega arith
+  named-gives (Ok (takes.Value kind)) None safe = (λ _. tt, refl, omega arith)
+  named-gives (Ok (takes.Last topic)) None safe = (λ _. (tt, tt), refl, tt)
+  named-gives (Ok (takes.Nothing choice)) None safe = (λ rows. (safe rows, tt), refl, tt)
+  named-gives (Ok (takes.Optional choice kind)) None safe = (λ rows. (safe rows, tt), refl, tt)
 
   -- a number with letters
 
   abbrev GivesSound : Given → Type 0
-  GivesSound given = AreSound given.options × (given.operands ≡ [])
+  GivesSound given = (AreSafe rows → AreSound given.options) × (given.operands ≡ [])
 
-  switched-gives : (rest : Given) (option : Option (Choice × Takes)) → GivesSound rest → GivesSound (joined (switched place option) rest)
-  switched-gives rest None is = is
-  switched-gives rest (Some option) is = ((tt, is.0), is.1)
+  switched-gives : (rest : Given) (option : Option Takes) → (AreSafe rows → IfSome option IsSafe) → GivesSound rest → GivesSound (joined (switched place option) rest)
+  switched-gives rest (Some (takes.Nothing choice)) safe is = (λ rows. (safe rows, is.0 rows), is.1)
+  switched-gives rest (Some (takes.Optional choice kind)) safe is = (λ rows. (safe rows, is.0 rows), is.1)
+  switched-gives rest other safe is = is
 
   switches-give : (letters : List ℕ) → GivesSound (switches rows place letters)
-  switches-give [] = (tt, refl)
+  switches-give [] = (λ _. tt, refl)
   switches-give (letter ∷ letters) =
-      either GivesSound (is_unit letter) _ _ (switches-give letters) (switched-gives _ (letter_named rows letter) (switches-give letters))
+      either GivesSound (is_unit letter) _ _ (switches-give letters) (switched-gives _ (letter_named rows letter) (found-safe rows (45 ∷ letter ∷ [])) (switches-give letters))
 
-  counted-gives : (choice : Choice) (options : Given) (count : Result Count UsageKind) → GivesSound options → GivesOptions place (given_at place (counted_with choice place options count))
-  counted-gives choice options (Ok count) is = ((tt, is.0), is.1, tt)
-  counted-gives choice options (Err fault) is = omega arith
+  counted-gives : (unit : Measured) (options : Given) (count : Result Count UsageKind) → GivesSound options → GivesOptions rows place (given_at place (counted_with unit place options count))
+  counted-gives unit options (Ok count) is = (λ safe. (tt, is.0 safe), is.1, tt)
+  counted-gives unit options (Err fault) is = omega arith
 
-  numbered-gives : (text : List ℕ) → GivesOptions place (given_at place (with_letters rows place text))
+  numbered-gives : (text : List ℕ) → GivesOptions rows place (given_at place (with_letters rows place text))
   numbered-gives text = counted-gives (unit_in (after_digits text)).0 _ (times (leading_digits text) (unit_in (after_digits text)).1) (switches-give (after_digits text))
 
-  dashed-gives : (rest : List ℕ) → GivesOptions place (dashed rows place rest)
-  dashed-gives [] = (tt, refl, tt)
-  dashed-gives (byte ∷ rest) = named-gives _ (after_equals (45 ∷ 45 ∷ byte ∷ rest))
+  dashed-gives : (rest : List ℕ) → GivesOptions rows place (dashed rows place rest)
+  dashed-gives [] = (λ _. tt, refl, tt)
+  dashed-gives (byte ∷ rest) = named-gives _ (after_equals (45 ∷ 45 ∷ byte ∷ rest)) (called-safe rows _)
 
-  mixed-gives : (word : List ℕ) → GivesItself place word (mixed rows place word)
-  mixed-gives [] = (tt, inr refl, tt)
-  mixed-gives (byte ∷ []) = (tt, inr refl, tt)
+  mixed-gives : (word : List ℕ) → GivesItself rows place word (mixed rows place word)
+  mixed-gives [] = (λ _. tt, inr refl, tt)
+  mixed-gives (byte ∷ []) = (λ _. tt, inr refl, tt)
   mixed-gives (byte ∷ next ∷ rest) =
-      either (GivesItself place (byte ∷ next ∷ rest)) (byte == 45) _ _
-      (options_alone place (byte ∷ next ∷ rest) _ (either (GivesOptions place) (next == 45) _ _ (dashed-gives rest) (cluster-gives (next ∷ rest))))
-      (tt, inr refl, tt)
+      either (GivesItself rows place (byte ∷ next ∷ rest)) (byte == 45) _ _
+      (options_alone (byte ∷ next ∷ rest) _ (either (GivesOptions rows place) (next == 45) _ _ (dashed-gives rest) (cluster-gives (next ∷ rest))))
+      (λ _. tt, inr refl, tt)
 
-  pub meaning-gives : (state : State) (word : List ℕ) → GivesItself place word (meaning_of rows state place word)
+  pub meaning-gives : (state : State) (word : List ℕ) → GivesItself rows place word (meaning_of rows state place word)
   unfolding foremost
-  meaning-gives (First choice kind letters) [] = (tt, inr refl, tt)
-  meaning-gives (First choice kind letters) (byte ∷ text) =
-      either (GivesItself place (byte ∷ text)) (byte == 45 && is_number text) _ _
-      (options_alone place (byte ∷ text) _ (valued-gives choice kind place place text))
-      (either (GivesItself place (byte ∷ text)) (byte == 45 && is_lettered rows letters text) _ _
-      (options_alone place (byte ∷ text) _ (numbered-gives text)) (mixed-gives (byte ∷ text)))
+  meaning-gives (First kind letters) [] = (λ _. tt, inr refl, tt)
+  meaning-gives (First kind letters) (byte ∷ text) =
+      either (GivesItself rows place (byte ∷ text)) (byte == 45 && is_number text) _ _
+      (options_alone (byte ∷ text) _ (valued-gives kind place text))
+      (either (GivesItself rows place (byte ∷ text)) (byte == 45 && is_lettered rows letters text) _ _
+      (options_alone (byte ∷ text) _ (numbered-gives text)) (mixed-gives (byte ∷ text)))
   meaning-gives Reading word = mixed-gives word
-  meaning-gives (Awaiting choice kind option) word = options_alone place word _ (valued-gives choice kind option place word)
-  meaning-gives OnlyOperands word = (tt, inr refl, tt)
-  meaning-gives Ended word = (tt, inl refl, tt)
+  meaning-gives (Awaiting kind option) word = options_alone word _ (valued-gives kind option word)
+  meaning-gives OnlyOperands word = (λ _. tt, inr refl, tt)
+  meaning-gives Ended word = (λ _. tt, inl refl, tt)

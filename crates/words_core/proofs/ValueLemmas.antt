@@ -4,13 +4,14 @@ use Rattle.std.proofs.Common.{◌≡◌, ◌≢◌, ℕ, ◌+◌, ◌==◌, not,
 use Rattle.std.specs.List.{list_any, position_or_len, before_first}
 use Rattle.std.proofs.lemmas.Bool.{cond-false, cond-true, eq-eqb, ne_eqb, or_parts}
 use Rattle.std.proofs.Math.Seq.{take-append_seam, drop-append-add, take-length}
-use Rattle.words_core.specs.declared.table.Choice.{Choice}
-use Rattle.words_core.specs.declared.table.Kind.{Kind}
+use Rattle.words_core.specs.declared.choice.Choice.{Choice}
+use Rattle.words_core.specs.declared.choice.Kind.{Kind}
 use Rattle.words_core.specs.declared.table.Takes.{Takes}
 use Rattle.words_core.specs.declared.table.Takes.TheVariants as takes
 use Rattle.words_core.specs.declared.spelling.State.TheVariants.{Reading}
 use Rattle.words_core.specs.Table.{OptionRow, option_named}
-use Rattle.words_core.specs.Value.{Meant, value_in}
+use Rattle.words_core.specs.Choice.{choice_in}
+use Rattle.words_core.specs.declared.settings.Topic.{Topic}
 use Rattle.words_core.specs.Spelling.{after_equals, awaiting, ending, is_equals, long, mixed, named, spelled}
 use Rattle.words_core.specs.Laws.{Gives, IsLast, IsLetter, IsName}
 
@@ -18,23 +19,23 @@ use Rattle.words_core.specs.Laws.{Gives, IsLast, IsLetter, IsName}
 
 -- one that takes no value
 
-pub value_attached : (rows : List OptionRow) (letter : ℕ) (choice : Choice) (kind : Kind) (value : List ℕ) (meant : Meant) (words : List (List ℕ)) (place : ℕ)
-    → IsLetter rows letter choice kind → value ≢ [] → value_in kind value ≡ Ok meant
-    → Gives rows ((45 ∷ letter ∷ value) ∷ words) place choice meant (spelled rows words (place + 1) Reading)
-value_attached rows letter choice kind [] meant words place is some reads = absurd (some refl)
-value_attached rows letter choice kind (byte ∷ value) meant words place is some reads = grind (arith, common_steps)
+pub value_attached : (rows : List OptionRow) (letter : ℕ) (kind : Kind) (value : List ℕ) (choice : Choice) (words : List (List ℕ)) (place : ℕ)
+    → IsLetter rows letter kind → value ≢ [] → choice_in kind value ≡ Ok choice
+    → Gives rows ((45 ∷ letter ∷ value) ∷ words) place choice (spelled rows words (place + 1) Reading)
+value_attached rows letter kind [] choice words place is some reads = absurd (some refl)
+value_attached rows letter kind (byte ∷ value) choice words place is some reads = grind (arith, common_steps)
 
 -- the next word
 
-awaited : (rows : List OptionRow) {choice : Choice} (kind : Kind) (word value : List ℕ) {meant : Meant} (words : List (List ℕ)) {place : ℕ}
-    → mixed rows place word ≡ awaiting choice kind place → value_in kind value ≡ Ok meant
-    → Gives rows (word ∷ value ∷ words) place choice meant (spelled rows words (place + 1 + 1) Reading)
+awaited : (rows : List OptionRow) (kind : Kind) (word value : List ℕ) {choice : Choice} (words : List (List ℕ)) {place : ℕ}
+    → mixed rows place word ≡ awaiting kind place → choice_in kind value ≡ Ok choice
+    → Gives rows (word ∷ value ∷ words) place choice (spelled rows words (place + 1 + 1) Reading)
 awaited rows kind word value words awaits reads = grind (arith, common_steps)
 
-pub value_after_letter : (rows : List OptionRow) (letter : ℕ) (choice : Choice) (kind : Kind) (value : List ℕ) (meant : Meant) (words : List (List ℕ)) (place : ℕ)
-    → IsLetter rows letter choice kind → value_in kind value ≡ Ok meant
-    → Gives rows ((45 ∷ letter ∷ []) ∷ value ∷ words) place choice meant (spelled rows words (place + 1 + 1) Reading)
-value_after_letter rows letter choice kind value meant words place is reads = grind (arith, common_steps)
+pub value_after_letter : (rows : List OptionRow) (letter : ℕ) (kind : Kind) (value : List ℕ) (choice : Choice) (words : List (List ℕ)) (place : ℕ)
+    → IsLetter rows letter kind → choice_in kind value ≡ Ok choice
+    → Gives rows ((45 ∷ letter ∷ []) ∷ value ∷ words) place choice (spelled rows words (place + 1 + 1) Reading)
+value_after_letter rows letter kind value choice words place is reads = grind (arith, common_steps)
 
 -- a long name
 
@@ -61,36 +62,36 @@ no_equals_in front none = grind (arith, common_steps, cond-true, eq-eqb, no_plac
 all_name : (front : List ℕ) → list_any is_equals front ≡ false → before_first is_equals front ≡ front
 all_name front none = rw (no_place front none, take-length front)
 
-by_its_name : (rows : List OptionRow) (place : ℕ) (word : List ℕ) {name : List ℕ} {option : Choice × Takes} {value : Option (List ℕ)} → before_first is_equals word ≡ name → after_equals word ≡ value → option_named rows name ≡ Some option
+by_its_name : (rows : List OptionRow) (place : ℕ) (word : List ℕ) {name : List ℕ} {option : Takes} {value : Option (List ℕ)} → before_first is_equals word ≡ name → after_equals word ≡ value → option_named rows name ≡ Some option
     → long rows place word ≡ named place (Ok option) value
 by_its_name rows place word front rest is = rw (rest, front, is)
 
-long_value : {rows : List OptionRow} (name : List ℕ) {choice : Choice} {kind : Kind} (value : List ℕ) (place : ℕ) → IsName rows name choice kind
-    → mixed rows place (45 ∷ 45 ∷ name ++ 61 ∷ value) ≡ named place (Ok (choice, takes.Value kind)) (Some value)
+long_value : {rows : List OptionRow} (name : List ℕ) {kind : Kind} (value : List ℕ) (place : ℕ) → IsName rows name kind
+    → mixed rows place (45 ∷ 45 ∷ name ++ 61 ∷ value) ≡ named place (Ok (takes.Value kind)) (Some value)
 long_value [] value place is = absurd (is.some refl)
 long_value {rows} (byte ∷ name) value place is =
     let front : List ℕ = 45 ∷ 45 ∷ byte ∷ name in
     by_its_name rows place (front ++ 61 ∷ value) (name_in front value is.no_equals) (equals_in front is.no_equals) is.named
 
-long_name : {rows : List OptionRow} (name : List ℕ) {choice : Choice} {kind : Kind} (place : ℕ) → IsName rows name choice kind
-    → mixed rows place (45 ∷ 45 ∷ name) ≡ awaiting choice kind place
+long_name : {rows : List OptionRow} (name : List ℕ) {kind : Kind} (place : ℕ) → IsName rows name kind
+    → mixed rows place (45 ∷ 45 ∷ name) ≡ awaiting kind place
 long_name [] place is = absurd (is.some refl)
 long_name {rows} (byte ∷ name) place is =
     let front : List ℕ = 45 ∷ 45 ∷ byte ∷ name in
     by_its_name rows place front (all_name front is.no_equals) (no_equals_in front is.no_equals) is.named
 
-pub last_name : {rows : List OptionRow} (name : List ℕ) {choice : Choice} (place : ℕ) → IsLast rows name choice → mixed rows place (45 ∷ 45 ∷ name) ≡ ending choice place
+pub last_name : {rows : List OptionRow} (name : List ℕ) {topic : Topic} (place : ℕ) → IsLast rows name topic → mixed rows place (45 ∷ 45 ∷ name) ≡ ending topic place
 last_name [] place is = absurd (is.some refl)
 last_name {rows} (byte ∷ name) place is =
     let front : List ℕ = 45 ∷ 45 ∷ byte ∷ name in
     by_its_name rows place front (all_name front is.no_equals) (no_equals_in front is.no_equals) is.named
 
-pub value_after_equals : (rows : List OptionRow) (name : List ℕ) (choice : Choice) (kind : Kind) (value : List ℕ) (meant : Meant) (words : List (List ℕ)) (place : ℕ)
-    → IsName rows name choice kind → value_in kind value ≡ Ok meant
-    → Gives rows ((45 ∷ 45 ∷ name ++ 61 ∷ value) ∷ words) place choice meant (spelled rows words (place + 1) Reading)
-value_after_equals rows name choice kind value meant words place is reads = rw (long_value name value place is, reads)
+pub value_after_equals : (rows : List OptionRow) (name : List ℕ) (kind : Kind) (value : List ℕ) (choice : Choice) (words : List (List ℕ)) (place : ℕ)
+    → IsName rows name kind → choice_in kind value ≡ Ok choice
+    → Gives rows ((45 ∷ 45 ∷ name ++ 61 ∷ value) ∷ words) place choice (spelled rows words (place + 1) Reading)
+value_after_equals rows name kind value choice words place is reads = rw (long_value name value place is, reads)
 
-pub value_after_name : (rows : List OptionRow) (name : List ℕ) (choice : Choice) (kind : Kind) (value : List ℕ) (meant : Meant) (words : List (List ℕ)) (place : ℕ)
-    → IsName rows name choice kind → value_in kind value ≡ Ok meant
-    → Gives rows ((45 ∷ 45 ∷ name) ∷ value ∷ words) place choice meant (spelled rows words (place + 1 + 1) Reading)
-value_after_name rows name choice kind value meant words place is reads = awaited rows kind (45 ∷ 45 ∷ name) value words (long_name name place is) reads
+pub value_after_name : (rows : List OptionRow) (name : List ℕ) (kind : Kind) (value : List ℕ) (choice : Choice) (words : List (List ℕ)) (place : ℕ)
+    → IsName rows name kind → choice_in kind value ≡ Ok choice
+    → Gives rows ((45 ∷ 45 ∷ name) ∷ value ∷ words) place choice (spelled rows words (place + 1 + 1) Reading)
+value_after_name rows name kind value choice words place is reads = awaited rows kind (45 ∷ 45 ∷ name) value words (long_name name place is) reads

@@ -1,5 +1,5 @@
 -- What options and operands ask of `csplit`, or what is wrong with them.
-use Rattle.std.specs.Prelude.{◌≡◌, ℕ, Bool, false, true, List, [], ◌∷◌, ◌++◌, codes, slice_index_or, Option, Some, None, Result, Ok, Err}
+use Rattle.std.specs.Prelude.{◌≡◌, ℕ, false, true, List, [], ◌∷◌, ◌++◌, codes, slice_index_or, Option, Some, None, Result, Ok, Err}
 use Rattle.bre_core.specs.Fault.{number_of, offset_of}
 use Rattle.operand_core.specs.Fault.{number_of_kind}
 use Rattle.operand_core.specs.Style.{Style}
@@ -13,32 +13,29 @@ use Rattle.ports_core.specs.declared.fault.Fault.{Fault}
 use Rattle.ports_core.specs.declared.fault.Fault.TheVariants.{Memory, Usage}
 use Rattle.ports_core.specs.declared.fault.UsageKind.{UsageKind}
 use Rattle.ports_core.specs.declared.fault.UsageKind.TheVariants.{MissingOperand, BadOperand, BadPattern, PatternTooLarge}
-use Rattle.words_core.specs.declared.table.Choice.{Choice}
-use Rattle.words_core.specs.declared.table.Choice.TheVariants as choice
-use Rattle.words_core.specs.CsplitAsked.{CsplitAsked}
-use Rattle.words_core.specs.Given.{asked_by, Given, GivenOption, GivenOperand, places_of, texts_of}
+use Rattle.words_core.specs.declared.choice.Choice.{Choice}
+use Rattle.words_core.specs.declared.choice.Choice.TheVariants as choice
+use Rattle.words_core.specs.Choice.{format_of, text}
+use Rattle.words_core.specs.declared.spelled.Chosen.{Chosen}
+use Rattle.words_core.specs.Given.{asked_by, Given, GivenOperand, places_of, texts_of}
 use Rattle.words_core.specs.Format.{Format}
-use Rattle.words_core.specs.Value.{Meant, Text, Width, Formatted}
+use Rattle.words_core.specs.declared.csplit_words.CsplitOptions.{CsplitOptions}
+use Rattle.words_core.specs.declared.format.Format.{Format as Written}
 
--- what options ask for
-pub record CsplitOptions : Type 0 where
-  -- what names begin with, how many digits they have at least, and their format
-  pub prefix : List ℕ
-  pub digits : ℕ
-  pub format : Option Format
-  -- files are kept after a fault
-  pub keep : Bool
-  -- no sizes are written
-  pub quiet : Bool
-  -- an empty section makes no file
-  pub elide : Bool
-  -- the line at a cut is left out
-  pub suppress : Bool
+-- what words ask of `csplit`
+pub record CsplitAsked : Type 0 where
+  -- how files are made
+  pub style : Style
+  -- the name of the input
+  pub input : List ℕ
+  -- the operands as they are spelled, and the places of their words
+  pub operands : List (List ℕ)
+  pub places : List ℕ
 
--- without any: names begin with `xx` and have two digits, and nothing is kept, dropped or left out
+-- what is asked for without options: names begin with `xx` and have two digits, and nothing is kept, dropped or left out
 abbrev pub plain : CsplitOptions
 plain = record {
-  prefix = codes "xx";
+  prefix = text (codes "xx");
   digits = 2;
   format = None;
   keep = false;
@@ -49,28 +46,28 @@ plain = record {
 
 -- with one more option: the last prefix decides, and so do the last number of digits and the last format
 
-abbrev pub csplit_by : CsplitOptions → Choice → Meant → CsplitOptions
-csplit_by asked choice.Prefix (Text text) = record asked { prefix = text }
-csplit_by asked choice.Digits (Width digits) = record asked { digits = digits }
-csplit_by asked choice.SuffixFormat (Formatted format) = record asked { format = Some format }
-csplit_by asked choice.KeepFiles value = record asked { keep = true }
-csplit_by asked choice.Quiet value = record asked { quiet = true }
-csplit_by asked choice.ElideEmptyFiles value = record asked { elide = true }
-csplit_by asked choice.SuppressMatched value = record asked { suppress = true }
-csplit_by asked choice value = asked
+abbrev pub csplit_by : CsplitOptions → Choice → CsplitOptions
+csplit_by asked (choice.Prefix prefix) = record asked { prefix = prefix }
+csplit_by asked (choice.Width digits) = record asked { digits = digits }
+csplit_by asked (choice.Format format) = record asked { format = Some format }
+csplit_by asked choice.KeepFiles = record asked { keep = true }
+csplit_by asked choice.Quiet = record asked { quiet = true }
+csplit_by asked choice.ElideEmptyFiles = record asked { elide = true }
+csplit_by asked choice.SuppressMatched = record asked { suppress = true }
+csplit_by asked choice = asked
 
-abbrev pub chosen_by : List GivenOption → CsplitOptions
+abbrev pub chosen_by : List Chosen → CsplitOptions
 chosen_by options = asked_by csplit_by plain options
 
 -- where there is a format, the number of digits has no effect
-abbrev pub format_or : ℕ → Option Format → Format
+abbrev pub format_or : ℕ → Option Written → Format
 format_or digits None = record { before = []; form = decimal_form digits; after = [] }
-format_or digits (Some format) = format
+format_or digits (Some format) = format_of format
 
 -- how files are made
 abbrev pub style_with : CsplitOptions → Format → Style
 style_with asked format = record {
-  prefix = asked.prefix ++ format.before;
+  prefix = asked.prefix.now ++ format.before;
   form = format.form;
   ending = format.after;
   keep = asked.keep;
@@ -82,7 +79,7 @@ style_with asked format = record {
 abbrev pub style_by : CsplitOptions → Style
 style_by asked = style_with asked (format_or asked.digits asked.format)
 
-abbrev pub style_of : List GivenOption → Style
+abbrev pub style_of : List Chosen → Style
 style_of options = style_by (chosen_by options)
 
 abbrev pub asked_with : Style → List ℕ → List GivenOperand → CsplitAsked

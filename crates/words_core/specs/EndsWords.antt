@@ -1,33 +1,42 @@
 -- What options and operands ask of `head` or `tail`.
 use Rattle.std.specs.Prelude.{ℕ, List, [], ◌∷◌, codes}
 use Rattle.seg_core.specs.declared.count.Sign.TheVariants.{Plain}
-use Rattle.seg_core.specs.declared.unit.Unit.TheVariants as unit
-use Rattle.words_core.specs.declared.table.Choice.{Choice}
-use Rattle.words_core.specs.declared.table.Choice.TheVariants.{Lines, Bytes, Quiet, Verbose, ZeroTerminated}
-use Rattle.words_core.specs.declared.settings.Headers.TheVariants.{ForSeveral, Never, Always}
-use Rattle.words_core.specs.EndsAsked.{EndsAsked}
-use Rattle.words_core.specs.Value.{Meant, Counted}
+use Rattle.seg_core.specs.declared.unit.Unit.TheVariants.{Lines}
+use Rattle.words_core.specs.declared.choice.Choice.{Choice}
+use Rattle.words_core.specs.declared.choice.Choice.TheVariants as choice
+use Rattle.words_core.specs.declared.settings.Headers.TheVariants.{ForSeveral}
 use Rattle.words_core.specs.Given.{asked_by, Given, GivenOperand, texts_of}
+use Rattle.seg_core.specs.declared.count.Count.{Count}
+use Rattle.seg_core.specs.declared.unit.Unit.{Unit as Counted}
+use Rattle.words_core.specs.declared.settings.Headers.{Headers}
 
--- without options: ten lines, which end with the newline, and headers where there are several inputs
-abbrev pub ten_lines : EndsAsked
-ten_lines = record {
-  unit = unit.Lines;
+-- what words ask of `head` or `tail`
+pub record EndsAsked : Type 0 where
+  pub unit : Counted
+  pub count : Count
+  pub headers : Headers
+  -- the byte that lines end with
+  pub delim : ℕ
+  -- the names of the inputs
+  pub names : List (List ℕ)
+
+-- without options: ten lines of these inputs, which end with the newline, and headers where there are several inputs
+abbrev pub ten_lines : List (List ℕ) → EndsAsked
+ten_lines names = record {
+  unit = Lines;
   count = record { sign = Plain; amount = 10 };
   headers = ForSeveral;
   delim = 10;
-  names = [];
+  names = names;
 }
 
 -- with one more option: the last count decides, and so does the last option for headers
 
-abbrev pub ends_by : EndsAsked → Choice → Meant → EndsAsked
-ends_by asked Lines (Counted count) = record asked { unit = unit.Lines; count = count }
-ends_by asked Bytes (Counted count) = record asked { unit = unit.Bytes; count = count }
-ends_by asked Quiet value = record asked { headers = Never }
-ends_by asked Verbose value = record asked { headers = Always }
-ends_by asked ZeroTerminated value = record asked { delim = 0 }
-ends_by asked choice value = asked
+abbrev pub ends_by : EndsAsked → Choice → EndsAsked
+ends_by asked (choice.Amount unit count) = record asked { unit = unit; count = count }
+ends_by asked (choice.Headers headers) = record asked { headers = headers }
+ends_by asked choice.ZeroTerminated = record asked { delim = 0 }
+ends_by asked choice = asked
 
 -- the names of the inputs: the operands, or standard input where there is none
 
@@ -39,5 +48,4 @@ abbrev pub names_asked : List GivenOperand → List (List ℕ)
 names_asked operands = or_dash (texts_of operands)
 
 abbrev pub ends_asked : Given → EndsAsked
-ends_asked given =
-    let asked = asked_by ends_by ten_lines given.options in record asked { names = names_asked given.operands }
+ends_asked given = asked_by ends_by (ten_lines (names_asked given.operands)) given.options

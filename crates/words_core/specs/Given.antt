@@ -1,15 +1,9 @@
--- What words give: options with their values, and operands, each in their order.
+-- What words give: options with what they ask for and the places of their words, and operands, each in their order.
 use Rattle.std.specs.Prelude.{ℕ, List, [], ◌∷◌, ◌++◌, map, fold}
-use Rattle.words_core.specs.declared.table.Choice.{Choice}
+use Rattle.words_core.specs.declared.choice.Choice.{Choice}
 use Rattle.words_core.specs.declared.spelled.Chosen.{Chosen}
 use Rattle.words_core.specs.declared.spelled.Operand.{Operand}
-use Rattle.words_core.specs.Value.{Meant, Nothing, seen}
-
--- an option, and the place of the word in which it stands
-pub record GivenOption : Type 0 where
-  pub choice : Choice
-  pub value : Meant
-  pub word : ℕ
+use Rattle.words_core.specs.Choice.{seen}
 
 -- an operand, and the place of its word
 pub record GivenOperand : Type 0 where
@@ -17,18 +11,18 @@ pub record GivenOperand : Type 0 where
   pub word : ℕ
 
 pub record Given : Type 0 where
-  pub options : List GivenOption
+  pub options : List Chosen
   pub operands : List GivenOperand
 
-abbrev pub option_seen : Chosen → GivenOption
-option_seen option = record { choice = option.choice; value = seen option.value; word = option.word }
+abbrev pub option_seen : Chosen → Chosen
+option_seen option = record { choice = seen option.choice; word = option.word }
 
 abbrev pub operand_seen : Operand → GivenOperand
 operand_seen operand = record { text = operand.text.now; word = operand.word }
 
 -- what options ask for, one after another, by what each changes
-abbrev pub asked_by : {A : Type 0} → (A → Choice → Meant → A) → A → List GivenOption → A
-asked_by change asked options = fold (λ asked option. change asked option.choice option.value) asked options
+abbrev pub asked_by : {A : Type 0} → (A → Choice → A) → A → List Chosen → A
+asked_by change asked options = fold (λ asked option. change asked option.choice) asked options
 
 -- the operands as they are spelled, and the places of their words
 
@@ -41,15 +35,12 @@ places_of operands = map (λ operand. operand.word) operands
 abbrev pub nothing : Given
 nothing = record { options = []; operands = [] }
 
-abbrev pub one_option : Choice → Meant → ℕ → Given
-one_option choice value word = record {
-  options = record { choice = choice; value = value; word = word } ∷ [];
-  operands = [];
-}
+abbrev pub one_option : Choice → ℕ → Given
+one_option choice word = record { options = record { choice = choice; word = word } ∷ []; operands = [] }
 
--- an option without a value
+-- one that the table has, without a value
 abbrev pub bare : Choice → ℕ → Given
-bare choice word = one_option choice Nothing word
+bare choice word = one_option (seen choice) word
 
 abbrev pub one_operand : List ℕ → ℕ → Given
 one_operand text word = record { options = []; operands = record { text = text; word = word } ∷ [] }

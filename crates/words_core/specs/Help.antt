@@ -24,7 +24,7 @@ listed before (name ∷ names) = before ++ name ++ listed (codes ", ") names
 
 abbrev pub value_listed : Takes → List ℕ → List ℕ
 value_listed (takes.Value kind) value = codes "=" ++ value
-value_listed (takes.Optional kind) value = codes "[=" ++ value ++ codes "]"
+value_listed (takes.Optional choice kind) value = codes "[=" ++ value ++ codes "]"
 value_listed other value = []
 
 abbrev pub option_line : OptionRow → List ℕ

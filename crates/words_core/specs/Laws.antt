@@ -1,179 +1,164 @@
 -- The words of the laws: which options ask for what, and the operands among words.
-use Rattle.std.specs.Prelude.{◌≡◌, ◌≢◌, ℕ, ◌+◌, ◌-◌, ◌^◌, ◌<◌, ◌==◌, not, Bool, true, false, List, [], ◌∷◌, ◌++◌, length, codes, Option, Some, None, Result, Err, ◌⊎◌}
+use Rattle.std.specs.Prelude.{◌≡◌, ◌≢◌, ℕ, ◌+◌, ◌<◌, ◌==◌, not, Bool, true, false, List, [], ◌∷◌, ◌++◌, length, codes, Some, Result, Ok, Err, ◌⊎◌}
 use Rattle.std.specs.List.{list_any}
 use Rattle.seg_core.specs.declared.count.Count.{Count}
 use Rattle.seg_core.specs.declared.unit.Unit.{Unit as Measured}
-use Rattle.seg_core.specs.declared.unit.Unit.TheVariants as unit
-use Rattle.ports_core.specs.declared.alphabet.Alphabet.{Alphabet}
 use Rattle.ports_core.specs.declared.form.Base.TheVariants.{Decimal}
 use Rattle.ports_core.specs.declared.form.Filling.TheVariants.{BlanksBefore}
 use Rattle.ports_core.specs.declared.fault.Fault.{Fault}
 use Rattle.ports_core.specs.declared.on_broken.OnBroken.{OnBroken}
-use Rattle.ports_core.specs.declared.on_broken.OnBroken.TheVariants.{GoOn}
-use Rattle.seg_core.specs.declared.cut.Way.{Way}
+use Rattle.ports_core.specs.declared.slot.Mode.{Mode}
 use Rattle.operand_core.specs.Style.{Style}
-use Rattle.words_core.specs.declared.table.Choice.{Choice}
-use Rattle.words_core.specs.declared.table.Choice.TheVariants.{Lines, Bytes, Quiet, Verbose, ZeroTerminated, SuffixLength, NumericSuffixes, HexSuffixes, ElideEmptyFiles, AdditionalSuffix, Separator, Prefix, Digits, SuffixFormat, KeepFiles, SuppressMatched, Append, Follow, FollowNames, Retry, OutputError, Looks as HowOften, Pause as HowLong, Process as WaitsFor}
-use Rattle.words_core.specs.declared.table.Kind.{Kind}
+use Rattle.words_core.specs.declared.choice.Choice.{Choice}
+use Rattle.words_core.specs.declared.choice.Choice.TheVariants as choice
+use Rattle.words_core.specs.declared.choice.Kind.{Kind}
+use Rattle.words_core.specs.declared.settings.Settings.TheVariants.{Head, Tail, Split, Csplit, Tee}
+use Rattle.words_core.specs.declared.settings.Topic.{Topic}
+use Rattle.words_core.specs.declared.spelled.Chosen.{Chosen}
 use Rattle.words_core.specs.declared.table.Takes.{Takes}
 use Rattle.words_core.specs.declared.table.Takes.TheVariants as takes
 use Rattle.words_core.specs.declared.spelling.State.{State}
 use Rattle.words_core.specs.declared.spelling.State.TheVariants.{Reading}
-use Rattle.words_core.specs.declared.tail_words.FollowOptions.{FollowOptions}
-use Rattle.words_core.specs.declared.settings.Headers.{Headers}
-use Rattle.words_core.specs.declared.settings.Headers.TheVariants as headers
-use Rattle.words_core.specs.declared.value.Followed.{Followed}
-use Rattle.words_core.specs.CsplitAsked.{CsplitAsked}
-use Rattle.words_core.specs.EndsAsked.{EndsAsked}
-use Rattle.words_core.specs.SplitAsked.{SplitAsked}
-use Rattle.words_core.specs.declared.settings.TailSettings.{TailSettings}
-use Rattle.words_core.specs.Value.{Meant, Byte, Counted, Text, Width, Looks, Pause, Process, Formatted}
-use Rattle.words_core.specs.Given.{asked_by, Given, GivenOption, GivenOperand, one_option}
+use Rattle.words_core.specs.declared.value.Followed.TheVariants.{Descriptor}
+use Rattle.words_core.specs.EndsWords.{EndsAsked, ends_by, ten_lines}
+use Rattle.words_core.specs.SplitWords.{SplitAsked, no_options, split_by}
+use Rattle.words_core.specs.declared.tail_words.TailSettings.{TailSettings}
+use Rattle.words_core.specs.Given.{asked_by, Given, GivenOperand, one_option}
 use Rattle.words_core.specs.Spelling.{given_before, is_equals, spelled}
-use Rattle.words_core.specs.Table.{OptionRow, option_named}
-use Rattle.words_core.specs.EndsWords.{ends_by, ten_lines}
-use Rattle.words_core.specs.SplitWords.{no_options, split_by}
-use Rattle.words_core.specs.TailWords.{follow_by, no_following}
-use Rattle.words_core.specs.TeeWords.{on_broken_by}
+use Rattle.words_core.specs.Table.{OptionRow, alone, option_named}
+use Rattle.words_core.specs.TailWords.{tail_by, unfollowed}
+use Rattle.words_core.specs.TeeWords.{TeeAsked, fresh, tee_by}
+use Rattle.words_core.specs.Words.{settings_of}
 
--- what options ask of `head` or `tail`, of `split`, and of `tee` once an output is broken
+-- what options ask of `head` or `tail`, of `split`, of `tail`, and of `tee`
 
-abbrev pub ends_of : List GivenOption → EndsAsked
-ends_of options = asked_by ends_by ten_lines options
+abbrev pub ends_of : List Chosen → EndsAsked
+ends_of options = asked_by ends_by (ten_lines []) options
 
-abbrev pub split_of : List GivenOption → SplitAsked
+abbrev pub split_of : List Chosen → SplitAsked
 split_of options = asked_by split_by no_options options
 
-abbrev pub follow_of : List GivenOption → FollowOptions
-follow_of options = asked_by follow_by no_following options
+abbrev pub tail_of : List Chosen → TailSettings
+tail_of options = asked_by tail_by (unfollowed (ten_lines [])) options
 
-abbrev pub on_broken_of : List GivenOption → OnBroken
-on_broken_of options = asked_by on_broken_by GoOn options
+abbrev pub tee_of : List Chosen → TeeAsked
+tee_of options = asked_by tee_by (fresh []) options
 
 -- which unit is counted, and how many
 abbrev pub amount_of : EndsAsked → Measured × Count
 amount_of asked = (asked.unit, asked.count)
 
--- whether an option gives a count
-abbrev pub counts : Choice → Meant → Bool
-counts Lines (Counted count) = true
-counts Bytes (Counted count) = true
-counts choice value = false
+-- What a choice is: one that gives a count, that ends lines with byte 0, that says when headers come.
 
--- whether it ends lines with byte 0
+abbrev pub counts : Choice → Bool
+counts (choice.Amount unit count) = true
+counts other = false
+
 abbrev pub ends_with_zero : Choice → Bool
-ends_with_zero ZeroTerminated = true
-ends_with_zero choice = false
+ends_with_zero choice.ZeroTerminated = true
+ends_with_zero other = false
 
--- whether it says when headers come
-abbrev pub heads : Choice → Meant → Bool
-heads Quiet value = true
-heads Verbose value = true
-heads choice value = false
+abbrev pub heads : Choice → Bool
+heads (choice.Headers headers) = true
+heads other = false
 
--- whether it says what `tail` follows, how often it looks, and how long it waits
+-- of `tail`: one that says what is followed, that a name is looked for again, how often inputs are looked at, how long they
+-- are waited for, and after the end of which process no more
 
-abbrev pub says_followed : Choice → Meant → Bool
-says_followed Follow value = true
-says_followed FollowNames value = true
-says_followed choice value = false
-
-abbrev pub counts_looks : Choice → Meant → Bool
-counts_looks HowOften (Looks looks) = true
-counts_looks choice value = false
-
-abbrev pub counts_pause : Choice → Meant → Bool
-counts_pause HowLong (Pause pause) = true
-counts_pause choice value = false
-
-abbrev pub names_process : Choice → Meant → Bool
-names_process WaitsFor (Process process) = true
-names_process choice value = false
+abbrev pub says_followed : Choice → Bool
+says_followed (choice.Follow followed) = true
+says_followed choice.FollowNames = true
+says_followed other = false
 
 abbrev pub retries : Choice → Bool
-retries FollowNames = true
-retries Retry = true
-retries choice = false
+retries choice.FollowNames = true
+retries choice.Retry = true
+retries other = false
 
--- whether it says which characters suffixes have, and with that from which number on they count
-abbrev pub spells : Choice → Meant → Bool
-spells NumericSuffixes value = true
-spells HexSuffixes value = true
-spells choice value = false
+abbrev pub counts_looks : Choice → Bool
+counts_looks (choice.Looks looks) = true
+counts_looks other = false
 
--- whether it says how wide suffixes are
-abbrev pub widens : Choice → Meant → Bool
-widens SuffixLength (Width width) = true
-widens choice value = false
+abbrev pub counts_pause : Choice → Bool
+counts_pause (choice.Pause pause) = true
+counts_pause other = false
 
--- whether it gives the byte that lines end with, and the ending of names
+abbrev pub names_process : Choice → Bool
+names_process (choice.Process process) = true
+names_process other = false
 
-abbrev pub separates : Choice → Meant → Bool
-separates Separator (Byte byte) = true
-separates choice value = false
+-- of `split`: one that says which characters suffixes have, and with that from which number on they count; of `csplit` too:
+-- one that says how wide numbers are
 
-abbrev pub gives_ending : Choice → Meant → Bool
-gives_ending AdditionalSuffix (Text text) = true
-gives_ending choice value = false
+abbrev pub spells : Choice → Bool
+spells (choice.Suffixes alphabet from) = true
+spells other = false
 
--- which option of `csplit` it is: one for the prefix, the digits or the format, or one without a value; and of `tee`, whether
--- it lets it append, and whether it says what is done once an output is broken
+abbrev pub widens : Choice → Bool
+widens (choice.Width width) = true
+widens other = false
 
-abbrev pub names_prefix : Choice → Meant → Bool
-names_prefix Prefix (Text text) = true
-names_prefix choice value = false
+-- one that gives the byte that lines end with, and the ending of names; one that leaves empty files out, and one that tells of
+-- files
 
-abbrev pub counts_digits : Choice → Meant → Bool
-counts_digits Digits (Width digits) = true
-counts_digits choice value = false
+abbrev pub separates : Choice → Bool
+separates (choice.Separator byte) = true
+separates other = false
 
-abbrev pub gives_format : Choice → Meant → Bool
-gives_format SuffixFormat (Formatted format) = true
-gives_format choice value = false
-
-abbrev pub keeps_files : Choice → Bool
-keeps_files KeepFiles = true
-keeps_files choice = false
-
-abbrev pub drops_sizes : Choice → Bool
-drops_sizes Quiet = true
-drops_sizes choice = false
+abbrev pub gives_ending : Choice → Bool
+gives_ending (choice.Ending ending) = true
+gives_ending other = false
 
 abbrev pub elides_files : Choice → Bool
-elides_files ElideEmptyFiles = true
-elides_files choice = false
+elides_files choice.ElideEmptyFiles = true
+elides_files other = false
 
 abbrev pub tells_of_files : Choice → Bool
-tells_of_files Verbose = true
-tells_of_files choice = false
+tells_of_files choice.Verbose = true
+tells_of_files other = false
+
+-- of `csplit`: one that gives the prefix or the format, that keeps files, drops sizes, or leaves lines out
+
+abbrev pub names_prefix : Choice → Bool
+names_prefix (choice.Prefix prefix) = true
+names_prefix other = false
+
+abbrev pub gives_format : Choice → Bool
+gives_format (choice.Format format) = true
+gives_format other = false
+
+abbrev pub keeps_files : Choice → Bool
+keeps_files choice.KeepFiles = true
+keeps_files other = false
+
+abbrev pub drops_sizes : Choice → Bool
+drops_sizes choice.Quiet = true
+drops_sizes other = false
 
 abbrev pub leaves_lines_out : Choice → Bool
-leaves_lines_out SuppressMatched = true
-leaves_lines_out choice = false
+leaves_lines_out choice.SuppressMatched = true
+leaves_lines_out other = false
+
+-- of `tee`: one that lets it append, and one that says what is done once an output is broken
 
 abbrev pub appends : Choice → Bool
-appends Append = true
-appends choice = false
+appends choice.Append = true
+appends other = false
 
-abbrev pub says_on_broken : Choice → Meant → Bool
-says_on_broken OutputError value = true
-says_on_broken choice value = false
+abbrev pub says_on_broken : Choice → Bool
+says_on_broken (choice.OnBroken on_broken) = true
+says_on_broken other = false
 
--- whether an option says this, by its choice and its value
-abbrev pub says : (Choice → Meant → Bool) → GivenOption → Bool
-says test option = test option.choice option.value
+-- some option is one of these
+abbrev pub has : (Choice → Bool) → List Chosen → Bool
+has test options = list_any (λ option. test option.choice) options
 
 -- Of several options that say this the last decides this part of what is asked, as if it stood alone, whatever options
 -- stand before it; without one that part is as it is by default.
-pub record LastDecides {A : Type 0} (test : Choice → Meant → Bool) (part_of : List GivenOption → A) (default : A)
-    : Type 0 where
-  pub last : (before after : List GivenOption) (option : GivenOption) → says test option ≡ true
-      → list_any (says test) after ≡ false → part_of (before ++ option ∷ after) ≡ part_of (option ∷ [])
-  pub none : (options : List GivenOption) → list_any (says test) options ≡ false → part_of options ≡ default
-
--- some option is of this kind
-abbrev pub has : (Choice → Bool) → List GivenOption → Bool
-has test options = list_any (λ option. test option.choice) options
+pub record LastDecides {A : Type 0} (test : Choice → Bool) (part_of : List Chosen → A) (default : A) : Type 0 where
+  pub last : (before after : List Chosen) (option : Chosen) → test option.choice ≡ true → has test after ≡ false
+      → part_of (before ++ option ∷ after) ≡ part_of (option ∷ [])
+  pub none : (options : List Chosen) → has test options ≡ false → part_of options ≡ default
 
 -- words that are all operands, the first at this place
 abbrev pub as_operands : ℕ → List (List ℕ) → List GivenOperand
@@ -190,25 +175,25 @@ pub data AreAmong : List GivenOperand → ℕ → List (List ℕ) → Type 0 whe
       → AreAmong (record { text = word; word = place } ∷ operands) place (word ∷ words)
 
 -- words spell an option with its value, and then what the rest spells
-abbrev pub Gives : List OptionRow → List (List ℕ) → ℕ → Choice → Meant → Result Given Fault → Type 0
-Gives rows words place choice meant rest =
-    spelled rows words place Reading ≡ given_before (one_option choice meant place) rest
+abbrev pub Gives : List OptionRow → List (List ℕ) → ℕ → Choice → Result Given Fault → Type 0
+Gives rows words place choice rest =
+    spelled rows words place Reading ≡ given_before (one_option choice place) rest
 
 -- a letter, and a name after two hyphens, that name an option of a tool which takes a value of this kind
 
-pub record IsLetter (rows : List OptionRow) (letter : ℕ) (choice : Choice) (kind : Kind) : Type 0 where
-  pub named : option_named rows (codes "-" ++ letter ∷ []) ≡ Some (choice, takes.Value kind)
+pub record IsLetter (rows : List OptionRow) (letter : ℕ) (kind : Kind) : Type 0 where
+  pub named : option_named rows (codes "-" ++ letter ∷ []) ≡ Some (takes.Value kind)
   pub ascii : letter < 128
   pub no_hyphen : letter ≢ 45
 
-pub record IsName (rows : List OptionRow) (name : List ℕ) (choice : Choice) (kind : Kind) : Type 0 where
-  pub named : option_named rows (codes "--" ++ name) ≡ Some (choice, takes.Value kind)
+pub record IsName (rows : List OptionRow) (name : List ℕ) (kind : Kind) : Type 0 where
+  pub named : option_named rows (codes "--" ++ name) ≡ Some (takes.Value kind)
   pub some : name ≢ []
   pub no_equals : list_any is_equals name ≡ false
 
 -- a name after two hyphens that names an option after which no word is read
-pub record IsLast (rows : List OptionRow) (name : List ℕ) (choice : Choice) : Type 0 where
-  pub named : option_named rows (codes "--" ++ name) ≡ Some (choice, takes.Last)
+pub record IsLast (rows : List OptionRow) (name : List ℕ) (topic : Topic) : Type 0 where
+  pub named : option_named rows (codes "--" ++ name) ≡ Some (takes.Last topic)
   pub some : name ≢ []
   pub no_equals : list_any is_equals name ≡ false
 
@@ -219,18 +204,11 @@ LeaveTheRest rows first place state =
     ⊎ ((given : Given) × (next : State) × ((more : List (List ℕ))
     → spelled rows (first ++ more) place state ≡ given_before given (spelled rows more (place + length first) next)))
 
--- a letter that names an option to which no value belongs in a cluster of letters
-
-abbrev pub takes_none : Takes → Bool
-takes_none takes.Nothing = true
-takes_none (takes.Optional kind) = true
-takes_none (takes.Value kind) = false
-takes_none takes.Last = false
-
+-- a letter that names an option to which no value belongs in a cluster of letters, and what that asks for
 pub record IsSwitch (rows : List OptionRow) (letter : ℕ) (choice : Choice) : Type 0 where
   pub takes : Takes
-  pub named : option_named rows (codes "-" ++ letter ∷ []) ≡ Some (choice, takes)
-  pub none : takes_none takes ≡ true
+  pub named : option_named rows (codes "-" ++ letter ∷ []) ≡ Some takes
+  pub alone : alone takes ≡ Some choice
   pub ascii : letter < 128
   pub no_hyphen : letter ≢ 45
 
@@ -240,54 +218,45 @@ is_plain [] = true
 is_plain (byte ∷ []) = true
 is_plain (byte ∷ next ∷ rest) = not (byte == 45)
 
--- what is asked of `head` or `tail`, of `split`, and of `csplit` with the operand `1` in the word at this place, for
--- standard input
+-- What options ask for, given alone: of `head` and `tail` alike, for standard input; of `tail` that follows the file `f`; of
+-- `split`; of `csplit` with the operand `1`; and of `tee` for the file `f`.
 
-abbrev pub ends_as : Measured → Count → Headers → EndsAsked
-ends_as unit count headers = record {
-  unit = unit;
-  count = count;
-  headers = headers;
-  delim = 10;
-  names = codes "-" ∷ [];
-}
+abbrev pub ten_of_input : EndsAsked
+ten_of_input = ten_lines (codes "-" ∷ [])
 
--- the same of `tail`, where nothing is followed
-abbrev pub tail_as : EndsAsked → TailSettings
-tail_as ends = record { ends = ends; followed = None; looks = 2 ^ 63 - 1; pause = 1000; process = None }
+abbrev pub EndsAsk : List (List ℕ) → EndsAsked → Type 0
+EndsAsk words asked = (settings_of (codes "head" ∷ words) ≡ Ok (Head asked))
+    × (settings_of (codes "tail" ∷ words) ≡ Ok (Tail (unfollowed asked)))
 
--- where the file `f` is followed in this way, in as many looks
-abbrev pub following_as : Option Followed → ℕ → TailSettings
-following_as followed looks = record {
-  ends = record {
-    unit = unit.Lines;
-    count = ten_lines.count;
-    headers = headers.ForSeveral;
-    delim = 10;
-    names = codes "f" ∷ [];
-  };
-  followed = followed;
-  looks = looks;
-  pause = 1000;
-  process = None;
-}
+abbrev pub following : TailSettings
+following = record (unfollowed (ten_lines (codes "f" ∷ []))) { followed = Some Descriptor }
 
-abbrev pub split_as : Way → Alphabet → ℕ → Bool → Bool → SplitAsked
-split_as way alphabet width auto elide = record {
-  way = way;
-  alphabet = alphabet;
-  width = width;
-  auto = auto;
-  from = None;
-  elide = elide;
-  verbose = false;
-  input = codes "-";
-  prefix = codes "x";
-  ending = [];
-}
+abbrev pub FollowAsks : List (List ℕ) → TailSettings → Type 0
+FollowAsks words asked = settings_of (codes "tail" ∷ words ++ codes "f" ∷ []) ≡ Ok (Tail asked)
 
-abbrev pub csplit_as : Style → ℕ → CsplitAsked
-csplit_as style place = record { style = style; input = codes "-"; operands = codes "1" ∷ []; places = place ∷ [] }
+-- files of 1,000 lines, with names that widen from two letters on
+abbrev pub thousands : SplitAsked
+thousands = record no_options { width = 2; auto = true }
+
+-- names of this width
+abbrev pub as_wide : ℕ → SplitAsked
+as_wide width = record no_options { width = width }
+
+abbrev pub SplitAsks : List (List ℕ) → SplitAsked → Type 0
+SplitAsks words asked = settings_of (codes "split" ∷ words) ≡ Ok (Split asked)
+
+abbrev pub CsplitAsks : List (List ℕ) → Style → Type 0
+CsplitAsks words style = settings_of (codes "csplit" ∷ words ++ codes "-" ∷ codes "1" ∷ [])
+    ≡ Ok (Csplit (record {
+      style = style;
+      input = codes "-";
+      operands = codes "1" ∷ [];
+      places = (length words + 2) ∷ [];
+    }))
+
+abbrev pub TeeAsks : List (List ℕ) → Mode → OnBroken → Type 0
+TeeAsks words mode on_broken = settings_of (codes "tee" ∷ words ++ codes "f" ∷ [])
+    ≡ Ok (Tee (record { mode = mode; on_broken = on_broken; names = codes "f" ∷ [] }))
 
 -- files as they are made without options
 abbrev pub plain_style : Style

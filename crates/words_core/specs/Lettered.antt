@@ -5,19 +5,20 @@ use Rattle.seg_core.specs.Count.{after_digits, leading_digits, sized, value_of}
 use Rattle.seg_core.specs.declared.count.Count.{Count}
 use Rattle.seg_core.specs.declared.count.Sign.TheVariants.{Plain}
 use Rattle.ports_core.specs.declared.fault.UsageKind.{UsageKind}
-use Rattle.words_core.specs.declared.table.Choice.{Choice}
-use Rattle.words_core.specs.declared.table.Choice.TheVariants.{Bytes, Lines}
+use Rattle.seg_core.specs.declared.unit.Unit.{Unit as Measured}
+use Rattle.seg_core.specs.declared.unit.Unit.TheVariants.{Bytes, Lines}
+use Rattle.words_core.specs.declared.choice.Choice.TheVariants.{Amount}
 use Rattle.words_core.specs.declared.table.Letters.{Letters}
 use Rattle.words_core.specs.declared.table.Letters.TheVariants.{Never, OfHead, OfTail}
 use Rattle.words_core.specs.declared.table.Takes.{Takes}
 use Rattle.words_core.specs.declared.table.Takes.TheVariants as takes
 use Rattle.words_core.specs.Table.{OptionRow, is_among, option_named}
-use Rattle.words_core.specs.Value.{Counted, counted}
+use Rattle.words_core.specs.Value.{counted}
 use Rattle.words_core.specs.Given.{Given, bare, joined, nothing, one_option}
 
 -- What is counted where this letter stands after the digits, and how much each of it is: 98 is b, 99 c, 107 k, 108 l and
 -- 109 m.
-abbrev pub unit_of : ℕ → Option (Choice × ℕ)
+abbrev pub unit_of : ℕ → Option (Measured × ℕ)
 unit_of letter =
     if letter == 98 then Some (Bytes, 512)
     else (if letter == 99 then Some (Bytes, 1)
@@ -30,23 +31,23 @@ abbrev pub is_unit : ℕ → Bool
 is_unit letter = is_some (unit_of letter)
 
 -- this unit, or else another
-abbrev pub unit_or : Choice × ℕ → Option (Choice × ℕ) → Choice × ℕ
+abbrev pub unit_or : Measured × ℕ → Option (Measured × ℕ) → Measured × ℕ
 unit_or other None = other
 unit_or other (Some unit) = unit
 
 -- what the first unit among letters says; without one lines are counted
-abbrev pub unit_in : List ℕ → Choice × ℕ
+abbrev pub unit_in : List ℕ → Measured × ℕ
 unit_in [] = (Lines, 1)
 unit_in (letter ∷ letters) = unit_or (unit_in letters) (unit_of letter)
 
 -- Which letters may follow the digits.
 
 -- whether an option takes no value
-abbrev pub is_switch : Option (Choice × Takes) → Bool
-is_switch (Some (choice, takes.Nothing)) = true
+abbrev pub is_switch : Option Takes → Bool
+is_switch (Some (takes.Nothing choice)) = true
 is_switch other = false
 
-abbrev pub letter_named : List OptionRow → ℕ → Option (Choice × Takes)
+abbrev pub letter_named : List OptionRow → ℕ → Option Takes
 letter_named rows letter = option_named rows (45 ∷ letter ∷ [])
 
 -- for `head` units and letters of options without a value
@@ -83,9 +84,10 @@ abbrev pub times : List ℕ → ℕ → Result Count UsageKind
 times digits each = counted (sized Plain ((if length digits == 0 then 10 else value_of digits) * each))
 
 -- each letter that is no unit is an option
-abbrev pub switched : ℕ → Option (Choice × Takes) → Given
-switched place None = nothing
-switched place (Some (choice, option)) = bare choice place
+abbrev pub switched : ℕ → Option Takes → Given
+switched place (Some (takes.Nothing choice)) = bare choice place
+switched place (Some (takes.Optional choice kind)) = bare choice place
+switched place option = nothing
 
 abbrev pub switches : List OptionRow → ℕ → List ℕ → Given
 switches rows place [] = nothing
@@ -94,9 +96,9 @@ switches rows place (letter ∷ letters) =
     else joined (switched place (letter_named rows letter)) (switches rows place letters)
 
 -- the count, and then the options
-abbrev pub counted_with : Choice → ℕ → Given → Result Count UsageKind → Result Given UsageKind
-counted_with choice place options (Ok count) = Ok (joined (one_option choice (Counted count) place) options)
-counted_with choice place options (Err fault) = Err fault
+abbrev pub counted_with : Measured → ℕ → Given → Result Count UsageKind → Result Given UsageKind
+counted_with unit place options (Ok count) = Ok (joined (one_option (Amount unit count) place) options)
+counted_with unit place options (Err fault) = Err fault
 
 abbrev pub with_letters : List OptionRow → ℕ → List ℕ → Result Given UsageKind
 with_letters rows place text = counted_with (unit_in (after_digits text)).0 place

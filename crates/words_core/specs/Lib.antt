@@ -1,7 +1,6 @@
-pub mod CsplitAsked
+pub mod Choice
 pub mod CsplitWords
 pub mod Division
-pub mod EndsAsked
 pub mod EndsWords
 pub mod Format
 pub mod Given
@@ -10,11 +9,9 @@ pub mod Laws
 pub mod Lettered
 pub mod Spelling
 pub mod Number
-pub mod SplitAsked
 pub mod SplitWords
 pub mod Table
 pub mod TailWords
-pub mod TeeAsked
 pub mod TeeWords
 pub mod Value
 pub mod Words

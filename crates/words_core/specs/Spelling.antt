@@ -7,15 +7,18 @@ use Rattle.ports_core.specs.declared.fault.Fault.{Fault}
 use Rattle.ports_core.specs.declared.fault.Fault.TheVariants.{Usage, Memory}
 use Rattle.ports_core.specs.declared.fault.UsageKind.{UsageKind}
 use Rattle.ports_core.specs.declared.fault.UsageKind.TheVariants.{UnknownOption, MissingValue, UnexpectedValue}
-use Rattle.words_core.specs.declared.table.Choice.{Choice}
-use Rattle.words_core.specs.declared.table.Kind.{Kind}
+use Rattle.words_core.specs.declared.choice.Choice.{Choice}
+use Rattle.words_core.specs.declared.choice.Choice.TheVariants.{About}
+use Rattle.words_core.specs.declared.choice.Kind.{Kind}
+use Rattle.words_core.specs.declared.settings.Topic.{Topic}
 use Rattle.words_core.specs.declared.table.Letters.{Letters}
 use Rattle.words_core.specs.declared.table.Takes.{Takes}
 use Rattle.words_core.specs.declared.table.Takes.TheVariants as takes
 use Rattle.words_core.specs.declared.spelling.State.{State}
 use Rattle.words_core.specs.declared.spelling.State.TheVariants.{First, Reading, Awaiting, OnlyOperands, Ended}
 use Rattle.words_core.specs.Table.{OptionRow, ToolRow, option_called, option_named}
-use Rattle.words_core.specs.Value.{Meant, then_check, value_in}
+use Rattle.words_core.specs.Choice.{choice_in}
+use Rattle.words_core.specs.Value.{then_check}
 use Rattle.words_core.specs.Lettered.{is_lettered, with_letters}
 use Rattle.words_core.specs.Given.{Given, nothing, bare, one_option, one_operand, joined}
 
@@ -28,36 +31,37 @@ pub record Meaning : Type 0 where
 abbrev pub reading : Given → Result Meaning Fault
 reading given = Ok (record { given = given; next = Reading })
 
-abbrev pub awaiting : Choice → Kind → ℕ → Result Meaning Fault
-awaiting choice kind place = Ok (record { given = nothing; next = Awaiting choice kind place })
+abbrev pub awaiting : Kind → ℕ → Result Meaning Fault
+awaiting kind place = Ok (record { given = nothing; next = Awaiting kind place })
 
 -- an option after which no word is read
-abbrev pub ending : Choice → ℕ → Result Meaning Fault
-ending choice place = Ok (record { given = bare choice place; next = Ended })
+abbrev pub ending : Topic → ℕ → Result Meaning Fault
+ending topic place = Ok (record { given = one_option (About topic) place; next = Ended })
 
 abbrev pub before : Given → Result Meaning Fault → Result Meaning Fault
 before first meant = then_check meant (λ meaning. Ok (record meaning { given = joined first meaning.given }))
 
 -- an option and its value, each in the word at its place
-abbrev pub said : Choice → ℕ → ℕ → Result Meant UsageKind → Result Meaning Fault
-said choice option place (Ok value) = reading (one_option choice value option)
-said choice option place (Err fault) = Err (Usage fault place)
+abbrev pub said : ℕ → ℕ → Result Choice UsageKind → Result Meaning Fault
+said option place (Ok choice) = reading (one_option choice option)
+said option place (Err fault) = Err (Usage fault place)
 
-abbrev pub valued : Choice → Kind → ℕ → ℕ → List ℕ → Result Meaning Fault
-valued choice kind option place text = said choice option place (value_in kind text)
+abbrev pub valued : Kind → ℕ → ℕ → List ℕ → Result Meaning Fault
+valued kind option place text = said option place (choice_in kind text)
 
-abbrev pub option_lettered : List OptionRow → ℕ → Option (Choice × Takes)
+abbrev pub option_lettered : List OptionRow → ℕ → Option Takes
 option_lettered rows letter = if nat_lt letter 128 then option_named rows (45 ∷ letter ∷ []) else None
 
-abbrev pub attached : Choice → Kind → ℕ → List ℕ → Result Meaning Fault
-attached choice kind place [] = awaiting choice kind place
-attached choice kind place (byte ∷ bytes) = valued choice kind place place (byte ∷ bytes)
+abbrev pub attached : Kind → ℕ → List ℕ → Result Meaning Fault
+attached kind place [] = awaiting kind place
+attached kind place (byte ∷ bytes) = valued kind place place (byte ∷ bytes)
 
-abbrev pub lettered : ℕ → List ℕ → Result Meaning Fault → Option (Choice × Takes) → Result Meaning Fault
+abbrev pub lettered : ℕ → List ℕ → Result Meaning Fault → Option Takes → Result Meaning Fault
 lettered place rest others None = Err (Usage UnknownOption place)
-lettered place rest others (Some (choice, takes.Value kind)) = attached choice kind place rest
-lettered place rest others (Some (choice, takes.Last)) = ending choice place
-lettered place rest others (Some (choice, takes)) = before (bare choice place) others
+lettered place rest others (Some (takes.Value kind)) = attached kind place rest
+lettered place rest others (Some (takes.Last topic)) = ending topic place
+lettered place rest others (Some (takes.Nothing choice)) = before (bare choice place) others
+lettered place rest others (Some (takes.Optional choice kind)) = before (bare choice place) others
 
 abbrev pub cluster : List OptionRow → ℕ → List ℕ → Result Meaning Fault
 cluster rows place [] = reading nothing
@@ -71,15 +75,15 @@ is_equals byte = byte == 61
 abbrev pub after_equals : List ℕ → Option (List ℕ)
 after_equals word = if position_or_len is_equals word == length word then None else Some (after_first is_equals word)
 
-abbrev pub named : ℕ → Result (Choice × Takes) UsageKind → Option (List ℕ) → Result Meaning Fault
+abbrev pub named : ℕ → Result Takes UsageKind → Option (List ℕ) → Result Meaning Fault
 named place (Err fault) value = Err (Usage fault place)
-named place (Ok (choice, takes.Nothing)) (Some text) = Err (Usage UnexpectedValue place)
-named place (Ok (choice, takes.Last)) (Some text) = Err (Usage UnexpectedValue place)
-named place (Ok (choice, takes.Last)) None = ending choice place
-named place (Ok (choice, takes.Value kind)) None = awaiting choice kind place
-named place (Ok (choice, option)) None = reading (bare choice place)
-named place (Ok (choice, takes.Value kind)) (Some text) = valued choice kind place place text
-named place (Ok (choice, takes.Optional kind)) (Some text) = valued choice kind place place text
+named place (Ok (takes.Value kind)) (Some text) = valued kind place place text
+named place (Ok (takes.Optional choice kind)) (Some text) = valued kind place place text
+named place (Ok takes) (Some text) = Err (Usage UnexpectedValue place)
+named place (Ok (takes.Value kind)) None = awaiting kind place
+named place (Ok (takes.Last topic)) None = ending topic place
+named place (Ok (takes.Nothing choice)) None = reading (bare choice place)
+named place (Ok (takes.Optional choice kind)) None = reading (bare choice place)
 
 abbrev pub long : List OptionRow → ℕ → List ℕ → Result Meaning Fault
 long rows place word = named place (option_called rows (before_first is_equals word)) (after_equals word)
@@ -103,26 +107,26 @@ abbrev pub given_at : ℕ → Result Given UsageKind → Result Meaning Fault
 given_at place (Ok given) = reading given
 given_at place (Err fault) = Err (Usage fault place)
 
--- The first word may be a hyphen and digits, which are the value of this option then; letters may follow these.
-unfoldable pub foremost : List OptionRow → Choice → Kind → Letters → ℕ → List ℕ → Result Meaning Fault
-foremost rows choice kind letters place [] = mixed rows place []
-foremost rows choice kind letters place (byte ∷ text) =
-    if byte == 45 && is_number text then valued choice kind place place text
+-- The first word may be a hyphen and digits, which are the value of an option of this kind then; letters may follow these.
+unfoldable pub foremost : List OptionRow → Kind → Letters → ℕ → List ℕ → Result Meaning Fault
+foremost rows kind letters place [] = mixed rows place []
+foremost rows kind letters place (byte ∷ text) =
+    if byte == 45 && is_number text then valued kind place place text
     else (if byte == 45 && is_lettered rows letters text then given_at place (with_letters rows place text)
     else mixed rows place (byte ∷ text))
 
 -- a word at this place; one that an option awaits is its value, whatever it begins with
 abbrev pub meaning_of : List OptionRow → State → ℕ → List ℕ → Result Meaning Fault
-meaning_of rows (First choice kind letters) place word = foremost rows choice kind letters place word
+meaning_of rows (First kind letters) place word = foremost rows kind letters place word
 meaning_of rows Reading place word = mixed rows place word
-meaning_of rows (Awaiting choice kind option) place word = valued choice kind option place word
+meaning_of rows (Awaiting kind option) place word = valued kind option place word
 meaning_of rows OnlyOperands place word = Ok (record { given = one_operand word place; next = OnlyOperands })
 meaning_of rows Ended place word = Ok (record { given = nothing; next = Ended })
 
 -- all words from a place on, or the first fault from left to right
 
 abbrev pub ended : State → Result Given Fault
-ended (Awaiting choice kind option) = Err (Usage MissingValue option)
+ended (Awaiting kind option) = Err (Usage MissingValue option)
 ended state = Ok nothing
 
 abbrev pub given_before : Given → Result Given Fault → Result Given Fault
@@ -136,9 +140,9 @@ spelled rows [] place state = ended state
 spelled rows (word ∷ words) place state = onward (spelled rows words (place + 1)) (meaning_of rows state place word)
 
 -- the words after a tool's name; they are counted from 1
-abbrev pub start_of : Option (Choice × Kind × Letters) → State
+abbrev pub start_of : Option (Kind × Letters) → State
 start_of None = Reading
-start_of (Some number) = First number.0 number.1 number.2
+start_of (Some number) = First number.0 number.1
 
 abbrev pub given_by : ToolRow → List (List ℕ) → Result Given Fault
 given_by tool words = spelled tool.options words 1 (start_of tool.number)

@@ -1,9 +1,9 @@
 -- What options and operands ask of `split`, or what is wrong with them.
-use Rattle.std.specs.Prelude.{ℕ, zero, suc, ◌+◌, ◌==◌, ◌≤◌, ◌<◌, nat_le, Bool, true, false, List, [], ◌∷◌, filter, codes, Option, Some, None, Result, Ok, Err, if◌then◌else◌}
+use Rattle.std.specs.Prelude.{ℕ, zero, suc, ◌+◌, ◌==◌, ◌≤◌, ◌<◌, nat_le, Bool, true, false, List, [], ◌∷◌, filter, codes, is_some, Option, Some, None, Result, Ok, Err, if◌then◌else◌}
 use Rattle.std.specs.Option.{unwrap_or}
 use Rattle.ports_core.specs.Name.{name_count}
 use Rattle.ports_core.specs.declared.alphabet.Alphabet.{Alphabet}
-use Rattle.ports_core.specs.declared.alphabet.Alphabet.TheVariants.{Letters, Digits as Decimal, Hex as Hexadecimal}
+use Rattle.ports_core.specs.declared.alphabet.Alphabet.TheVariants.{Letters}
 use Rattle.ports_core.specs.declared.fault.Fault.{Fault}
 use Rattle.ports_core.specs.declared.fault.Fault.TheVariants.{Usage}
 use Rattle.ports_core.specs.declared.fault.UsageKind.TheVariants.{TwoWays, SuffixTooShort, ExtraOperand}
@@ -12,13 +12,31 @@ use Rattle.seg_core.specs.declared.cut.Cut.TheVariants.{Parts, Round}
 use Rattle.seg_core.specs.declared.cut.Limit.TheVariants.{Lines, Bytes, LineBytes}
 use Rattle.seg_core.specs.declared.cut.Way.{Way}
 use Rattle.seg_core.specs.declared.cut.Way.TheVariants.{Cut, Chunk, Chunks, Turn}
-use Rattle.words_core.specs.declared.table.Choice.{Choice}
-use Rattle.words_core.specs.declared.table.Choice.TheVariants as choice
+use Rattle.words_core.specs.declared.choice.Choice.{Choice}
+use Rattle.words_core.specs.declared.choice.Choice.TheVariants as choice
 use Rattle.words_core.specs.declared.split_words.Suffix.{Suffix}
 use Rattle.words_core.specs.Division.{way_of_division}
-use Rattle.words_core.specs.Value.{Meant, Size, Divided, Width, Number, Text, Byte, then_check}
-use Rattle.words_core.specs.Given.{asked_by, Given, GivenOption, GivenOperand}
-use Rattle.words_core.specs.SplitAsked.{SplitAsked}
+use Rattle.words_core.specs.Value.{then_check}
+use Rattle.words_core.specs.declared.spelled.Chosen.{Chosen}
+use Rattle.words_core.specs.Given.{asked_by, Given, GivenOperand}
+
+-- what words ask of `split`
+pub record SplitAsked : Type 0 where
+  pub way : Way
+  pub alphabet : Alphabet
+  -- how many characters a suffix has; with `auto` suffixes widen, and this is the first width
+  pub width : ℕ
+  pub auto : Bool
+  -- the number of the first file, where an option says so; suffixes don't widen then
+  pub from : Option ℕ
+  pub elide : Bool
+  -- standard output is told of each file before it is opened
+  pub verbose : Bool
+  -- the name of the input, and what the names of the files begin with
+  pub input : List ℕ
+  pub prefix : List ℕ
+  -- what the names of the files end with
+  pub ending : List ℕ
 
 -- files are of 1,000 lines, where no way is given
 abbrev pub thousand_lines : ℕ → Way
@@ -39,58 +57,45 @@ no_options = record {
   ending = [];
 }
 
--- the number from which an option for the alphabet has files numbered
-abbrev pub from_in : Meant → Option ℕ
-from_in (Number from) = Some from
-from_in value = None
-
 -- with one more option: the last for the alphabet decides, with the number that it has or has not, and so do the last
 -- width and the last ending of names
-abbrev pub split_by : SplitAsked → Choice → Meant → SplitAsked
-split_by asked choice.SuffixLength (Width width) = record asked { width = width }
-split_by asked choice.NumericSuffixes value = record asked { alphabet = Decimal; from = from_in value }
-split_by asked choice.HexSuffixes value = record asked { alphabet = Hexadecimal; from = from_in value }
-split_by asked choice.ElideEmptyFiles value = record asked { elide = true }
-split_by asked choice.Verbose value = record asked { verbose = true }
-split_by asked choice.AdditionalSuffix (Text text) = record asked { ending = text }
-split_by asked choice value = asked
+abbrev pub split_by : SplitAsked → Choice → SplitAsked
+split_by asked (choice.Width width) = record asked { width = width }
+split_by asked (choice.Suffixes alphabet from) = record asked { alphabet = alphabet; from = from }
+split_by asked choice.ElideEmptyFiles = record asked { elide = true }
+split_by asked choice.Verbose = record asked { verbose = true }
+split_by asked (choice.Ending ending) = record asked { ending = ending.now }
+split_by asked choice = asked
 
 -- the byte that lines end with: the newline, or what the last separator says
 
-abbrev pub delim_by : ℕ → Choice → Meant → ℕ
-delim_by delim choice.Separator (Byte byte) = byte
-delim_by delim choice value = delim
+abbrev pub delim_by : ℕ → Choice → ℕ
+delim_by delim (choice.Separator byte) = byte
+delim_by delim choice = delim
 
-abbrev pub separator_in : List GivenOption → ℕ
+abbrev pub separator_in : List Chosen → ℕ
 separator_in options = asked_by delim_by 10 options
 
--- whether an option is a way to split, and the way that it gives with its value, for lines that end with this byte
+-- the way to split that an option gives, if it is one, for lines that end with this byte
 
-abbrev pub splits : Choice → Bool
-splits choice.Lines = true
-splits choice.Bytes = true
-splits choice.LineBytes = true
-splits choice.Files = true
-splits choice = false
+abbrev pub way_in : ℕ → Choice → Option Way
+way_in delim (choice.LinesEach size) = Some (Cut (Parts (Lines size delim)))
+way_in delim (choice.BytesEach size) = Some (Cut (Parts (Bytes size)))
+way_in delim (choice.LineBytesEach size) = Some (Cut (Parts (LineBytes size delim)))
+way_in delim (choice.Divided division) = Some (way_of_division delim division)
+way_in delim choice = None
 
-abbrev pub is_way : GivenOption → Bool
-is_way option = splits option.choice
-
-abbrev pub way_in : ℕ → Meant → Choice → Way
-way_in delim (Size size) choice.Bytes = Cut (Parts (Bytes size))
-way_in delim (Size size) choice.LineBytes = Cut (Parts (LineBytes size delim))
-way_in delim (Size size) choice = Cut (Parts (Lines size delim))
-way_in delim (Divided division) choice = way_of_division delim division
-way_in delim value choice = thousand_lines delim
+abbrev pub is_way : Chosen → Bool
+is_way option = is_some (way_in 10 option.choice)
 
 -- The way that options give. A second one is refused, and told by its word; files have 1,000 lines where none is given.
 
-abbrev pub only_way : ℕ → List GivenOption → Result Way Fault
+abbrev pub only_way : ℕ → List Chosen → Result Way Fault
 only_way delim [] = Ok (thousand_lines delim)
-only_way delim (way ∷ []) = Ok (way_in delim way.value way.choice)
+only_way delim (way ∷ []) = Ok (unwrap_or (way_in delim way.choice) (thousand_lines delim))
 only_way delim (way ∷ second ∷ more) = Err (Usage TwoWays second.word)
 
-abbrev pub way_of : List GivenOption → Result Way Fault
+abbrev pub way_of : List Chosen → Result Way Fault
 way_of options = only_way (separator_in options) (filter is_way options)
 
 -- The suffixes. A width of 0 stands for none. With a width all suffixes have it. Without one they widen from 2

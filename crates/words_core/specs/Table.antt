@@ -9,22 +9,27 @@ use Rattle.ports_core.specs.declared.fault.UsageKind.{UsageKind}
 use Rattle.ports_core.specs.declared.fault.UsageKind.TheVariants.{UnknownOption, AmbiguousOption}
 use Rattle.ports_core.specs.declared.tool.Tool.{Tool}
 use Rattle.ports_core.specs.declared.tool.Tool.TheVariants.{Head, Tail, Split, Csplit, Tee}
-use Rattle.words_core.specs.declared.table.Choice.{Choice}
-use Rattle.words_core.specs.declared.table.Choice.TheVariants.{Lines, Bytes, LineBytes, Files, Quiet, Verbose, SuffixLength, NumericSuffixes, HexSuffixes, ElideEmptyFiles, ZeroTerminated, Separator, AdditionalSuffix, Prefix, Digits, SuffixFormat, KeepFiles, SuppressMatched, Append, Follow, FollowNames, Retry, Looks, Help, Version, Pause, OutputError, NoEffect, Process as WaitsFor}
-use Rattle.words_core.specs.declared.table.Kind.{Kind}
-use Rattle.words_core.specs.declared.table.Kind.TheVariants.{Count, Size, Division, Width, Text, Byte, Ending, Following, Number, HexNumber, OnBroken, Seconds, Looks as number_of_looks, Process as process_number, Format}
+use Rattle.ports_core.specs.declared.alphabet.Alphabet.TheVariants.{Digits as Decimal, Hex as Hexadecimal}
+use Rattle.ports_core.specs.declared.on_broken.OnBroken.TheVariants.{GoOn}
+use Rattle.seg_core.specs.declared.unit.Unit.TheVariants.{Lines, Bytes}
+use Rattle.words_core.specs.declared.choice.Choice.{Choice}
+use Rattle.words_core.specs.declared.choice.Choice.TheVariants as asks
+use Rattle.words_core.specs.declared.choice.Kind.{Kind}
+use Rattle.words_core.specs.declared.choice.Kind.TheVariants.{Amount, Follow, Looks, Pause, Process, LinesEach, BytesEach, LineBytesEach, Divided, Width, NumericSuffixes, HexSuffixes, Separator, Ending, Prefix, Format, OnBroken, NoEffect}
+use Rattle.words_core.specs.declared.settings.Headers.TheVariants.{Never, Always}
+use Rattle.words_core.specs.declared.settings.Topic.TheVariants.{Help, Version}
+use Rattle.words_core.specs.declared.value.Followed.TheVariants.{Descriptor}
 use Rattle.words_core.specs.declared.table.Letters.{Letters}
-use Rattle.words_core.specs.declared.table.Letters.TheVariants.{Never, OfHead, OfTail}
+use Rattle.words_core.specs.declared.table.Letters.TheVariants.{Never as NoLetters, OfHead, OfTail}
 use Rattle.words_core.specs.declared.table.OptionRow.{OptionRow as WrittenOption}
 use Rattle.words_core.specs.declared.table.Takes.{Takes}
 use Rattle.words_core.specs.declared.table.Takes.TheVariants.{Nothing, Value, Optional, Last}
 use Rattle.words_core.specs.declared.table.ToolRow.{ToolRow as WrittenTool}
 
--- an option: its names as they are written, what it chooses, and whether it takes a value; and for help what its value
+-- an option: its names as they are written, whether it takes a value, and what it asks for; and for help what its value
 -- is called and what it does
 pub record OptionRow : Type 0 where
   pub names : List (List ℕ)
-  pub choice : Choice
   pub takes : Takes
   pub value : List ℕ
   pub does : List ℕ
@@ -35,24 +40,23 @@ pub record ToolRow : Type 0 where
   pub name : List ℕ
   pub tool : Tool
   pub options : List OptionRow
-  pub number : Option (Choice × Kind × Letters)
+  pub number : Option (Kind × Letters)
   pub operands : List ℕ
   pub does : List ℕ
 
--- The table of the manuals. After its names an option has what it chooses and the kind of its value; `value_in` says
--- what each kind means.
+-- The table of the manuals. `choice_in` says what each kind of value means.
 
-abbrev pub option : List (List ℕ) → Choice → Takes → List ℕ → List ℕ → OptionRow
-option names choice takes value does =
-    record { names = names; choice = choice; takes = takes; value = value; does = does }
+-- a row: its names, whether it takes a value and what it asks for, what help calls the value, and what it does
+abbrev pub option : List (List ℕ) → Takes → List ℕ → List ℕ → OptionRow
+option names takes value does = record { names = names; takes = takes; value = value; does = does }
 
 -- options of each tool
 
 abbrev pub help_row : OptionRow
-help_row = option (codes "--help" ∷ []) Help Last [] (codes "write help, and do nothing else")
+help_row = option (codes "--help" ∷ []) (Last Help) [] (codes "write help, and do nothing else")
 
 abbrev pub version_row : OptionRow
-version_row = option (codes "--version" ∷ []) Version Last [] (codes "write the version, and do nothing else")
+version_row = option (codes "--version" ∷ []) (Last Version) [] (codes "write the version, and do nothing else")
 
 -- what stands in the place of a tool's name, and asks for a text of the program
 unfoldable pub program_table : List OptionRow
@@ -61,23 +65,23 @@ program_table = help_row ∷ version_row ∷ []
 -- options of several tools
 
 abbrev pub quiet_row : OptionRow
-quiet_row = option (codes "-q" ∷ codes "--quiet" ∷ codes "--silent" ∷ []) Quiet Nothing []
+quiet_row = option (codes "-q" ∷ codes "--quiet" ∷ codes "--silent" ∷ []) (Nothing (asks.Headers Never)) []
     (codes "write no headers")
 
 abbrev pub verbose_row : OptionRow
-verbose_row = option (codes "-v" ∷ codes "--verbose" ∷ []) Verbose Nothing []
+verbose_row = option (codes "-v" ∷ codes "--verbose" ∷ []) (Nothing (asks.Headers Always)) []
     (codes "write a header before each file")
 
 abbrev pub zero_row : OptionRow
-zero_row = option (codes "-z" ∷ codes "--zero-terminated" ∷ []) ZeroTerminated Nothing []
+zero_row = option (codes "-z" ∷ codes "--zero-terminated" ∷ []) (Nothing asks.ZeroTerminated) []
     (codes "lines end with byte 0, not with a newline")
 
 -- the options of `head`
 abbrev pub head_table : List OptionRow
 head_table =
-    option (codes "-n" ∷ codes "--lines" ∷ []) Lines (Value Count) (codes "COUNT")
+    option (codes "-n" ∷ codes "--lines" ∷ []) (Value (Amount Lines)) (codes "COUNT")
     (codes "write COUNT lines; with - all but the last COUNT")
-    ∷ option (codes "-c" ∷ codes "--bytes" ∷ []) Bytes (Value Count) (codes "COUNT")
+    ∷ option (codes "-c" ∷ codes "--bytes" ∷ []) (Value (Amount Bytes)) (codes "COUNT")
     (codes "write COUNT bytes; with - all but the last COUNT")
     ∷ quiet_row
     ∷ verbose_row
@@ -89,26 +93,26 @@ head_table =
 -- the options of `tail`: those of `head`, and how files are followed
 abbrev pub tail_table : List OptionRow
 tail_table =
-    option (codes "-n" ∷ codes "--lines" ∷ []) Lines (Value Count) (codes "COUNT")
+    option (codes "-n" ∷ codes "--lines" ∷ []) (Value (Amount Lines)) (codes "COUNT")
     (codes "write COUNT lines; with + all from line COUNT on")
-    ∷ option (codes "-c" ∷ codes "--bytes" ∷ []) Bytes (Value Count) (codes "COUNT")
+    ∷ option (codes "-c" ∷ codes "--bytes" ∷ []) (Value (Amount Bytes)) (codes "COUNT")
     (codes "write COUNT bytes; with + all from byte COUNT on")
     ∷ quiet_row
     ∷ verbose_row
     ∷ zero_row
-    ∷ option (codes "-f" ∷ codes "--follow" ∷ []) Follow (Optional Following) (codes "HOW")
+    ∷ option (codes "-f" ∷ codes "--follow" ∷ []) (Optional (asks.Follow Descriptor) Follow) (codes "HOW")
     (codes "follow what is appended, by descriptor or name")
-    ∷ option (codes "-F" ∷ []) FollowNames Nothing []
+    ∷ option (codes "-F" ∷ []) (Nothing asks.FollowNames) []
     (codes "the same as --follow=name --retry")
-    ∷ option (codes "--retry" ∷ []) Retry Nothing []
+    ∷ option (codes "--retry" ∷ []) (Nothing asks.Retry) []
     (codes "with --follow=name, wait for missing names")
-    ∷ option (codes "--looks" ∷ []) Looks (Value number_of_looks) (codes "NUMBER")
+    ∷ option (codes "--looks" ∷ []) (Value Looks) (codes "NUMBER")
     (codes "end after NUMBER checks of what is followed")
-    ∷ option (codes "-s" ∷ codes "--sleep-interval" ∷ []) Pause (Value Seconds) (codes "SECONDS")
+    ∷ option (codes "-s" ∷ codes "--sleep-interval" ∷ []) (Value Pause) (codes "SECONDS")
     (codes "check what is followed within this time")
-    ∷ option (codes "--pid" ∷ []) WaitsFor (Value process_number) (codes "PID")
+    ∷ option (codes "--pid" ∷ []) (Value Process) (codes "PID")
     (codes "end once the process PID is gone")
-    ∷ option (codes "--max-unchanged-stats" ∷ []) NoEffect (Value Number) (codes "NUMBER")
+    ∷ option (codes "--max-unchanged-stats" ∷ []) (Value NoEffect) (codes "NUMBER")
     (codes "taken without effect")
     ∷ help_row
     ∷ version_row
@@ -117,29 +121,31 @@ tail_table =
 -- the options of `split`
 abbrev pub split_table : List OptionRow
 split_table =
-    option (codes "-l" ∷ codes "--lines" ∷ []) Lines (Value Size) (codes "LINES")
+    option (codes "-l" ∷ codes "--lines" ∷ []) (Value LinesEach) (codes "LINES")
     (codes "put this many lines in each file")
-    ∷ option (codes "-b" ∷ codes "--bytes" ∷ []) Bytes (Value Size) (codes "BYTES")
+    ∷ option (codes "-b" ∷ codes "--bytes" ∷ []) (Value BytesEach) (codes "BYTES")
     (codes "put this many bytes in each file")
-    ∷ option (codes "-C" ∷ codes "--line-bytes" ∷ []) LineBytes (Value Size) (codes "BYTES")
+    ∷ option (codes "-C" ∷ codes "--line-bytes" ∷ []) (Value LineBytesEach) (codes "BYTES")
     (codes "put whole lines of at most BYTES in each file")
-    ∷ option (codes "-n" ∷ codes "--number" ∷ []) Files (Value Division) (codes "CHUNKS")
+    ∷ option (codes "-n" ∷ codes "--number" ∷ []) (Value Divided) (codes "CHUNKS")
     (codes "into N files: N, l/N, r/N; the Kth alone: K/N")
-    ∷ option (codes "-a" ∷ codes "--suffix-length" ∷ []) SuffixLength (Value Width) (codes "WIDTH")
+    ∷ option (codes "-a" ∷ codes "--suffix-length" ∷ []) (Value Width) (codes "WIDTH")
     (codes "names have WIDTH characters after the prefix")
-    ∷ option (codes "-d" ∷ codes "--numeric-suffixes" ∷ []) NumericSuffixes (Optional Number) (codes "FROM")
+    ∷ option (codes "-d" ∷ codes "--numeric-suffixes" ∷ [])
+    (Optional (asks.Suffixes Decimal None) NumericSuffixes) (codes "FROM")
     (codes "digits in names, not letters, from FROM on")
-    ∷ option (codes "-x" ∷ codes "--hex-suffixes" ∷ []) HexSuffixes (Optional HexNumber) (codes "FROM")
+    ∷ option (codes "-x" ∷ codes "--hex-suffixes" ∷ [])
+    (Optional (asks.Suffixes Hexadecimal None) HexSuffixes) (codes "FROM")
     (codes "hexadecimal digits in names, from FROM on")
-    ∷ option (codes "-e" ∷ codes "--elide-empty-files" ∷ []) ElideEmptyFiles Nothing []
+    ∷ option (codes "-e" ∷ codes "--elide-empty-files" ∷ []) (Nothing asks.ElideEmptyFiles) []
     (codes "with -n, make no empty files")
-    ∷ option (codes "-t" ∷ codes "--separator" ∷ []) Separator (Value Byte) (codes "BYTE")
+    ∷ option (codes "-t" ∷ codes "--separator" ∷ []) (Value Separator) (codes "BYTE")
     (codes "lines end with BYTE, not with a newline")
-    ∷ option (codes "--additional-suffix" ∷ []) AdditionalSuffix (Value Ending) (codes "TEXT")
+    ∷ option (codes "--additional-suffix" ∷ []) (Value Ending) (codes "TEXT")
     (codes "names end with TEXT")
-    ∷ option (codes "-u" ∷ codes "--unbuffered" ∷ []) NoEffect Nothing []
+    ∷ option (codes "-u" ∷ codes "--unbuffered" ∷ []) (Nothing asks.NoEffect) []
     (codes "taken without effect")
-    ∷ option (codes "--verbose" ∷ []) Verbose Nothing []
+    ∷ option (codes "--verbose" ∷ []) (Nothing asks.Verbose) []
     (codes "write each name before its file is opened")
     ∷ help_row
     ∷ version_row
@@ -148,19 +154,19 @@ split_table =
 -- the options of `csplit`
 abbrev pub csplit_table : List OptionRow
 csplit_table =
-    option (codes "-f" ∷ codes "--prefix" ∷ []) Prefix (Value Text) (codes "PREFIX")
+    option (codes "-f" ∷ codes "--prefix" ∷ []) (Value Prefix) (codes "PREFIX")
     (codes "names begin with PREFIX, not with xx")
-    ∷ option (codes "-n" ∷ codes "--digits" ∷ []) Digits (Value Width) (codes "DIGITS")
+    ∷ option (codes "-n" ∷ codes "--digits" ∷ []) (Value Width) (codes "DIGITS")
     (codes "numbers in names have this many digits, not 2")
-    ∷ option (codes "-b" ∷ codes "--suffix-format" ∷ []) SuffixFormat (Value Format) (codes "FORMAT")
+    ∷ option (codes "-b" ∷ codes "--suffix-format" ∷ []) (Value Format) (codes "FORMAT")
     (codes "write numbers as printf does, as in %03d.txt")
-    ∷ option (codes "-k" ∷ codes "--keep-files" ∷ []) KeepFiles Nothing []
+    ∷ option (codes "-k" ∷ codes "--keep-files" ∷ []) (Nothing asks.KeepFiles) []
     (codes "keep files after a fault")
-    ∷ option (codes "-s" ∷ codes "-q" ∷ codes "--quiet" ∷ codes "--silent" ∷ []) Quiet Nothing []
+    ∷ option (codes "-s" ∷ codes "-q" ∷ codes "--quiet" ∷ codes "--silent" ∷ []) (Nothing asks.Quiet) []
     (codes "write no sizes")
-    ∷ option (codes "-z" ∷ codes "--elide-empty-files" ∷ []) ElideEmptyFiles Nothing []
+    ∷ option (codes "-z" ∷ codes "--elide-empty-files" ∷ []) (Nothing asks.ElideEmptyFiles) []
     (codes "make no empty files")
-    ∷ option (codes "--suppress-matched" ∷ []) SuppressMatched Nothing []
+    ∷ option (codes "--suppress-matched" ∷ []) (Nothing asks.SuppressMatched) []
     (codes "leave out the line at each cut")
     ∷ help_row
     ∷ version_row
@@ -169,9 +175,9 @@ csplit_table =
 -- the options of `tee`
 abbrev pub tee_table : List OptionRow
 tee_table =
-    option (codes "-a" ∷ codes "--append" ∷ []) Append Nothing []
+    option (codes "-a" ∷ codes "--append" ∷ []) (Nothing asks.Append) []
     (codes "append to the files")
-    ∷ option (codes "-p" ∷ codes "--output-error" ∷ []) OutputError (Optional OnBroken) (codes "MODE")
+    ∷ option (codes "-p" ∷ codes "--output-error" ∷ []) (Optional (asks.OnBroken GoOn) OnBroken) (codes "MODE")
     (codes "go on (warn) or exit once an output is broken")
     ∷ help_row
     ∷ version_row
@@ -185,7 +191,7 @@ tools =
       name = codes "head";
       tool = Head;
       options = head_table;
-      number = Some (Lines, Count, OfHead);
+      number = Some (Amount Lines, OfHead);
       operands = codes "[FILE]...";
       does = codes "writes the first lines or bytes of files";
     }
@@ -193,7 +199,7 @@ tools =
       name = codes "tail";
       tool = Tail;
       options = tail_table;
-      number = Some (Lines, Count, OfTail);
+      number = Some (Amount Lines, OfTail);
       operands = codes "[FILE]...";
       does = codes "writes the last lines or bytes, follows files";
     }
@@ -201,7 +207,7 @@ tools =
       name = codes "split";
       tool = Split;
       options = split_table;
-      number = Some (Lines, Size, Never);
+      number = Some (LinesEach, NoLetters);
       operands = codes "[FILE [PREFIX]]";
       does = codes "cuts a file into pieces";
     }
@@ -228,7 +234,6 @@ tools =
 abbrev pub row_seen : WrittenOption → OptionRow
 row_seen row = record {
   names = map (λ name. name.now) row.names.now;
-  choice = row.choice;
   takes = row.takes;
   value = row.value.now;
   does = row.does.now;
@@ -253,11 +258,16 @@ abbrev pub is_among : List (List ℕ) → List ℕ → Bool
 is_among [] name = false
 is_among (known ∷ names) name = if bytes_eq known name then true else is_among names name
 
--- the option of this name in a tool's table
-abbrev pub option_named : List OptionRow → List ℕ → Option (Choice × Takes)
+-- what the option of this name in a tool's table takes and asks for
+abbrev pub option_named : List OptionRow → List ℕ → Option Takes
 option_named [] name = None
-option_named (row ∷ rows) name = if is_among row.names name then Some (row.choice, row.takes)
-    else option_named rows name
+option_named (row ∷ rows) name = if is_among row.names name then Some row.takes else option_named rows name
+
+-- what an option asks for that may stand without a value, among letters too
+abbrev pub alone : Takes → Option Choice
+alone (Nothing choice) = Some choice
+alone (Optional choice kind) = Some choice
+alone takes = None
 
 -- A long name may be cut short, where all names that begin so are names of one option.
 
@@ -271,9 +281,9 @@ abbrev pub beginning : List ℕ → List OptionRow → List OptionRow
 beginning start rows = filter (λ row. begins_one start row.names) rows
 
 -- the only one of these options
-abbrev pub only_one : List OptionRow → Result (Choice × Takes) UsageKind
+abbrev pub only_one : List OptionRow → Result Takes UsageKind
 only_one [] = Err UnknownOption
-only_one (row ∷ []) = Ok (row.choice, row.takes)
+only_one (row ∷ []) = Ok row.takes
 only_one (row ∷ other ∷ rows) = Err AmbiguousOption
 
 -- what was found by a name in full, or else by one that is cut short
@@ -282,5 +292,5 @@ full_or (Some found) short = Ok found
 full_or None short = short
 
 -- the option of this long name, or else the only one of which a name begins so
-abbrev pub option_called : List OptionRow → List ℕ → Result (Choice × Takes) UsageKind
+abbrev pub option_called : List OptionRow → List ℕ → Result Takes UsageKind
 option_called rows name = full_or (option_named rows name) (only_one (beginning name rows))

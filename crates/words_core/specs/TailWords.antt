@@ -4,32 +4,37 @@ use Rattle.std.specs.List.{list_any}
 use Rattle.ports_core.specs.declared.fault.Fault.{Fault}
 use Rattle.ports_core.specs.declared.fault.Fault.TheVariants.{Usage}
 use Rattle.ports_core.specs.declared.fault.UsageKind.TheVariants.{BadFollow}
-use Rattle.words_core.specs.declared.table.Choice.{Choice}
-use Rattle.words_core.specs.declared.table.Choice.TheVariants as choice
-use Rattle.words_core.specs.declared.tail_words.FollowOptions.{FollowOptions}
+use Rattle.words_core.specs.declared.choice.Choice.{Choice}
+use Rattle.words_core.specs.declared.choice.Choice.TheVariants.{Follow, FollowNames, Retry, Looks, Pause, Process}
 use Rattle.words_core.specs.declared.value.Followed.{Followed}
 use Rattle.words_core.specs.declared.value.Followed.TheVariants.{Descriptor, Name}
-use Rattle.words_core.specs.EndsWords.{ends_asked}
+use Rattle.words_core.specs.EndsWords.{EndsAsked, ends_by, names_asked, ten_lines}
 use Rattle.words_core.specs.Given.{asked_by, Given, texts_of}
-use Rattle.words_core.specs.declared.settings.TailSettings.{TailSettings}
-use Rattle.words_core.specs.Value.{Meant, Following, Looks, Pause, Process, then_check}
+use Rattle.words_core.specs.declared.tail_words.TailSettings.{TailSettings}
+use Rattle.words_core.specs.Value.{then_check}
 
 -- without options nothing is followed, and a pause lasts a second at most
-abbrev pub no_following : FollowOptions
-no_following = record { followed = None; retry = false; looks = 2 ^ 63 - 1; pause = 1000; process = None }
+abbrev pub unfollowed : EndsAsked → TailSettings
+unfollowed ends =
+    record { ends = ends; followed = None; looks = 2 ^ 63 - 1; pause = 1000; process = None }
 
 -- With one more option: the last that says what is followed decides, and so do the last number of looks, the last
--- pause and the last process.
+-- pause and the last process; what is written of each input at first is what `head` is asked for.
 
-abbrev pub follow_by : FollowOptions → Choice → Meant → FollowOptions
-follow_by asked choice.Follow (Following followed) = record asked { followed = Some followed }
-follow_by asked choice.Follow value = record asked { followed = Some Descriptor }
-follow_by asked choice.FollowNames value = record asked { followed = Some Name; retry = true }
-follow_by asked choice.Retry value = record asked { retry = true }
-follow_by asked choice.Looks (Looks looks) = record asked { looks = looks }
-follow_by asked choice.Pause (Pause pause) = record asked { pause = pause }
-follow_by asked choice.Process (Process process) = record asked { process = Some process }
-follow_by asked choice value = asked
+abbrev pub tail_by : TailSettings → Choice → TailSettings
+tail_by asked (Follow followed) = record asked { followed = Some followed }
+tail_by asked FollowNames = record asked { followed = Some Name }
+tail_by asked (Looks looks) = record asked { looks = looks }
+tail_by asked (Pause pause) = record asked { pause = pause }
+tail_by asked (Process process) = record asked { process = Some process }
+tail_by asked choice = record asked { ends = ends_by asked.ends choice }
+
+-- whether a name that leads nowhere is looked for again, with one more option
+
+abbrev pub retry_by : Bool → Choice → Bool
+retry_by retry FollowNames = true
+retry_by retry Retry = true
+retry_by retry choice = retry
 
 -- whether standard input is among the operands
 abbrev pub has_hyphen : List (List ℕ) → Bool
@@ -58,12 +63,6 @@ followed_in followed retry names = bad_follow
 
 abbrev pub tail_asked : Given → Result TailSettings Fault
 tail_asked given =
-    let asked = asked_by follow_by no_following given.options in
-    then_check (followed_in asked.followed asked.retry (texts_of given.operands))
-    (λ followed. Ok (record {
-      ends = ends_asked given;
-      followed = followed;
-      looks = asked.looks;
-      pause = asked.pause;
-      process = asked.process;
-    }))
+    let asked = asked_by tail_by (unfollowed (ten_lines (names_asked given.operands))) given.options in
+    then_check (followed_in asked.followed (asked_by retry_by false given.options) (texts_of given.operands))
+    (λ followed. Ok (record asked { followed = followed }))

@@ -1,32 +1,33 @@
 -- What options and operands ask of `tee`.
-use Rattle.ports_core.specs.declared.on_broken.OnBroken.{OnBroken}
 use Rattle.ports_core.specs.declared.on_broken.OnBroken.TheVariants.{GoOn}
-use Rattle.ports_core.specs.declared.slot.Mode.{Mode}
+use Rattle.std.specs.Prelude.{ℕ, List}
 use Rattle.ports_core.specs.declared.slot.Mode.TheVariants.{Fresh, Append}
-use Rattle.words_core.specs.declared.table.Choice.{Choice}
-use Rattle.words_core.specs.declared.table.Choice.TheVariants as choice
+use Rattle.words_core.specs.declared.choice.Choice.{Choice}
+use Rattle.words_core.specs.declared.choice.Choice.TheVariants as choice
 use Rattle.words_core.specs.Given.{asked_by, Given, texts_of}
-use Rattle.words_core.specs.Value.{Meant, Breaking}
-use Rattle.words_core.specs.TeeAsked.{TeeAsked}
+use Rattle.ports_core.specs.declared.on_broken.OnBroken.{OnBroken}
+use Rattle.ports_core.specs.declared.slot.Mode.{Mode}
 
--- how files are opened, with one more option
+-- what words ask of `tee`
+pub record TeeAsked : Type 0 where
+  -- how the files are opened
+  pub mode : Mode
+  -- what is done once an output is broken
+  pub on_broken : OnBroken
+  -- the names of the files
+  pub names : List (List ℕ)
 
-abbrev pub mode_by : Mode → Choice → Meant → Mode
-mode_by mode choice.Append value = Append
-mode_by mode choice value = mode
+-- without an option these files begin empty, and a run goes on with the outputs that are left
+abbrev pub fresh : List (List ℕ) → TeeAsked
+fresh names = record { mode = Fresh; on_broken = GoOn; names = names }
 
--- what is done once an output is broken, with one more option: without a value it goes on with the others
+-- with one more option: the last that says what is done once an output is broken decides
 
-abbrev pub on_broken_by : OnBroken → Choice → Meant → OnBroken
-on_broken_by on_broken choice.OutputError (Breaking asked) = asked
-on_broken_by on_broken choice.OutputError value = GoOn
-on_broken_by on_broken choice value = on_broken
+abbrev pub tee_by : TeeAsked → Choice → TeeAsked
+tee_by asked choice.Append = record asked { mode = Append }
+tee_by asked (choice.OnBroken on_broken) = record asked { on_broken = on_broken }
+tee_by asked choice = asked
 
--- without an option files begin empty, and a run goes on with the outputs that are left; the operands are the files'
--- names, and `-` is a name as any other
+-- the operands are the files' names, and `-` is a name as any other
 abbrev pub tee_asked : Given → TeeAsked
-tee_asked given = record {
-  mode = asked_by mode_by Fresh given.options;
-  on_broken = asked_by on_broken_by GoOn given.options;
-  names = texts_of given.operands;
-}
+tee_asked given = asked_by tee_by (fresh (texts_of given.operands)) given.options

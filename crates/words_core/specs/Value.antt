@@ -1,58 +1,17 @@
--- What the value of an option says, or what is wrong with it, by its kind. A value that isn't of its form is told
--- before one that is too large, and that before 0.
+-- What the value of an option says, or what is wrong with it. A value that isn't of its form is told before one that is
+-- too large, and that before 0.
 use Rattle.std.specs.Prelude.{ℕ, ◌+◌, ◌-◌, ◌*◌, ◌/◌, ◌^◌, ◌==◌, ◌&&◌, ◌||◌, Bool, nat_lt, nat_le, min, codes, length, List, [], ◌∷◌, Option, Some, None, Result, Ok, Err, if◌then◌else◌, bytes_eq}
 use Rattle.std.specs.Char.{is_ascii_digit, is_digit}
 use Rattle.std.specs.List.{list_all, list_any}
 use Rattle.std.specs.Str.Parse.{digits_value}
 use Rattle.seg_core.specs.Count.{after_digits, count_of, digits_of, leading_digits, value_of}
-use Rattle.seg_core.specs.declared.count.Count.{Count}
 use Rattle.ports_core.specs.declared.on_broken.OnBroken.{OnBroken}
 use Rattle.ports_core.specs.declared.on_broken.OnBroken.TheVariants as on_broken
 use Rattle.ports_core.specs.declared.fault.UsageKind.{UsageKind}
-use Rattle.ports_core.specs.declared.fault.UsageKind.TheVariants.{BadNumber, NumberTooLarge, Zero, BadSeparator, BadSuffix, BadFollow, BadMode, BadFormat}
-use Rattle.words_core.specs.Division.{division_in}
-use Rattle.words_core.specs.Format.{Format, format_in, format_seen}
+use Rattle.ports_core.specs.declared.fault.UsageKind.TheVariants.{BadNumber, NumberTooLarge, BadSeparator, BadSuffix, BadFollow, BadMode}
 pub use Rattle.words_core.specs.Number.{counted, not_zero, number_fault, then_check, up_to}
-use Rattle.words_core.specs.declared.division.Division.{Division}
-use Rattle.words_core.specs.declared.table.Kind.{Kind}
-use Rattle.words_core.specs.declared.table.Kind.TheVariants as kind
 use Rattle.words_core.specs.declared.value.Followed.{Followed}
 use Rattle.words_core.specs.declared.value.Followed.TheVariants as followed
-use Rattle.words_core.specs.declared.value.Value.{Value}
-use Rattle.words_core.specs.declared.value.Value.TheVariants as value
-
--- the value of an option, with the bytes of a text
-pub data Meant : Type 0 where
-  Nothing : Meant
-  Counted : Count → Meant
-  Size : ℕ → Meant
-  Divided : Division → Meant
-  Width : ℕ → Meant
-  Text : List ℕ → Meant
-  Byte : ℕ → Meant
-  Following : Followed → Meant
-  Looks : ℕ → Meant
-  Number : ℕ → Meant
-  Pause : ℕ → Meant
-  Process : ℕ → Meant
-  Breaking : OnBroken → Meant
-  Formatted : Format → Meant
-
-abbrev pub seen : Value → Meant
-seen value.Nothing = Nothing
-seen (value.Count count) = Counted count
-seen (value.Size size) = Size size
-seen (value.Divided division) = Divided division
-seen (value.Width width) = Width width
-seen (value.Text text) = Text text.now
-seen (value.Byte byte) = Byte byte
-seen (value.Following followed) = Following followed
-seen (value.Looks looks) = Looks looks
-seen (value.Number number) = Number number
-seen (value.Pause pause) = Pause pause
-seen (value.Process process) = Process process
-seen (value.OnBroken on_broken) = Breaking on_broken
-seen (value.Format format) = Formatted (format_seen format)
 
 -- a number in hexadecimal: one or more digits, `A` to `F` as `a` to `f`, and nothing else; 2^63-1 at most
 
@@ -95,11 +54,6 @@ on_broken_in text =
     else (if bytes_eq text (codes "exit") || bytes_eq text (codes "exit-nopipe") then Ok on_broken.Stop
     else Err BadMode)
 
--- a text with one conversion
-abbrev pub or_bad_format : Option Format → Result Meant UsageKind
-or_bad_format None = Err BadFormat
-or_bad_format (Some format) = Ok (Formatted format)
-
 -- the number of a process
 abbrev pub process_in : List ℕ → Result ℕ UsageKind
 process_in text = then_check (up_to (2 ^ 31 - 1) (digits_of text)) not_zero
@@ -131,27 +85,3 @@ pause_with whole (Some fraction) =
 
 abbrev pub pause_in : List ℕ → Result ℕ UsageKind
 pause_in text = pause_with (leading_digits text) (fraction_in (after_digits text))
-
--- a value that was read, or what is wrong with it
-abbrev pub as_value : {A : Type 0} → (A → Meant) → Result A UsageKind → Result Meant UsageKind
-as_value make (Ok value) = Ok (make value)
-as_value make (Err fault) = Err fault
-
--- the value that a text gives
-abbrev pub value_in : Kind → List ℕ → Result Meant UsageKind
-value_in kind.Count text = as_value (λ count. Counted count) (counted (count_of text))
-value_in kind.Size text = as_value (λ size. Size size) (size_in text)
-value_in kind.Division text = as_value (λ division. Divided division) (division_in text)
-value_in kind.Width text = as_value (λ width. Width width) (up_to 255 (digits_of text))
-value_in kind.Text text = Ok (Text text)
-value_in kind.Byte text = as_value (λ byte. Byte byte) (byte_in text)
-value_in kind.Ending text = as_value (λ ending. Text ending) (ending_in text)
-value_in kind.Following text = as_value (λ followed. Following followed) (followed_in text)
-value_in kind.Looks text =
-    as_value (λ looks. Looks looks) (then_check (up_to (2 ^ 63 - 1) (digits_of text)) not_zero)
-value_in kind.Number text = as_value (λ number. Number number) (up_to (2 ^ 63 - 1) (digits_of text))
-value_in kind.HexNumber text = as_value (λ number. Number number) (hex_in text)
-value_in kind.Process text = as_value (λ process. Process process) (process_in text)
-value_in kind.Seconds text = as_value (λ pause. Pause pause) (pause_in text)
-value_in kind.OnBroken text = as_value (λ on_broken. Breaking on_broken) (on_broken_in text)
-value_in kind.Format text = or_bad_format (format_in text)

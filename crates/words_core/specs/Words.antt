@@ -8,12 +8,13 @@ use Rattle.ports_core.specs.declared.fault.UsageKind.TheVariants.{MissingTool, U
 use Rattle.words_core.specs.declared.settings.Settings.{Settings}
 use Rattle.words_core.specs.declared.settings.Settings.TheVariants.{Head, Tail, Split, Csplit, Tee, About}
 use Rattle.words_core.specs.declared.settings.Topic.{Topic}
-use Rattle.words_core.specs.declared.settings.Topic.TheVariants.{Help, Version}
-use Rattle.words_core.specs.declared.table.Choice.{Choice}
-use Rattle.words_core.specs.declared.table.Choice.TheVariants as choice
+use Rattle.words_core.specs.declared.choice.Choice.{Choice}
+use Rattle.words_core.specs.declared.choice.Choice.TheVariants as choice
+use Rattle.words_core.specs.declared.spelled.Chosen.{Chosen}
 use Rattle.words_core.specs.declared.table.Takes.{Takes}
+use Rattle.words_core.specs.declared.table.Takes.TheVariants.{Last}
 use Rattle.words_core.specs.Table.{ToolRow, option_named, program_table, row_named, tools}
-use Rattle.words_core.specs.Given.{Given, GivenOption}
+use Rattle.words_core.specs.Given.{Given}
 use Rattle.words_core.specs.Spelling.{given_by}
 use Rattle.words_core.specs.CsplitWords.{HasBadOperand, HasRead, csplit_asked}
 use Rattle.words_core.specs.EndsWords.{ends_asked}
@@ -39,15 +40,14 @@ work_for tool.Cutters given = Err (Usage UnknownTool 0)
 -- checked.
 
 abbrev pub topic_of : Choice → Option Topic
-topic_of choice.Help = Some Help
-topic_of choice.Version = Some Version
+topic_of (choice.About topic) = Some topic
 topic_of choice = None
 
 abbrev pub or_later : Option Topic → Option Topic → Option Topic
 or_later (Some topic) later = Some topic
 or_later None later = later
 
-abbrev pub topic_in : List GivenOption → Option Topic
+abbrev pub topic_in : List Chosen → Option Topic
 topic_in [] = None
 topic_in (option ∷ options) = or_later (topic_of option.choice) (topic_in options)
 
@@ -60,9 +60,9 @@ settings_for tool given = about_or tool (topic_in given.options) (work_for tool 
 
 -- A word in the place of a tool's name may ask for help or the version of the program.
 
-abbrev pub topic_by : Option (Choice × Takes) → Option Topic
-topic_by None = None
-topic_by (Some option) = topic_of option.0
+abbrev pub topic_by : Option Takes → Option Topic
+topic_by (Some (Last topic)) = Some topic
+topic_by option = None
 
 abbrev pub topic_named : List ℕ → Option Topic
 topic_named name = topic_by (option_named program_table name)

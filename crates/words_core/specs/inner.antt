@@ -1,5 +1,5 @@
 pub mod Called
+pub mod Choice
 pub mod Spelling
 pub mod SplitWords
-pub mod Value
 pub mod Format

@@ -25,7 +25,7 @@ pub struct CsplitSettings<'a> {
 impl<'a> Model for CsplitSettings<'a> {
     ghost use Rattle.std.specs.Prelude.{map};
     ghost use Rattle.operand_core.specs.Reading.{Asks};
-    ghost use Rattle.words_core.specs.CsplitAsked.{CsplitAsked};
+    ghost use Rattle.words_core.specs.CsplitWords.{CsplitAsked};
 
     ghost Value = { CsplitAsked };
 

@@ -1,20 +1,19 @@
 //! What `csplit` is asked for: POSIX.1-2017, XCU csplit; `-b`, `-z` and `--suppress-matched` are GNU's.
 ghost use Rattle.std.specs.Prelude.{◌≡◌, map, IfOk, IfErr};
 ghost use Rattle.words_core.specs.CsplitWords.{HasBadOperand, HasRead, chosen_by, csplit_by, csplit_asked, format_or, plain, style_of};
+ghost use Rattle.words_core.specs.inner.Choice.{options_seen};
 ghost use Rattle.words_core.specs.Format.{format_seen};
 ghost use Rattle.words_core.specs.Given.{option_seen};
 ghost use Rattle.words_core.specs.Spelling.{IsRefused};
-ghost use Rattle.words_core.specs.Value.{seen};
+ghost use Rattle.words_core.specs.Choice.{seen};
 
+use crate::choice::Choice;
 use crate::csplit_settings::{CsplitSettings, read_settings};
 use crate::format::{Format, push_plain};
 use crate::spelled::{Chosen, Spelled};
-use crate::table::Choice;
-use crate::value::Value;
 use operand_core::Style;
 use ports_core::{Base, Fault, Filling, Form, UsageKind};
 use std::alloc::Global;
-use std::marker::Model;
 
 /// What the options of `csplit` ask for: how files are made.
 #[derive(Drop)]
@@ -35,27 +34,9 @@ struct CsplitOptions<'a> {
     suppress: bool,
 }
 
-impl<'a> Model for CsplitOptions<'a> {
-    ghost use Rattle.std.specs.Prelude.{option_map};
-    ghost use Rattle.words_core.specs.CsplitWords.{CsplitOptions};
-    ghost use Rattle.words_core.specs.Format.{format_seen};
-
-    ghost Value = { CsplitOptions };
-
-    ghost view = { λ s. record {
-      prefix = s.prefix.now;
-      digits = s.digits;
-      format = option_map format_seen s.format;
-      keep = s.keep;
-      quiet = s.quiet;
-      elide = s.elide;
-      suppress = s.suppress;
-    } };
-}
-
 /// What is asked for without options.
 fn plain<'a>() -> CsplitOptions<'a>
-    ensures { result ≡ plain }
+    ensures { options_seen result ≡ plain }
 {
     CsplitOptions {
         prefix: "xx",
@@ -69,46 +50,25 @@ fn plain<'a>() -> CsplitOptions<'a>
 }
 
 impl<'a> CsplitOptions<'a> {
-    /// The same, and what one more option asks for.
-    fn with(self, option: &Chosen<'a>) -> Self
-        ensures { result ≡ csplit_by self.entry option.now.choice (seen option.now.value) }
+    /// Takes in what one more option asks for.
+    fn take(&mut self, choice: Choice<'a>)
+        ensures { options_seen self.new ≡ csplit_by (options_seen self.old) (seen choice.entry) }
     {
-        match option.choice {
-            Choice::Prefix => match option.value {
-                Value::Text(prefix) => CsplitOptions { prefix, ..self },
-                _ => self,
-            },
-            Choice::Digits => match option.value {
-                Value::Width(digits) => CsplitOptions { digits, ..self },
-                _ => self,
-            },
-            Choice::SuffixFormat => match option.value {
-                Value::Format(format) => CsplitOptions {
-                    format: Some(format),
-                    ..self
-                },
-                _ => self,
-            },
-            Choice::KeepFiles => CsplitOptions { keep: true, ..self },
-            Choice::Quiet => CsplitOptions {
-                quiet: true,
-                ..self
-            },
-            Choice::ElideEmptyFiles => CsplitOptions {
-                elide: true,
-                ..self
-            },
-            Choice::SuppressMatched => CsplitOptions {
-                suppress: true,
-                ..self
-            },
-            _ => self,
+        match choice {
+            Choice::Prefix(prefix) => self.prefix = prefix,
+            Choice::Width(digits) => self.digits = digits,
+            Choice::Format(format) => self.format = Some(format),
+            Choice::KeepFiles => self.keep = true,
+            Choice::Quiet => self.quiet = true,
+            Choice::ElideEmptyFiles => self.elide = true,
+            Choice::SuppressMatched => self.suppress = true,
+            _ => {}
         }
     }
 
     /// The format of names: without one a number in decimal, filled with zeros to its digits.
     fn names(&self) -> Format<'a>
-        ensures { format_seen result ≡ format_or self.now.digits self.now.format }
+        ensures { format_seen result ≡ format_or self.now.digits (options_seen self.now).format }
     {
         if let Some(format) = self.format {
             return format;
@@ -176,11 +136,11 @@ fn choose_style(alloc: Global, options: &[Chosen<'_>]) -> Result<Style, Fault>
 
 /// What all options ask for.
 fn choose_csplit<'a>(options: &[Chosen<'a>]) -> CsplitOptions<'a>
-    ensures { result ≡ chosen_by (map option_seen options.now) }
+    ensures { options_seen result ≡ chosen_by (map option_seen options.now) }
 {
     let mut asked = plain();
     for option in options {
-        asked = asked.with(option);
+        asked.take(option.choice);
     }
     asked
 }

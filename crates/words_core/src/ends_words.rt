@@ -1,16 +1,13 @@
 //! What `head` and `tail` are asked for: POSIX.1-2017, XCU head and tail; `-q`, `-v`, `-z` and several files for `tail`
 //! are GNU's.
-ghost use Rattle.std.specs.Prelude.{◌≡◌, [], map, IfOk, IfErr};
-ghost use Rattle.words_core.specs.EndsAsked.{EndsAsked};
-ghost use Rattle.words_core.specs.EndsWords.{ends_by, ends_asked, names_asked, ten_lines};
-ghost use Rattle.words_core.specs.Given.{asked_by, operand_seen, option_seen};
-ghost use Rattle.words_core.specs.Spelling.{Reads};
-ghost use Rattle.words_core.specs.Value.{seen};
+ghost use Rattle.std.specs.Prelude.{◌≡◌, map, IfOk, IfErr};
+ghost use Rattle.words_core.specs.Choice.{seen};
+ghost use Rattle.words_core.specs.EndsWords.{EndsAsked, ends_by, ends_asked, names_asked, ten_lines};
+ghost use Rattle.words_core.specs.Given.{operand_seen};
 
-use crate::settings::{EndsSettings, Headers};
-use crate::spelled::{Chosen, Operand, Spelled, texts_of};
-use crate::table::Choice;
-use crate::value::Value;
+use crate::choice::Choice;
+use crate::settings::Headers;
+use crate::spelled::{Operand, Spelled, texts_of};
 use ports_core::{Fault, STANDARD_INPUT};
 use seg_core::count::{Count, Sign};
 use seg_core::line::NEWLINE;
@@ -18,30 +15,38 @@ use seg_core::unit::Unit;
 use std::alloc::Global;
 use std::marker::Model;
 
-/// What the options of `head` or `tail` ask for.
+/// What `head` or `tail` is to write of its inputs.
 #[derive(Drop)]
-struct EndsOptions {
+pub struct EndsSettings<'a> {
     /// What is counted: lines or bytes.
-    unit: Unit,
+    pub unit: Unit,
     /// How many lines or bytes, and from which side.
-    count: Count,
+    pub count: Count,
     /// When a header goes before an input.
-    headers: Headers,
+    pub headers: Headers,
     /// The byte that lines end with.
-    delim: u8,
+    pub delim: u8,
+    /// The names of the inputs, at least one; `-` is standard input.
+    pub names: Vec<&'a str>,
 }
 
-impl Model for EndsOptions {
+impl<'a> Model for EndsSettings<'a> {
     ghost Value = { EndsAsked };
 
-    ghost view = { λ s. record { unit = s.unit; count = s.count; headers = s.headers; delim = s.delim; names = [] } };
+    ghost view = { λ s. record {
+      unit = s.unit;
+      count = s.count;
+      headers = s.headers;
+      delim = s.delim;
+      names = map (λ name. name.now) s.names.items;
+    } };
 }
 
-/// What is asked for without options.
-fn ten_lines() -> EndsOptions
-    ensures { result ≡ ten_lines }
+/// What is asked for without options: ten lines of these.
+pub(crate) fn ten_lines(names: Vec<&str>) -> EndsSettings<'_>
+    ensures { result ≡ ten_lines (map (λ name. name.now) names.entry.items) }
 {
-    EndsOptions {
+    EndsSettings {
         unit: Unit::Lines,
         count: Count {
             sign: Sign::Plain,
@@ -49,46 +54,29 @@ fn ten_lines() -> EndsOptions
         },
         headers: Headers::ForSeveral,
         delim: NEWLINE,
+        names,
     }
 }
 
-impl EndsOptions {
-    /// The same, and what one more option asks for.
-    fn with(self, option: &Chosen<'_>) -> Self
-        ensures { result ≡ ends_by self option.now.choice (seen option.now.value) }
+impl EndsSettings<'_> {
+    /// Takes in what one more option asks for.
+    pub(crate) fn take(&mut self, choice: Choice<'_>)
+        ensures { self.new ≡ ends_by self.old (seen choice.entry) }
     {
-        match option.choice {
-            Choice::Lines => match option.value {
-                Value::Count(count) => EndsOptions {
-                    unit: Unit::Lines,
-                    count,
-                    ..self
-                },
-                _ => self,
-            },
-            Choice::Bytes => match option.value {
-                Value::Count(count) => EndsOptions {
-                    unit: Unit::Bytes,
-                    count,
-                    ..self
-                },
-                _ => self,
-            },
-            Choice::Quiet => EndsOptions {
-                headers: Headers::Never,
-                ..self
-            },
-            Choice::Verbose => EndsOptions {
-                headers: Headers::Always,
-                ..self
-            },
-            Choice::ZeroTerminated => EndsOptions { delim: 0, ..self },
-            _ => self,
+        match choice {
+            Choice::Amount(unit, count) => {
+                self.unit = unit;
+                self.count = count;
+            }
+            Choice::Headers(headers) => self.headers = headers,
+            Choice::ZeroTerminated => self.delim = 0,
+            _ => {}
         }
     }
 }
 
-/// What words ask of `head` or `tail`.
+/// What words ask of `head` or `tail`: the last of the options for counts, the last of those for headers, and whether lines end
+/// with byte 0.
 ///
 /// # Errors
 ///
@@ -97,29 +85,15 @@ pub fn settle_ends<'a>(alloc: Global, spelled: &Spelled<'a>) -> Result<EndsSetti
     ensures ok { IfOk result (λ settings. settings ≡ ends_asked spelled.now) }
     ensures err { IfErr result (λ fault. fault ≡ Fault.Memory) }
 {
-    let options = choose_ends(&spelled.options);
-    Ok(EndsSettings {
-        unit: options.unit,
-        count: options.count,
-        headers: options.headers,
-        delim: options.delim,
-        names: names_of(alloc, &spelled.operands)?,
-    })
-}
-
-/// What all options ask for: the last of those for counts, the last of those for headers, and whether lines end with byte 0.
-fn choose_ends(options: &[Chosen<'_>]) -> EndsOptions
-    ensures { result ≡ asked_by ends_by ten_lines (map option_seen options.now) }
-{
-    let mut asked = ten_lines();
-    for option in options {
-        asked = asked.with(option);
+    let mut asked = ten_lines(names_of(alloc, &spelled.operands)?);
+    for option in &spelled.options {
+        asked.take(option.choice);
     }
-    asked
+    Ok(asked)
 }
 
 /// The names of the inputs: the operands, or standard input where there is none.
-fn names_of<'a>(alloc: Global, operands: &[Operand<'a>]) -> Result<Vec<&'a str>, Fault>
+pub(crate) fn names_of<'a>(alloc: Global, operands: &[Operand<'a>]) -> Result<Vec<&'a str>, Fault>
     ensures ok { IfOk result (λ names. map (λ name. name.now) names.items
         ≡ names_asked (map operand_seen operands.now)) }
     ensures err { IfErr result (λ fault. fault ≡ Fault.Memory) }

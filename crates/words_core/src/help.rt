@@ -142,12 +142,12 @@ fn write_value(text: &mut Vec<u8>, takes: Takes, value: &[u8]) -> Result<(), All
             text.extend_from_slice(b"=")?;
             text.extend_from_slice(value)
         }
-        Takes::Optional(_) => {
+        Takes::Optional(_, _) => {
             text.extend_from_slice(b"[=")?;
             text.extend_from_slice(value)?;
             text.extend_from_slice(b"]")
         }
-        Takes::Nothing | Takes::Last => Ok(()),
+        Takes::Nothing(_) | Takes::Last(_) => Ok(()),
     }
 }
 

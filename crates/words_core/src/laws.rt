@@ -4,28 +4,32 @@ ghost use Rattle.std.specs.List.{list_any};
 ghost use Rattle.ports_core.specs.declared.fault.UsageKind.{UsageKind};
 ghost use Rattle.ports_core.specs.declared.fault.UsageKind.TheVariants.{AmbiguousOption, MissingValue, SuffixTooShort, TwoWays, UnknownOption};
 ghost use Rattle.words_core.specs.declared.spelling.State.TheVariants.{Reading};
+ghost use Rattle.seg_core.specs.declared.unit.Unit.{Unit as Measured};
 ghost use Rattle.seg_core.specs.Count.{count_of, digits_of, is_number, sized, value_of};
 ghost use Rattle.std.specs.Char.{is_ascii_digit};
-ghost use Rattle.words_core.specs.Given.{Given, GivenOperand, GivenOption, bare, joined, one_operand, one_option};
+ghost use Rattle.words_core.specs.Given.{Given, asked_by, GivenOperand, bare, joined, one_operand, one_option};
 ghost use Rattle.words_core.specs.Division.{division_in, way_of_division};
+ghost use Rattle.words_core.specs.Choice.{choice_in};
 ghost use Rattle.words_core.specs.CsplitWords.{chosen_by, decimal_form, style_of};
+ghost use Rattle.words_core.specs.declared.format.Format.{Format as Written};
 ghost use Rattle.words_core.specs.Format.{Format, format_in};
-ghost use Rattle.words_core.specs.Laws.{AreAmong, Gives, IsLast, IsLetter, IsName, IsSwitch, LastDecides, LeaveTheRest, amount_of, appends, as_operands, counts, counts_digits, counts_looks, counts_pause, csplit_as, drops_sizes, elides_files, tells_of_files, ends_as, ends_of, ends_with_zero, follow_of, following_as, gives_ending, gives_format, has, heads, is_plain, keeps_files, leaves_lines_out, names_prefix, names_process, on_broken_of, plain_style, retries, says_followed, says_on_broken, separates, spells, split_as, split_of, tail_as, widens};
-ghost use Rattle.words_core.specs.Lettered.{is_lettered, letter_named, unit_of, with_letters};
-ghost use Rattle.words_core.specs.SplitAsked.{SplitAsked};
+ghost use Rattle.words_core.specs.Laws.{AreAmong, CsplitAsks, EndsAsk, FollowAsks, Gives, IsLast, IsLetter, IsName, IsSwitch, LastDecides, LeaveTheRest, SplitAsks, TeeAsks, amount_of, appends, as_operands, as_wide, counts, counts_looks, counts_pause, drops_sizes, elides_files, ends_of, ends_with_zero, following, gives_ending, gives_format, has, heads, is_plain, keeps_files, leaves_lines_out, names_prefix, names_process, plain_style, retries, says_followed, says_on_broken, separates, spells, split_of, tail_of, tee_of, tells_of_files, ten_of_input, thousands, widens};
+ghost use Rattle.words_core.specs.Lettered.{is_lettered, unit_of, with_letters};
+ghost use Rattle.words_core.specs.SplitWords.{SplitAsked, is_way, least_width, split_asked, way_in, way_of, separator_in};
 ghost use Rattle.words_core.specs.Spelling.{given_before, mixed, spelled};
-ghost use Rattle.words_core.specs.EndsWords.{ten_lines};
-ghost use Rattle.words_core.specs.SplitWords.{is_way, least_width, split_asked, way_in, way_of, separator_in, thousand_lines};
 ghost use Rattle.words_core.specs.Table.{OptionRow, beginning, head_table, option_called, option_named, tail_table};
 ghost use Rattle.words_core.specs.declared.table.Letters.TheVariants.{OfHead, OfTail};
+ghost use Rattle.words_core.specs.TailWords.{retry_by};
 ghost use Rattle.words_core.specs.TeeWords.{tee_asked};
-ghost use Rattle.words_core.specs.Value.{Counted, Meant, counted, hex_in, size_in, up_to, value_in};
+ghost use Rattle.words_core.specs.Value.{counted, hex_in, size_in, up_to};
 ghost use Rattle.words_core.specs.Words.{settings_for, settings_of};
 
+use crate::choice::{Choice, Kind};
 use crate::division::Division;
 use crate::settings::{Headers, Settings, Topic};
+use crate::spelled::Chosen;
 use crate::spelling::State;
-use crate::table::{Choice, Kind, Letters, Takes};
+use crate::table::{Letters, Takes};
 use crate::value::Followed;
 use ports_core::{Alphabet, Fault, Mode, OnBroken, Tool};
 use seg_core::count::{Count, Sign};
@@ -38,16 +42,17 @@ use seg_core::unit::Unit;
 pub fn last_of_ends_decides()
     ensures counts { LastDecides counts (λ options. amount_of (ends_of options)) (amount_of (ends_of [])) }
     ensures headers { LastDecides heads (λ options. (ends_of options).headers) (ends_of []).headers }
+    ensures tail { (options : List Chosen) → (tail_of options).ends ≡ ends_of options }
 {}
 
 /// Of several options that say what `tail` follows the last decides, as if it stood alone, whatever options stand before it,
 /// and so do the last number of looks, the last pause and the last process. A name that leads nowhere is looked for again where any option says so.
 pub fn last_of_tail_decides()
-    ensures followed { LastDecides says_followed (λ options. (follow_of options).followed) None }
-    ensures looks { LastDecides counts_looks (λ options. (follow_of options).looks) (2 ^ 63 - 1) }
-    ensures pause { LastDecides counts_pause (λ options. (follow_of options).pause) 1000 }
-    ensures process { LastDecides names_process (λ options. (follow_of options).process) None }
-    ensures retry { (options : List GivenOption) → (follow_of options).retry ≡ has retries options }
+    ensures followed { LastDecides says_followed (λ options. (tail_of options).followed) None }
+    ensures looks { LastDecides counts_looks (λ options. (tail_of options).looks) (2 ^ 63 - 1) }
+    ensures pause { LastDecides counts_pause (λ options. (tail_of options).pause) 1000 }
+    ensures process { LastDecides names_process (λ options. (tail_of options).process) None }
+    ensures retry { (options : List Chosen) → asked_by retry_by false options ≡ has retries options }
 {}
 
 /// Of several options for the characters of suffixes the last decides, as if it stood alone, whatever options stand before it,
@@ -64,30 +69,30 @@ pub fn last_of_split_decides()
 /// the last number of digits and the last format, with which the digits have no effect. Without one the prefix is `xx`,
 /// and there are two digits.
 pub fn last_of_csplit_decides()
-    ensures prefix { LastDecides names_prefix (λ options. (chosen_by options).prefix) (codes "xx") }
-    ensures digits { LastDecides counts_digits (λ options. (chosen_by options).digits) 2 }
+    ensures prefix { LastDecides names_prefix (λ options. (chosen_by options).prefix.now) (codes "xx") }
+    ensures digits { LastDecides widens (λ options. (chosen_by options).digits) 2 }
     ensures format { LastDecides gives_format (λ options. (chosen_by options).format) None }
-    ensures plain { (options : List GivenOption) → (chosen_by options).format ≡ None
-        → ((style_of options).prefix ≡ (chosen_by options).prefix)
+    ensures plain { (options : List Chosen) → (chosen_by options).format ≡ None
+        → ((style_of options).prefix ≡ (chosen_by options).prefix.now)
         × ((style_of options).form ≡ decimal_form (chosen_by options).digits) × ((style_of options).ending ≡ []) }
-    ensures formatted { (options : List GivenOption) (format : Format) → (chosen_by options).format ≡ Some format
-        → ((style_of options).prefix ≡ (chosen_by options).prefix ++ format.before)
-        × ((style_of options).form ≡ format.form) × ((style_of options).ending ≡ format.after) }
+    ensures formatted { (options : List Chosen) (format : Written) → (chosen_by options).format ≡ Some format
+        → ((style_of options).prefix ≡ (chosen_by options).prefix.now ++ format.before.now)
+        × ((style_of options).form ≡ format.form) × ((style_of options).ending ≡ format.after.now) }
 {}
 
 /// Of several options of `tee` that say what is done once an output is broken the last decides, as if it stood alone, whatever
 /// options stand before it. Without one it goes on with those that are left.
 pub fn last_of_tee_decides()
-    ensures on_broken { LastDecides says_on_broken on_broken_of OnBroken.GoOn }
+    ensures on_broken { LastDecides says_on_broken (λ options. (tee_of options).on_broken) OnBroken.GoOn }
 {}
 
-/// An option that is taken without effect changes nothing, whatever its value: the others ask for what they ask for without
+/// An option that is taken without effect, with or without a value, changes nothing: the others ask for what they ask for without
 /// it. So it is with `-u` of `split` and `--max-unchanged-stats` of `tail`.
 pub fn some_have_no_effect()
-    ensures { (tool : Tool) (before after : List GivenOption) (value : Meant) (word : ℕ) (operands : List GivenOperand)
+    ensures { (tool : Tool) (before after : List Chosen) (word : ℕ) (operands : List GivenOperand)
         → settings_for tool
         (record {
-          options = before ++ record { choice = Choice.NoEffect; value = value; word = word } ∷ after;
+          options = before ++ record { choice = Choice.NoEffect; word = word } ∷ after;
           operands = operands;
         }) ≡ settings_for tool (record { options = before ++ after; operands = operands }) }
 {}
@@ -95,13 +100,13 @@ pub fn some_have_no_effect()
 /// What an option without a value asks is asked for exactly where the option is given, wherever it stands and however
 /// often: of `csplit` and `tee`, `-e` of `split`, and `-z` of `head` and `tail`, without which lines end with the newline.
 pub fn options_stand_anywhere()
-    ensures keep { (options : List GivenOption) → (style_of options).keep ≡ has keeps_files options }
-    ensures quiet { (options : List GivenOption) → (style_of options).quiet ≡ has drops_sizes options }
-    ensures elide { (options : List GivenOption) → (style_of options).elide ≡ has elides_files options }
-    ensures suppress { (options : List GivenOption) → (style_of options).suppress ≡ has leaves_lines_out options }
-    ensures leave_out { (options : List GivenOption) → (split_of options).elide ≡ has elides_files options }
-    ensures tell { (options : List GivenOption) → (split_of options).verbose ≡ has tells_of_files options }
-    ensures zero { (options : List GivenOption)
+    ensures keep { (options : List Chosen) → (style_of options).keep ≡ has keeps_files options }
+    ensures quiet { (options : List Chosen) → (style_of options).quiet ≡ has drops_sizes options }
+    ensures elide { (options : List Chosen) → (style_of options).elide ≡ has elides_files options }
+    ensures suppress { (options : List Chosen) → (style_of options).suppress ≡ has leaves_lines_out options }
+    ensures leave_out { (options : List Chosen) → (split_of options).elide ≡ has elides_files options }
+    ensures tell { (options : List Chosen) → (split_of options).verbose ≡ has tells_of_files options }
+    ensures zero { (options : List Chosen)
         → (ends_of options).delim ≡ (if has ends_with_zero options then 0 else 10) }
     ensures append { (given : Given) → ((tee_asked given).mode ≡ Mode.Append) ↔ (has appends given.options ≡ true) }
 {}
@@ -109,11 +114,11 @@ pub fn options_stand_anywhere()
 /// Options for `split` are accepted exactly where at most one of them is a way to split; files are cut in that way. A
 /// second way is told by the word in which it stands, whatever follows it.
 pub fn one_way_at_most()
-    ensures accepted { (options : List GivenOption) → IsOk (way_of options) ↔ (length (filter is_way options) ≤ 1) }
-    ensures way { (before after : List GivenOption) (option : GivenOption) (way : Way) → is_way option ≡ true
+    ensures accepted { (options : List Chosen) → IsOk (way_of options) ↔ (length (filter is_way options) ≤ 1) }
+    ensures way { (before after : List Chosen) (option : Chosen) (way : Way) → is_way option ≡ true
         → way_of (before ++ option ∷ after) ≡ Ok way
-        → way ≡ way_in (separator_in (before ++ option ∷ after)) option.value option.choice }
-    ensures second { (before after : List GivenOption) (option : GivenOption) → length (filter is_way before) ≡ 1
+        → way_in (separator_in (before ++ option ∷ after)) option.choice ≡ Some way }
+    ensures second { (before after : List Chosen) (option : Chosen) → length (filter is_way before) ≡ 1
         → is_way option ≡ true → way_of (before ++ option ∷ after) ≡ Err (Fault.Usage TwoWays option.word) }
 {}
 
@@ -134,11 +139,11 @@ pub fn operands_follow_the_end()
 /// A long name in full is never read as the beginning of another. Where one is cut short, every option of which a name begins
 /// so is the one that it stands for; where names of two begin so, that is told (GNU's long options).
 pub fn beginnings_are_of_one_option()
-    ensures full { (rows : List OptionRow) (name : List ℕ) (option : Choice × Takes)
+    ensures full { (rows : List OptionRow) (name : List ℕ) (option : Takes)
         → option_named rows name ≡ Some option → option_called rows name ≡ Ok option }
-    ensures one { (rows : List OptionRow) (name : List ℕ) (option : Choice × Takes)
+    ensures one { (rows : List OptionRow) (name : List ℕ) (option : Takes)
         → option_called rows name ≡ Ok option → option_named rows name ≡ None
-        → (beginning name rows ≢ []) × All (λ row. (row.choice, row.takes) ≡ option) (beginning name rows) }
+        → (beginning name rows ≢ []) × All (λ row. row.takes ≡ option) (beginning name rows) }
     ensures several { (rows : List OptionRow) (name : List ℕ) → option_called rows name ≡ Err AmbiguousOption
         → 2 ≤ length (beginning name rows) }
 {}
@@ -147,25 +152,20 @@ pub fn beginnings_are_of_one_option()
 /// and after its long name and `=` or in the next word. All four give the same option and value (POSIX.1-2017, XBD
 /// 12.1; GNU's long options).
 pub fn values_are_spelled_alike()
-    ensures attached { (rows : List OptionRow) (letter : ℕ) (choice : Choice) (kind : Kind) (value : List ℕ)
-        (meant : Meant) (words : List (List ℕ)) (place : ℕ) → IsLetter rows letter choice kind → value ≢ []
-        → value_in kind value ≡ Ok meant
-        → Gives rows ((codes "-" ++ letter ∷ value) ∷ words) place choice meant
-        (spelled rows words (place + 1) Reading) }
-    ensures after_letter { (rows : List OptionRow) (letter : ℕ) (choice : Choice) (kind : Kind) (value : List ℕ)
-        (meant : Meant) (words : List (List ℕ)) (place : ℕ) → IsLetter rows letter choice kind
-        → value_in kind value ≡ Ok meant
-        → Gives rows ((codes "-" ++ letter ∷ []) ∷ value ∷ words) place choice meant
+    ensures attached { (rows : List OptionRow) (letter : ℕ) (kind : Kind) (value : List ℕ) (choice : Choice)
+        (words : List (List ℕ)) (place : ℕ) → IsLetter rows letter kind → value ≢ [] → choice_in kind value ≡ Ok choice
+        → Gives rows ((codes "-" ++ letter ∷ value) ∷ words) place choice (spelled rows words (place + 1) Reading) }
+    ensures after_letter { (rows : List OptionRow) (letter : ℕ) (kind : Kind) (value : List ℕ) (choice : Choice)
+        (words : List (List ℕ)) (place : ℕ) → IsLetter rows letter kind → choice_in kind value ≡ Ok choice
+        → Gives rows ((codes "-" ++ letter ∷ []) ∷ value ∷ words) place choice
         (spelled rows words (place + 1 + 1) Reading) }
-    ensures after_equals { (rows : List OptionRow) (name : List ℕ) (choice : Choice) (kind : Kind) (value : List ℕ)
-        (meant : Meant) (words : List (List ℕ)) (place : ℕ) → IsName rows name choice kind
-        → value_in kind value ≡ Ok meant
-        → Gives rows ((codes "--" ++ (name ++ (codes "=" ++ value))) ∷ words) place choice meant
+    ensures after_equals { (rows : List OptionRow) (name : List ℕ) (kind : Kind) (value : List ℕ) (choice : Choice)
+        (words : List (List ℕ)) (place : ℕ) → IsName rows name kind → choice_in kind value ≡ Ok choice
+        → Gives rows ((codes "--" ++ (name ++ (codes "=" ++ value))) ∷ words) place choice
         (spelled rows words (place + 1) Reading) }
-    ensures after_name { (rows : List OptionRow) (name : List ℕ) (choice : Choice) (kind : Kind) (value : List ℕ)
-        (meant : Meant) (words : List (List ℕ)) (place : ℕ) → IsName rows name choice kind
-        → value_in kind value ≡ Ok meant
-        → Gives rows ((codes "--" ++ name) ∷ value ∷ words) place choice meant
+    ensures after_name { (rows : List OptionRow) (name : List ℕ) (kind : Kind) (value : List ℕ) (choice : Choice)
+        (words : List (List ℕ)) (place : ℕ) → IsName rows name kind → choice_in kind value ≡ Ok choice
+        → Gives rows ((codes "--" ++ name) ∷ value ∷ words) place choice
         (spelled rows words (place + 1 + 1) Reading) }
 {}
 
@@ -208,8 +208,9 @@ pub fn leftmost_fault_decides()
 pub fn reading_ends()
     ensures left { (rows : List OptionRow) (first : List (List ℕ)) (place : ℕ) (state : State)
         → LeaveTheRest rows first place state }
-    ensures last { (rows : List OptionRow) (name : List ℕ) (choice : Choice) (words : List (List ℕ)) (place : ℕ)
-        → IsLast rows name choice → spelled rows ((codes "--" ++ name) ∷ words) place Reading ≡ Ok (bare choice place) }
+    ensures last { (rows : List OptionRow) (name : List ℕ) (topic : Topic) (words : List (List ℕ)) (place : ℕ)
+        → IsLast rows name topic
+        → spelled rows ((codes "--" ++ name) ∷ words) place Reading ≡ Ok (one_option (Choice.About topic) place) }
     ensures head { (words : List (List ℕ))
         → settings_of (codes "head" ∷ codes "--help" ∷ words) ≡ Ok (Settings.About Tool.Head Topic.Help) }
     ensures tail { (words : List (List ℕ))
@@ -234,29 +235,30 @@ pub fn operands_keep_their_order()
 /// digits alone gives the option that its tool has for it, with these digits as the value.
 #[tactic(auto, unfolding(crate::specs::Spelling::foremost))]
 pub fn number_comes_first()
-    ensures other { (rows : List OptionRow) (choice : Choice) (kind : Kind) (letters : Letters) (byte : ℕ)
+    ensures other { (rows : List OptionRow) (kind : Kind) (letters : Letters) (byte : ℕ)
         (rest : List ℕ) (words : List (List ℕ)) (place : ℕ) → is_number rest ≡ false
         → is_lettered rows letters rest ≡ false
-        → spelled rows ((byte ∷ rest) ∷ words) place (State.First choice kind letters)
+        → spelled rows ((byte ∷ rest) ∷ words) place (State.First kind letters)
         ≡ spelled rows ((byte ∷ rest) ∷ words) place Reading }
-    ensures number { (rows : List OptionRow) (choice : Choice) (kind : Kind) (letters : Letters) (digits : List ℕ)
-        (meant : Meant) (words : List (List ℕ)) (place : ℕ) → is_number digits ≡ true → value_in kind digits ≡ Ok meant
-        → spelled rows ((codes "-" ++ digits) ∷ words) place (State.First choice kind letters)
-        ≡ given_before (one_option choice meant place) (spelled rows words (place + 1) Reading) }
+    ensures number { (rows : List OptionRow) (kind : Kind) (letters : Letters) (digits : List ℕ)
+        (choice : Choice) (words : List (List ℕ)) (place : ℕ) → is_number digits ≡ true
+        → choice_in kind digits ≡ Ok choice
+        → spelled rows ((codes "-" ++ digits) ∷ words) place (State.First kind letters)
+        ≡ given_before (one_option choice place) (spelled rows words (place + 1) Reading) }
 {}
 
 /// What a letter after the digits of a first word asks: one that says what is counted, as many of that as the digits write;
 /// one of an option, as many lines and that option.
 pub fn letters_ask()
-    ensures unit { (rows : List OptionRow) (digits : List ℕ) (letter place : ℕ) (unit : Choice × ℕ) (count : Count)
+    ensures unit { (rows : List OptionRow) (digits : List ℕ) (letter place : ℕ) (unit : Measured × ℕ) (count : Count)
         → is_number digits ≡ true → unit_of letter ≡ Some unit
         → counted (sized Sign.Plain (value_of digits * unit.1)) ≡ Ok count
-        → with_letters rows place (digits ++ letter ∷ []) ≡ Ok (one_option unit.0 (Counted count) place) }
-    ensures option { (rows : List OptionRow) (digits : List ℕ) (letter place : ℕ) (option : Choice × Takes)
+        → with_letters rows place (digits ++ letter ∷ []) ≡ Ok (one_option (Choice.Amount unit.0 count) place) }
+    ensures option { (rows : List OptionRow) (digits : List ℕ) (letter place : ℕ) (choice : Choice)
         (count : Count) → is_number digits ≡ true → unit_of letter ≡ None → is_ascii_digit letter ≡ false
-        → letter_named rows letter ≡ Some option → counted (sized Sign.Plain (value_of digits)) ≡ Ok count
+        → IsSwitch rows letter choice → counted (sized Sign.Plain (value_of digits)) ≡ Ok count
         → with_letters rows place (digits ++ letter ∷ [])
-        ≡ Ok (joined (one_option Choice.Lines (Counted count) place) (bare option.0 place)) }
+        ≡ Ok (joined (one_option (Choice.Amount Unit.Lines count) place) (bare choice place)) }
 {}
 
 /// A first word that is read as a hyphen, digits and letters means nothing else: read as any other word it is an unknown
@@ -271,136 +273,91 @@ pub fn letters_take_no_option_away()
 /// What the options of `head` and `tail` ask for, each alone: lines and bytes with their count, headers never or
 /// always (POSIX.1-2017, XCU head and tail; GNU coreutils manual).
 pub fn ends_options_ask()
-    ensures head_lines { (value : List ℕ) (count : Count) → count_of value ≡ Ok count
-        → settings_of (codes "head" ∷ codes "-n" ∷ value ∷ [])
-        ≡ Ok (Settings.Head (ends_as Unit.Lines count Headers.ForSeveral)) }
-    ensures head_bytes { (value : List ℕ) (count : Count) → count_of value ≡ Ok count
-        → settings_of (codes "head" ∷ codes "-c" ∷ value ∷ [])
-        ≡ Ok (Settings.Head (ends_as Unit.Bytes count Headers.ForSeveral)) }
-    ensures tail_lines { (value : List ℕ) (count : Count) → count_of value ≡ Ok count
-        → settings_of (codes "tail" ∷ codes "-n" ∷ value ∷ [])
-        ≡ Ok (Settings.Tail (tail_as (ends_as Unit.Lines count Headers.ForSeveral))) }
-    ensures tail_bytes { (value : List ℕ) (count : Count) → count_of value ≡ Ok count
-        → settings_of (codes "tail" ∷ codes "-c" ∷ value ∷ [])
-        ≡ Ok (Settings.Tail (tail_as (ends_as Unit.Bytes count Headers.ForSeveral))) }
-    ensures head_quiet { settings_of (codes "head" ∷ codes "-q" ∷ [])
-        ≡ Ok (Settings.Head (ends_as Unit.Lines ten_lines.count Headers.Never)) }
-    ensures head_verbose { settings_of (codes "head" ∷ codes "-v" ∷ [])
-        ≡ Ok (Settings.Head (ends_as Unit.Lines ten_lines.count Headers.Always)) }
-    ensures tail_quiet { settings_of (codes "tail" ∷ codes "-q" ∷ [])
-        ≡ Ok (Settings.Tail (tail_as (ends_as Unit.Lines ten_lines.count Headers.Never))) }
-    ensures tail_verbose { settings_of (codes "tail" ∷ codes "-v" ∷ [])
-        ≡ Ok (Settings.Tail (tail_as (ends_as Unit.Lines ten_lines.count Headers.Always))) }
+    ensures lines { (value : List ℕ) (count : Count) → count_of value ≡ Ok count
+        → EndsAsk (codes "-n" ∷ value ∷ []) (record ten_of_input { count = count }) }
+    ensures bytes { (value : List ℕ) (count : Count) → count_of value ≡ Ok count
+        → EndsAsk (codes "-c" ∷ value ∷ []) (record ten_of_input { unit = Unit.Bytes; count = count }) }
+    ensures quiet { EndsAsk (codes "-q" ∷ []) (record ten_of_input { headers = Headers.Never }) }
+    ensures verbose { EndsAsk (codes "-v" ∷ []) (record ten_of_input { headers = Headers.Always }) }
 {}
 
 /// What the options of `tail` for following ask for: files that are opened once, or names; as many looks as can be, or this many;
 /// pauses of a second at most, or of this many milliseconds (POSIX.1-2017, XCU tail; GNU coreutils manual).
 #[tactic(auto, unfolding(crate::specs::Spelling::foremost, crate::specs::Table::tools, seg_core::specs::Count::digits_of))]
 pub fn tail_options_ask()
-    ensures follows { settings_of (codes "tail" ∷ codes "-f" ∷ codes "f" ∷ [])
-        ≡ Ok (Settings.Tail (following_as (Some Followed.Descriptor) (2 ^ 63 - 1))) }
-    ensures long { settings_of (codes "tail" ∷ codes "--follow" ∷ codes "f" ∷ [])
-        ≡ Ok (Settings.Tail (following_as (Some Followed.Descriptor) (2 ^ 63 - 1))) }
-    ensures descriptor { settings_of (codes "tail" ∷ codes "--follow=descriptor" ∷ codes "f" ∷ [])
-        ≡ Ok (Settings.Tail (following_as (Some Followed.Descriptor) (2 ^ 63 - 1))) }
-    ensures names { settings_of (codes "tail" ∷ codes "-F" ∷ codes "f" ∷ [])
-        ≡ Ok (Settings.Tail (following_as (Some Followed.Name) (2 ^ 63 - 1))) }
-    ensures retry { settings_of (codes "tail" ∷ codes "--follow=name" ∷ codes "--retry" ∷ codes "f" ∷ [])
-        ≡ Ok (Settings.Tail (following_as (Some Followed.Name) (2 ^ 63 - 1))) }
-    ensures looks { settings_of (codes "tail" ∷ codes "-f" ∷ codes "--looks=3" ∷ codes "f" ∷ [])
-        ≡ Ok (Settings.Tail (following_as (Some Followed.Descriptor) 3)) }
-    ensures pause { settings_of (codes "tail" ∷ codes "-f" ∷ codes "-s" ∷ codes "2.5" ∷ codes "f" ∷ [])
-        ≡ Ok (Settings.Tail (record (following_as (Some Followed.Descriptor) (2 ^ 63 - 1)) { pause = 2500 })) }
-    ensures process { settings_of (codes "tail" ∷ codes "-f" ∷ codes "--pid=7" ∷ codes "f" ∷ [])
-        ≡ Ok (Settings.Tail (record (following_as (Some Followed.Descriptor) (2 ^ 63 - 1)) { process = Some 7 })) }
-    ensures short_pause { settings_of (codes "tail" ∷ codes "-f" ∷ codes "--sleep-interval=.0501" ∷ codes "f" ∷ [])
-        ≡ Ok (Settings.Tail (record (following_as (Some Followed.Descriptor) (2 ^ 63 - 1)) { pause = 51 })) }
+    ensures follows { FollowAsks (codes "-f" ∷ []) following }
+    ensures long { FollowAsks (codes "--follow" ∷ []) following }
+    ensures descriptor { FollowAsks (codes "--follow=descriptor" ∷ []) following }
+    ensures names { FollowAsks (codes "-F" ∷ []) (record following { followed = Some Followed.Name }) }
+    ensures retry { FollowAsks (codes "--follow=name" ∷ codes "--retry" ∷ [])
+        (record following { followed = Some Followed.Name }) }
+    ensures looks { FollowAsks (codes "-f" ∷ codes "--looks=3" ∷ []) (record following { looks = 3 }) }
+    ensures pause { FollowAsks (codes "-f" ∷ codes "-s" ∷ codes "2.5" ∷ []) (record following { pause = 2500 }) }
+    ensures process { FollowAsks (codes "-f" ∷ codes "--pid=7" ∷ []) (record following { process = Some 7 }) }
+    ensures short_pause { FollowAsks (codes "-f" ∷ codes "--sleep-interval=.0501" ∷ [])
+        (record following { pause = 51 }) }
 {}
 
 /// What the options of `split` ask for, each alone (POSIX.1-2017, XCU split; GNU coreutils manual).
 pub fn split_options_ask()
     ensures lines { (value : List ℕ) (size : ℕ) → size_in value ≡ Ok size
-        → settings_of (codes "split" ∷ codes "-l" ∷ value ∷ [])
-        ≡ Ok (Settings.Split (split_as (Way.Cut (Cut.Parts (Limit.Lines size 10))) Alphabet.Letters 2 true false)) }
+        → SplitAsks (codes "-l" ∷ value ∷ []) (record thousands { way = Way.Cut (Cut.Parts (Limit.Lines size 10)) }) }
     ensures bytes { (value : List ℕ) (size : ℕ) → size_in value ≡ Ok size
-        → settings_of (codes "split" ∷ codes "-b" ∷ value ∷ [])
-        ≡ Ok (Settings.Split (split_as (Way.Cut (Cut.Parts (Limit.Bytes size))) Alphabet.Letters 2 true false)) }
+        → SplitAsks (codes "-b" ∷ value ∷ []) (record thousands { way = Way.Cut (Cut.Parts (Limit.Bytes size)) }) }
     ensures line_bytes { (value : List ℕ) (size : ℕ) → size_in value ≡ Ok size
-        → settings_of (codes "split" ∷ codes "-C" ∷ value ∷ [])
-        ≡ Ok (Settings.Split (split_as (Way.Cut (Cut.Parts (Limit.LineBytes size 10))) Alphabet.Letters 2 true false)) }
+        → SplitAsks (codes "-C" ∷ value ∷ [])
+        (record thousands { way = Way.Cut (Cut.Parts (Limit.LineBytes size 10)) }) }
     ensures files { (value : List ℕ) (division : Division) → division_in value ≡ Ok division → division.only ≡ None
-        → settings_of (codes "split" ∷ codes "-n" ∷ value ∷ [])
-        ≡ Ok (Settings.Split (split_as (way_of_division 10 division) Alphabet.Letters
-        (least_width Alphabet.Letters division.files) false false)) }
+        → SplitAsks (codes "-n" ∷ value ∷ [])
+        (record (as_wide (least_width Alphabet.Letters division.files)) { way = way_of_division 10 division }) }
     ensures one { (value : List ℕ) (division : Division) (place : ℕ) → division_in value ≡ Ok division
-        → division.only ≡ Some place → settings_of (codes "split" ∷ codes "-n" ∷ value ∷ [])
-        ≡ Ok (Settings.Split (split_as (way_of_division 10 division) Alphabet.Letters 2 false false)) }
-    ensures digits { settings_of (codes "split" ∷ codes "-d" ∷ [])
-        ≡ Ok (Settings.Split (split_as (thousand_lines 10) Alphabet.Digits 2 true false)) }
-    ensures hexadecimal { settings_of (codes "split" ∷ codes "-x" ∷ [])
-        ≡ Ok (Settings.Split (split_as (thousand_lines 10) Alphabet.Hex 2 true false)) }
+        → division.only ≡ Some place
+        → SplitAsks (codes "-n" ∷ value ∷ []) (record (as_wide 2) { way = way_of_division 10 division }) }
+    ensures digits { SplitAsks (codes "-d" ∷ []) (record thousands { alphabet = Alphabet.Digits }) }
+    ensures hexadecimal { SplitAsks (codes "-x" ∷ []) (record thousands { alphabet = Alphabet.Hex }) }
     ensures digits_from { (value : List ℕ) (from : ℕ) → up_to (2 ^ 63 - 1) (digits_of value) ≡ Ok from → from < 100
-        → settings_of (codes "split" ∷ (codes "--numeric-suffixes=" ++ value) ∷ [])
-        ≡ Ok (Settings.Split
-        (record (split_as (thousand_lines 10) Alphabet.Digits 2 false false) { from = Some from })) }
+        → SplitAsks ((codes "--numeric-suffixes=" ++ value) ∷ [])
+        (record (as_wide 2) { alphabet = Alphabet.Digits; from = Some from }) }
     ensures hexadecimal_from { (value : List ℕ) (from : ℕ) → hex_in value ≡ Ok from → from < 256
-        → settings_of (codes "split" ∷ (codes "--hex-suffixes=" ++ value) ∷ [])
-        ≡ Ok (Settings.Split (record (split_as (thousand_lines 10) Alphabet.Hex 2 false false) { from = Some from })) }
+        → SplitAsks ((codes "--hex-suffixes=" ++ value) ∷ [])
+        (record (as_wide 2) { alphabet = Alphabet.Hex; from = Some from }) }
     ensures too_short { (value : List ℕ) (from : ℕ) → up_to (2 ^ 63 - 1) (digits_of value) ≡ Ok from → 100 ≤ from
         → settings_of (codes "split" ∷ (codes "--numeric-suffixes=" ++ value) ∷ [])
         ≡ Err (Fault.Usage SuffixTooShort 0) }
-    ensures split_verbose { settings_of (codes "split" ∷ codes "--verbose" ∷ [])
-        ≡ Ok (Settings.Split (record (split_as (thousand_lines 10) Alphabet.Letters 2 true false) { verbose = true })) }
-    ensures elide { settings_of (codes "split" ∷ codes "-e" ∷ [])
-        ≡ Ok (Settings.Split (split_as (thousand_lines 10) Alphabet.Letters 2 true true)) }
-    ensures width { settings_of (codes "split" ∷ codes "-a3" ∷ [])
-        ≡ Ok (Settings.Split (split_as (thousand_lines 10) Alphabet.Letters 3 false false)) }
+    ensures split_verbose { SplitAsks (codes "--verbose" ∷ []) (record thousands { verbose = true }) }
+    ensures elide { SplitAsks (codes "-e" ∷ []) (record thousands { elide = true }) }
+    ensures width { SplitAsks (codes "-a3" ∷ []) (as_wide 3) }
 {}
 
 /// What the options of `csplit` ask for, each alone, and what is asked for without any (POSIX.1-2017, XCU csplit; GNU
 /// coreutils manual).
 pub fn csplit_options_ask()
-    ensures nothing { settings_of (codes "csplit" ∷ codes "-" ∷ codes "1" ∷ [])
-        ≡ Ok (Settings.Csplit (csplit_as plain_style 2)) }
-    ensures prefix { (text : List ℕ) → settings_of (codes "csplit" ∷ codes "-f" ∷ text ∷ codes "-" ∷ codes "1" ∷ [])
-        ≡ Ok (Settings.Csplit (csplit_as (record plain_style { prefix = text }) 4)) }
+    ensures nothing { CsplitAsks [] plain_style }
+    ensures prefix { (text : List ℕ) → CsplitAsks (codes "-f" ∷ text ∷ []) (record plain_style { prefix = text }) }
     ensures digits { (value : List ℕ) (digits : ℕ) → up_to 255 (digits_of value) ≡ Ok digits
-        → settings_of (codes "csplit" ∷ codes "-n" ∷ value ∷ codes "-" ∷ codes "1" ∷ [])
-        ≡ Ok (Settings.Csplit (csplit_as (record plain_style { form = decimal_form digits }) 4)) }
+        → CsplitAsks (codes "-n" ∷ value ∷ []) (record plain_style { form = decimal_form digits }) }
     ensures format { (value : List ℕ) (format : Format) → format_in value ≡ Some format
-        → settings_of (codes "csplit" ∷ codes "-b" ∷ value ∷ codes "-" ∷ codes "1" ∷ [])
-        ≡ Ok (Settings.Csplit
-        (csplit_as (record plain_style {
+        → CsplitAsks (codes "-b" ∷ value ∷ []) (record plain_style {
           prefix = codes "xx" ++ format.before;
           form = format.form;
           ending = format.after;
-        }) 4)) }
-    ensures keep { settings_of (codes "csplit" ∷ codes "-k" ∷ codes "-" ∷ codes "1" ∷ [])
-        ≡ Ok (Settings.Csplit (csplit_as (record plain_style { keep = true }) 3)) }
-    ensures quiet { settings_of (codes "csplit" ∷ codes "-s" ∷ codes "-" ∷ codes "1" ∷ [])
-        ≡ Ok (Settings.Csplit (csplit_as (record plain_style { quiet = true }) 3)) }
-    ensures also_quiet { settings_of (codes "csplit" ∷ codes "-q" ∷ codes "-" ∷ codes "1" ∷ [])
-        ≡ Ok (Settings.Csplit (csplit_as (record plain_style { quiet = true }) 3)) }
-    ensures elide { settings_of (codes "csplit" ∷ codes "-z" ∷ codes "-" ∷ codes "1" ∷ [])
-        ≡ Ok (Settings.Csplit (csplit_as (record plain_style { elide = true }) 3)) }
-    ensures suppress { settings_of (codes "csplit" ∷ codes "--suppress-matched" ∷ codes "-" ∷ codes "1" ∷ [])
-        ≡ Ok (Settings.Csplit (csplit_as (record plain_style { suppress = true }) 3)) }
+        }) }
+    ensures keep { CsplitAsks (codes "-k" ∷ []) (record plain_style { keep = true }) }
+    ensures quiet { CsplitAsks (codes "-s" ∷ []) (record plain_style { quiet = true }) }
+    ensures also_quiet { CsplitAsks (codes "-q" ∷ []) (record plain_style { quiet = true }) }
+    ensures elide { CsplitAsks (codes "-z" ∷ []) (record plain_style { elide = true }) }
+    ensures suppress { CsplitAsks (codes "--suppress-matched" ∷ []) (record plain_style { suppress = true }) }
 {}
 
 /// What `tee` is asked for without options, with `-a`, and with an option that says what is done once an output is broken
 /// (POSIX.1-2017, XCU tee; GNU coreutils manual).
 #[tactic(auto, unfolding(crate::specs::Table::tools))]
 pub fn tee_options_ask()
-    ensures nothing { settings_of (codes "tee" ∷ codes "f" ∷ [])
-        ≡ Ok (Settings.Tee (record { mode = Mode.Fresh; on_broken = OnBroken.GoOn; names = codes "f" ∷ [] })) }
-    ensures append { settings_of (codes "tee" ∷ codes "-a" ∷ codes "f" ∷ [])
-        ≡ Ok (Settings.Tee (record { mode = Mode.Append; on_broken = OnBroken.GoOn; names = codes "f" ∷ [] })) }
-    ensures warn { settings_of (codes "tee" ∷ codes "-p" ∷ codes "f" ∷ [])
-        ≡ Ok (Settings.Tee (record { mode = Mode.Fresh; on_broken = OnBroken.GoOn; names = codes "f" ∷ [] })) }
-    ensures stop { settings_of (codes "tee" ∷ codes "--output-error=exit" ∷ codes "f" ∷ [])
-        ≡ Ok (Settings.Tee (record { mode = Mode.Fresh; on_broken = OnBroken.Stop; names = codes "f" ∷ [] })) }
-    ensures stop_at_no_pipe { settings_of (codes "tee" ∷ codes "--output-error=exit-nopipe" ∷ codes "f" ∷ [])
-        ≡ Ok (Settings.Tee (record { mode = Mode.Fresh; on_broken = OnBroken.Stop; names = codes "f" ∷ [] })) }
+    ensures nothing { TeeAsks [] Mode.Fresh OnBroken.GoOn }
+    ensures append { TeeAsks (codes "-a" ∷ []) Mode.Append OnBroken.GoOn }
+    ensures warn { TeeAsks (codes "-p" ∷ []) Mode.Fresh OnBroken.GoOn }
+    ensures stop { TeeAsks (codes "--output-error=exit" ∷ []) Mode.Fresh OnBroken.Stop }
+    ensures stop_at_no_pipe { TeeAsks (codes "--output-error=exit-nopipe" ∷ []) Mode.Fresh OnBroken.Stop }
 {}
 
 /// A hyphen and digits as the only word mean what `-n` means with these digits for `head` and `tail`, and what `-l` means for

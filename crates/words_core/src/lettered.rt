@@ -7,13 +7,14 @@ ghost use Rattle.words_core.specs.Lettered.{are_known, are_of_tail, is_known, is
 ghost use Rattle.words_core.specs.Spelling.{given_at, reading};
 ghost use Rattle.words_core.specs.Table.{row_seen};
 
+use crate::choice::Choice;
 use crate::spelled::Spelled;
 use crate::spelling::State;
-use crate::table::{Choice, Letters, OptionRow, Takes, find_option, is_among};
-use crate::value::Value;
+use crate::table::{Letters, OptionRow, Takes, find_option, is_among};
 use ports_core::{Fault, UsageKind};
 use seg_core::count::{Count, Sign};
 use seg_core::digits::{GREATEST, leading_number};
+use seg_core::unit::Unit;
 
 /// How many there are of what is counted where no digits say it.
 const TEN: u64 = 10;
@@ -77,10 +78,7 @@ fn is_known(rows: &[OptionRow], letter: u8) -> bool
 fn is_switch(rows: &[OptionRow], letter: u8) -> bool
     ensures { result ≡ is_switch (letter_named (map row_seen rows.now) letter) }
 {
-    matches!(
-        find_option(rows, &[b'-', letter]),
-        Some((_, Takes::Nothing))
-    )
+    matches!(find_option(rows, &[b'-', letter]), Some(Takes::Nothing(_)))
 }
 
 fn are_of_tail(letters: &[u8]) -> bool
@@ -90,21 +88,21 @@ fn are_of_tail(letters: &[u8]) -> bool
 }
 
 /// What is counted where this letter stands after the digits, and how much each of it is.
-fn unit_of(letter: u8) -> Option<(Choice, u64)>
+fn unit_of(letter: u8) -> Option<(Unit, u64)>
     ensures { result ≡ unit_of letter }
 {
     match letter {
-        b'b' => Some((Choice::Bytes, 512)),
-        b'c' => Some((Choice::Bytes, 1)),
-        b'k' => Some((Choice::Bytes, 1_024)),
-        b'l' => Some((Choice::Lines, 1)),
-        b'm' => Some((Choice::Bytes, 1_048_576)),
+        b'b' => Some((Unit::Bytes, 512)),
+        b'c' => Some((Unit::Bytes, 1)),
+        b'k' => Some((Unit::Bytes, 1_024)),
+        b'l' => Some((Unit::Lines, 1)),
+        b'm' => Some((Unit::Bytes, 1_048_576)),
         _ => None,
     }
 }
 
 /// What the first of these letters that says what is counted says; lines, where none does.
-fn unit_in(letters: &[u8]) -> (Choice, u64)
+fn unit_in(letters: &[u8]) -> (Unit, u64)
     ensures { result ≡ unit_in letters.now }
 {
     for letter in letters {
@@ -112,7 +110,7 @@ fn unit_in(letters: &[u8]) -> (Choice, u64)
             return unit;
         }
     }
-    (Choice::Lines, 1)
+    (Unit::Lines, 1)
 }
 
 /// The number that the digits write which a text begins with, or ten without digits, and at most the greatest `u64`.
@@ -152,10 +150,10 @@ pub fn read_lettered<'a>(
         (with_letters (map row_seen rows.now) place text.now)) spelled.old spelled.new result }
 {
     let letters = after_digits(text);
-    let (choice, each) = unit_in(letters);
+    let (unit, each) = unit_in(letters);
     match times(text, each) {
         Ok(count) => {
-            spelled.add_option(choice, Value::Count(count), place)?;
+            spelled.add_option(Choice::Amount(unit, count), place)?;
             add_switches(rows, place, letters, spelled)
         }
         Err(fault) => Err(Fault::Usage(fault, place)),
@@ -191,7 +189,9 @@ fn add_switch<'a>(
     ensures err { IfErr result (λ fault. fault ≡ Fault.Memory) }
 {
     match find_option(rows, &[b'-', letter]) {
-        Some((choice, _)) => spelled.add_option(choice, Value::Nothing, place),
-        None => Ok(()),
+        Some(Takes::Nothing(choice) | Takes::Optional(choice, _)) => {
+            spelled.add_option(choice, place)
+        }
+        _ => Ok(()),
     }
 }

@@ -2,6 +2,7 @@
 #![tactic(auto)]
 
 mod args;
+mod choice;
 mod csplit_settings;
 mod csplit_words;
 mod division;
@@ -21,8 +22,10 @@ mod value;
 mod words;
 
 pub use args::{ArgsFault, read_args};
+pub use choice::{Choice, Kind};
 pub use csplit_settings::CsplitSettings;
 pub use division::{Dealing, Division};
+pub use ends_words::EndsSettings;
 pub use format::{Format, read_format};
 pub use help::text_about;
 pub use laws::{
@@ -34,11 +37,12 @@ pub use laws::{
     reading_ends, some_have_no_effect, split_options_ask, tail_options_ask, tee_options_ask,
     values_are_spelled_alike,
 };
-pub use settings::{
-    EndsSettings, Headers, Settings, SplitSettings, TailSettings, TeeSettings, Topic,
-};
+pub use settings::{Headers, Settings, Topic};
 pub use spelled::{Chosen, Operand, Spelled};
 pub use spelling::read_given;
-pub use table::{Choice, Kind, Letters, OptionRow, Takes, ToolRow, all_tools, find_row};
-pub use value::{Followed, MOST_LOOKS, Value};
+pub use split_words::SplitSettings;
+pub use table::{Letters, OptionRow, Takes, ToolRow, all_tools, find_row};
+pub use tail_words::TailSettings;
+pub use tee_words::TeeSettings;
+pub use value::{Followed, MOST_LOOKS};
 pub use words::{find_tool, read_words};

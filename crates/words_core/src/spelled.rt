@@ -1,10 +1,9 @@
 //! What words spell: options with their values, and operands.
 ghost use Rattle.std.specs.Prelude.{◌≡◌, ◌++◌, [], ◌∷◌, map, IfOk, IfErr};
 ghost use Rattle.words_core.specs.Given.{Given, joined, one_operand, one_option, operand_seen, option_seen, places_of, texts_of};
-ghost use Rattle.words_core.specs.Value.{seen};
+ghost use Rattle.words_core.specs.Choice.{seen};
 
-use crate::table::Choice;
-use crate::value::Value;
+use crate::choice::Choice;
 use ports_core::Fault;
 use std::alloc::Global;
 use std::marker::Model;
@@ -12,10 +11,8 @@ use std::marker::Model;
 /// An option that was given.
 #[derive(Clone, Copy, PartialEq, Eq)]
 pub struct Chosen<'a> {
-    /// What the option chooses.
-    pub choice: Choice,
-    /// Its value, of the kind that its row in the table names.
-    pub value: Value<'a>,
+    /// What the option asks for.
+    pub choice: Choice<'a>,
     /// The place of the word in which the option stands; the tool's name is word 0.
     pub word: usize,
 }
@@ -63,16 +60,11 @@ impl<'a> Spelled<'a> {
     /// # Errors
     ///
     /// `Memory` where there is no room for it.
-    pub fn add_option(&mut self, choice: Choice, value: Value<'a>, word: usize) -> Result<(), Fault>
-        ensures ok { IfOk result (λ _. self.new ≡ joined self.old (one_option choice (seen value.entry) word)) }
+    pub fn add_option(&mut self, choice: Choice<'a>, word: usize) -> Result<(), Fault>
+        ensures ok { IfOk result (λ _. self.new ≡ joined self.old (one_option (seen choice.entry) word)) }
         ensures err { IfErr result (λ fault. fault ≡ Fault.Memory) }
     {
-        let chosen = Chosen {
-            choice,
-            value,
-            word,
-        };
-        Ok(self.options.push(chosen)?)
+        Ok(self.options.push(Chosen { choice, word })?)
     }
 
     /// Adds an operand.

@@ -3,27 +3,28 @@ ghost use Rattle.std.specs.Prelude.{◌≡◌, ◌∷◌, Some, option_map, IfSo
 ghost use Rattle.std.specs.List.{before_first};
 ghost use Rattle.seg_core.specs.Count.{is_number};
 ghost use Rattle.words_core.specs.inner.Spelling.{Adds, first_letter};
-ghost use Rattle.words_core.specs.Spelling.{Reads, after_equals, attached, cluster, foremost, given_by, is_equals, long, meaning_of, mixed, named, reading, spelled, valued};
+ghost use Rattle.words_core.specs.Spelling.{Reads, after_equals, attached, cluster, ending, foremost, given_by, is_equals, long, meaning_of, mixed, named, reading, spelled, valued};
 ghost use Rattle.words_core.specs.Given.{one_operand};
 ghost use Rattle.words_core.specs.Table.{row_seen, tool_seen};
 
+use crate::choice::{Choice, Kind, read_choice};
 use crate::lettered::{is_lettered, read_lettered};
+use crate::settings::Topic;
 use crate::spelled::Spelled;
-use crate::table::{Choice, Kind, Letters, OptionRow, Takes, ToolRow, find_called, find_option};
-use crate::value::{Value, read_value};
+use crate::table::{Letters, OptionRow, Takes, ToolRow, find_called, find_option};
 use ports_core::{Fault, UsageKind};
 use std::alloc::Global;
 
 /// What may stand in the next word.
 #[derive(Clone, Copy)]
 pub enum State {
-    /// Options and operands, or a hyphen and digits, which are then the value of this option and may be followed by these
+    /// Options and operands, or a hyphen and digits, which are then an option's value and may be followed by these
     /// letters.
-    First(Choice, Kind, Letters),
+    First(Kind, Letters),
     /// Options and operands.
     Reading,
-    /// The value of this option. The option stands in the word at this place.
-    Awaiting(Choice, Kind, usize),
+    /// The value of an option. The option stands in the word at this place.
+    Awaiting(Kind, usize),
     /// An operand, whatever it begins with.
     OnlyOperands,
     /// Anything: no word is read any more.
@@ -43,7 +44,7 @@ pub fn read_given<'a>(
     ensures { Reads (given_by (tool_seen tool.now) (map (λ word. word.now) words.now)) result }
 {
     let start = match tool.number {
-        Some((choice, kind, letters)) => State::First(choice, kind, letters),
+        Some((kind, letters)) => State::First(kind, letters),
         None => State::Reading,
     };
     read_items(alloc, tool.options, start, words)
@@ -68,8 +69,8 @@ fn read_items<'a>(
         left = rest;
     }
     match state {
-        State::Awaiting(_, _, option) => Err(Fault::Usage(UsageKind::MissingValue, option)),
-        State::First(_, _, _) | State::Reading | State::OnlyOperands | State::Ended => Ok(spelled),
+        State::Awaiting(_, option) => Err(Fault::Usage(UsageKind::MissingValue, option)),
+        State::First(_, _) | State::Reading | State::OnlyOperands | State::Ended => Ok(spelled),
     }
 }
 
@@ -83,13 +84,9 @@ fn read_word<'a>(
     ensures { Adds (meaning_of (map row_seen rows.now) state place word.now) spelled.old spelled.new result }
 {
     match state {
-        State::First(choice, kind, letters) => {
-            read_first(rows, (choice, kind, letters), place, word, spelled)
-        }
+        State::First(kind, letters) => read_first(rows, kind, letters, place, word, spelled),
         State::Reading => read_mixed(rows, place, word, spelled),
-        State::Awaiting(choice, kind, option) => {
-            read_option(choice, kind, option, place, word, spelled)
-        }
+        State::Awaiting(kind, option) => read_option(kind, option, place, word, spelled),
         State::OnlyOperands => {
             spelled.add_operand(word, place)?;
             Ok(State::OnlyOperands)
@@ -102,18 +99,17 @@ fn read_word<'a>(
 #[tactic(auto, unfolding(crate::specs::Spelling::foremost))]
 fn read_first<'a>(
     rows: &[OptionRow],
-    number: (Choice, Kind, Letters),
+    kind: Kind,
+    letters: Letters,
     place: usize,
     word: &'a str,
     spelled: &mut Spelled<'a>,
 ) -> Result<State, Fault>
-    ensures { Adds (foremost
-        (map row_seen rows.now) number.0 number.1 number.2 place word.now) spelled.old spelled.new result }
+    ensures { Adds (foremost (map row_seen rows.now) kind letters place word.now) spelled.old spelled.new result }
 {
-    let (choice, kind, letters) = number;
     match first_letter(word) {
         Some((b'-', digits)) if is_number(digits.as_bytes()) => {
-            read_option(choice, kind, place, place, digits, spelled)
+            read_option(kind, place, place, digits, spelled)
         }
         Some((b'-', text)) if is_lettered(rows, letters, text.as_bytes()) => {
             read_lettered(rows, place, text.as_bytes(), spelled)
@@ -179,7 +175,7 @@ fn read_long<'a>(
     let (name, value) = split_value(word);
     match find_called(rows, name) {
         Err(kind) => Err(Fault::Usage(kind, place)),
-        Ok((choice, takes)) => read_named(choice, takes, value, place, spelled),
+        Ok(takes) => read_named(takes, value, place, spelled),
     }
 }
 
@@ -196,32 +192,36 @@ fn split_value(word: &str) -> (&[u8], Option<&str>)
 
 /// Reads an option that is given by its long name.
 fn read_named<'a>(
-    choice: Choice,
     takes: Takes,
     value: Option<&'a str>,
     place: usize,
     spelled: &mut Spelled<'a>,
 ) -> Result<State, Fault>
-    ensures { Adds (named place (Ok (choice, takes))
+    ensures { Adds (named place (Ok takes)
         (option_map (λ text. text.now) value.entry)) spelled.old spelled.new result }
 {
     match (takes, value) {
-        (Takes::Nothing | Takes::Optional(_), None) => {
-            spelled.add_option(choice, Value::Nothing, place)?;
+        (Takes::Nothing(choice) | Takes::Optional(choice, _), None) => {
+            spelled.add_option(choice, place)?;
             Ok(State::Reading)
         }
-        (Takes::Last, None) => {
-            spelled.add_option(choice, Value::Nothing, place)?;
-            Ok(State::Ended)
-        }
-        (Takes::Nothing | Takes::Last, Some(_)) => {
+        (Takes::Last(topic), None) => read_last(topic, place, spelled),
+        (Takes::Nothing(_) | Takes::Last(_), Some(_)) => {
             Err(Fault::Usage(UsageKind::UnexpectedValue, place))
         }
-        (Takes::Value(kind), None) => Ok(State::Awaiting(choice, kind, place)),
-        (Takes::Value(kind) | Takes::Optional(kind), Some(text)) => {
-            read_option(choice, kind, place, place, text, spelled)
+        (Takes::Value(kind), None) => Ok(State::Awaiting(kind, place)),
+        (Takes::Value(kind) | Takes::Optional(_, kind), Some(text)) => {
+            read_option(kind, place, place, text, spelled)
         }
     }
+}
+
+/// Reads an option after which no word is read.
+fn read_last(topic: Topic, place: usize, spelled: &mut Spelled<'_>) -> Result<State, Fault>
+    ensures { Adds (ending topic place) spelled.old spelled.new result }
+{
+    spelled.add_option(Choice::About(topic), place)?;
+    Ok(State::Ended)
 }
 
 /// Reads the letters of a cluster.
@@ -240,15 +240,10 @@ fn read_cluster<'a>(
         };
         match find_option(rows, &[b'-', letter]) {
             None => return Err(Fault::Usage(UsageKind::UnknownOption, place)),
-            Some((choice, Takes::Value(kind))) => {
-                return read_attached(choice, kind, place, rest, spelled);
-            }
-            Some((choice, Takes::Last)) => {
-                spelled.add_option(choice, Value::Nothing, place)?;
-                return Ok(State::Ended);
-            }
-            Some((choice, Takes::Nothing | Takes::Optional(_))) => {
-                spelled.add_option(choice, Value::Nothing, place)?;
+            Some(Takes::Value(kind)) => return read_attached(kind, place, rest, spelled),
+            Some(Takes::Last(topic)) => return read_last(topic, place, spelled),
+            Some(Takes::Nothing(choice) | Takes::Optional(choice, _)) => {
+                spelled.add_option(choice, place)?;
                 left = rest;
             }
         }
@@ -258,35 +253,33 @@ fn read_cluster<'a>(
 
 /// Reads what follows a letter that takes a value.
 fn read_attached<'a>(
-    choice: Choice,
     kind: Kind,
     place: usize,
     rest: &'a str,
     spelled: &mut Spelled<'a>,
 ) -> Result<State, Fault>
-    ensures { Adds (attached choice kind place rest.now) spelled.old spelled.new result }
+    ensures { Adds (attached kind place rest.now) spelled.old spelled.new result }
 {
     if rest.is_empty() {
-        return Ok(State::Awaiting(choice, kind, place));
+        return Ok(State::Awaiting(kind, place));
     }
-    read_option(choice, kind, place, place, rest, spelled)
+    read_option(kind, place, place, rest, spelled)
 }
 
 /// Reads the value, in the word at `place`, of an option that stands in the word at the place
 /// `option`.
 fn read_option<'a>(
-    choice: Choice,
     kind: Kind,
     option: usize,
     place: usize,
     text: &'a str,
     spelled: &mut Spelled<'a>,
 ) -> Result<State, Fault>
-    ensures { Adds (valued choice kind option place text.now) spelled.old spelled.new result }
+    ensures { Adds (valued kind option place text.now) spelled.old spelled.new result }
 {
-    match read_value(kind, text) {
-        Ok(value) => {
-            spelled.add_option(choice, value, option)?;
+    match read_choice(kind, text) {
+        Ok(choice) => {
+            spelled.add_option(choice, option)?;
             Ok(State::Reading)
         }
         Err(fault) => Err(Fault::Usage(fault, place)),

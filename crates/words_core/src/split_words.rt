@@ -3,21 +3,62 @@
 ghost use Rattle.std.specs.Prelude.{◌≡◌, ℕ, ◌+◌, ◌^◌, ◌<◌, ◌≤◌, filter, map, IfOk, IfErr};
 ghost use Rattle.ports_core.specs.Name.{name_count};
 ghost use Rattle.words_core.specs.Given.{asked_by, operand_seen, option_seen};
-ghost use Rattle.words_core.specs.SplitWords.{files_in, first_number, fixed, for_all, free, from_in, least_width, names_all, no_options, numbered, or_two, separator_in, split_by, split_asked, suffix_for, thousand_lines, way_in, is_way, only_way, wide_enough};
+ghost use Rattle.words_core.specs.SplitWords.{SplitAsked, files_in, first_number, fixed, for_all, free, least_width, names_all, no_options, numbered, or_two, separator_in, split_by, split_asked, suffix_for, thousand_lines, way_in, is_way, only_way, wide_enough};
 ghost use Rattle.words_core.specs.Division.{dealt_by, way_of_division};
 ghost use Rattle.words_core.specs.declared.division.Dealing.TheVariants.{Turns};
 ghost use Rattle.words_core.specs.inner.SplitWords.{with_way};
-ghost use Rattle.words_core.specs.Value.{seen};
+ghost use Rattle.words_core.specs.Choice.{seen};
 
+use crate::choice::Choice;
 use crate::division::{Dealing, Division};
-use crate::settings::SplitSettings;
 use crate::spelled::{Chosen, Operand, Spelled};
-use crate::table::Choice;
-use crate::value::Value;
 use ports_core::{Alphabet, Fault, STANDARD_INPUT, UsageKind};
 use seg_core::cut::{Chunks, Cut, Limit, Way};
 use seg_core::line::NEWLINE;
 use seg_core::unit::Unit;
+use std::marker::Model;
+
+/// What `split` is to do with its input. The suffixes of its files' names have 1 to 255 characters.
+#[derive(Drop)]
+pub struct SplitSettings<'a> {
+    /// What becomes of the input.
+    pub way: Way,
+    /// The characters of the suffixes.
+    pub alphabet: Alphabet,
+    /// How many characters a suffix has; of suffixes that widen, the first ones.
+    pub width: u32,
+    /// Whether suffixes widen.
+    pub auto: bool,
+    /// The number of the first file, at most 2^63-1, where an option says so. Suffixes don't widen then. Else it is 0.
+    pub from: Option<u64>,
+    /// Whether files that stay empty are left out.
+    pub elide: bool,
+    /// Whether standard output is told of each file before it is opened.
+    pub verbose: bool,
+    /// The input's name; `-` is standard input.
+    pub input: &'a str,
+    /// What the files' names begin with.
+    pub prefix: &'a str,
+    /// What they end with; it has no `/`.
+    pub ending: &'a str,
+}
+
+impl<'a> Model for SplitSettings<'a> {
+    ghost Value = { SplitAsked };
+
+    ghost view = { λ s. record {
+      way = s.way;
+      alphabet = s.alphabet;
+      width = s.width;
+      auto = s.auto;
+      from = s.from;
+      elide = s.elide;
+      verbose = s.verbose;
+      input = s.input.now;
+      prefix = s.prefix.now;
+      ending = s.ending.now;
+    } };
+}
 
 /// How files are cut where no way is given.
 fn thousand_lines(delim: u8) -> Way
@@ -48,52 +89,21 @@ fn no_options<'a>() -> SplitSettings<'a>
 }
 
 impl<'a> SplitSettings<'a> {
-    /// The same, and what one more option asks for.
-    fn with(self, option: &Chosen<'a>) -> Self
-        ensures { result ≡ split_by self.entry option.now.choice (seen option.now.value) }
+    /// Takes in what one more option asks for.
+    fn take(&mut self, choice: Choice<'a>)
+        ensures { self.new ≡ split_by self.old (seen choice.entry) }
     {
-        match option.choice {
-            Choice::SuffixLength => match option.value {
-                Value::Width(width) => SplitSettings {
-                    width: u32::from(width),
-                    ..self
-                },
-                _ => self,
-            },
-            Choice::NumericSuffixes => SplitSettings {
-                alphabet: Alphabet::Digits,
-                from: from_in(option.value),
-                ..self
-            },
-            Choice::HexSuffixes => SplitSettings {
-                alphabet: Alphabet::Hex,
-                from: from_in(option.value),
-                ..self
-            },
-            Choice::ElideEmptyFiles => SplitSettings {
-                elide: true,
-                ..self
-            },
-            Choice::Verbose => SplitSettings {
-                verbose: true,
-                ..self
-            },
-            Choice::AdditionalSuffix => match option.value {
-                Value::Text(ending) => SplitSettings { ending, ..self },
-                _ => self,
-            },
-            _ => self,
+        match choice {
+            Choice::Width(width) => self.width = u32::from(width),
+            Choice::Suffixes(alphabet, from) => {
+                self.alphabet = alphabet;
+                self.from = from;
+            }
+            Choice::ElideEmptyFiles => self.elide = true,
+            Choice::Verbose => self.verbose = true,
+            Choice::Ending(ending) => self.ending = ending,
+            _ => {}
         }
-    }
-}
-
-/// The number from which an option for the characters of suffixes has files numbered. None where it has no value.
-fn from_in(value: Value<'_>) -> Option<u64>
-    ensures { result ≡ from_in (seen value.entry) }
-{
-    match value {
-        Value::Number(from) => Some(from),
-        _ => None,
     }
 }
 
@@ -134,7 +144,7 @@ fn choose_split<'a>(options: &[Chosen<'a>]) -> SplitSettings<'a>
 {
     let mut asked = no_options();
     for option in options {
-        asked = asked.with(option);
+        asked.take(option.choice);
     }
     asked
 }
@@ -145,7 +155,7 @@ fn separator_in(options: &[Chosen<'_>]) -> u8
 {
     let mut delim = NEWLINE;
     for option in options {
-        if let (Choice::Separator, Value::Byte(byte)) = (option.choice, option.value) {
+        if let Choice::Separator(byte) = option.choice {
             delim = byte;
         }
     }
@@ -173,28 +183,25 @@ fn choose_way(delim: u8, options: &[Chosen<'_>]) -> Result<Way, Fault>
 fn with_way(delim: u8, way: Option<Way>, option: &Chosen<'_>) -> Result<Option<Way>, Fault>
     ensures { result ≡ with_way delim way (option_seen option.now) }
 {
-    match option.choice {
-        Choice::Lines | Choice::Bytes | Choice::LineBytes | Choice::Files => match way {
-            None => Ok(Some(way_in(delim, option.value, option.choice))),
-            Some(_) => Err(Fault::Usage(UsageKind::TwoWays, option.word)),
-        },
-        _ => Ok(way),
+    match (way_in(delim, option.choice), way) {
+        (None, way) => Ok(way),
+        (Some(found), None) => Ok(Some(found)),
+        (Some(_), Some(_)) => Err(Fault::Usage(UsageKind::TwoWays, option.word)),
     }
 }
 
-/// The way to split that an option gives with its value.
-fn way_in(delim: u8, value: Value<'_>, choice: Choice) -> Way
-    ensures { result ≡ way_in delim (seen value.entry) choice }
+/// The way to split that an option gives, if it is one.
+fn way_in(delim: u8, choice: Choice<'_>) -> Option<Way>
+    ensures { result ≡ way_in delim (seen choice.entry) }
 {
-    match value {
-        Value::Size(size) => Way::Cut(Cut::Parts(match choice {
-            Choice::Bytes => Limit::Bytes(size),
-            Choice::LineBytes => Limit::LineBytes(size, delim),
-            _ => Limit::Lines(size, delim),
-        })),
-        Value::Divided(division) => way_of_division(delim, division),
-        _ => thousand_lines(delim),
-    }
+    let limit = match choice {
+        Choice::LinesEach(size) => Limit::Lines(size, delim),
+        Choice::BytesEach(size) => Limit::Bytes(size),
+        Choice::LineBytesEach(size) => Limit::LineBytes(size, delim),
+        Choice::Divided(division) => return Some(way_of_division(delim, division)),
+        _ => return None,
+    };
+    Some(Way::Cut(Cut::Parts(limit)))
 }
 
 /// What becomes of an input that is divided so, if its lines end with this byte.

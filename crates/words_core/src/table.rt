@@ -6,117 +6,23 @@
 ghost use Rattle.std.specs.Prelude.{◌≡◌, [], ◌∷◌, map, option_map, IfNone, IfSome};
 ghost use Rattle.words_core.specs.Table.{beginning, begins_one, is_among, only_one, option_called, option_named, program_table, row_named, row_seen, tool_seen, tools};
 
-use ports_core::{Tool, UsageKind};
+use crate::choice::{Choice, Kind};
+use crate::settings::{Headers, Topic};
+use crate::value::Followed;
+use ports_core::{Alphabet, OnBroken, Tool, UsageKind};
+use seg_core::unit::Unit;
 
-/// An option, by what it chooses. Options of several tools may choose alike.
-#[derive(Clone, Copy, PartialEq, Eq)]
-pub enum Choice {
-    /// A number of lines.
-    Lines,
-    /// A number of bytes.
-    Bytes,
-    /// A number of bytes that hold whole lines.
-    LineBytes,
-    /// A number of files.
-    Files,
-    /// No headers.
-    Quiet,
-    /// A header before each input; of `split`, a line before each file.
-    Verbose,
-    /// The width of suffixes.
-    SuffixLength,
-    /// Suffixes of digits.
-    NumericSuffixes,
-    /// Suffixes of hexadecimal digits.
-    HexSuffixes,
-    /// No empty files.
-    ElideEmptyFiles,
-    /// Lines that end with byte 0.
-    ZeroTerminated,
-    /// The byte that lines end with.
-    Separator,
-    /// The ending of names.
-    AdditionalSuffix,
-    /// What names begin with.
-    Prefix,
-    /// How many digits names have at least.
-    Digits,
-    /// The format of names.
-    SuffixFormat,
-    /// Files stay after a fault.
-    KeepFiles,
-    /// The line at a cut is left out.
-    SuppressMatched,
-    /// What files hold stays, and what is written goes after it.
-    Append,
-    /// Following, in the way that the value says, or by descriptor where there is none.
-    Follow,
-    /// Following by name, also where a name leads nowhere for a while.
-    FollowNames,
-    /// A name that leads nowhere is looked for again.
-    Retry,
-    /// How often inputs are looked at.
-    Looks,
-    /// How long inputs are waited for at most, where nothing is seen to change.
-    Pause,
-    /// After the end of which process following ends.
-    Process,
-    /// What a run does once an output is broken.
-    OutputError,
-    /// Nothing: what it asks for is so in any case.
-    NoEffect,
-    /// The text of help.
-    Help,
-    /// The text of the version.
-    Version,
-}
-
-/// What the value of an option says.
-#[derive(Clone, Copy)]
-pub enum Kind {
-    /// A count, with or without a sign.
-    Count,
-    /// A count, at least 1, without a `-`.
-    Size,
-    /// `N` or `K/N`, with `l/` or `r/` before it or nothing: digits, N from 1 to 65,535, K from 1 to N.
-    Division,
-    /// How many characters a name's number has: digits, 0 to 255.
-    Width,
-    /// Any text.
-    Text,
-    /// One byte, or the two bytes `\0`, which stand for byte 0.
-    Byte,
-    /// A text without `/`.
-    Ending,
-    /// `descriptor` or `name`.
-    Following,
-    /// How often inputs are looked at: digits, 1 to 2^63-1.
-    Looks,
-    /// A number: digits, 0 to 2^63-1.
-    Number,
-    /// A number in hexadecimal: digits and `a` to `f`, also as capitals, 0 to 2^63-1.
-    HexNumber,
-    /// The number of a process: digits, 1 to 2^31-1.
-    Process,
-    /// Seconds: digits, which may have a `.` before, among or after them.
-    Seconds,
-    /// `warn`, `warn-nopipe`, `exit` or `exit-nopipe`.
-    OnBroken,
-    /// A text with one conversion of C's `printf`, which writes a number.
-    Format,
-}
-
-/// Whether an option takes a value.
+/// Whether an option takes a value, and what it asks for.
 #[derive(Clone, Copy)]
 pub enum Takes {
-    /// It takes none.
-    Nothing,
+    /// It takes none, and asks for this.
+    Nothing(Choice<'static>),
     /// It takes one: what follows its letter, or what follows `=`, or else the next word.
     Value(Kind),
-    /// It takes one after `=` alone, and may have none.
-    Optional(Kind),
-    /// It takes none, and no word after it is read.
-    Last,
+    /// It takes one after `=` alone, and asks for this where it has none.
+    Optional(Choice<'static>, Kind),
+    /// It takes none, asks for this text, and no word after it is read.
+    Last(Topic),
 }
 
 /// What letters may follow the digits of a first word of a hyphen and digits.
@@ -135,9 +41,7 @@ pub enum Letters {
 pub struct OptionRow {
     /// Its names, as they are written.
     pub names: &'static [&'static str],
-    /// What it chooses.
-    pub choice: Choice,
-    /// Whether it takes a value.
+    /// Whether it takes a value, and what it asks for.
     pub takes: Takes,
     /// What help calls its value; empty where it takes none.
     pub value: &'static str,
@@ -155,7 +59,7 @@ pub struct ToolRow {
     /// Its options.
     pub options: &'static [OptionRow],
     /// The option whose value a first word of a hyphen and digits gives, and the letters that may follow these.
-    pub number: Option<(Choice, Kind, Letters)>,
+    pub number: Option<(Kind, Letters)>,
     /// Its operands, as help calls them.
     pub operands: &'static str,
     /// What it does, in at most 48 characters, for a sentence that its name begins.
@@ -165,8 +69,7 @@ pub struct ToolRow {
 /// Help, in each tool.
 const HELP: OptionRow = OptionRow {
     names: &["--help"],
-    choice: Choice::Help,
-    takes: Takes::Last,
+    takes: Takes::Last(Topic::Help),
     value: "",
     does: "write help, and do nothing else",
 };
@@ -174,8 +77,7 @@ const HELP: OptionRow = OptionRow {
 /// The version, in each tool.
 const VERSION: OptionRow = OptionRow {
     names: &["--version"],
-    choice: Choice::Version,
-    takes: Takes::Last,
+    takes: Takes::Last(Topic::Version),
     value: "",
     does: "write the version, and do nothing else",
 };
@@ -186,8 +88,7 @@ const PROGRAM: &[OptionRow] = &[HELP, VERSION];
 /// No headers, in `head` and `tail`.
 const QUIET: OptionRow = OptionRow {
     names: &["-q", "--quiet", "--silent"],
-    choice: Choice::Quiet,
-    takes: Takes::Nothing,
+    takes: Takes::Nothing(Choice::Headers(Headers::Never)),
     value: "",
     does: "write no headers",
 };
@@ -195,8 +96,7 @@ const QUIET: OptionRow = OptionRow {
 /// Headers, in `head` and `tail`.
 const VERBOSE: OptionRow = OptionRow {
     names: &["-v", "--verbose"],
-    choice: Choice::Verbose,
-    takes: Takes::Nothing,
+    takes: Takes::Nothing(Choice::Headers(Headers::Always)),
     value: "",
     does: "write a header before each file",
 };
@@ -204,8 +104,7 @@ const VERBOSE: OptionRow = OptionRow {
 /// Lines that end with byte 0, in `head` and `tail`.
 const ZERO_TERMINATED: OptionRow = OptionRow {
     names: &["-z", "--zero-terminated"],
-    choice: Choice::ZeroTerminated,
-    takes: Takes::Nothing,
+    takes: Takes::Nothing(Choice::ZeroTerminated),
     value: "",
     does: "lines end with byte 0, not with a newline",
 };
@@ -214,15 +113,13 @@ const ZERO_TERMINATED: OptionRow = OptionRow {
 const HEAD: &[OptionRow] = &[
     OptionRow {
         names: &["-n", "--lines"],
-        choice: Choice::Lines,
-        takes: Takes::Value(Kind::Count),
+        takes: Takes::Value(Kind::Amount(Unit::Lines)),
         value: "COUNT",
         does: "write COUNT lines; with - all but the last COUNT",
     },
     OptionRow {
         names: &["-c", "--bytes"],
-        choice: Choice::Bytes,
-        takes: Takes::Value(Kind::Count),
+        takes: Takes::Value(Kind::Amount(Unit::Bytes)),
         value: "COUNT",
         does: "write COUNT bytes; with - all but the last COUNT",
     },
@@ -237,15 +134,13 @@ const HEAD: &[OptionRow] = &[
 const TAIL: &[OptionRow] = &[
     OptionRow {
         names: &["-n", "--lines"],
-        choice: Choice::Lines,
-        takes: Takes::Value(Kind::Count),
+        takes: Takes::Value(Kind::Amount(Unit::Lines)),
         value: "COUNT",
         does: "write COUNT lines; with + all from line COUNT on",
     },
     OptionRow {
         names: &["-c", "--bytes"],
-        choice: Choice::Bytes,
-        takes: Takes::Value(Kind::Count),
+        takes: Takes::Value(Kind::Amount(Unit::Bytes)),
         value: "COUNT",
         does: "write COUNT bytes; with + all from byte COUNT on",
     },
@@ -254,50 +149,43 @@ const TAIL: &[OptionRow] = &[
     ZERO_TERMINATED,
     OptionRow {
         names: &["-f", "--follow"],
-        choice: Choice::Follow,
-        takes: Takes::Optional(Kind::Following),
+        takes: Takes::Optional(Choice::Follow(Followed::Descriptor), Kind::Follow),
         value: "HOW",
         does: "follow what is appended, by descriptor or name",
     },
     OptionRow {
         names: &["-F"],
-        choice: Choice::FollowNames,
-        takes: Takes::Nothing,
+        takes: Takes::Nothing(Choice::FollowNames),
         value: "",
         does: "the same as --follow=name --retry",
     },
     OptionRow {
         names: &["--retry"],
-        choice: Choice::Retry,
-        takes: Takes::Nothing,
+        takes: Takes::Nothing(Choice::Retry),
         value: "",
         does: "with --follow=name, wait for missing names",
     },
     OptionRow {
         names: &["--looks"],
-        choice: Choice::Looks,
         takes: Takes::Value(Kind::Looks),
         value: "NUMBER",
         does: "end after NUMBER checks of what is followed",
     },
     OptionRow {
         names: &["-s", "--sleep-interval"],
-        choice: Choice::Pause,
-        takes: Takes::Value(Kind::Seconds),
+        takes: Takes::Value(Kind::Pause),
         value: "SECONDS",
         does: "check what is followed within this time",
     },
     OptionRow {
         names: &["--pid"],
-        choice: Choice::Process,
         takes: Takes::Value(Kind::Process),
         value: "PID",
         does: "end once the process PID is gone",
     },
     OptionRow {
         names: &["--max-unchanged-stats"],
-        choice: Choice::NoEffect,
-        takes: Takes::Value(Kind::Number),
+        takes: Takes::Value(Kind::NoEffect),
         value: "NUMBER",
         does: "taken without effect",
     },
@@ -309,85 +197,76 @@ const TAIL: &[OptionRow] = &[
 const SPLIT: &[OptionRow] = &[
     OptionRow {
         names: &["-l", "--lines"],
-        choice: Choice::Lines,
-        takes: Takes::Value(Kind::Size),
+        takes: Takes::Value(Kind::LinesEach),
         value: "LINES",
         does: "put this many lines in each file",
     },
     OptionRow {
         names: &["-b", "--bytes"],
-        choice: Choice::Bytes,
-        takes: Takes::Value(Kind::Size),
+        takes: Takes::Value(Kind::BytesEach),
         value: "BYTES",
         does: "put this many bytes in each file",
     },
     OptionRow {
         names: &["-C", "--line-bytes"],
-        choice: Choice::LineBytes,
-        takes: Takes::Value(Kind::Size),
+        takes: Takes::Value(Kind::LineBytesEach),
         value: "BYTES",
         does: "put whole lines of at most BYTES in each file",
     },
     OptionRow {
         names: &["-n", "--number"],
-        choice: Choice::Files,
-        takes: Takes::Value(Kind::Division),
+        takes: Takes::Value(Kind::Divided),
         value: "CHUNKS",
         does: "into N files: N, l/N, r/N; the Kth alone: K/N",
     },
     OptionRow {
         names: &["-a", "--suffix-length"],
-        choice: Choice::SuffixLength,
         takes: Takes::Value(Kind::Width),
         value: "WIDTH",
         does: "names have WIDTH characters after the prefix",
     },
     OptionRow {
         names: &["-d", "--numeric-suffixes"],
-        choice: Choice::NumericSuffixes,
-        takes: Takes::Optional(Kind::Number),
+        takes: Takes::Optional(
+            Choice::Suffixes(Alphabet::Digits, None),
+            Kind::NumericSuffixes,
+        ),
         value: "FROM",
         does: "digits in names, not letters, from FROM on",
     },
     OptionRow {
         names: &["-x", "--hex-suffixes"],
-        choice: Choice::HexSuffixes,
-        takes: Takes::Optional(Kind::HexNumber),
+        takes: Takes::Optional(Choice::Suffixes(Alphabet::Hex, None), Kind::HexSuffixes),
         value: "FROM",
         does: "hexadecimal digits in names, from FROM on",
     },
     OptionRow {
         names: &["-e", "--elide-empty-files"],
-        choice: Choice::ElideEmptyFiles,
-        takes: Takes::Nothing,
+        takes: Takes::Nothing(Choice::ElideEmptyFiles),
         value: "",
         does: "with -n, make no empty files",
     },
     OptionRow {
         names: &["-t", "--separator"],
-        choice: Choice::Separator,
-        takes: Takes::Value(Kind::Byte),
+        takes: Takes::Value(Kind::Separator),
         value: "BYTE",
         does: "lines end with BYTE, not with a newline",
     },
     OptionRow {
         names: &["--additional-suffix"],
-        choice: Choice::AdditionalSuffix,
         takes: Takes::Value(Kind::Ending),
         value: "TEXT",
         does: "names end with TEXT",
     },
     OptionRow {
         names: &["-u", "--unbuffered"],
-        choice: Choice::NoEffect,
-        takes: Takes::Nothing,
+        takes: Takes::Nothing(Choice::NoEffect),
         value: "",
         does: "taken without effect",
     },
     OptionRow {
         names: &["--verbose"],
-        choice: Choice::Verbose,
-        takes: Takes::Nothing,
+        takes: Takes::Nothing(Choice::Verbose),
         value: "",
         does: "write each name before its file is opened",
     },
@@ -399,50 +278,43 @@ const SPLIT: &[OptionRow] = &[
 const CSPLIT: &[OptionRow] = &[
     OptionRow {
         names: &["-f", "--prefix"],
-        choice: Choice::Prefix,
-        takes: Takes::Value(Kind::Text),
+        takes: Takes::Value(Kind::Prefix),
         value: "PREFIX",
         does: "names begin with PREFIX, not with xx",
     },
     OptionRow {
         names: &["-n", "--digits"],
-        choice: Choice::Digits,
         takes: Takes::Value(Kind::Width),
         value: "DIGITS",
         does: "numbers in names have this many digits, not 2",
     },
     OptionRow {
         names: &["-b", "--suffix-format"],
-        choice: Choice::SuffixFormat,
         takes: Takes::Value(Kind::Format),
         value: "FORMAT",
         does: "write numbers as printf does, as in %03d.txt",
     },
     OptionRow {
         names: &["-k", "--keep-files"],
-        choice: Choice::KeepFiles,
-        takes: Takes::Nothing,
+        takes: Takes::Nothing(Choice::KeepFiles),
         value: "",
         does: "keep files after a fault",
     },
     OptionRow {
         names: &["-s", "-q", "--quiet", "--silent"],
-        choice: Choice::Quiet,
-        takes: Takes::Nothing,
+        takes: Takes::Nothing(Choice::Quiet),
         value: "",
         does: "write no sizes",
     },
     OptionRow {
         names: &["-z", "--elide-empty-files"],
-        choice: Choice::ElideEmptyFiles,
-        takes: Takes::Nothing,
+        takes: Takes::Nothing(Choice::ElideEmptyFiles),
         value: "",
         does: "make no empty files",
     },
     OptionRow {
         names: &["--suppress-matched"],
-        choice: Choice::SuppressMatched,
-        takes: Takes::Nothing,
+        takes: Takes::Nothing(Choice::SuppressMatched),
         value: "",
         does: "leave out the line at each cut",
     },
@@ -454,15 +326,13 @@ const CSPLIT: &[OptionRow] = &[
 const TEE: &[OptionRow] = &[
     OptionRow {
         names: &["-a", "--append"],
-        choice: Choice::Append,
-        takes: Takes::Nothing,
+        takes: Takes::Nothing(Choice::Append),
         value: "",
         does: "append to the files",
     },
     OptionRow {
         names: &["-p", "--output-error"],
-        choice: Choice::OutputError,
-        takes: Takes::Optional(Kind::OnBroken),
+        takes: Takes::Optional(Choice::OnBroken(OnBroken::GoOn), Kind::OnBroken),
         value: "MODE",
         does: "go on (warn) or exit once an output is broken",
     },
@@ -476,7 +346,7 @@ pub const TOOLS: &[ToolRow] = &[
         name: "head",
         tool: Tool::Head,
         options: HEAD,
-        number: Some((Choice::Lines, Kind::Count, Letters::OfHead)),
+        number: Some((Kind::Amount(Unit::Lines), Letters::OfHead)),
         operands: "[FILE]...",
         does: "writes the first lines or bytes of files",
     },
@@ -484,7 +354,7 @@ pub const TOOLS: &[ToolRow] = &[
         name: "tail",
         tool: Tool::Tail,
         options: TAIL,
-        number: Some((Choice::Lines, Kind::Count, Letters::OfTail)),
+        number: Some((Kind::Amount(Unit::Lines), Letters::OfTail)),
         operands: "[FILE]...",
         does: "writes the last lines or bytes, follows files",
     },
@@ -492,7 +362,7 @@ pub const TOOLS: &[ToolRow] = &[
         name: "split",
         tool: Tool::Split,
         options: SPLIT,
-        number: Some((Choice::Lines, Kind::Size, Letters::Never)),
+        number: Some((Kind::LinesEach, Letters::Never)),
         operands: "[FILE [PREFIX]]",
         does: "cuts a file into pieces",
     },
@@ -540,13 +410,13 @@ pub fn find_row<'a>(rows: &'a [ToolRow], name: &str) -> Option<&'a ToolRow>
     None
 }
 
-/// The option of this name in a tool's table, and whether it takes a value.
-pub fn find_option(rows: &[OptionRow], name: &[u8]) -> Option<(Choice, Takes)>
+/// The option of this name in a tool's table, and what it takes and asks for.
+pub fn find_option(rows: &[OptionRow], name: &[u8]) -> Option<Takes>
     ensures { result ≡ option_named (map row_seen rows.now) name.now }
 {
     for row in rows {
         if is_among(row.names, name) {
-            return Some((row.choice, row.takes));
+            return Some(row.takes);
         }
     }
     None
@@ -564,12 +434,12 @@ pub fn is_among(names: &[&str], name: &[u8]) -> bool
     false
 }
 
-/// The option of this long name, or else the only one of which a name begins so, and whether it takes a value.
+/// The option of this long name, or else the only one of which a name begins so, and what it takes and asks for.
 ///
 /// # Errors
 ///
 /// `UnknownOption` where no name begins so, and `AmbiguousOption` where names of several options do.
-pub fn find_called(rows: &[OptionRow], name: &[u8]) -> Result<(Choice, Takes), UsageKind>
+pub fn find_called(rows: &[OptionRow], name: &[u8]) -> Result<Takes, UsageKind>
     ensures { result ≡ option_called (map row_seen rows.now) name.now }
 {
     match find_option(rows, name) {
@@ -578,14 +448,14 @@ pub fn find_called(rows: &[OptionRow], name: &[u8]) -> Result<(Choice, Takes), U
     }
 }
 
-/// The only option of which a name begins so, and whether it takes a value.
-fn find_only(rows: &[OptionRow], start: &[u8]) -> Result<(Choice, Takes), UsageKind>
+/// The only option of which a name begins so, and what it takes and asks for.
+fn find_only(rows: &[OptionRow], start: &[u8]) -> Result<Takes, UsageKind>
     ensures { result ≡ only_one (beginning start.now (map row_seen rows.now)) }
 {
     match first_beginning(rows, start) {
         None => Err(UsageKind::UnknownOption),
         Some((row, rest)) => match first_beginning(rest, start) {
-            None => Ok((row.choice, row.takes)),
+            None => Ok(row.takes),
             Some(_) => Err(UsageKind::AmbiguousOption),
         },
     }

@@ -1,95 +1,81 @@
 //! What `tail` is asked for (POSIX.1-2017, XCU tail); `-F`, `--follow`, `--retry`, `-s` and `--pid` are
 //! GNU's, `--looks` is of these tools.
 ghost use Rattle.std.specs.Prelude.{◌≡◌, map, IfOk, IfErr};
-ghost use Rattle.words_core.specs.Given.{asked_by, operand_seen, option_seen, texts_of};
+ghost use Rattle.words_core.specs.Given.{operand_seen, texts_of};
 ghost use Rattle.words_core.specs.Spelling.{Reads};
-ghost use Rattle.words_core.specs.TailWords.{by_descriptor, by_name, follow_by, followed_in, has_hyphen, no_following, tail_asked};
-ghost use Rattle.words_core.specs.Value.{seen};
+ghost use Rattle.words_core.specs.TailWords.{by_descriptor, by_name, followed_in, has_hyphen, retry_by, tail_asked, tail_by, unfollowed};
+ghost use Rattle.words_core.specs.Choice.{seen};
 
-use crate::ends_words::settle_ends;
-use crate::settings::TailSettings;
-use crate::spelled::{Chosen, Operand, Spelled};
-use crate::table::Choice;
-use crate::value::{Followed, MOST_LOOKS, Value};
+use crate::choice::Choice;
+use crate::ends_words::{EndsSettings, names_of, ten_lines};
+use crate::spelled::{Operand, Spelled};
+use crate::value::{Followed, MOST_LOOKS};
 use ports_core::{Fault, STANDARD_INPUT, UsageKind};
 use std::alloc::Global;
 
-/// What the options of `tail` ask for after the last part of each input.
-#[derive(Clone, Copy)]
-pub struct FollowOptions {
-    /// What is followed, if anything is.
+/// What `tail` is to write of its inputs.
+#[derive(Drop)]
+pub struct TailSettings<'a> {
+    /// What is written of each input at first.
+    pub ends: EndsSettings<'a>,
+    /// What is followed after that, if anything is.
     pub followed: Option<Followed>,
-    /// Whether names that lead nowhere are looked for again.
-    pub retry: bool,
-    /// How often inputs are looked at.
+    /// How often inputs that are followed are looked at, 1 to 2^63-1.
     pub looks: u64,
-    /// How many milliseconds they are waited for at most.
+    /// How many milliseconds they are waited for at most where nothing is seen to change, at most 2^63-1. Nothing that is written
+    /// depends on it.
     pub pause: u64,
-    /// The process after whose end following ends, if there is one.
+    /// The process after whose end following ends, 1 to 2^31-1. None where it goes on.
     pub process: Option<u32>,
 }
 
 /// How many milliseconds inputs are waited for where no option says it: a second.
 const SECOND: u64 = 1000;
 
-/// What is asked for without options.
-const NO_FOLLOWING: FollowOptions = FollowOptions {
-    followed: None,
-    retry: false,
-    looks: MOST_LOOKS,
-    pause: SECOND,
-    process: None,
-};
+/// What is asked for without options: this of each input, and nothing is followed.
+fn unfollowed(ends: EndsSettings<'_>) -> TailSettings<'_>
+    ensures { result ≡ unfollowed ends.entry }
+{
+    TailSettings {
+        ends,
+        followed: None,
+        looks: MOST_LOOKS,
+        pause: SECOND,
+        process: None,
+    }
+}
 
 /// What is wrong with what is to be followed.
 const BAD_FOLLOW: Fault = Fault::Usage(UsageKind::BadFollow, 0);
 
-impl FollowOptions {
-    /// The same, and what one more option asks for.
-    fn with(self, option: &Chosen<'_>) -> Self
-        ensures { result ≡ follow_by self option.now.choice (seen option.now.value) }
+impl TailSettings<'_> {
+    /// Takes in what one more option asks for.
+    fn take(&mut self, choice: Choice<'_>)
+        ensures { self.new ≡ tail_by self.old (seen choice.entry) }
     {
-        match option.choice {
-            Choice::Follow => match option.value {
-                Value::Following(followed) => FollowOptions {
-                    followed: Some(followed),
-                    ..self
-                },
-                _ => FollowOptions {
-                    followed: Some(Followed::Descriptor),
-                    ..self
-                },
-            },
-            Choice::FollowNames => FollowOptions {
-                followed: Some(Followed::Name),
-                retry: true,
-                ..self
-            },
-            Choice::Retry => FollowOptions {
-                retry: true,
-                ..self
-            },
-            Choice::Looks => match option.value {
-                Value::Looks(looks) => FollowOptions { looks, ..self },
-                _ => self,
-            },
-            Choice::Pause => match option.value {
-                Value::Pause(pause) => FollowOptions { pause, ..self },
-                _ => self,
-            },
-            Choice::Process => match option.value {
-                Value::Process(process) => FollowOptions {
-                    process: Some(process),
-                    ..self
-                },
-                _ => self,
-            },
-            _ => self,
+        match choice {
+            Choice::Follow(followed) => self.followed = Some(followed),
+            Choice::FollowNames => self.followed = Some(Followed::Name),
+            Choice::Looks(looks) => self.looks = looks,
+            Choice::Pause(pause) => self.pause = pause,
+            Choice::Process(process) => self.process = Some(process),
+            _ => self.ends.take(choice),
         }
     }
 }
 
-/// What words ask of `tail`.
+/// Whether names that lead nowhere are looked for again, with one more option.
+fn with_retry(retry: bool, choice: Choice<'_>) -> bool
+    ensures { result ≡ retry_by retry (seen choice.entry) }
+{
+    match choice {
+        Choice::FollowNames | Choice::Retry => true,
+        _ => retry,
+    }
+}
+
+/// What words ask of `tail`: what they ask of `head`, the last that says what is followed, and the last number of looks, the
+/// last pause and the last process.
 ///
 /// # Errors
 ///
@@ -98,27 +84,14 @@ impl FollowOptions {
 pub fn settle_tail<'a>(alloc: Global, spelled: &Spelled<'a>) -> Result<TailSettings<'a>, Fault>
     ensures { Reads (tail_asked spelled.now) result }
 {
-    let options = choose_following(&spelled.options);
-    let followed = check_following(options.followed, options.retry, &spelled.operands)?;
-    Ok(TailSettings {
-        ends: settle_ends(alloc, spelled)?,
-        followed,
-        looks: options.looks,
-        pause: options.pause,
-        process: options.process,
-    })
-}
-
-/// What all options ask for: the last that says what is followed, the last number of looks, the last
-/// pause and the last process.
-fn choose_following(options: &[Chosen<'_>]) -> FollowOptions
-    ensures { result ≡ asked_by follow_by no_following (map option_seen options.now) }
-{
-    let mut asked = NO_FOLLOWING;
-    for option in options {
-        asked = asked.with(option);
+    let mut asked = unfollowed(ten_lines(names_of(alloc, &spelled.operands)?));
+    let mut retry = false;
+    for option in &spelled.options {
+        asked.take(option.choice);
+        retry = with_retry(retry, option.choice);
     }
-    asked
+    asked.followed = check_following(asked.followed, retry, &spelled.operands)?;
+    Ok(asked)
 }
 
 /// What is followed of these operands.

@@ -1,17 +1,60 @@
 //! What `tee` is asked for (POSIX.1-2017, XCU tee; `-p` and `--output-error` are GNU's).
 ghost use Rattle.std.specs.Prelude.{◌≡◌, map, IfOk, IfErr};
-ghost use Rattle.words_core.specs.Given.{asked_by, option_seen};
-ghost use Rattle.words_core.specs.TeeWords.{mode_by, on_broken_by, tee_asked};
-ghost use Rattle.words_core.specs.Value.{seen};
+ghost use Rattle.words_core.specs.Choice.{seen};
+ghost use Rattle.words_core.specs.TeeWords.{TeeAsked, fresh, tee_asked, tee_by};
 
-use crate::settings::TeeSettings;
-use crate::spelled::{Chosen, Spelled, texts_of};
-use crate::table::Choice;
-use crate::value::Value;
+use crate::choice::Choice;
+use crate::spelled::{Spelled, texts_of};
 use ports_core::{Fault, Mode, OnBroken};
 use std::alloc::Global;
+use std::marker::Model;
 
-/// What words ask of `tee`.
+/// What `tee` is to write its input to, besides standard output.
+#[derive(Drop)]
+pub struct TeeSettings<'a> {
+    /// How the files are opened.
+    pub mode: Mode,
+    /// What is done once an output is broken.
+    pub on_broken: OnBroken,
+    /// The names of the files, in their order; there may be none, and `-` is a name as any other.
+    pub names: Vec<&'a str>,
+}
+
+impl<'a> Model for TeeSettings<'a> {
+    ghost Value = { TeeAsked };
+
+    ghost view = { λ s. record {
+      mode = s.mode;
+      on_broken = s.on_broken;
+      names = map (λ name. name.now) s.names.items;
+    } };
+}
+
+/// What is asked for without options: these files, which begin empty, and a run that goes on with the outputs that are left.
+fn fresh(names: Vec<&str>) -> TeeSettings<'_>
+    ensures { result ≡ fresh (map (λ name. name.now) names.entry.items) }
+{
+    TeeSettings {
+        mode: Mode::Fresh,
+        on_broken: OnBroken::GoOn,
+        names,
+    }
+}
+
+impl TeeSettings<'_> {
+    /// Takes in what one more option asks for.
+    fn take(&mut self, choice: Choice<'_>)
+        ensures { self.new ≡ tee_by self.old (seen choice.entry) }
+    {
+        match choice {
+            Choice::Append => self.mode = Mode::Append,
+            Choice::OnBroken(on_broken) => self.on_broken = on_broken,
+            _ => {}
+        }
+    }
+}
+
+/// What words ask of `tee`: whether files keep what they hold, and the last that says what is done once an output is broken.
 ///
 /// # Errors
 ///
@@ -20,46 +63,9 @@ pub fn settle_tee<'a>(alloc: Global, spelled: &Spelled<'a>) -> Result<TeeSetting
     ensures ok { IfOk result (λ settings. settings ≡ tee_asked spelled.now) }
     ensures err { IfErr result (λ fault. fault ≡ Fault.Memory) }
 {
-    Ok(TeeSettings {
-        mode: choose_mode(&spelled.options),
-        on_broken: choose_on_broken(&spelled.options),
-        names: texts_of(alloc, &spelled.operands)?,
-    })
-}
-
-/// How files are opened: they keep what they hold where an option says so, and else begin empty.
-fn choose_mode(options: &[Chosen<'_>]) -> Mode
-    ensures { result ≡ asked_by mode_by Mode.Fresh (map option_seen options.now) }
-{
-    let mut mode = Mode::Fresh;
-    for option in options {
-        if option.choice == Choice::Append {
-            mode = Mode::Append;
-        }
+    let mut asked = fresh(texts_of(alloc, &spelled.operands)?);
+    for option in &spelled.options {
+        asked.take(option.choice);
     }
-    mode
-}
-
-/// What is done once an output is broken: what the last option that speaks of it says.
-fn choose_on_broken(options: &[Chosen<'_>]) -> OnBroken
-    ensures { result ≡ asked_by on_broken_by OnBroken.GoOn (map option_seen options.now) }
-{
-    let mut on_broken = OnBroken::GoOn;
-    for option in options {
-        on_broken = next_on_broken(on_broken, option);
-    }
-    on_broken
-}
-
-/// The same with one more option.
-fn next_on_broken(on_broken: OnBroken, option: &Chosen<'_>) -> OnBroken
-    ensures { result ≡ on_broken_by on_broken option.now.choice (seen option.now.value) }
-{
-    match option.choice {
-        Choice::OutputError => match option.value {
-            Value::OnBroken(asked) => asked,
-            _ => OnBroken::GoOn,
-        },
-        _ => on_broken,
-    }
+    Ok(asked)
 }

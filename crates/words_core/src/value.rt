@@ -4,48 +4,11 @@ ghost use Rattle.std.specs.Prelude.{◌≡◌, ◌≤◌, ◌+◌, ◌-◌, ◌*
 ghost use Rattle.std.specs.Char.{is_ascii_digit};
 ghost use Rattle.std.specs.List.{list_all};
 ghost use Rattle.seg_core.specs.Count.{count_of, digits_of};
-ghost use Rattle.words_core.specs.Value.{byte_in, counted, ending_in, followed_in, fraction_in, fraction_of, hex_in, is_zero, milliseconds, not_zero, number_fault, on_broken_in, process_in, pause_in, size_in, up_to, value_in};
-ghost use Rattle.words_core.specs.inner.Value.{seen_in};
+ghost use Rattle.words_core.specs.Value.{byte_in, counted, ending_in, followed_in, fraction_in, fraction_of, hex_in, is_zero, milliseconds, not_zero, number_fault, on_broken_in, process_in, pause_in, size_in, up_to};
 
-use crate::division::{Division, read_division};
-use crate::format::{Format, read_format};
-use crate::table::Kind;
 use ports_core::{OnBroken, UsageKind};
 use seg_core::count::{Count, CountFault, read_count};
 use seg_core::digits::{GREATEST, leading_number, read_digits};
-
-/// The value of an option.
-#[derive(Clone, Copy, PartialEq, Eq)]
-pub enum Value<'a> {
-    /// None was given.
-    Nothing,
-    /// A count, at most 2^63-1.
-    Count(Count),
-    /// The size of a file, 1 to 2^63-1.
-    Size(u64),
-    /// Among how many files an input is divided, and how.
-    Divided(Division),
-    /// A width in characters, 0 to 255.
-    Width(u8),
-    /// A text.
-    Text(&'a str),
-    /// A byte.
-    Byte(u8),
-    /// What is followed.
-    Following(Followed),
-    /// How often inputs are looked at, 1 to 2^63-1.
-    Looks(u64),
-    /// A number, at most 2^63-1.
-    Number(u64),
-    /// How many milliseconds inputs are waited for at most, at most 2^63-1.
-    Pause(u64),
-    /// The number of a process, 1 to 2^31-1.
-    Process(u32),
-    /// What a run does once an output is broken.
-    OnBroken(OnBroken),
-    /// A format of names.
-    Format(Format<'a>),
-}
 
 /// What `tail` follows.
 #[derive(Clone, Copy, PartialEq, Eq)]
@@ -57,7 +20,7 @@ pub enum Followed {
 }
 
 /// The greatest width of a suffix.
-const WIDEST: u64 = 255;
+pub(crate) const WIDEST: u64 = 255;
 
 /// The greatest number of looks.
 pub const MOST_LOOKS: u64 = GREATEST;
@@ -65,37 +28,8 @@ pub const MOST_LOOKS: u64 = GREATEST;
 /// The largest number that a process can have.
 const LAST_PROCESS: u64 = 0x7fff_ffff;
 
-/// Reads the value of an option.
-///
-/// # Errors
-///
-/// What is wrong with the value: it isn't of its kind's form, or else its number is too large, or else it is 0. A byte,
-/// an ending, a format, what is followed or what is done once an output is broken has a fault of its own where it isn't of its form.
-pub fn read_value(kind: Kind, text: &str) -> Result<Value<'_>, UsageKind>
-    ensures { seen_in result ≡ value_in kind text.now }
-{
-    let bytes = text.as_bytes();
-    match kind {
-        Kind::Count => Ok(Value::Count(read_amount(bytes)?)),
-        Kind::Size => Ok(Value::Size(read_size(bytes)?)),
-        Kind::Division => Ok(Value::Divided(read_division(bytes)?)),
-        Kind::Width => Ok(Value::Width(read_number(bytes, WIDEST)? as u8)),
-        Kind::Text => Ok(Value::Text(text)),
-        Kind::Byte => Ok(Value::Byte(read_byte(bytes)?)),
-        Kind::Ending => Ok(Value::Text(read_ending(text)?)),
-        Kind::Following => Ok(Value::Following(read_followed(text)?)),
-        Kind::Looks => Ok(Value::Looks(not_zero(read_number(bytes, MOST_LOOKS)?)?)),
-        Kind::Number => Ok(Value::Number(read_number(bytes, GREATEST)?)),
-        Kind::HexNumber => Ok(Value::Number(read_hex(bytes)?)),
-        Kind::Process => Ok(Value::Process(read_process(bytes)?)),
-        Kind::Seconds => Ok(Value::Pause(read_pause(bytes)?)),
-        Kind::OnBroken => Ok(Value::OnBroken(read_on_broken(text)?)),
-        Kind::Format => Ok(Value::Format(read_format(text).ok_or(UsageKind::BadFormat)?)),
-    }
-}
-
 /// Reads a count with or without a sign.
-fn read_amount(text: &[u8]) -> Result<Count, UsageKind>
+pub(crate) fn read_amount(text: &[u8]) -> Result<Count, UsageKind>
     ensures { result ≡ counted (count_of text.now) }
 {
     match read_count(text) {
@@ -105,7 +39,7 @@ fn read_amount(text: &[u8]) -> Result<Count, UsageKind>
 }
 
 /// Reads a count, at least 1. A `-` is a bad number, whatever follows it.
-fn read_size(text: &[u8]) -> Result<u64, UsageKind>
+pub(crate) fn read_size(text: &[u8]) -> Result<u64, UsageKind>
     ensures { result ≡ size_in text.now }
 {
     match text {
@@ -127,7 +61,7 @@ pub(crate) fn read_number(text: &[u8], limit: u64) -> Result<u64, UsageKind>
 }
 
 /// Reads digits in hexadecimal alone, a number up to 2^63-1.
-fn read_hex(text: &[u8]) -> Result<u64, UsageKind>
+pub(crate) fn read_hex(text: &[u8]) -> Result<u64, UsageKind>
     ensures { result ≡ hex_in text.now }
 {
     let mut number: u64 = 0;
@@ -147,14 +81,14 @@ fn read_hex(text: &[u8]) -> Result<u64, UsageKind>
 }
 
 /// Reads the number of a process.
-fn read_process(text: &[u8]) -> Result<u32, UsageKind>
+pub(crate) fn read_process(text: &[u8]) -> Result<u32, UsageKind>
     ensures { result ≡ process_in text.now }
 {
     Ok(not_zero(read_number(text, LAST_PROCESS)?)? as u32)
 }
 
 /// Reads one byte, or the two bytes `\0`, which stand for byte 0.
-fn read_byte(text: &[u8]) -> Result<u8, UsageKind>
+pub(crate) fn read_byte(text: &[u8]) -> Result<u8, UsageKind>
     ensures { result ≡ byte_in text.now }
 {
     match text {
@@ -165,7 +99,7 @@ fn read_byte(text: &[u8]) -> Result<u8, UsageKind>
 }
 
 /// Reads the ending of names: a text without `/`.
-fn read_ending(text: &str) -> Result<&str, UsageKind>
+pub(crate) fn read_ending(text: &str) -> Result<&str, UsageKind>
     ensures ok { IfOk result (λ ending. ending_in text.now ≡ Ok ending.now) }
     ensures err { IfErr result (λ fault. ending_in text.now ≡ Err fault) }
 {
@@ -176,7 +110,7 @@ fn read_ending(text: &str) -> Result<&str, UsageKind>
 }
 
 /// Reads what is followed.
-fn read_followed(text: &str) -> Result<Followed, UsageKind>
+pub(crate) fn read_followed(text: &str) -> Result<Followed, UsageKind>
     ensures { result ≡ followed_in text.now }
 {
     if text == "descriptor" {
@@ -189,7 +123,7 @@ fn read_followed(text: &str) -> Result<Followed, UsageKind>
 }
 
 /// Reads what a run does once an output is broken.
-fn read_on_broken(text: &str) -> Result<OnBroken, UsageKind>
+pub(crate) fn read_on_broken(text: &str) -> Result<OnBroken, UsageKind>
     ensures { result ≡ on_broken_in text.now }
 {
     if text == "warn" || text == "warn-nopipe" {
@@ -203,7 +137,7 @@ fn read_on_broken(text: &str) -> Result<OnBroken, UsageKind>
 
 /// Reads seconds: digits, which may have a `.` before, among or after them. Returns them as milliseconds, rounded up, 2^63-1 at
 /// most.
-fn read_pause(text: &[u8]) -> Result<u64, UsageKind>
+pub(crate) fn read_pause(text: &[u8]) -> Result<u64, UsageKind>
     ensures { result ≡ pause_in text.now }
 {
     let (whole, count) = leading_number(text);

@@ -2,15 +2,16 @@
 ghost use Rattle.std.specs.Prelude.{◌≡◌, map, IfOk, IfErr};
 ghost use Rattle.words_core.specs.Given.{option_seen};
 ghost use Rattle.words_core.specs.Spelling.{IsRefused};
-ghost use Rattle.words_core.specs.Words.{CanRun, HasBadOperands, HasOperands, follows, looks, program_asked, settings_for, settings_of, tool_named, topic_in, topic_named, topic_of, work_for};
+ghost use Rattle.words_core.specs.Words.{CanRun, HasBadOperands, HasOperands, follows, looks, program_asked, settings_for, settings_of, tool_named, topic_in, topic_named, work_for};
 
+use crate::choice::Choice;
 use crate::csplit_words::settle_csplit;
 use crate::ends_words::settle_ends;
 use crate::settings::{Settings, Topic};
 use crate::spelled::{Chosen, Spelled};
 use crate::spelling::read_given;
 use crate::split_words::settle_split;
-use crate::table::{Choice, all_tools, find_option, find_row, program_options};
+use crate::table::{Takes, all_tools, find_option, find_row, program_options};
 use crate::tail_words::settle_tail;
 use crate::tee_words::settle_tee;
 use crate::value::MOST_LOOKS;
@@ -85,17 +86,8 @@ fn settle_program<'a>(name: &str) -> Result<Settings<'a>, Fault>
 fn topic_named(name: &str) -> Option<Topic>
     ensures { result ≡ topic_named name.now }
 {
-    let (choice, _) = find_option(program_options(), name.as_bytes())?;
-    topic_of(choice)
-}
-
-/// The text that an option asks for.
-fn topic_of(choice: Choice) -> Option<Topic>
-    ensures { result ≡ topic_of choice }
-{
-    match choice {
-        Choice::Help => Some(Topic::Help),
-        Choice::Version => Some(Topic::Version),
+    match find_option(program_options(), name.as_bytes())? {
+        Takes::Last(topic) => Some(topic),
         _ => None,
     }
 }
@@ -105,7 +97,7 @@ fn topic_in(options: &[Chosen<'_>]) -> Option<Topic>
     ensures { result ≡ topic_in (map option_seen options.now) }
 {
     for option in options {
-        if let Some(topic) = topic_of(option.choice) {
+        if let Choice::About(topic) = option.choice {
             return Some(topic);
         }
     }

@@ -122,7 +122,7 @@ fn have_options(ones: &[Chosen<'_>], others: &[Chosen<'_>]) -> bool {
         return false;
     }
     for at in 0..ones.len() {
-        if !is_alike(&ones[at], &others[at]) {
+        if ones[at].choice != others[at].choice {
             return false;
         }
     }
@@ -139,10 +139,6 @@ fn have_operands(ones: &[Operand<'_>], others: &[Operand<'_>]) -> bool {
         }
     }
     true
-}
-
-fn is_alike(one: &Chosen<'_>, other: &Chosen<'_>) -> bool {
-    one.choice == other.choice && one.value == other.value
 }
 
 #[test]

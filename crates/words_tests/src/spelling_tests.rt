@@ -2,46 +2,40 @@
 use crate::refused::Refused;
 use ports_core::{Fault, Tool, UsageKind};
 use seg_core::count::{Count, Sign};
+use seg_core::unit::Unit;
 use std::alloc::Global;
 use std::process::Abort;
 use std::test::Fail;
-use words_core::{
-    Choice, Chosen, Kind, Operand, OptionRow, Spelled, Takes, ToolRow, Value, read_given,
-};
+use words_core::{Choice, Chosen, Kind, Operand, OptionRow, Spelled, Takes, ToolRow, read_given};
 
 const ROWS: &[OptionRow] = &[
     OptionRow {
         names: &["-q", "--quiet"],
-        choice: Choice::Quiet,
-        takes: Takes::Nothing,
+        takes: Takes::Nothing(Choice::Quiet),
         value: "",
         does: "",
     },
     OptionRow {
         names: &["-v"],
-        choice: Choice::Verbose,
-        takes: Takes::Nothing,
+        takes: Takes::Nothing(Choice::Verbose),
         value: "",
         does: "",
     },
     OptionRow {
         names: &["-n"],
-        choice: Choice::Lines,
-        takes: Takes::Value(Kind::Count),
+        takes: Takes::Value(Kind::Amount(Unit::Lines)),
         value: "",
         does: "",
     },
     OptionRow {
         names: &["-f", "--prefix"],
-        choice: Choice::Bytes,
-        takes: Takes::Value(Kind::Text),
+        takes: Takes::Value(Kind::Prefix),
         value: "",
         does: "",
     },
     OptionRow {
         names: &["-F", "--follow"],
-        choice: Choice::Files,
-        takes: Takes::Optional(Kind::Text),
+        takes: Takes::Optional(Choice::Retry, Kind::Prefix),
         value: "",
         does: "",
     },
@@ -71,41 +65,39 @@ fn reads_clusters(rt: HostRuntime) -> Result<(), Fail> {
 
 const CLUSTERS: &[&str] = &["-qvn5", "-", "--quiet", "-vn", "7", "--", "-q"];
 
+const FIVE: Count = Count {
+    sign: Sign::Plain,
+    amount: 5,
+};
+
+const SEVEN: Count = Count {
+    sign: Sign::Plain,
+    amount: 7,
+};
+
 const OPTIONS: &[Chosen<'static>] = &[
     Chosen {
         choice: Choice::Quiet,
-        value: Value::Nothing,
         word: 1,
     },
     Chosen {
         choice: Choice::Verbose,
-        value: Value::Nothing,
         word: 1,
     },
     Chosen {
-        choice: Choice::Lines,
-        value: Value::Count(Count {
-            sign: Sign::Plain,
-            amount: 5,
-        }),
+        choice: Choice::Amount(Unit::Lines, FIVE),
         word: 1,
     },
     Chosen {
         choice: Choice::Quiet,
-        value: Value::Nothing,
         word: 3,
     },
     Chosen {
         choice: Choice::Verbose,
-        value: Value::Nothing,
         word: 4,
     },
     Chosen {
-        choice: Choice::Lines,
-        value: Value::Count(Count {
-            sign: Sign::Plain,
-            amount: 7,
-        }),
+        choice: Choice::Amount(Unit::Lines, SEVEN),
         word: 4,
     },
 ];
@@ -118,39 +110,36 @@ const OPERANDS: &[Operand<'static>] = &[
     },
 ];
 
-/// Checks that one text is given, by an option in the first word.
-fn gives_text(rt: &impl Abort, alloc: Global, words: &[&str], choice: Choice, value: Value<'_>) {
+/// Checks that this is asked for, by an option in the first word.
+fn gives_text(rt: &impl Abort, alloc: Global, words: &[&str], choice: Choice<'_>) {
     match read(alloc, words) {
         Ok(spelled) => match spelled.options.as_slice() {
-            [option] => {
-                assert!(rt; option.choice == choice, "at {words:?}");
-                assert!(rt; option.value == value, "at {words:?}");
-            }
+            [option] => assert!(rt; option.choice == choice, "at {words:?}"),
             _ => assert!(rt; false, "at {words:?}"),
         },
         Err(fault) => assert!(rt; false, "{fault:?} at {words:?}"),
     }
 }
 
-type TextRow<'a> = (&'a [&'a str], Choice, Value<'a>);
+type TextRow<'a> = (&'a [&'a str], Choice<'a>);
 
 #[test]
 fn reads_texts(rt: HostRuntime) {
     for row in TEXTS {
-        gives_text(&rt, rt.alloc(), row.0, row.1, row.2);
+        gives_text(&rt, rt.alloc(), row.0, row.1);
     }
 }
 
 const TEXTS: &[TextRow<'static>] = &[
-    (&["-fab"], Choice::Bytes, Value::Text("ab")),
-    (&["-f", "ab"], Choice::Bytes, Value::Text("ab")),
-    (&["-f", "-q"], Choice::Bytes, Value::Text("-q")),
-    (&["-f\u{e9}"], Choice::Bytes, Value::Text("\u{e9}")),
-    (&["--prefix=a=b"], Choice::Bytes, Value::Text("a=b")),
-    (&["--prefix="], Choice::Bytes, Value::Text("")),
-    (&["--prefix", "ab"], Choice::Bytes, Value::Text("ab")),
-    (&["--follow", "name"], Choice::Files, Value::Nothing),
-    (&["--follow=name"], Choice::Files, Value::Text("name")),
+    (&["-fab"], Choice::Prefix("ab")),
+    (&["-f", "ab"], Choice::Prefix("ab")),
+    (&["-f", "-q"], Choice::Prefix("-q")),
+    (&["-f\u{e9}"], Choice::Prefix("\u{e9}")),
+    (&["--prefix=a=b"], Choice::Prefix("a=b")),
+    (&["--prefix="], Choice::Prefix("")),
+    (&["--prefix", "ab"], Choice::Prefix("ab")),
+    (&["--follow", "name"], Choice::Retry),
+    (&["--follow=name"], Choice::Prefix("name")),
 ];
 
 #[test]

@@ -3,8 +3,7 @@ use Rattle.std.specs.Coded.{×_prop, le_prop}
 use Rattle.seg_core.specs.declared.cut.Cut.TheVariants.{Parts, Round}
 use Rattle.seg_core.specs.declared.cut.Way.{Way}
 use Rattle.seg_core.specs.declared.cut.Way.TheVariants.{Cut, Chunk, Chunks, Turn}
-use Rattle.words_core.specs.SplitAsked.{SplitAsked}
-use Rattle.words_core.specs.SplitWords.{CanSplit, IsInLimits}
+use Rattle.words_core.specs.SplitWords.{SplitAsked, CanSplit, IsInLimits}
 
 limits_prop : (way : Way) → IsProp (IsInLimits way)
 limits_prop (Cut (Parts limit)) = le_prop

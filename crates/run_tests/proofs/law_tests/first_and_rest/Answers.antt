@@ -3,7 +3,7 @@ use Rattle.std.proofs.Common.{◌≡◌, ◌^◌, ◌-◌, [], ◌∷◌, None, 
 use Rattle.seg_core.specs.Count.{count_of, factor_of}
 use Rattle.seg_core.specs.declared.count.Sign.TheVariants.{Plain, Plus}
 use Rattle.seg_core.specs.declared.unit.Unit.TheVariants.{Lines}
-use Rattle.words_core.specs.EndsAsked.{EndsAsked}
+use Rattle.words_core.specs.EndsWords.{EndsAsked}
 use Rattle.words_core.specs.Spelling.{foremost}
 use Rattle.words_core.specs.Table.{tools}
 use Rattle.words_core.specs.Words.{settings_of}

@@ -4,7 +4,7 @@ use Rattle.ports_core.specs.Slot.{Slot, slot_at}
 use Rattle.ports_core.specs.Source.{Content, Source, source_of}
 use Rattle.watch_core.specs.Snapshot.{Snapshot}
 use Rattle.watch_core.specs.Watched.{Watched}
-use Rattle.words_core.specs.EndsAsked.{EndsAsked}
+use Rattle.words_core.specs.EndsWords.{EndsAsked}
 use Rattle.words_core.specs.Words.{settings_of}
 use Rattle.words_core.specs.declared.settings.Settings.TheVariants.{Tail}
 use Rattle.words_core.specs.declared.value.Followed.{Followed}

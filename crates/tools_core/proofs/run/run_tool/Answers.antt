@@ -1,8 +1,8 @@
 use Rattle.std.proofs.Common.{Bor, ℕ, List, map, ◌∙◌, ◌∷◌, [], refl, sym, ap}
 use Rattle.run_core.specs.Input.{has_dash}
-use Rattle.words_core.specs.CsplitAsked.{CsplitAsked}
-use Rattle.words_core.specs.SplitAsked.{SplitAsked}
-use Rattle.words_core.specs.TeeAsked.{TeeAsked}
+use Rattle.words_core.specs.CsplitWords.{CsplitAsked}
+use Rattle.words_core.specs.SplitWords.{SplitAsked}
+use Rattle.words_core.specs.TeeWords.{TeeAsked}
 use Rattle.words_core.specs.declared.settings.Settings.{Settings}
 use Rattle.tools_core.specs.Tasks.{names_of}
 use Rattle.run_core.proofs.InputLemmas.{fresh_counts}

@@ -1,10 +1,13 @@
+use Rattle.std.proofs.Common.{[]}
 use Rattle.words_core.specs.EndsWords.{ends_by, ten_lines}
 use Rattle.words_core.specs.Laws.{amount_of, counts, heads}
-use Rattle.words_core.proofs.ChoiceLemmas.{ends-sets, last_decides}
+use Rattle.words_core.specs.TailWords.{unfollowed}
+use Rattle.words_core.proofs.ChoiceLemmas.{ends-sets, last_decides, tail_ends}
 use Rattle.words_core.proofs.laws.last_of_ends_decides.Goals as goal
 
 pub returns : goal.returns
 returns c = record {
-  counts = last_decides ends_by amount_of counts (λ a o c v. (ends-sets a o c v).0) ten_lines;
-  headers = last_decides ends_by (λ asked. asked.headers) heads (λ a o c v. (ends-sets a o c v).1) ten_lines;
+  counts = last_decides ends_by amount_of counts (λ a o c. (ends-sets a o c).0) (ten_lines []);
+  headers = last_decides ends_by (λ asked. asked.headers) heads (λ a o c. (ends-sets a o c).1) (ten_lines []);
+  tail = tail_ends (unfollowed (ten_lines []));
 }

@@ -17,15 +17,15 @@ well_more given whole (Ok more) is = (more, refl)
 well_more given whole (Err fault) is = absurd (cc)
 
 ends_after : (least : ℕ) (state : State) (kind : UsageKind) (word : ℕ) → Awaits least state → ended state ≡ Err (Usage kind word) → least ≤ word
-ends_after least (Awaiting choice awaited option) kind word awaits is = grind (arith, common_steps)
+ends_after least (Awaiting awaited option) kind word awaits is = grind (arith, common_steps)
 ends_after least state kind word awaits is = absurd (cc)
 
 awaits_later : (least place : ℕ) (state : State) → least ≤ place → Awaits place state → Awaits least state
-awaits_later least place (Awaiting choice kind option) within awaits = search rules
+awaits_later least place (Awaiting kind option) within awaits = search rules
 awaits_later least place state within awaits = tt
 
 module _ (rows : List OptionRow) (kind : UsageKind) (word : ℕ) where
-  goes_after : (least : ℕ) {place : ℕ} (front : List ℕ) (rest : State → Result Given Fault) (meant : Result Meaning Fault) → least ≤ place → GivesItself place front meant → ((state : State) → Awaits least state → rest state ≡ Err (Usage kind word) → least ≤ word)
+  goes_after : (least : ℕ) {place : ℕ} (front : List ℕ) (rest : State → Result Given Fault) (meant : Result Meaning Fault) → least ≤ place → GivesItself rows place front meant → ((state : State) → Awaits least state → rest state ≡ Err (Usage kind word) → least ≤ word)
       → onward rest meant ≡ Err (Usage kind word) → least ≤ word
   goes_after least {place} front rest (Ok meaning) within stands later is = later meaning.next (awaits_later least place meaning.next within stands.2) (of_more meaning.given (rest meaning.next) is)
   goes_after least front rest (Err (Usage other at)) within stands later is = let same : at ≡ word = cc in omega (arith, within, stands, same)
@@ -38,7 +38,7 @@ module _ (rows : List OptionRow) (kind : UsageKind) (word : ℕ) where
       (λ next awaited. fault_after words least (place + 1) next (omega (arith, within)) awaited) is
 
   well_end : (state : State) {given : Given} (least : ℕ) → ended state ≡ Ok given → Awaits least state
-  well_end (Awaiting choice awaited option) least is = absurd (cc)
+  well_end (Awaiting awaited option) least is = absurd (cc)
   well_end state least is = tt
 
   later_by : (first more : List (List ℕ)) (place : ℕ) {given : Given} (meant : Result Meaning Fault)

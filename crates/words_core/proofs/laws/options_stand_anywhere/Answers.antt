@@ -1,22 +1,23 @@
-use Rattle.std.proofs.Common.{refl}
-use Rattle.ports_core.specs.declared.slot.Mode.TheVariants.{Append, Fresh}
+use Rattle.std.proofs.Common.{[], refl}
+use Rattle.ports_core.specs.declared.slot.Mode.TheVariants.{Append}
 use Rattle.words_core.specs.CsplitWords.{csplit_by, plain}
+use Rattle.words_core.specs.Given.{texts_of}
 use Rattle.words_core.specs.EndsWords.{ends_by, ten_lines}
 use Rattle.words_core.specs.SplitWords.{no_options, split_by}
 use Rattle.words_core.specs.Laws.{appends, drops_sizes, elides_files, ends_with_zero, has, keeps_files, leaves_lines_out, tells_of_files}
-use Rattle.words_core.specs.TeeWords.{mode_by}
-use Rattle.words_core.proofs.ChoiceLemmas.{append-sets, append_is, csplit-sets, ends-sets, given_anywhere, so_where_given, split-sets}
+use Rattle.words_core.specs.TeeWords.{fresh, tee_by}
+use Rattle.words_core.proofs.ChoiceLemmas.{append_is, csplit-sets, ends-sets, given_anywhere, so_where_given, split-sets, tee-sets}
 use Rattle.words_core.proofs.laws.options_stand_anywhere.Goals as goal
 
 pub returns : goal.returns
 returns c = record {
-  keep = so_where_given csplit_by (λ asked. asked.keep) keeps_files (λ a c v. (csplit-sets a a c v).3) plain refl;
-  quiet = so_where_given csplit_by (λ asked. asked.quiet) drops_sizes (λ a c v. (csplit-sets a a c v).4) plain refl;
-  elide = so_where_given csplit_by (λ asked. asked.elide) elides_files (λ a c v. (csplit-sets a a c v).5) plain refl;
-  suppress = so_where_given csplit_by (λ asked. asked.suppress) leaves_lines_out (λ a c v. (csplit-sets a a c v).6) plain refl;
-  leave_out = so_where_given split_by (λ asked. asked.elide) elides_files (λ a c v. (split-sets a a c v).3) no_options refl;
-  tell = so_where_given split_by (λ asked. asked.verbose) tells_of_files (λ a c v. (split-sets a a c v).4) no_options refl;
-  zero = given_anywhere ends_by (λ asked. asked.delim) ends_with_zero 0 (λ a c v. (ends-sets a a c v).2) ten_lines;
+  keep = so_where_given csplit_by (λ asked. asked.keep) keeps_files (λ a c. (csplit-sets a a c).3) plain refl;
+  quiet = so_where_given csplit_by (λ asked. asked.quiet) drops_sizes (λ a c. (csplit-sets a a c).4) plain refl;
+  elide = so_where_given csplit_by (λ asked. asked.elide) elides_files (λ a c. (csplit-sets a a c).5) plain refl;
+  suppress = so_where_given csplit_by (λ asked. asked.suppress) leaves_lines_out (λ a c. (csplit-sets a a c).6) plain refl;
+  leave_out = so_where_given split_by (λ asked. asked.elide) elides_files (λ a c. (split-sets a a c).3) no_options refl;
+  tell = so_where_given split_by (λ asked. asked.verbose) tells_of_files (λ a c. (split-sets a a c).4) no_options refl;
+  zero = given_anywhere ends_by (λ asked. asked.delim) ends_with_zero 0 (λ a c. (ends-sets a a c).2) (ten_lines []);
   append = λ given.
-      rw (given_anywhere mode_by (λ mode. mode) appends Append append-sets Fresh given.options) (append_is (has appends given.options));
+      rw (given_anywhere tee_by (λ asked. asked.mode) appends Append (λ a c. (tee-sets a a c).0) (fresh (texts_of given.operands)) given.options) (append_is (has appends given.options));
 }

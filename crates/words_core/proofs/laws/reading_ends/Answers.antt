@@ -3,9 +3,10 @@ use Rattle.std.proofs.lemmas.Grind.{common_steps}
 use Rattle.ports_core.specs.declared.fault.Fault.{Fault}
 use Rattle.words_core.specs.declared.spelling.State.{State}
 use Rattle.words_core.specs.declared.spelling.State.TheVariants.{Reading, Ended}
-use Rattle.words_core.specs.declared.table.Choice.{Choice}
+use Rattle.words_core.specs.declared.choice.Choice.TheVariants.{About}
+use Rattle.words_core.specs.declared.settings.Topic.{Topic}
 use Rattle.words_core.specs.Table.{OptionRow, csplit_table, head_table, program_table, split_table, tail_table, tee_table, tools}
-use Rattle.words_core.specs.Given.{Given, bare, joined, nothing}
+use Rattle.words_core.specs.Given.{Given, joined, nothing, one_option}
 use Rattle.words_core.specs.Laws.{IsLast, LeaveTheRest}
 use Rattle.words_core.specs.Spelling.{Meaning, foremost, given_before, meaning_of, onward, spelled}
 use Rattle.words_core.proofs.ValueLemmas.{last_name}
@@ -47,8 +48,8 @@ nothing_more : (rows : List OptionRow) (words : List (List ℕ)) (place : ℕ) �
 nothing_more rows [] place = refl
 nothing_more rows (word ∷ words) place = ap (given_before nothing) (nothing_more rows words (place + 1))
 
-last_ends : (rows : List OptionRow) (name : List ℕ) (choice : Choice) (words : List (List ℕ)) (place : ℕ) → IsLast rows name choice → spelled rows ((45 ∷ 45 ∷ name) ∷ words) place Reading ≡ Ok (bare choice place)
-last_ends rows name choice words place is = rw (last_name name place is, nothing_more rows words (place + 1))
+last_ends : (rows : List OptionRow) (name : List ℕ) (topic : Topic) (words : List (List ℕ)) (place : ℕ) → IsLast rows name topic → spelled rows ((45 ∷ 45 ∷ name) ∷ words) place Reading ≡ Ok (one_option (About topic) place)
+last_ends rows name topic words place is = rw (last_name name place is, nothing_more rows words (place + 1))
 
 pub returns : goal.returns
 unfolding tools foremost program_table

@@ -1,4 +1,3 @@
-use Rattle.words_core.specs.Table.{tool_seen}
 use Rattle.words_core.proofs.LimitLemmas.{read-can}
 use Rattle.words_core.proofs.WordsLemmas.{returned}
 use Rattle.words_core.proofs.words.read_words.Goals as goal
@@ -10,6 +9,6 @@ returns c =
     c.settle.ensures.ok c.settle.ensures.err in record {
       ok = there.0;
       err = there.1;
-      can = read-can (tool_seen c.in-Some.row.now) _ c.in_ok-spelled.spelled c.in-Some.row.now.tool c.settle.result c.in_ok-spelled.ensures c.settle.ensures.ok;
+      can = read-can _ _ c.settle.result c.all_tools.ensures c.in-Some.ensures c.in_ok-spelled.ensures c.settle.ensures.ok;
       operands = c.settle.ensures.operands;
     }

@@ -1,7 +1,7 @@
 use Rattle.ports_core.proofs.SlotSteps.{swept_none}
 use Rattle.std.proofs.Common.{◌∙◌, refl, ap, rules}
 use Rattle.ports_core.proofs.HandedOn.{fault_is}
-use Rattle.words_core.specs.CsplitAsked.{CsplitAsked}
+use Rattle.words_core.specs.CsplitWords.{CsplitAsked}
 use Rattle.tools_core.proofs.AdapterLemmas.{no_memory, opened_of, opened_short, some_there, csplit_halts}
 use Rattle.csplit_core.specs.Csplit.{csplit_work}
 use Rattle.std.proofs.lemmas.Result.{on_ok_weaker}

@@ -1,0 +1,65 @@
+-- What an option asks for, by its kind and what its value says, or what is wrong with that.
+use Rattle.std.specs.Prelude.{ℕ, ◌-◌, ◌^◌, List, Option, Some, None, Result, Ok, Err}
+use denote.Ref.{Bor}
+use Rattle.seg_core.specs.Count.{count_of, digits_of}
+use Rattle.ports_core.specs.declared.alphabet.Alphabet.TheVariants.{Digits, Hex}
+use Rattle.ports_core.specs.declared.fault.UsageKind.{UsageKind}
+use Rattle.ports_core.specs.declared.fault.UsageKind.TheVariants.{BadFormat}
+use Rattle.words_core.specs.Division.{division_in}
+use Rattle.words_core.specs.Format.{Format, format_in, format_seen}
+use Rattle.words_core.specs.Value.{byte_in, counted, ending_in, followed_in, hex_in, not_zero, on_broken_in, pause_in, process_in, size_in, then_check, up_to}
+use Rattle.words_core.specs.declared.choice.Choice.{Choice}
+use Rattle.words_core.specs.declared.format.Format.{Format as Written}
+use Rattle.words_core.specs.declared.choice.Choice.TheVariants as choice
+use Rattle.words_core.specs.declared.choice.Kind.{Kind}
+use Rattle.words_core.specs.declared.choice.Kind.TheVariants as kind
+
+-- Of a text only its bytes count, and not where it lies: so that is the same for all. Those of a format are what it writes.
+
+abbrev pub text : List ℕ → Bor (List ℕ)
+text bytes = record { ref_ptr = (0, 0); now = bytes }
+
+abbrev pub written : Format → Written
+written format = record { before = text format.before; form = format.form; after = text format.after }
+
+abbrev pub format_of : Written → Format
+format_of format = record { before = format.before.now; form = format.form; after = format.after.now }
+
+abbrev pub seen : Choice → Choice
+seen (choice.Ending ending) = choice.Ending (text ending.now)
+seen (choice.Prefix prefix) = choice.Prefix (text prefix.now)
+seen (choice.Format format) = choice.Format (written (format_seen format))
+seen other = other
+
+-- what a value asks for, or what is wrong with it
+abbrev pub asking : {A : Type 0} → (A → Choice) → Result A UsageKind → Result Choice UsageKind
+asking make (Ok value) = Ok (make value)
+asking make (Err fault) = Err fault
+
+-- a text with one conversion
+abbrev pub or_bad_format : Option Format → Result Choice UsageKind
+or_bad_format None = Err BadFormat
+or_bad_format (Some format) = Ok (choice.Format (written format))
+
+-- what an option of this kind asks for with this value
+abbrev pub choice_in : Kind → List ℕ → Result Choice UsageKind
+choice_in (kind.Amount unit) value = asking (λ count. choice.Amount unit count) (counted (count_of value))
+choice_in kind.Follow value = asking (λ followed. choice.Follow followed) (followed_in value)
+choice_in kind.Looks value =
+    asking (λ looks. choice.Looks looks) (then_check (up_to (2 ^ 63 - 1) (digits_of value)) not_zero)
+choice_in kind.Pause value = asking (λ pause. choice.Pause pause) (pause_in value)
+choice_in kind.Process value = asking (λ process. choice.Process process) (process_in value)
+choice_in kind.LinesEach value = asking (λ size. choice.LinesEach size) (size_in value)
+choice_in kind.BytesEach value = asking (λ size. choice.BytesEach size) (size_in value)
+choice_in kind.LineBytesEach value = asking (λ size. choice.LineBytesEach size) (size_in value)
+choice_in kind.Divided value = asking (λ division. choice.Divided division) (division_in value)
+choice_in kind.Width value = asking (λ width. choice.Width width) (up_to 255 (digits_of value))
+choice_in kind.NumericSuffixes value =
+    asking (λ from. choice.Suffixes Digits (Some from)) (up_to (2 ^ 63 - 1) (digits_of value))
+choice_in kind.HexSuffixes value = asking (λ from. choice.Suffixes Hex (Some from)) (hex_in value)
+choice_in kind.Separator value = asking (λ byte. choice.Separator byte) (byte_in value)
+choice_in kind.Ending value = asking (λ ending. choice.Ending (text ending)) (ending_in value)
+choice_in kind.Prefix value = Ok (choice.Prefix (text value))
+choice_in kind.Format value = or_bad_format (format_in value)
+choice_in kind.OnBroken value = asking (λ on_broken. choice.OnBroken on_broken) (on_broken_in value)
+choice_in kind.NoEffect value = asking (λ _. choice.NoEffect) (up_to (2 ^ 63 - 1) (digits_of value))

@@ -1,0 +1,18 @@
+-- What private calls say: what the value of an option asks for, or what is wrong with it; and what options of `csplit` ask
+-- for, with texts of which only the bytes count.
+use Rattle.std.specs.Prelude.{Result, Ok, Err, option_map}
+use Rattle.ports_core.specs.declared.fault.UsageKind.{UsageKind}
+use Rattle.words_core.specs.Choice.{seen, text, written}
+use Rattle.words_core.specs.Format.{format_seen}
+use Rattle.words_core.specs.declared.choice.Choice.{Choice}
+use Rattle.words_core.specs.declared.csplit_words.CsplitOptions.{CsplitOptions}
+
+abbrev pub seen_in : Result Choice UsageKind → Result Choice UsageKind
+seen_in (Ok choice) = Ok (seen choice)
+seen_in (Err fault) = Err fault
+
+abbrev pub options_seen : CsplitOptions → CsplitOptions
+options_seen asked = record asked {
+  prefix = text asked.prefix.now;
+  format = option_map (λ format. written (format_seen format)) asked.format;
+}
