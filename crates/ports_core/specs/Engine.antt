@@ -186,7 +186,8 @@ pub record TookIn {S : Type 0} (duty : Duty S) (before after : S) (front : List 
 -- It took in the first `count` bytes of what an input has left, which were passed over there and not read: looks asked
 -- for at most `most` at once.
 abbrev pub Loads : {S : Type 0} → Duty S → Bool → ℕ → ℕ → ℕ → S → S → List Source → List Source → Type 0
-Loads duty told most slot count before after old new = PassesOver told most slot count (TookIn duty before after) old new
+Loads duty told most slot count before after old new =
+    PassesOver told most slot count (TookIn duty before after) old new
 
 -- The next piece may have this many bytes. Whatever x the stage was fed, if more can change the output: where a piece of
 -- no more bytes than that completes it, those of its bytes that are not used, n at its end, are at most `ahead`.
