@@ -1,6 +1,6 @@
 -- Lemmas on what options ask for, one after another.
 use Rattle.std.proofs.lemmas.Grind.{common_steps}
-use Rattle.std.proofs.Common.{◌≡◌, ◌≤◌, ◌↔◌, ℕ, Bool, true, false, ◌||◌, arith, List, [], ◌∷◌, ◌++◌, length, Option, Some, None, Result, Ok, Err, refl, sym, ◌∙◌, ap, is_some, if◌then◌else◌, filter, IsOk, rules}
+use Rattle.std.proofs.Common.{◌≡◌, ◌≤◌, ◌↔◌, ℕ, Bool, true, false, ◌||◌, arith, List, [], ◌∷◌, ◌++◌, length, Option, Some, None, Result, Ok, Err, refl, ◌∙◌, ap, is_some, if◌then◌else◌, filter, IsOk, rules}
 use Rattle.std.specs.Option.{unwrap_or}
 use Rattle.std.proofs.lemmas.Bool.{or_parts}
 use Rattle.ports_core.specs.declared.fault.Fault.{Fault}
@@ -60,8 +60,8 @@ pub tail-sets : (asked other : TailSettings) (choice : Choice)
     × ((tail_by asked choice).pause ≡ (if counts_pause choice then (tail_by other choice).pause else asked.pause))
     × ((tail_by asked choice).process ≡ (if names_process choice then (tail_by other choice).process else asked.process))
     × ((tail_by asked choice).ends ≡ ends_by asked.ends choice)
-tail-sets asked other (choice.Follow followed) = (refl, refl, refl, refl, refl)
-tail-sets asked other choice = (refl, refl, refl, refl, refl)
+tail-sets asked other (choice.Follow followed) = search rules
+tail-sets asked other choice = search rules
 
 pub retry-sets : (asked : Bool) (choice : Choice) → retry_by asked choice ≡ (if retries choice then true else asked)
 retry-sets asked choice.Retry = refl
@@ -165,12 +165,12 @@ so_where_given by part test sets asked not options = given_anywhere by part test
 
 pub append_is : (is : Bool) → ((if is then mode.Append else mode.Fresh) ≡ mode.Append) ↔ (is ≡ true)
 append_is true = (λ _. refl, λ _. refl)
-append_is false = grind (arith, common_steps)
+append_is false = search rules
 
 -- at most one way to split
 
 pub few_ways : (delim : ℕ) (ways : List Chosen) → (IsOk (only_way delim ways) → length ways ≤ 1) × (length ways ≤ 1 → IsOk (only_way delim ways))
-few_ways delim (way ∷ second ∷ more) = grind (arith, common_steps)
+few_ways delim (way ∷ second ∷ more) = search rules
 few_ways delim ways = search rules
 
 -- the ways among options, of which one is a way
@@ -189,14 +189,12 @@ same_ways delim (choice.LinesEach size) = refl
 same_ways delim choice = refl
 
 the_way : (found : Option Way) (other way : Way) → is_some found ≡ true → way ≡ unwrap_or found other → found ≡ Some way
-the_way (Some found) other way some is = ap (λ way. Some way) (sym is)
+the_way (Some found) other way some is = cc
 the_way None other way some is = absurd (cc)
 
 pub way_is : (before after : List Chosen) (option : Chosen) (way : Way) → is_way option ≡ true
     → way_of (before ++ option ∷ after) ≡ Ok way → way_in (separator_in (before ++ option ∷ after)) option.choice ≡ Some way
-way_is before after option way is ok =
-    let delim = separator_in (before ++ option ∷ after) in
-    the_way (way_in delim option.choice) (thousand_lines delim) way (same_ways delim option.choice ∙ is) (way_among delim (filter is_way before) (filter is_way after) option way (rw (ways_around before after option is) at ok))
+way_is before after option way is ok = grind (arith, common_steps, the_way, same_ways, way_among, ways_around)
 
 second_among : (delim : ℕ) (front rest : List Chosen) (option : Chosen) → length front ≡ 1 → only_way delim (front ++ option ∷ rest) ≡ Err (Usage TwoWays option.word)
 second_among delim (way ∷ []) rest option one = refl

@@ -2,12 +2,11 @@
 use Rattle.std.proofs.lemmas.Grind.{common_steps}
 use Rattle.std.proofs.lemmas.Bool.Decides.{nat_tests}
 use Rattle.std.proofs.lemmas.Bool.{and_parts}
-use Rattle.std.proofs.lemmas.Slice.Eq.{bytes_eq-Decides}
 use Rattle.std.proofs.Math.Seq.{drop-append_seam, take-append_seam}
 use Rattle.std.specs.Char.{is_ascii_digit}
 use Rattle.std.specs.List.{list_all, prefix_len}
 use Rattle.std.specs.Prelude.{nat_lt, bytes_eq, ⊤}
-use Rattle.std.proofs.Common.{◌≡◌, ◌⊎◌, inl, inr, refl, ℕ, ◌≤◌, ◌==◌, Bool, true, false, if◌then◌else◌, arith, List, [], ◌∷◌, ◌++◌, ◌*◌, mul-one, length, Some, None, Result, Ok, Err, sym, ◌∙◌}
+use Rattle.std.proofs.Common.{◌≡◌, ◌⊎◌, inl, inr, refl, ℕ, ◌≤◌, ◌==◌, Bool, true, false, if◌then◌else◌, arith, List, [], ◌∷◌, ◌++◌, ◌*◌, length, Some, None, Result, Ok, Err, sym, ◌∙◌, rules}
 use Rattle.seg_core.specs.declared.count.Count.{Count}
 use Rattle.seg_core.specs.Count.{after_digits, is_number, leading_digits, sized, value_of}
 use Rattle.ports_core.specs.declared.fault.Fault.{Fault}
@@ -33,7 +32,7 @@ use Rattle.words_core.specs.inner.Spelling.{Adds}
 
 adds_both : (old one more : Given) (new : Given) (result : Result State Fault) → Adds (reading more) (joined old one) new result → Adds (reading (joined one more)) old new result
 adds_both old one more new (Ok next) is = grind (arith, common_steps)
-adds_both old one more new (Err fault) is = grind (arith, common_steps)
+adds_both old one more new (Err fault) is = search rules
 
 -- the count was added, and then the options
 pub adds_count : (rows : List OptionRow) (place : ℕ) (text : List ℕ) (unit : Measured × ℕ) (counted : Result Count UsageKind) {count : Count} (old mid new : Given) (result : Result State Fault)
@@ -48,24 +47,19 @@ adds_count rows place text unit counted {count} old mid new result which many is
 unknown_first : (rows : List OptionRow) (place byte : ℕ) (rest : List ℕ) → option_lettered rows byte ≡ None → (byte == 45) ≡ false → mixed rows place (45 ∷ byte ∷ rest) ≡ Err (Usage UnknownOption place)
 unknown_first rows place byte rest none other = rw (other, none)
 
-head_has_no_digit : (byte : ℕ) → 48 ≤ byte → byte ≤ 57 → option_lettered head_table byte ≡ None
-head_has_no_digit byte least most = grind (arith, common_steps, nat_tests)
-
 tail_has_no_digit : (byte : ℕ) → 48 ≤ byte → byte ≤ 57 → option_lettered tail_table byte ≡ None
-tail_has_no_digit byte least most = grind (arith, common_steps, nat_tests)
+tail_has_no_digit byte least most = search rules
 
 begins_with_digit : (P : List ℕ → Type 0) (text : List ℕ) → nat_lt 0 (length (leading_digits text)) ≡ true → ((byte : ℕ) (rest : List ℕ) → 48 ≤ byte → byte ≤ 57 → P (byte ∷ rest)) → P text
 begins_with_digit P [] some each = absurd (cc)
-begins_with_digit P (byte ∷ rest) some each = each byte rest (grind (arith, common_steps, nat_tests)) (grind (arith, common_steps, nat_tests))
+begins_with_digit P (byte ∷ rest) some each = grind (arith, common_steps)
 
 pub head_letters : (text : List ℕ) (place : ℕ) → is_lettered head_table OfHead text ≡ true → mixed head_table place (45 ∷ text) ≡ Err (Usage UnknownOption place)
-head_letters text place is =
-    begins_with_digit (λ text. mixed head_table place (45 ∷ text) ≡ Err (Usage UnknownOption place)) text (grind (arith, nat_tests))
-    (λ byte rest least most. unknown_first head_table place byte rest (head_has_no_digit byte least most) (grind (arith, nat_tests)))
+head_letters text place is = grind (arith, common_steps)
 
 found_by : (P : List ℕ → Type 0) (known text : List ℕ) (names : List (List ℕ)) (test : Bool) → bytes_eq known text ≡ test → (if test then true else is_among names text) ≡ true
     → P known → (is_among names text ≡ true → P text) → P text
-found_by P known text names true same is first more = rw (← (bytes_eq-Decides known text).0 same) first
+found_by P known text names true same is first more = search rules
 found_by P known text names false other is first more = more is
 
 abbrev AreAll : (List ℕ → Type 0) → List (List ℕ) → Type 0
@@ -96,23 +90,18 @@ digits_in (digit ∷ digits) rest all none =
 
 pub one_letter : (rows : List OptionRow) (digits : List ℕ) (letter place : ℕ) → is_number digits ≡ true → is_ascii_digit letter ≡ false
     → with_letters rows place (digits ++ letter ∷ []) ≡ counted_with (unit_in (letter ∷ [])).0 place (switches rows place (letter ∷ [])) (times digits (unit_in (letter ∷ [])).1)
-one_letter rows digits letter place number other =
-    let front : prefix_len is_ascii_digit (digits ++ letter ∷ []) ≡ length digits = digits_in digits (letter ∷ []) (grind (arith, nat_tests)) (grind (arith, common_steps)) in
-    let before : leading_digits (digits ++ letter ∷ []) ≡ digits = rw front (take-append_seam digits (letter ∷ [])) in
-    let after : after_digits (digits ++ letter ∷ []) ≡ letter ∷ [] = rw front (drop-append_seam digits (letter ∷ [])) in
-    rw (before, after)
+one_letter rows digits letter place number other = search (rules, digits_in, nat_tests, common_steps, take-append_seam, drop-append_seam)
 
 not_empty : (digits : List ℕ) → is_number digits ≡ true → (length digits == 0) ≡ false
 not_empty [] is = absurd (cc)
 not_empty (digit ∷ digits) is = grind (arith, nat_tests)
 
 unit_is_no_digit : (letter : ℕ) {unit : Measured × ℕ} → unit_of letter ≡ Some unit → is_ascii_digit letter ≡ false
-unit_is_no_digit letter is = grind (arith, common_steps, nat_tests)
+unit_is_no_digit letter is = search rules
 
 pub unit_asks : (rows : List OptionRow) (digits : List ℕ) (letter place : ℕ) (unit : Measured × ℕ) (count : Count) → is_number digits ≡ true → unit_of letter ≡ Some unit → counted (sized Plain (value_of digits * unit.1)) ≡ Ok count
     → with_letters rows place (digits ++ letter ∷ []) ≡ Ok (one_option (Amount unit.0 count) place)
-unit_asks rows digits letter place unit count number is many =
-    one_letter rows digits letter place number (unit_is_no_digit letter is) ∙ rw (is, not_empty digits number, many)
+unit_asks rows digits letter place unit count number is many = grind (arith, common_steps, one_letter, unit_is_no_digit, not_empty)
 
 switched_so : (place : ℕ) (takes : Takes) {choice : Choice} → alone takes ≡ Some choice → switched place (Some takes) ≡ bare choice place
 switched_so place (takes.Nothing choice) is = cc
@@ -121,6 +110,4 @@ switched_so place other is = absurd (cc)
 
 pub option_asks : (rows : List OptionRow) (digits : List ℕ) (letter place : ℕ) (choice : Choice) (count : Count) → is_number digits ≡ true → unit_of letter ≡ None → is_ascii_digit letter ≡ false → IsSwitch rows letter choice
     → counted (sized Plain (value_of digits)) ≡ Ok count → with_letters rows place (digits ++ letter ∷ []) ≡ Ok (joined (one_option (Amount Lines count) place) (bare choice place))
-option_asks rows digits letter place choice count number is other switch many =
-    let once : counted (sized Plain (value_of digits * 1)) ≡ Ok count = rw (mul-one (value_of digits)) many in
-    one_letter rows digits letter place number other ∙ rw (is, not_empty digits number, once, switch.named, switched_so place switch.takes switch.alone)
+option_asks rows digits letter place choice count number is other switch many = grind (arith, common_steps, one_letter, not_empty, switched_so)

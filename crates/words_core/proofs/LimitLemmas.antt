@@ -1,6 +1,6 @@
 -- Whatever words spell, sizes, counts of files and widths are within their limits, and files that lines are dealt to have names.
 use Rattle.std.proofs.lemmas.Grind.{common_steps}
-use Rattle.std.proofs.Common.{◌≡◌, ℕ, zero, suc, ◌+◌, ◌-◌, ◌^◌, ◌≤◌, false, refl, arith, List, [], ◌∷◌, ◌++◌, Option, Some, None, Result, Ok, Err, IfOk, inl, inr, ◌⊎◌}
+use Rattle.std.proofs.Common.{◌≡◌, ℕ, zero, suc, ◌+◌, ◌-◌, ◌^◌, ◌≤◌, false, refl, arith, List, [], ◌∷◌, ◌++◌, Option, Some, None, Result, Ok, Err, IfOk, inl, inr, ◌⊎◌, rules}
 use Rattle.std.proofs.lemmas.Bool.{cond_both}
 use Rattle.std.specs.Option.{unwrap_or}
 use Rattle.std.specs.Prelude.{⊤, IfSome, filter, ◌==◌}
@@ -24,9 +24,8 @@ use Rattle.words_core.specs.Table.{OptionRow, ToolRow, row_named, tools}
 use Rattle.words_core.specs.Value.{then_check}
 use Rattle.words_core.specs.declared.spelled.Chosen.{Chosen}
 use Rattle.words_core.specs.Given.{asked_by, Given, GivenOperand}
-use Rattle.words_core.specs.CsplitWords.{csplit_asked}
 use Rattle.words_core.specs.Spelling.{Meaning, meaning_of, given_before, onward, spelled, start_of, given_by}
-use Rattle.words_core.specs.SplitWords.{SplitAsked, AreNamed, CanSplit, IsInLimits, IsWidth, is_way, only_way, way_of, split_by, no_options, suffix_for, files_in, split_asked, separator_in, for_all, first_number, fixed, free, least_width, or_two, thousand_lines, way_in, wide_enough}
+use Rattle.words_core.specs.SplitWords.{SplitAsked, AreNamed, CanSplit, IsInLimits, IsWidth, is_way, only_way, way_of, split_by, no_options, suffix_for, files_in, split_asked, separator_in, for_all, first_number, free, least_width, or_two, thousand_lines, way_in, wide_enough}
 use Rattle.words_core.specs.declared.split_words.Suffix.{Suffix}
 use Rattle.words_core.specs.Laws.{AreAmong, none, passed, taken}
 use Rattle.words_core.specs.Words.{CanRun, about_or, settings_for, topic_in, work_for}
@@ -82,14 +81,9 @@ split_by-few asked (choice.Suffixes alphabet (Some from)) few is = (few.0, is)
 split_by-few asked (choice.Suffixes alphabet None) few is = (few.0, omega arith)
 split_by-few asked choice few is = few
 
-way-limits : (delim : ℕ) (choice : Choice) → IsSound choice → IsInLimits (unwrap_or (way_in delim choice) (thousand_lines delim))
-way-limits delim (choice.LinesEach size) is = is
-way-limits delim (choice.Divided division) is = grind (arith, common_steps)
-way-limits delim other is = omega (arith, is)
-
 only_way-limits : (delim : ℕ) (ways : List Chosen) → AreSound ways → IfOk (only_way delim ways) IsInLimits
 only_way-limits delim [] are = omega arith
-only_way-limits delim (way ∷ []) are = way-limits delim way.choice are.0
+only_way-limits delim (way ∷ []) are = search rules
 only_way-limits delim (way ∷ second ∷ more) are = tt
 
 ways-sound : (options : List Chosen) → AreSound options → AreSound (filter is_way options)
@@ -106,7 +100,7 @@ abbrev Serves : Way → Alphabet → Option ℕ → Suffix → Type 0
 Serves way alphabet from suffix = AreNamed way alphabet from suffix.width × IsWidth suffix.width
 
 wide_enough-can : (alphabet : Alphabet) (count width : ℕ) → 1 ≤ width → width ≤ 255 → IfOk (wide_enough alphabet count width) (λ suffix. (count ≤ name_count alphabet suffix.width) × IsWidth suffix.width)
-wide_enough-can alphabet count width some most = grind (arith, common_steps)
+wide_enough-can alphabet count width some most = search rules
 
 all_writes : (alphabet : Alphabet) {count : ℕ} → count ≤ 10 ^ 20 → count ≤ name_count alphabet 23
 all_writes Letters few = omega (arith, few)
@@ -125,22 +119,16 @@ some_if : (width : ℕ) → (width == 0) ≡ false → 1 ≤ width
 some_if zero given = absurd (cc)
 some_if (suc width) given = omega arith
 
-given_or : (width : ℕ) → width ≤ 255 → IsWidth (or_two width)
-given_or width most = grind (arith, common_steps)
-
 some_names : (alphabet : Alphabet) (width : ℕ) → 1 ≤ name_count alphabet width
 some_names alphabet width = power_positive alphabet width
 
 free-wide : (width : ℕ) → width ≤ 255 → IsWidth (free width).width
-free-wide width most = grind (arith, common_steps)
+free-wide width most = search rules
 
 -- where the number of files is known
 all-can : (alphabet : Alphabet) (count width : ℕ) → count ≤ 10 ^ 20 → width ≤ 255
     → IfOk (for_all alphabet count width) (λ suffix. (count ≤ name_count alphabet suffix.width) × IsWidth suffix.width)
-all-can alphabet count width few most =
-    cond_both (width == 0) (Ok (fixed (least_width alphabet count))) (wide_enough alphabet count width)
-    (λ result. IfOk result (λ suffix. (count ≤ name_count alphabet suffix.width) × IsWidth suffix.width))
-    (λ _. least-can alphabet few) (λ given. wide_enough-can alphabet count width (some_if width given) most)
+all-can alphabet count width few most = grind (arith, common_steps, cond_both, least-can, wide_enough-can, some_if)
 
 suffix-can : (way : Way) (alphabet : Alphabet) (from : Option ℕ) (width : ℕ) → IsInLimits way → width ≤ 255
     → first_number from ≤ 2 ^ 63 - 1 → IfOk (suffix_for way alphabet from width) (Serves way alphabet from)
@@ -148,52 +136,16 @@ suffix-can (way.Cut (cut.Round files delim)) alphabet from width few most least 
     all-can alphabet (first_number from + files) width (omega (arith, few.1, least)) most
 suffix-can (way.Chunks chunks) alphabet from width few most least =
     all-can alphabet (first_number from + chunks.count) width (omega (arith, few.1, least)) most
-suffix-can (way.Cut (cut.Parts limit)) alphabet (Some from) width is most least =
-    let wide = given_or width most in
-    wide_enough-can alphabet (from + 1) (or_two width) wide.0 wide.1
+suffix-can (way.Cut (cut.Parts limit)) alphabet (Some from) width is most least = grind (arith, common_steps)
 suffix-can (way.Cut (cut.Parts limit)) alphabet None width is most least =
     (some_names alphabet _, free-wide width most)
-suffix-can (way.Chunk place chunks) alphabet from width is most least =
-    (omega arith, given_or width most)
-suffix-can (way.Turn place files delim) alphabet from width is most least =
-    (omega arith, given_or width most)
+suffix-can (way.Chunk place chunks) alphabet from width is most least = search rules
+suffix-can (way.Turn place files delim) alphabet from width is most least = search rules
 
 -- names whose first number an option gives don't widen
 
-wide_enough-fixed : (alphabet : Alphabet) (count width : ℕ) → IfOk (wide_enough alphabet count width) (λ suffix. suffix.auto ≡ false)
-wide_enough-fixed alphabet count width = grind (arith, common_steps)
-
-all-fixed : (alphabet : Alphabet) (count width : ℕ)
-    → IfOk (for_all alphabet count width) (λ suffix. suffix.auto ≡ false)
-all-fixed alphabet count width =
-    cond_both (width == 0) (Ok (fixed (least_width alphabet count))) (wide_enough alphabet count width)
-    (λ result. IfOk result (λ suffix. suffix.auto ≡ false)) (λ _. refl) (λ _. wide_enough-fixed alphabet count width)
-
-whatever_first : (from : Option ℕ) (first : ℕ) (result : Result Suffix Fault) → IfOk result (λ suffix. suffix.auto ≡ false) → IfOk result (λ suffix. from ≡ Some first → suffix.auto ≡ false)
-whatever_first from first (Ok suffix) is = λ _. is
-whatever_first from first (Err fault) is = tt
-
-suffix-fixed : (way : Way) (alphabet : Alphabet) (from : Option ℕ) (width first : ℕ)
-    → IfOk (suffix_for way alphabet from width) (λ suffix. from ≡ Some first → suffix.auto ≡ false)
-suffix-fixed (way.Cut (cut.Round files delim)) alphabet from width first =
-    whatever_first from first _ (all-fixed alphabet (first_number from + files) width)
-suffix-fixed (way.Chunks chunks) alphabet from width first =
-    whatever_first from first _ (all-fixed alphabet (first_number from + chunks.count) width)
-suffix-fixed (way.Cut (cut.Parts limit)) alphabet (Some from) width first =
-    whatever_first (Some from) first _ (wide_enough-fixed alphabet (from + 1) (or_two width))
-suffix-fixed (way.Cut (cut.Parts limit)) alphabet None width first = λ is. absurd (cc)
-suffix-fixed (way.Chunk place chunks) alphabet from width first = λ is. refl
-suffix-fixed (way.Turn place files delim) alphabet from width first = λ is. refl
-
-asked-fixed : (given : Given) (first : ℕ) → IfOk (split_asked given) (λ asked. asked.from ≡ Some first → asked.auto ≡ false)
-asked-fixed given first =
-    let asked = asked_by split_by no_options given.options in
-    then_check-kept (λ _. ⊤) _ (way_of given.options) _ (anything (way_of given.options)) (λ way _.
-    then_check-kept (λ suffix. asked.from ≡ Some first → suffix.auto ≡ false) _ (suffix_for way asked.alphabet asked.from asked.width) _ (suffix-fixed way asked.alphabet asked.from asked.width first) (λ suffix fixed.
-    then_check-kept (λ _. ⊤) _ (files_in given.operands) _ (anything (files_in given.operands)) (λ files _. fixed)))
-
 pub never_widen : (given : Given) (asked : SplitAsked) (from : ℕ) → split_asked given ≡ Ok asked → asked.from ≡ Some from → asked.auto ≡ false
-never_widen given asked from is first = (rw is at (asked-fixed given from)) first
+never_widen given asked from is first = grind (arith, common_steps)
 
 -- the line as a whole
 
@@ -208,9 +160,9 @@ asked-can given sound =
     record { way = is; width = those.1; named = those.0 })))
 
 work-can : (which : Tool) (given : Given) → AreSound given.options → IfOk (work_for which given) CanRun
-work-can tool.Tail given sound = grind (arith, common_steps)
+work-can tool.Tail given sound = search rules
 work-can tool.Split given sound = then_check-kept CanSplit CanRun (split_asked given) _ (asked-can given sound) (λ asked is. is)
-work-can tool.Csplit given sound = then_check-kept (λ _. ⊤) CanRun (csplit_asked given) _ (anything (csplit_asked given)) (λ asked is. tt)
+work-can tool.Csplit given sound = grind (arith, common_steps)
 work-can which given sound = tt
 
 about-can : (which : Tool) (topic : Option Topic) (work : Result Settings Fault) → IfOk work CanRun → IfOk (about_or which topic work) CanRun
@@ -223,7 +175,7 @@ settled-can which given sound = about-can which (topic_in given.options) (work_f
 -- what the tools' options ask for without a value is within the limits
 tools-safe : (name : List ℕ) → IfSome (row_named tools name) (λ row. AreSafe row.options)
 unfolding tools
-tools-safe name = grind (arith, common_steps)
+tools-safe name = search rules
 
 -- what was read of words can be done
 pub read-can : (name : List ℕ) {rows : List ToolRow} {row : ToolRow} (words : List (List ℕ)) {given : Given} (result : Result Settings Fault) → rows ≡ tools → Some row ≡ row_named rows name → given_by row words ≡ Ok given → IfOk result (λ settings. settings_for row.tool given ≡ Ok settings)

@@ -1,13 +1,12 @@
 -- What a word means: options whose values are within their limits, and no operand but the word itself; its fault stands at it.
 use Rattle.std.proofs.lemmas.Grind.{common_steps}
-use Rattle.std.proofs.Common.{◌≡◌, refl, ℕ, ◌-◌, ◌^◌, ◌==◌, ◌&&◌, ◌≤◌, ◌<◌, arith, List, [], ◌∷◌, ◌++◌, Option, Some, None, Result, Ok, Err, IfOk, inl, inr, ◌⊎◌}
-use Rattle.std.specs.Prelude.{⊤, IfSome, length, nat_lt}
+use Rattle.std.proofs.Common.{◌≡◌, refl, ℕ, ◌-◌, ◌^◌, ◌==◌, ◌&&◌, ◌≤◌, ◌<◌, arith, List, [], ◌∷◌, ◌++◌, Option, Some, None, Result, Ok, Err, IfOk, inl, inr, ◌⊎◌, rules}
+use Rattle.std.specs.Prelude.{⊤, IfSome, nat_lt}
 use Rattle.seg_core.specs.Count.{after_digits, is_number, leading_digits}
 use Rattle.seg_core.specs.declared.count.Count.{Count}
 use Rattle.seg_core.specs.declared.unit.Unit.{Unit as Measured}
 use Rattle.ports_core.specs.declared.fault.Fault.{Fault}
 use Rattle.ports_core.specs.declared.fault.UsageKind.{UsageKind}
-use Rattle.ports_core.specs.declared.fault.UsageKind.TheVariants.{BadNumber}
 use Rattle.words_core.specs.declared.choice.Choice.{Choice}
 use Rattle.words_core.specs.declared.choice.Choice.TheVariants as choice
 use Rattle.words_core.specs.declared.spelled.Chosen.{Chosen}
@@ -120,18 +119,12 @@ GivesItself rows place word meant = Gives (AreSafe rows) (λ operands. (operands
 -- what `-n` says
 
 all-sound : (dealing : Dealing) (files : List ℕ) → IfOk (all_in dealing files) (λ division. IsSound (choice.Divided division))
-all-sound dealing files = grind (arith, common_steps)
-
-one-sound : (dealing : Dealing) (number files : List ℕ)
-    → IfOk (one_in dealing number files) (λ division. IsSound (choice.Divided division))
-one-sound dealing number files = grind (arith, common_steps)
+all-sound dealing files = search rules
 
 numbers-sound : (dealing : Dealing) (front rest : List ℕ)
     → IfOk (numbers_in dealing front rest) (λ division. IsSound (choice.Divided division))
 numbers-sound dealing front [] = all-sound dealing front
-numbers-sound dealing front (byte ∷ rest) =
-    either (λ division. IfOk division (λ division. IsSound (choice.Divided division)))
-    (byte == 47 && nat_lt 0 (length front)) (one_in dealing front rest) (Err BadNumber) (one-sound dealing front rest) tt
+numbers-sound dealing front (byte ∷ rest) = grind (arith, common_steps)
 
 division-sound : (text : List ℕ) → IfOk (division_in text) (λ division. IsSound (choice.Divided division))
 division-sound text = grind (arith, common_steps, numbers-sound)
@@ -144,7 +137,7 @@ as-sound make (Err fault) is = tt
 
 choice-sound : (kind : Kind) (text : List ℕ) → IfOk (choice_in kind text) IsSound
 choice-sound kind.Divided text = as-sound (λ division. choice.Divided division) (division_in text) (division-sound text)
-choice-sound which text = grind (arith, common_steps)
+choice-sound which text = search rules
 
 module _ (rows : List OptionRow) (place : ℕ) where
   options_alone : (word : List ℕ) (meant : Result Meaning Fault) → GivesOptions rows place meant → GivesItself rows place word meant

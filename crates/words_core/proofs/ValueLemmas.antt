@@ -1,6 +1,6 @@
 -- Lemmas on the ways in which the value of an option is spelled.
 use Rattle.std.proofs.lemmas.Grind.{common_steps}
-use Rattle.std.proofs.Common.{◌≡◌, ◌≢◌, ℕ, ◌+◌, ◌==◌, not, false, arith, List, [], ◌∷◌, ◌++◌, length, Option, Some, None, Ok, cond, refl, ap, ◌∙◌, append-nil}
+use Rattle.std.proofs.Common.{◌≡◌, ◌≢◌, ℕ, ◌+◌, ◌==◌, not, false, arith, List, [], ◌∷◌, ◌++◌, length, Option, Some, None, Ok, cond, refl, ap, ◌∙◌, append-nil, rules}
 use Rattle.std.specs.List.{list_any, position_or_len, before_first}
 use Rattle.std.proofs.lemmas.Bool.{cond-false, cond-true, eq-eqb, ne_eqb, or_parts}
 use Rattle.std.proofs.Math.Seq.{take-append_seam, drop-append-add, take-length}
@@ -23,19 +23,19 @@ pub value_attached : (rows : List OptionRow) (letter : ℕ) (kind : Kind) (value
     → IsLetter rows letter kind → value ≢ [] → choice_in kind value ≡ Ok choice
     → Gives rows ((45 ∷ letter ∷ value) ∷ words) place choice (spelled rows words (place + 1) Reading)
 value_attached rows letter kind [] choice words place is some reads = absurd (some refl)
-value_attached rows letter kind (byte ∷ value) choice words place is some reads = grind (arith, common_steps)
+value_attached rows letter kind (byte ∷ value) choice words place is some reads = search rules
 
 -- the next word
 
 awaited : (rows : List OptionRow) (kind : Kind) (word value : List ℕ) {choice : Choice} (words : List (List ℕ)) {place : ℕ}
     → mixed rows place word ≡ awaiting kind place → choice_in kind value ≡ Ok choice
     → Gives rows (word ∷ value ∷ words) place choice (spelled rows words (place + 1 + 1) Reading)
-awaited rows kind word value words awaits reads = grind (arith, common_steps)
+awaited rows kind word value words awaits reads = search rules
 
 pub value_after_letter : (rows : List OptionRow) (letter : ℕ) (kind : Kind) (value : List ℕ) (choice : Choice) (words : List (List ℕ)) (place : ℕ)
     → IsLetter rows letter kind → choice_in kind value ≡ Ok choice
     → Gives rows ((45 ∷ letter ∷ []) ∷ value ∷ words) place choice (spelled rows words (place + 1 + 1) Reading)
-value_after_letter rows letter kind value choice words place is reads = grind (arith, common_steps)
+value_after_letter rows letter kind value choice words place is reads = search rules
 
 -- a long name
 

@@ -30,7 +30,7 @@ use Rattle.words_core.specs.TailWords.{tail_by, unfollowed}
 use Rattle.words_core.specs.TeeWords.{TeeAsked, fresh, tee_by}
 use Rattle.words_core.specs.Words.{settings_of}
 
--- what options ask of `head` or `tail`, of `split`, of `tail`, and of `tee`
+-- what options ask of `head` or `tail`, of `split`, of `tail` as a whole, and of `tee`
 
 abbrev pub ends_of : List Chosen → EndsAsked
 ends_of options = asked_by ends_by (ten_lines []) options
@@ -218,8 +218,8 @@ is_plain [] = true
 is_plain (byte ∷ []) = true
 is_plain (byte ∷ next ∷ rest) = not (byte == 45)
 
--- What options ask for, given alone: of `head` and `tail` alike, for standard input; of `tail` that follows the file `f`; of
--- `split`; of `csplit` with the operand `1`; and of `tee` for the file `f`.
+-- What options ask for, given alone: of `head` and `tail` alike, of `split`, and of `csplit` with the operand `1`, for standard
+-- input; of `tail` that follows the file `f`, and of `tee` for it.
 
 abbrev pub ten_of_input : EndsAsked
 ten_of_input = ten_lines (codes "-" ∷ [])
