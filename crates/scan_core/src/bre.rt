@@ -126,13 +126,11 @@ impl Bre {
         ensures outcome { IfSome result (IsOutcome (code_of self.now) line.now) }
         ensures order { IsOrdered self.now }
     {
-        // A proof learns from a use of the fields that the pattern's bounds are in order.
-        let code = &self.code;
         if let Some(shifts) = &self.shifts {
-            return Some(walk_by_shifts(shifts, code, line));
+            return Some(walk_by_shifts(shifts, &self.code, line));
         }
         match &self.table {
-            Some(table) => walk(table, code, line),
+            Some(table) => walk(table, &self.code, line),
             None => None,
         }
     }

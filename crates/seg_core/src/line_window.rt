@@ -131,7 +131,6 @@ impl LineWindow {
         if lines == 0 {
             return 0;
         }
-        let _len = self.len;
         reach_in(&self.blocks, lines, self.delim)
     }
 

@@ -17,7 +17,7 @@ use Rattle.ports_core.specs.Work.{Work}
 use Rattle.ports_core.specs.declared.slot.State.TheVariants.{Open, Closed}
 use Rattle.split_core.specs.Parts.{CutUp, unless_empty}
 use Rattle.split_core.specs.Place.{beside_output}
-use Rattle.split_core.specs.Split.{Filing, Share, are_named, is_some, manner_of, output_by, share}
+use Rattle.split_core.specs.Split.{Filing, Share, are_named, has_bytes, manner_of, output_by, share}
 use Rattle.split_core.specs.Chunks.{before_chunk, begun_before, chunk_at, chunk_start, chunks_of, decided, ended, in_the_end, is_longer, open_from, pieces_in, size_by}
 use Rattle.split_core.specs.ChunkAgreed.{AgreeAt, CanFollow}
 use Rattle.split_core.specs.ChunkWork.{ChunksPlan, chunk_work, chunks_settled, chunks_whole, chunks_work, files_by, kept}
@@ -89,15 +89,15 @@ tail_of_runs : (c : ℕ) (pieces : List (List ℕ)) → AreRuns c pieces → IsT
 tail_of_runs c [] runs = refl
 tail_of_runs c (piece ∷ pieces) (run, runs) = ((piece, refl, run), runs)
 
-no_front : (r more : List ℕ) → is_some (r ++ more) ≡ false → r ≡ []
+no_front : (r more : List ℕ) → has_bytes (r ++ more) ≡ false → r ≡ []
 no_front [] more none = refl
 no_front (byte ∷ r) more none = cc
 
-some_runs : (c : ℕ) (pieces : List (List ℕ)) → AreRuns c pieces → AreRuns c (filter is_some pieces)
+some_runs : (c : ℕ) (pieces : List (List ℕ)) → AreRuns c pieces → AreRuns c (filter has_bytes pieces)
 some_runs c [] runs = tt
-some_runs c (piece ∷ pieces) (run, runs) = by (is_some piece) (some_runs c pieces runs) where
-  by : (some : Bool) → AreRuns c (filter is_some pieces)
-      → AreRuns c (cond some (piece ∷ filter is_some pieces) (filter is_some pieces))
+some_runs c (piece ∷ pieces) (run, runs) = by (has_bytes piece) (some_runs c pieces runs) where
+  by : (some : Bool) → AreRuns c (filter has_bytes pieces)
+      → AreRuns c (cond some (piece ∷ filter has_bytes pieces) (filter has_bytes pieces))
   by true rest = (run, rest)
   by false rest = rest
 
@@ -105,14 +105,14 @@ tail_kept : (elide : Bool) (c : ℕ) (r : List ℕ) (pieces : List (List ℕ)) �
     → IsTail c r (kept elide pieces)
 tail_kept false c r pieces tail = tail
 tail_kept true c r [] tail = tail
-tail_kept true c r (piece ∷ pieces) ((more, is, run), runs) = by (is_some piece) refl where
-  rest : AreRuns c (filter is_some pieces)
+tail_kept true c r (piece ∷ pieces) ((more, is, run), runs) = by (has_bytes piece) refl where
+  rest : AreRuns c (filter has_bytes pieces)
   rest = some_runs c pieces runs
 
-  by : (some : Bool) → is_some piece ≡ some
-      → IsTail c r (cond some (piece ∷ filter is_some pieces) (filter is_some pieces))
+  by : (some : Bool) → has_bytes piece ≡ some
+      → IsTail c r (cond some (piece ∷ filter has_bytes pieces) (filter has_bytes pieces))
   by true some = ((more, is, run), rest)
-  by false none = rw (no_front r more (sym (ap is_some is) ∙ none)) (tail_of_runs c (filter is_some pieces) rest)
+  by false none = rw (no_front r more (sym (ap has_bytes is) ∙ none)) (tail_of_runs c (filter has_bytes pieces) rest)
 
 runs_at : (c : ℕ) (pieces : List (List ℕ)) (i : ℕ) → AreRuns c pieces → IsRun c (get_or pieces i [])
 runs_at c [] i runs = tt
@@ -403,10 +403,10 @@ other_small zero = omega arith
 other_small (suc byte) = omega arith
 
 begun_some : (unit : Which) (delim place byte : ℕ) (x : List ℕ) → 0 < place
-    → is_some (begun_before unit delim place (byte ∷ x)) ≡ true
+    → has_bytes (begun_before unit delim place (byte ∷ x)) ≡ true
 begun_some Bytes delim zero byte x some = absurd (omega (arith, some))
 begun_some Bytes delim (suc place) byte x some = refl
-begun_some Lines delim place byte x some = ap is_some (begun_first delim byte place x some)
+begun_some Lines delim place byte x some = ap has_bytes (begun_first delim byte place x some)
 
 first_some : (n size : ℕ) → 0 < n → 0 < size → 0 < chunk_start n size 1
 first_some n size some has = by (size % n) refl where
@@ -438,8 +438,8 @@ first_file elide chunks byte x some = by chunks.count refl where
   later : 0 < chunk_start chunks.count (length all) 1
   later = first_some chunks.count (length all) some (omega arith)
 
-  filled : is_some (f 0) ≡ true
-  filled = ap is_some one ∙ begun_some chunks.unit chunks.delim (chunk_start chunks.count (length all) 1) byte x later
+  filled : has_bytes (f 0) ≡ true
+  filled = ap has_bytes one ∙ begun_some chunks.unit chunks.delim (chunk_start chunks.count (length all) 1) byte x later
 
   by : (n : ℕ) → chunks.count ≡ n → (more : List (List ℕ))
       × (files_by elide (chunks_of chunks (length all) all) ≡ before_chunk chunks (length all) 1 all ∷ more)

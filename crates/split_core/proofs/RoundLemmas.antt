@@ -28,7 +28,7 @@ use Rattle.ports_core.proofs.ShareLemmas.{nothing_part}
 use Rattle.split_core.specs.Parts.{dealt, round_robin}
 use Rattle.split_core.specs.Parts as cut
 use Rattle.split_core.specs.inner.CutLaws.{named}
-use Rattle.split_core.specs.Split.{Filing, share, manner_of, are_named, is_verbose, output_by, dealt_files, settled_by, is_short, is_some, split_work, bytes_in}
+use Rattle.split_core.specs.Split.{Filing, share, manner_of, are_named, is_verbose, output_by, dealt_files, settled_by, is_short, has_bytes, split_work, bytes_in}
 use Rattle.split_core.specs.inner.Dealt.{dealt_piece, dealt_first, reached_by, share_of}
 use Rattle.ports_core.specs.Draft.{part_of, part_with}
 use Rattle.ports_core.specs.declared.file_writer.Tells.{Tells}
@@ -246,7 +246,7 @@ does_all delim filing others elide n are same = ap (λ those. round_work (round_
 
 -- nothing waits
 
-pub joined_some : (these : List (List ℕ)) → joined (filter is_some these) ≡ joined these
+pub joined_some : (these : List (List ℕ)) → joined (filter has_bytes these) ≡ joined these
 joined_some [] = refl
 joined_some ([] ∷ these) = joined_some these
 joined_some ((byte ∷ bytes) ∷ these) = ap (λ rest. (byte ∷ bytes) ++ rest) (joined_some these)

@@ -33,7 +33,7 @@ use Rattle.split_core.specs.ChunkWork.{draft_by, files_by, kept, piece_at}
 use Rattle.split_core.specs.Chunks.{pieces_in}
 use Rattle.split_core.specs.ChunkerState.{AimState, Carries, Course, IsAimed, TargetState, course_of, filing_by, in_files, in_output, to_files, to_output}
 use Rattle.split_core.specs.Parts.{CutUp}
-use Rattle.split_core.specs.Split.{Filing, TellsNoSizes, is_some, manner_of}
+use Rattle.split_core.specs.Split.{Filing, TellsNoSizes, has_bytes, manner_of}
 use Rattle.split_core.specs.inner.Sends.{AtAim, Brings, Files, IsOf, Changes, GoesOn, Sends, begun_by, empties_by, ends_by, manner_on, output_on, or_empty, with_full, with_rest, part_on, whole_on}
 use Rattle.split_core.proofs.FilesLemmas.{named_before}
 
@@ -193,8 +193,8 @@ files_put {writer = writer} {next} {elide} {place} bytes fault ready goes = let 
 -- the chunk ends
 
 pub ends_full : (elide : Bool) (cut : CutUp) → ends_by elide (draft_by elide cut) ≡ draft_by elide (with_full cut)
-ends_full true cut = ap (λ ended. record { ended = ended; opening = Late; bytes = [] }) (ap (λ more. filter is_some cut.full ++ more) (one cut.rest) ∙ sym (filter-append is_some cut.full (cut.rest ∷ []))) where
-  one : (rest : List ℕ) → made_of Late rest ≡ filter is_some (rest ∷ [])
+ends_full true cut = ap (λ ended. record { ended = ended; opening = Late; bytes = [] }) (ap (λ more. filter has_bytes cut.full ++ more) (one cut.rest) ∙ sym (filter-append has_bytes cut.full (cut.rest ∷ []))) where
+  one : (rest : List ℕ) → made_of Late rest ≡ filter has_bytes (rest ∷ [])
   one [] = refl
   one (byte ∷ rest) = refl
 ends_full false cut = ap (λ more. record { ended = cut.full ++ more; opening = Late; bytes = [] }) (one cut.rest) where

@@ -21,7 +21,7 @@ use Rattle.seg_core.specs.declared.cut.Way.TheVariants as way
 use Rattle.split_core.specs.Parts.{CutUp, dealt, unless_empty}
 use Rattle.split_core.specs.Chunks.{decided, has_ended, in_the_end, is_as_said, is_longer, pieces_in, undecided}
 use Rattle.split_core.specs.Sharing.{CannotOpen}
-use Rattle.split_core.specs.Split.{Filing, HasNames, are_named, is_some, is_verbose, manner_of, split_means, split_work}
+use Rattle.split_core.specs.Split.{Filing, HasNames, are_named, has_bytes, is_verbose, manner_of, split_means, split_work}
 
 -- To files
 
@@ -33,7 +33,7 @@ pub record ChunksPlan : Type 0 where
 
 -- of these pieces those that have a file
 abbrev pub kept : Bool → List (List ℕ) → List (List ℕ)
-kept elide pieces = if elide then filter is_some pieces else pieces
+kept elide pieces = if elide then filter has_bytes pieces else pieces
 
 -- each piece that is kept has its file, and what is left has one with its first byte
 abbrev pub draft_by : Bool → CutUp → Draft

@@ -12,7 +12,7 @@ use Rattle.ports_core.specs.declared.on_broken.OnBroken.TheVariants.{GoOn, Stop}
 use Rattle.ports_core.specs.declared.slot.Mode.{Mode}
 use Rattle.ports_core.proofs.InputsLemmas.{HasRead, came_broken, came_sound, still_readable, read_broken, read_failed, read_more, read_none_more, read_to_end, of_content}
 use Rattle.ports_core.specs.Inputs.{CameFrom, largest_piece, OfContent, empty}
-use Rattle.tee_core.specs.Run.{IsRead, LeavesOf, to_end, to_break, to_limit, to_broken_output, EndsAs, copied, no_room, file_whole, file_unopened, file_cut, file_unclosed, FilesLeft, no_file, one_file, ComesIn, IsUnread, OutputLeft, output_whole, output_cut, all_copied, any_of, are_sound, broken_before, is_done, messages_of, output_names, said_before, said_in, status_of}
+use Rattle.tee_core.specs.Run.{IsRead, LeavesOf, to_end, to_break, to_limit, to_broken_output, EndsAs, copied, no_room, file_whole, file_unopened, file_cut, file_unclosed, FilesLeft, no_file, one_file, ComesIn, IsAsFound, OutputLeft, output_whole, output_cut, all_copied, any_of, are_sound, broken_before, is_done, messages_of, output_names, said_before, said_in, status_of}
 use Rattle.tee_core.specs.inner.Steps.{Copies, CopiesRead, HasCopied}
 use Rattle.std.proofs.lemmas.Bool.Decides.{nat_tests}
 use Rattle.ports_core.specs.Text.{message_of}
@@ -115,7 +115,7 @@ ends_copied {told_in} told {content} {source} {pieces} {fault} {failed = failed}
 
 -- there was no memory
 
-ends_nowhere : {told_in : Bool} (told : Bool) {mode : Mode} {on_broken : OnBroken} {names : List (List ℕ)} {content : Content} {source : Source} {mid new : List Slot} {fault : Fault} → fault ≡ Memory → mid ≡ streams → IsUnread told_in content source → SaysOn told Tee (message_of Tee fault (output_named mid fault)) mid new → EndsAs told_in told mode on_broken names content source new 1
+ends_nowhere : {told_in : Bool} (told : Bool) {mode : Mode} {on_broken : OnBroken} {names : List (List ℕ)} {content : Content} {source : Source} {mid new : List Slot} {fault : Fault} → fault ≡ Memory → mid ≡ streams → IsAsFound told_in content source → SaysOn told Tee (message_of Tee fault (output_named mid fault)) mid new → EndsAs told_in told mode on_broken names content source new 1
 ends_nowhere told {mid} {new} is at unread says =
     let said = subst (λ (those : Fault). SaysOn told Tee (message_of Tee those (output_named mid those)) mid new) is says standard_output standard_error [] at in
     no_room said.0 (said.0, said.1, refl) unread said.2 refl

@@ -102,8 +102,8 @@ abbrev pub LeavesOf : Bool → Source → List ℕ → Type 0
 LeavesOf told source rest = told ≡ true → source.left.bytes ≡ rest
 
 -- no read was made of a source, and it didn't break; if it tells its bytes, it has this input
-abbrev pub IsUnread : Bool → Content → Source → Type 0
-IsUnread told content source = (there : Content) × (source ≡ source_of there) × (told ≡ true → there ≡ content)
+abbrev pub IsAsFound : Bool → Content → Source → Type 0
+IsAsFound told content source = (there : Content) × (source ≡ source_of there) × (told ≡ true → there ≡ content)
 
 -- An input came in these pieces, each of a size that one read gives, and together no more bytes than any tool takes. A
 -- read failed only where that is the fault that is told. Where the reading ended with the input, a read told the end.
@@ -162,7 +162,7 @@ pub data EndsAs (told_in told : Bool) (mode : Mode) (on_broken : OnBroken) (name
       → new ≡ output ∷ error ∷ files → status ≡ status_of (first ∷ broke) fault
       → EndsAs told_in told mode on_broken names content source new status
   no_room : (error : Slot) → SaysAll told Tee (message_of Tee Memory [] ∷ []) standard_error error
-      → IsUnread told_in content source → new ≡ streams_with error → status ≡ 1
+      → IsAsFound told_in content source → new ≡ streams_with error → status ≡ 1
       → EndsAs told_in told mode on_broken names content source new status
 
 -- where nothing breaks: standard output and every file have these bytes, the files are closed, and nothing was said

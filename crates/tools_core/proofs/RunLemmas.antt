@@ -37,7 +37,7 @@ use Rattle.run_core.specs.RunSteps.{world_of}
 use Rattle.run_core.proofs.InputLemmas.{none_touched}
 use Rattle.seg_core.specs.declared.count.Count.{Count}
 use Rattle.seg_core.specs.declared.unit.Unit.{Unit as Counted}
-use Rattle.tee_core.specs.Run.{IsUnread, all_copied, EndsAs as TeeCopies}
+use Rattle.tee_core.specs.Run.{IsAsFound, all_copied, EndsAs as TeeCopies}
 use Rattle.operand_core.specs.Reading.{no_memory}
 use Rattle.words_core.specs.declared.settings.Headers.{Headers}
 use Rattle.ports_core.specs.declared.fault.UsageKind.TheVariants.{BadFollow}
@@ -133,7 +133,7 @@ tee_runs {told} {mode} {names} old mode_is broken_is names_is (content, there, (
 -- words that weren't read for want of memory, where they ask for this
 
 -- an input that wasn't read, whether it tells its bytes or not
-unread_source : (told : Bool) {sources : List Source} → IsFresh sources → OfContent told (source_at sources 0).left (λ content. IsUnread told content (source_at sources 0) × CameFrom told content (source_at sources 0))
+unread_source : (told : Bool) {sources : List Source} → IsFresh sources → OfContent told (source_at sources 0).left (λ content. IsAsFound told content (source_at sources 0) × CameFrom told content (source_at sources 0))
 unread_source true {sources} fresh =
     let unread = ap (λ those. source_at those 0) fresh.only in
     ((source_at sources 0).left, λ t. refl, ((fresh.standard, unread, λ t. sym (ap (λ (source : Source). source.left) unread)), record { was_open = ap (λ (source : Source). source.is_open) unread; breaks = λ off. absurd (false≢true (sym off)) }))

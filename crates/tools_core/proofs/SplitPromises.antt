@@ -43,7 +43,7 @@ use Rattle.split_core.specs.Parts.{parts, round_robin, whole_lines}
 use Rattle.split_core.specs.Sections.{AreLineByteParts}
 use Rattle.split_core.specs.Sections as piece
 use Rattle.split_core.specs.inner.CutLaws.{named}
-use Rattle.split_core.specs.Split.{Filing, manner_of, output_by, Share, share, are_named, is_some, dealt_files, pieces_of}
+use Rattle.split_core.specs.Split.{Filing, manner_of, output_by, Share, share, are_named, has_bytes, dealt_files, pieces_of}
 use Rattle.split_core.specs.inner.Sharing.{file_at}
 use Rattle.split_core.specs.inner.Dealt.{share_of}
 use Rattle.split_core.specs.laws.CutLaws.{whole_of_lines, whole_of_none}
@@ -499,10 +499,10 @@ dealt_at : (delim : ℕ) {n : ℕ} (elide : Bool) (x : List ℕ) {file : ℕ} �
 dealt_at delim false x within = refl
 dealt_at delim {n} true x {file} within = grind (arith, common_steps, first_files, cases_lt, get_or-take, length-take, get_or_past, get_or-map-range_with_len, share_none)
 
-all_some : (files : List (List ℕ)) → All (λ bytes. 0 < length bytes) (filter is_some files)
+all_some : (files : List (List ℕ)) → All (λ bytes. 0 < length bytes) (filter has_bytes files)
 all_some [] = search rules
 all_some ([] ∷ files) = all_some files
-all_some ((byte ∷ bytes) ∷ files) = All-cons (λ bytes. 0 < length bytes) (byte ∷ bytes) (filter is_some files) (omega arith) (all_some files)
+all_some ((byte ∷ bytes) ∷ files) = All-cons (λ bytes. 0 < length bytes) (byte ∷ bytes) (filter has_bytes files) (omega arith) (all_some files)
 
 pub dealt_lines : {delim n : ℕ} {elide : Bool} {x : List ℕ} → 0 < n → AreDealt delim n elide x (dealt_files delim elide n x)
 dealt_lines {delim} {n} {elide} {x} some = record {

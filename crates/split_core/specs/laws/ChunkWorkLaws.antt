@@ -20,7 +20,7 @@ use Rattle.ports_core.proofs.ShareLemmas.{made_begin, shares_after}
 use Rattle.split_core.specs.Chunks.{before_chunk, begun_before, chunk_at, chunk_start, chunks_of, chunks_within, decided, ended, has_ended, in_the_end, passed, pieces_in}
 use Rattle.split_core.specs.ChunkWork.{ChunksPlan, chunk_work, chunks_work, draft_by, files_by, is_written, kept, piece_at, turn_work}
 use Rattle.split_core.specs.Parts.{CutUp, uncut, unless_empty}
-use Rattle.split_core.specs.Split.{is_some, manner_of, share}
+use Rattle.split_core.specs.Split.{has_bytes, manner_of, share}
 use Rattle.split_core.specs.inner.Chunks.{BeginsFirst, GoesOn, HaveEnded}
 use Rattle.split_core.specs.laws.BegunLaws.{begun_first_place, begun_grows, begun_within}
 use Rattle.split_core.specs.laws.ChunkLaws.{before_next, before_stays, chunks_are, cut_all, cut_before, decided_grows, ended_after, ended_is, ended_grows, full_stays, goes_on, map_parts, passed_full, passed_grows, rest_none, start_first, take_within}
@@ -141,11 +141,11 @@ decided_ends chunks None x some =
 
 -- What files get of it
 
-pub some_begins : (byte : ℕ) (low piece : List ℕ) → IsBeginning (byte ∷ low) piece → is_some piece ≡ true
+pub some_begins : (byte : ℕ) (low piece : List ℕ) → IsBeginning (byte ∷ low) piece → has_bytes piece ≡ true
 some_begins byte low [] (rest, is) = absurd (omega (arith, ap length is))
 some_begins byte low (first ∷ piece) begins = refl
 
-pub first_kept : (elide : Bool) (piece : List ℕ) (pieces : List (List ℕ)) → is_some piece ≡ true
+pub first_kept : (elide : Bool) (piece : List ℕ) (pieces : List (List ℕ)) → has_bytes piece ≡ true
     → kept elide (piece ∷ pieces) ≡ piece ∷ kept elide pieces
 first_kept true piece pieces some = rw some refl
 first_kept false piece pieces some = refl
@@ -161,7 +161,7 @@ rest_on elide state (byte ∷ low) (piece ∷ pieces) high begins =
 
 pub kept-append : (elide : Bool) (front more : List (List ℕ))
     → kept elide (front ++ more) ≡ kept elide front ++ kept elide more
-kept-append true front more = filter-append is_some front more
+kept-append true front more = filter-append has_bytes front more
 kept-append false front more = refl
 
 pub shares_on : (elide : Bool) (state : State) {low high : CutUp} → GoesOn low high

@@ -10,7 +10,7 @@ use Rattle.std.proofs.lemmas.Bool.{cases_eq, cases_lt, eq-eqb}
 use Rattle.seg_core.specs.Line.{lines_of, delimiters, line_count}
 use Rattle.seg_core.proofs.EndLines.{line_count-grows}
 use Rattle.split_core.specs.Parts.{dealt}
-use Rattle.split_core.specs.Split.{is_some, dealt_files}
+use Rattle.split_core.specs.Split.{has_bytes, dealt_files}
 use Rattle.split_core.specs.Round.{opened_by}
 use Rattle.split_core.specs.inner.Dealt.{EachSome, share_of}
 
@@ -83,36 +83,36 @@ pub each_line : (delim : ℕ) (x : List ℕ) → EachSome (lines_of delim x)
 each_line delim [] = tt
 each_line delim (byte ∷ x) = each_step (eqb byte delim) byte (lines_of delim x) (each_line delim x)
 
-pub is_some_of : (bytes : List ℕ) → 0 < length bytes → is_some bytes ≡ true
-is_some_of [] some = absurd (omega arith)
-is_some_of (byte ∷ bytes) some = refl
+pub has_bytes_of : (bytes : List ℕ) → 0 < length bytes → has_bytes bytes ≡ true
+has_bytes_of [] some = absurd (omega arith)
+has_bytes_of (byte ∷ bytes) some = refl
 
 pub share_none : (delim n : ℕ) (x : List ℕ) (file : ℕ) → line_count delim x ≤ file → file < n
     → share_of delim n x file ≡ []
 share_none delim n x file short within = dealt_none n file 0 (lines_of delim x) (omega arith) within
 
 pub share_some : (delim n : ℕ) (x : List ℕ) (file : ℕ) → file < line_count delim x → file < n
-    → is_some (share_of delim n x file) ≡ true
-share_some delim n x file before within = is_some_of _
+    → has_bytes (share_of delim n x file) ≡ true
+share_some delim n x file before within = has_bytes_of _
     (dealt_some n file 0 (lines_of delim x) (each_line delim x) (omega arith) (omega arith) within)
 
 -- where members up to a place aren't empty and those from there on are, the filter leaves those up to that place
-filter_first : (f : ℕ → List ℕ) (n end : ℕ) → ((file : ℕ) → file < n → file < end → is_some (f file) ≡ true)
+filter_first : (f : ℕ → List ℕ) (n end : ℕ) → ((file : ℕ) → file < n → file < end → has_bytes (f file) ≡ true)
     → ((file : ℕ) → file < n → end ≤ file → f file ≡ [])
-    → filter is_some (map f (range_with_len 0 n)) ≡ map f (range_with_len 0 (min n end))
+    → filter has_bytes (map f (range_with_len 0 n)) ≡ map f (range_with_len 0 (min n end))
 filter_first f zero end some none = grind (arith, common_steps)
 filter_first f (suc n) end some none =
     let before = filter_first f n end (λ file within. some file (omega arith))
     (λ file within. none file (omega arith)) in
     let next : suc n ≡ n + 1 = omega arith in
-    ap (λ k. filter is_some (map f (range_with_len 0 k))) next ∙ filter_of_map_range_with_len_more is_some f 0 n n
+    ap (λ k. filter has_bytes (map f (range_with_len 0 k))) next ∙ filter_of_map_range_with_len_more has_bytes f 0 n n
     (zero-add n) ∙ elim (cases_lt n end) [
       | inl less ↦ (let all : min (suc n) end ≡ n + 1 = omega arith in let low : min n end ≡ n = omega arith in
           cc (before, some n (omega arith) less, map-range_with_len_more f 0 n n (zero-add n)))
       | inr past ↦ (let all : min (suc n) end ≡ min n end = omega arith in
           cc (
             before,
-            ap (λ bytes. cond (is_some bytes) (bytes ∷ []) []) (none n (omega arith) past),
+            ap (λ bytes. cond (has_bytes bytes) (bytes ∷ []) []) (none n (omega arith) past),
             append-nil
                 (map f (range_with_len 0 (min n end))),
           ))
