@@ -46,7 +46,7 @@ use Rattle.csplit_core.proofs.WholeLemmas.{ends_after_all}
 use Rattle.std.proofs.lemmas.Bool.Decides.{nat_tests}
 use Rattle.std.proofs.lemmas.Grind.{common_steps}
 use Rattle.std.proofs.Math.Nat.{min-eq_left}
-use Rattle.csplit_core.specs.CsplitState.{CsplitState, Holds, whole_lines, IsReady, Owns, duty, files, work}
+use Rattle.csplit_core.specs.CsplitState.{CsplitState, Holds, whole_lines, IsReady, Owns, terms, files, work}
 use Rattle.csplit_core.proofs.TakeLemmas.{past_plan, past_part, is_past, still_past, more_settled, takes_again, takes_none, takes_wider, took_past, none_there}
 use Rattle.ports_core.specs.Part.{Begins, OutputsAt, StoppedBetween, nothing, writes}
 use Rattle.ports_core.specs.Turn.{fault_in}
@@ -485,7 +485,7 @@ pub last_line : {before stage : CsplitState} {n : ℕ} {text : List ℕ} → bef
 last_line {before} is text_is size some unbroken = grind (arith, common_steps, open_is_line)
 
 -- the work ends with a verdict, and the files are removed then
-pub judged_by : {told : Bool} {stage mid next : CsplitState} {reached new old : List Slot} {result : Option Verdict} {verdict : Verdict} → Closed told stage old reached mid None → result ≡ Some verdict → Judges mid.cutter result → Sweeps duty mid next reached new
+pub judged_by : {told : Bool} {stage mid next : CsplitState} {reached new old : List Slot} {result : Option Verdict} {verdict : Verdict} → Closed told stage old reached mid None → result ≡ Some verdict → Judges mid.cutter result → Sweeps terms mid next reached new
     → Closes told stage old new next (Err (fault_is.Verdict verdict))
 judged_by {mid = mid} {reached} {verdict = verdict} closed is judges swept = ended_so verdict mid reached closed (subst (Judges mid.cutter) is judges) swept
 
@@ -514,7 +514,7 @@ pub owns_on : {stage next : CsplitState} {old new : List Slot} {fault : Option F
 owns_on leaves first own = grind (arith, common_steps)
 
 -- the outputs at it, which are the writer's own
-stands_so : (told : Bool) {before : List Slot} {stage : CsplitState} {x : List ℕ} {now : List Slot} → StandsAt duty stage told before x now → At told stage.cutter.writer before (settled_part stage.cutter (whole_lines x)) now
+stands_so : (told : Bool) {before : List Slot} {stage : CsplitState} {x : List ℕ} {now : List Slot} → StandsAt terms stage told before x now → At told stage.cutter.writer before (settled_part stage.cutter (whole_lines x)) now
 stands_so told {before} {stage} {x} {now} at = grind (arith, common_steps, settled_is)
 
 -- faults
@@ -547,7 +547,7 @@ has_settled stage x = grind (arith, common_steps)
 -- why a fault came
 
 pub passes_by : (told : Bool) (stage next : CsplitState) (piece : List ℕ) (old new : List Slot) (result : Result (Unit {0}) Fault) → Passes told stage piece old new next result → IsReady stage old → next.taken ≡ stage.taken + length piece → stage.taken + length piece < 2 ^ 63
-    → engine.Passes duty told piece stage next old new (IsMetWith duty piece stage) result
+    → engine.Passes terms told piece stage next old new (IsMetWith terms piece stage) result
 passes_by told stage next piece old new (Ok done) passes is_ready taken fits = record {
   same = same_by csplit_work passes.took.keeps;
   size = omega (arith, taken);
@@ -580,7 +580,7 @@ passes_by told stage next piece old new (Err fault) stopped is_ready taken fits 
       (subst (λ low. StoppedBetween (work stage).means.output told before low ((work stage).settled (x ++ piece)) fault new) (settled_is stage x)
       (subst (λ high. StoppedBetween (work stage).means.output told before (settled_part stage.cutter (whole_lines x)) high fault new) (settled_then piece at.holds)
       (stopped_in_turn (work stage).means.output told before _ _ fault new (has_settled stage (whole_lines x)) ((stopped.took.reaches (whole_lines x) (lines_whole x) at.holds.stands).there before (stands_so told at)))));
-  met = met_by refl (EndsWith duty piece stage) stage.cutter.style old new fault is_ready.manner stopped.took.keeps.writer.slots;
+  met = met_by refl (EndsWith terms piece stage) stage.cutter.style old new fault is_ready.manner stopped.took.keeps.writer.slots;
 }
 
 -- the end
@@ -604,14 +604,14 @@ module _ (told : Bool) (stage next : CsplitState) (old new : List Slot) where
   pub judged_then : Closed told stage old new next None → {verdict : Option Verdict} → Judges next.cutter verdict → {x : List ℕ} → Holds stage x → verdict ≡ (work stage).verdict x
   judged_then closed judges {x} holds = judges (whole_lines x ++ stage.rest) (closed.judged (whole_lines x) (lines_whole x) holds.stands) ∙ verdict_then stage x holds closed.keeps
 
-  pub whole_out : Closed told stage old new next None → {before : List Slot} {x : List ℕ} → StandsAt duty stage told before x old → OutputsAt told before ((work stage).whole x) new
+  pub whole_out : Closed told stage old new next None → {before : List Slot} {x : List ℕ} → StandsAt terms stage told before x old → OutputsAt told before ((work stage).whole x) new
   whole_out closed {before} {x} at =
       subst (λ part. OutputsAt told before part new) (whole_then stage x at.holds) ((closed.reaches (whole_lines x) (lines_whole x) at.holds.stands).there before (stands_so told at)).outputs
 
-  pub ends_there : Closed told stage old new next None → {verdict : Verdict} → Judges next.cutter (Some verdict) → EndsThere duty stage verdict
+  pub ends_there : Closed told stage old new next None → {verdict : Verdict} → Judges next.cutter (Some verdict) → EndsThere terms stage verdict
   ends_there closed judges x holds = sym (judged_then closed judges holds)
 
-  pub ends_short : {fault : Fault} → Closed told stage old new next (Some fault) → IsReady stage old → CutsOff duty stage (work stage).whole told old new fault
+  pub ends_short : {fault : Fault} → Closed told stage old new next (Some fault) → IsReady stage old → CutsOff terms stage (work stage).whole told old new fault
   ends_short {fault} stopped ready before x at = engine.cut (not_verdict stage.cutter.style old new fault ready.manner stopped.keeps.writer.slots)
       (subst (λ low. StoppedBetween (work stage).means.output told before low ((work stage).whole x) fault new) (settled_is stage x)
       (subst (λ high. StoppedBetween (work stage).means.output told before (settled_part stage.cutter (whole_lines x)) high fault new) (whole_then stage x at.holds)
@@ -619,14 +619,14 @@ module _ (told : Bool) (stage next : CsplitState) (old new : List Slot) where
 
   -- the work ends with a verdict, and the files were cleared away after it
   pub ends_judged : Closed told stage old new next None → {verdict : Verdict} → (cleared : List Slot) → ((first : ℕ) → Owns next first new → Swept (work next).clears first new cleared)
-      → CutsOff duty stage (work stage).whole told old cleared (fault_is.Verdict verdict)
+      → CutsOff terms stage (work stage).whole told old cleared (fault_is.Verdict verdict)
   ends_judged closed cleared swept before x at =
       engine.judged refl new (whole_out closed at)
       (subst (λ (style : Style). Swept (not style.keep) (length before) new cleared) closed.keeps.style (swept (length before) (owns_on closed.keeps.writer (length before) at.owns)))
 
 -- what the end owes, however it went
 pub finishes_by : (told : Bool) (stage next : CsplitState) (old new : List Slot) {result : Result (Unit {0}) Fault} → Closes told stage old new next result → IsReady stage old → next.taken ≤ stage.taken
-    → Finishes duty told stage next old new (IsMetThere duty stage) result
+    → Finishes terms told stage next old new (IsMetThere terms stage) result
 finishes_by told stage next old new (ended_well closed none) is_ready few = record {
   same = same_by csplit_work closed.keeps;
   size = few;
@@ -647,7 +647,7 @@ finishes_by told stage next old new (ended_short fault stopped) is_ready few = r
   owns = owns_on stopped.keeps.writer;
   there = stopped.keeps.writer.owns.there;
   cut = ends_short told stage next old new stopped is_ready;
-  met = met_by tt (EndsThere duty stage) stage.cutter.style old new fault is_ready.manner stopped.keeps.writer.slots;
+  met = met_by tt (EndsThere terms stage) stage.cutter.style old new fault is_ready.manner stopped.keeps.writer.slots;
 }
 finishes_by told stage next old new (ended_so verdict mid reached closed judges swept) is_ready few = record {
   same = swept.same ∙ same_by csplit_work closed.keeps;
@@ -681,7 +681,7 @@ cannot_begin told {style} {given} {new} {fault} same two stopped before at =
 
 -- The files are removed.
 
-pub sweeps : {view : CutterState} (stage next : CsplitState) {old new : List Slot} → view ≡ stage.cutter → next.taken ≡ stage.taken → Clears view old new next.cutter → stage.cutter.style.keep ≡ false → AreThere (files stage) old → Sweeps duty stage next old new
+pub sweeps : {view : CutterState} (stage next : CsplitState) {old new : List Slot} → view ≡ stage.cutter → next.taken ≡ stage.taken → Clears view old new next.cutter → stage.cutter.style.keep ≡ false → AreThere (files stage) old → Sweeps terms stage next old new
 sweeps stage next {old} {new} is taken clears_view none are =
     let clears = subst (λ (cutter : CutterState). Clears cutter old new next.cutter) is clears_view in
     let kept = files_left (ap (λ (c : CutterState). c.writer.keeps) clears.same) (ap (λ (c : CutterState). c.writer.current) clears.same) clears.removes in record {

@@ -5,7 +5,7 @@ use Rattle.ports_core.specs.FileWriter.{OwnsFiles, IsManner, IsReady as CanWrite
 use Rattle.ports_core.specs.Slot.{Slot, is_writable}
 use Rattle.ports_core.specs.declared.file_writer.Keeps.TheVariants.{All}
 use Rattle.ports_core.specs.Work.{Work}
-use Rattle.ports_core.specs.Engine.{Duty}
+use Rattle.ports_core.specs.Engine.{Terms}
 use Rattle.csplit_core.specs.Csplit.{csplit_work}
 use Rattle.csplit_core.specs.Cutter.{CutterState, IsSound, Stands, load}
 use Rattle.csplit_core.specs.Output.{manner_of}
@@ -53,8 +53,8 @@ pub record Owns (stage : CsplitState) (first : ℕ) (slots : List Slot) : Type 0
 abbrev pub files : CsplitState → List ℕ
 files stage = stage.cutter.writer.files
 
-abbrev pub duty : Duty CsplitState
-duty = record {
+abbrev pub terms : Terms CsplitState
+terms = record {
   Holds = Holds;
   work = work;
   IsDone = λ stage x. ⊥;

@@ -8,7 +8,7 @@ ghost use Rattle.ports_core.specs.Swept.{AreThere, HasNoFiles};
 ghost use Rattle.csplit_core.specs.Csplit.{csplit_work, settled_by};
 ghost use Rattle.csplit_core.specs.Output.{manner_of, sizes_wanted};
 ghost use Rattle.csplit_core.specs.inner.Cutter.{Closes, Passes, IsLine, Takes};
-ghost use Rattle.csplit_core.specs.CsplitState.{Holds, IsReady, Owns, duty, files, work};
+ghost use Rattle.csplit_core.specs.CsplitState.{Holds, IsReady, Owns, terms, files, work};
 ghost use Rattle.csplit_core.specs.Cutter.{IsSound, load};
 ghost use Rattle.ports_core.specs.Turn.{fault_in};
 ghost use Rattle.csplit_core.specs.Input.{newline};
@@ -141,7 +141,7 @@ impl<'o> Csplitter<'o> {
 }
 
 impl<'o> Stage for Csplitter<'o> {
-    ghost duty = { duty };
+    ghost terms = { terms };
 
     /// Takes in a piece: its lines, of which the first may complete the open line, and what follows them.
     fn pass<O: Outs>(&mut self, piece: &[u8], outs: &mut O) -> Result<(), Fault>

@@ -19,7 +19,7 @@ use Rattle.ends_core.specs.declared.front.Front.{Front}
 use Rattle.ends_core.specs.declared.ends.Ends.TheVariants.{First, ButLast, FromNth, Last}
 use Rattle.ends_core.specs.Ends.{measure, first_of, after_of, last_of, but_last_of}
 use Rattle.ends_core.specs.Head.{head_work, IsDone, ahead_of}
-use Rattle.ends_core.specs.Stage.{Stretch, the_first, from_the_nth, the_last, keeps, work_in, stretch_of, delim_of, unit_of, count_of, left_of, waiting_of, waiting, past_in, past_of, may_lack, work, Holds, duty, is_done, all_but_last}
+use Rattle.ends_core.specs.Stage.{Stretch, the_first, from_the_nth, the_last, keeps, work_in, stretch_of, delim_of, unit_of, count_of, left_of, waiting_of, waiting, past_in, past_of, may_lack, work, Holds, terms, is_done, all_but_last}
 use Rattle.ends_core.specs.inner.Stage.{IsSilent, due, due_at_end, left_waiting, is_full, unused_of, FullLacksNone, SameAsked, piece_for, wanted_by}
 use Rattle.ends_core.specs.Kept.{most_of, delim_of as kept_delim, unit_of as kept_unit}
 use Rattle.ports_core.specs.Inputs.{PassesOver}
@@ -68,11 +68,11 @@ rest_out (Last kept) x holds = ap only_out holds.waits
 rest_out ends x holds = grind (arith, common_steps)
 
 module _ (told : Bool) (ends : Ends) (bytes : List ℕ) {whole : List ℕ → Part} (makes : Makes ends bytes whole) {old new : List Slot} where
-  pub puts_out : new ≡ with_written 0 (told_of told bytes) old → PutsOut duty ends whole told old new
+  pub puts_out : new ≡ with_written 0 (told_of told bytes) old → PutsOut terms ends whole told old new
   puts_out wrote before x at = subst (λ part. OutputsAt told before part new) (makes x at.holds) (out_more told before _ old new bytes at.outputs wrote)
 
   -- what stopped it stopped an output of bytes
-  pub cuts_off : {lacks : Bool} {f : Fault} → Stops told lacks bytes old new f → CutsOff duty ends whole told old new f
+  pub cuts_off : {lacks : Bool} {f : Fault} → Stops told lacks bytes old new f → CutsOff terms ends whole told old new f
   cuts_off {f = f} stops before x at = cut (stop.unjudged told stops)
       (subst (λ output. StoppedBetween output told before ((work ends).settled x) (whole x) f new) (sym (ap (λ means. means.output) (on_means (stretch_of ends) (delim_of ends) (unit_of ends) (count_of ends))))
       (subst (λ part. StoppedBetween gets_bytes told before ((work ends).settled x) part f new) (makes x at.holds) (stop.between told at.outputs stops)))
@@ -194,13 +194,12 @@ goes_on (FromNth count front) next x silent = inr refl
 goes_on (Last kept) next x silent = inr refl
 goes_on ends next x silent = inl silent.0
 
-pub loads : (told : Bool) (most slot count : ℕ) (ends next : Ends) (old new : List Source) → Holds ends [] → duty.size ends ≡ 0 → SameAsked ends next → past_of next ≡ past_of ends
-    → PassesOver told most slot count (λ x. (waiting_of next ≡ waiting ends x) × IsSilent ends next x) old new → FullLacksNone next → count < 2 ^ 63 → Loads duty told most slot count ends next old new
-loads told most slot count ends next old new fresh none same past passes full few = passes_so _ passes (λ x long keeps.
+pub loads : (told : Bool) (most slot count : ℕ) (ends next : Ends) (old new : List Source) → Holds ends [] → terms.size ends ≡ 0 → SameAsked ends next → past_of next ≡ past_of ends
+    → PassesOver told most slot count (λ x. (waiting_of next ≡ waiting ends x) × IsSilent ends next x) old new → FullLacksNone next → Loads terms told most slot count ends next old new
+loads told most slot count ends next old new fresh none same past passes full = passes_so _ passes (λ x long keeps.
     let piece = as_piece ends next x fresh keeps.0 past keeps.1 in record {
       same = same_work same;
       size = omega (arith, none, past, ap length keeps.0, waits_within (stretch_of ends) (delim_of ends) (unit_of ends) (count_of ends) x);
-      few = omega (arith, few, long);
       holds = takes_in ends x same piece.0 piece.1 piece.2 full [] fresh;
       ready = λ slots is. is;
       owns = λ first slots is. is;
@@ -326,7 +325,7 @@ few_spare delim Lines count x piece spare is going enough within =
     let few = few_between delim x piece spare.used spare.rest spare.joined past in
     omega (arith, is, going, enough, within, past, few, spare.long, sym (length-append x piece) ∙ ap length spare.joined ∙ length-append spare.used spare.rest)
 
-pub may_get : (ends : Ends) → MayGet duty ends (wanted_by ends)
+pub may_get : (ends : Ends) → MayGet terms ends (wanted_by ends)
 may_get (First count front) x piece after n holds going within same later spare = elim spare.enough [
   | inl none ↦ omega (arith, spare.long, ap length none)
   | inr complete ↦ few_spare front.delim front.unit count x piece spare (holds.left refl) (leb-false count (measure front.delim front.unit x) going) (leb-true count (measure front.delim front.unit spare.used) complete) within

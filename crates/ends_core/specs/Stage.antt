@@ -2,7 +2,7 @@
 use Rattle.std.specs.Prelude.{◌≡◌, ℕ, ◌+◌, ◌-◌, ◌<◌, ◌≤◌, Bool, true, false, List, [], length, IsTrue}
 use Rattle.ports_core.specs.Work.{Work}
 use Rattle.ports_core.specs.Slot.{is_writable}
-use Rattle.ports_core.specs.Engine.{Duty}
+use Rattle.ports_core.specs.Engine.{Terms}
 use Rattle.seg_core.specs.declared.unit.Unit.{Unit as Counted}
 use Rattle.seg_core.specs.declared.unit.Unit.TheVariants.{Lines, Bytes}
 use Rattle.ends_core.specs.declared.ends.Ends.{Ends}
@@ -137,8 +137,8 @@ abbrev pub is_done : Ends → List ℕ → Type 0
 is_done ends x = done_in (stretch_of ends) (delim_of ends) (unit_of ends) (count_of ends) x
 
 -- it writes to standard output alone
-abbrev pub duty : Duty Ends
-duty = record {
+abbrev pub terms : Terms Ends
+terms = record {
   Holds = Holds;
   work = work;
   IsDone = is_done;

@@ -7,7 +7,7 @@ ghost use Rattle.ends_core.specs.Ends.{measure};
 ghost use Rattle.ends_core.specs.Head.{head_work};
 ghost use Rattle.ends_core.specs.Tail.{tail_work};
 ghost use Rattle.ends_core.specs.inner.Stage.{FullLacksNone, IsSilent, SameAsked, due, due_at_end, is_full, left_waiting, unused_of, wanted_by};
-ghost use Rattle.ends_core.specs.Stage.{Holds, IsAsked, all_but_last, delim_of, duty, from_the_nth, left_of, may_lack, past_of, stretch_of, the_first, the_last, unit_of, waiting, waiting_of, work};
+ghost use Rattle.ends_core.specs.Stage.{Holds, IsAsked, all_but_last, delim_of, terms, from_the_nth, left_of, may_lack, past_of, stretch_of, the_first, the_last, unit_of, waiting, waiting_of, work};
 ghost use Rattle.ends_core.specs.laws.WorkLaws.{lawful};
 ghost use Rattle.ports_core.specs.Inputs.{PassesOver};
 ghost use Rattle.ends_core.specs.inner.Kept.{Writes};
@@ -136,7 +136,7 @@ impl Tail {
 }
 
 impl Stage for Ends {
-    ghost duty = { duty };
+    ghost terms = { terms };
 
     /// Takes in a piece, and writes to standard output what is decided now, of what waited and of the piece. What no
     /// longer has to wait, and isn't written, is dropped.
@@ -181,7 +181,6 @@ impl Stage for Ends {
             (I.sources inputs.new) }
         ensures full { FullLacksNone self.new }
         ensures laid { I.laid inputs.new ≡ I.laid inputs.old }
-        ensures bound { result < 2 ^ 63 }
     {
         match self {
             Ends::Last(kept) => kept.load(slot, buffer, inputs),

@@ -4,12 +4,12 @@ ghost use Rattle.seg_core.specs.Line.{delimiters, ends_with, line_count};
 ghost use Rattle.ends_core.specs.Ends.{after_of, but_last_of, first_of, last_of, measure, size, tail_of};
 ghost use Rattle.ends_core.specs.Head.{head_waiting, head_work};
 ghost use Rattle.ends_core.specs.Place.{head_spots, tail_spots};
-ghost use Rattle.ends_core.specs.Stage.{Holds, all_but_last, count_of, delim_of, duty, keeps, may_lack, stretch_of, the_last, unit_of, waiting_of, work};
+ghost use Rattle.ends_core.specs.Stage.{Holds, all_but_last, count_of, delim_of, terms, keeps, may_lack, stretch_of, the_last, unit_of, waiting_of, work};
 ghost use Rattle.ends_core.specs.Tail.{tail_waiting, tail_work};
 ghost use Rattle.ends_core.specs.declared.ends.Ends.{Ends};
 ghost use Rattle.ports_core.specs.Agreed.{ArePlaced, IsAgreed, IsUndecided};
 ghost use Rattle.ports_core.specs.Work.{IsNeeded};
-ghost use Rattle.ports_core.specs.Guard.{GuardState, HoldsIn, IsRefused};
+ghost use Rattle.ports_core.specs.Guard.{GuardState, HoldsIn, IsRefusedWith};
 ghost use Rattle.ports_core.specs.Slot.{Slot};
 
 use crate::Unit;
@@ -102,7 +102,7 @@ pub fn full_windows_lack_nothing()
     ensures none { (engine : GuardState Ends) (x : List ℕ) → HoldsIn Holds engine x
         → keeps (stretch_of engine.stage) ≡ false → may_lack engine.stage ≡ false }
     ensures fails { (engine : GuardState Ends) (x piece : List ℕ) (old new : List Slot) (fault : Fault)
-        → HoldsIn Holds engine x → may_lack engine.stage ≡ false → IsRefused duty piece engine old new fault
+        → HoldsIn Holds engine x → may_lack engine.stage ≡ false → IsRefusedWith terms piece engine old new fault
         → (fault ≡ Fault.Write 0) ⊎ (fault ≡ Fault.TooLong) }
 {}
 

@@ -261,7 +261,7 @@ fn goes<S: Stage>(
     outs: &mut MemOut,
     pieces: &[&[u8]],
 ) -> Result<(), Fault>
-    requires { engine.old.is_over ≡ false → S.duty.Ready engine.old.stage outs.old }
+    requires { engine.old.is_over ≡ false → S.terms.Ready engine.old.stage outs.old }
 {
     if let Err(fault) = feed_all(engine, outs, pieces) {
         stays_over(rt, engine, outs);
@@ -275,7 +275,7 @@ fn goes<S: Stage>(
 }
 
 fn stays_over<S: Stage>(rt: &impl Abort, engine: &mut Guarded<S>, outs: &mut MemOut)
-    requires { engine.old.is_over ≡ false → S.duty.Ready engine.old.stage outs.old }
+    requires { engine.old.is_over ≡ false → S.terms.Ready engine.old.stage outs.old }
 {
     let before = sizes(outs);
     let is_over = feed(engine, outs, b"x\ny\n") == Err(Fault::Failed);

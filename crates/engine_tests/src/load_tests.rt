@@ -259,7 +259,7 @@ fn takes_in<S: Stage>(
     text: &[u8],
     taken: u64,
 ) -> bool
-    requires { HoldsIn S.Holds engine.old [] }
+    requires { HoldsIn S.terms.Holds engine.old [] }
 {
     let mut inputs = MemIn::new(alloc).expect(rt, "there is memory");
     inputs.file("f", text).expect(rt, "there is memory");

@@ -51,7 +51,7 @@ pub(crate) fn play<S: Stage>(
     row: usize,
     steps: &[Step<'_>],
 )
-    requires { engine.old.is_over ≡ false → S.duty.Ready engine.old.stage outs.old }
+    requires { engine.old.is_over ≡ false → S.terms.Ready engine.old.stage outs.old }
 {
     let mut number = 0usize;
     for step in steps {
@@ -62,8 +62,8 @@ pub(crate) fn play<S: Stage>(
 
 /// Takes a step with an engine, and returns whether that came of it which must.
 fn take<S: Stage>(engine: &mut Guarded<S>, outs: &mut MemOut, step: &Step<'_>) -> bool
-    requires { engine.old.is_over ≡ false → S.duty.Ready engine.old.stage outs.old }
-    ensures { engine.new.is_over ≡ false → S.duty.Ready engine.new.stage outs.new }
+    requires { engine.old.is_over ≡ false → S.terms.Ready engine.old.stage outs.old }
+    ensures { engine.new.is_over ≡ false → S.terms.Ready engine.new.stage outs.new }
 {
     match step {
         Step::Feed(piece) => feed(engine, outs, piece).is_ok(),
@@ -121,8 +121,8 @@ pub(crate) fn feed<S: Stage>(
     outs: &mut MemOut,
     piece: &[u8],
 ) -> Result<(), Fault>
-    requires { engine.old.is_over ≡ false → S.duty.Ready engine.old.stage outs.old }
-    ensures { engine.new.is_over ≡ false → S.duty.Ready engine.new.stage outs.new }
+    requires { engine.old.is_over ≡ false → S.terms.Ready engine.old.stage outs.old }
+    ensures { engine.new.is_over ≡ false → S.terms.Ready engine.new.stage outs.new }
 {
     engine.feed(piece, outs)
 }
@@ -133,8 +133,8 @@ pub(crate) fn feed_all<S: Stage>(
     outs: &mut MemOut,
     pieces: &[&[u8]],
 ) -> Result<(), Fault>
-    requires { engine.old.is_over ≡ false → S.duty.Ready engine.old.stage outs.old }
-    ensures { engine.new.is_over ≡ false → S.duty.Ready engine.new.stage outs.new }
+    requires { engine.old.is_over ≡ false → S.terms.Ready engine.old.stage outs.old }
+    ensures { engine.new.is_over ≡ false → S.terms.Ready engine.new.stage outs.new }
 {
     for piece in pieces {
         feed(engine, outs, piece)?;
@@ -148,7 +148,7 @@ pub(crate) fn feed_and_close<S: Stage>(
     outs: &mut MemOut,
     pieces: &[&[u8]],
 ) -> Result<(), Fault>
-    requires { engine.old.is_over ≡ false → S.duty.Ready engine.old.stage outs.old }
+    requires { engine.old.is_over ≡ false → S.terms.Ready engine.old.stage outs.old }
 {
     feed_all(engine, outs, pieces)?;
     close(engine, outs)
@@ -156,8 +156,8 @@ pub(crate) fn feed_and_close<S: Stage>(
 
 /// Closes an engine, also one that is over.
 pub(crate) fn close<S: Stage>(engine: &mut Guarded<S>, outs: &mut MemOut) -> Result<(), Fault>
-    requires { engine.old.is_over ≡ false → S.duty.Ready engine.old.stage outs.old }
-    ensures { engine.new.is_over ≡ false → S.duty.Ready engine.new.stage outs.new }
+    requires { engine.old.is_over ≡ false → S.terms.Ready engine.old.stage outs.old }
+    ensures { engine.new.is_over ≡ false → S.terms.Ready engine.new.stage outs.new }
 {
     engine.close(outs)
 }

@@ -1,13 +1,13 @@
 -- Lemmas on what an engine takes in without a read.
 use Rattle.std.proofs.lemmas.Grind.{common_steps}
-use Rattle.std.proofs.Common.{◌≡◌, ℕ, ◌≤◌, max, zero, suc, not, ◌&&◌, Bool, true, false, IsTrue, List, [], ◌∷◌, length, take, drop, replicate, Option, Some, None, if◌then◌else◌, inl, refl, sym, ◌∙◌, ap, subst, arith}
+use Rattle.std.proofs.Common.{◌≡◌, ℕ, ◌<◌, ◌≤◌, ◌^◌, max, zero, suc, not, ◌&&◌, Bool, true, false, IsTrue, List, [], ◌∷◌, length, take, drop, replicate, Option, Some, None, if◌then◌else◌, inl, refl, sym, ◌∙◌, ap, subst, arith}
 use Rattle.std.proofs.lemmas.Bool.{false≢true}
 use Rattle.std.proofs.lemmas.List.{length-replicate, length-take-le, nil_from_length, take-append-drop}
 use Rattle.ports_core.specs.Slot.{changed_at}
 use Rattle.ports_core.specs.Source.{Content, Source, count_left, source_at, is_readable, looks, skips}
 use Rattle.ports_core.specs.Inputs.{HasLooked, PassesOver}
 use Rattle.ports_core.proofs.InputsLemmas.{changed_source, keeps_again, keeps_itself, keeps_others}
-use Rattle.ports_core.specs.Engine.{Duty, Loads, TookIn}
+use Rattle.ports_core.specs.Engine.{Terms, Loads, TookIn}
 use Rattle.ports_core.proofs.SlotLemmas.{changed_there}
 use Rattle.ports_core.proofs.SourceLemmas.{readable_within}
 
@@ -47,6 +47,7 @@ looked_readable looked can = ap (λ (source : Source). source.is_open && not sou
 pub passes_none : (told : Bool) {most slot : ℕ} (Keeps : List ℕ → Type 0) {old new : List Source} → HasLooked most slot old new → Keeps []
     → PassesOver told most slot 0 Keeps old new
 passes_none told {slot = slot} Keeps {new = new} looked keeps = record {
+  few = omega arith;
   front = [];
   long = refl;
   there = λ tells. sym (ap (λ (source : Source). source.left.bytes) looked.looked);
@@ -70,11 +71,12 @@ has_left content counts is tells = omega (arith, counted content (sym (counts te
 
 -- a front of the bytes that are left was passed over
 pub passes_front : (told : Bool) {most slot count least : ℕ} {old mid new : List Source} → IsTrue (is_readable old slot)
-    → (told ≡ true → least ≤ length (source_at old slot).left.bytes) → count ≤ least → HasLooked most slot old mid
+    → (told ≡ true → least ≤ length (source_at old slot).left.bytes) → count ≤ least → count < 2 ^ 63 → HasLooked most slot old mid
     → new ≡ changed_at slot (skips count) mid → PassesOver told most slot count (λ x. Unit {0}) old new
-passes_front true {slot = slot} {count} {old = old} {mid} {new} can has within looked passed =
+passes_front true {slot = slot} {count} {old = old} {mid} {new} can has within few looked passed =
     let bytes = (source_at old slot).left.bytes in
     let long : length (take count bytes) ≡ count = length-take-le count bytes (omega (arith, within, has refl)) in record {
+      few = few;
       front = take count bytes;
       long = sym long;
       there = λ t. rw (ap (λ (source : Source). source.left.bytes) (passed_at slot count mid new (looked_readable looked can) passed) ∙ ap (λ (source : Source). drop count source.left.bytes) looked.looked) (sym (take-append-drop count bytes));
@@ -83,7 +85,8 @@ passes_front true {slot = slot} {count} {old = old} {mid} {new} can has within l
       passed = passed;
       keeps = tt;
     }
-passes_front false {count = count} {mid = mid} can has within looked passed = record {
+passes_front false {count = count} {mid = mid} can has within few looked passed = record {
+  few = few;
   front = replicate count 0;
   long = sym (length-replicate count 0);
   there = λ t. absurd (false≢true t);
@@ -95,11 +98,11 @@ passes_front false {count = count} {mid = mid} can has within looked passed = re
 
 -- or none was, where that can't be done
 pub passes_if : (told done : Bool) {most slot count least : ℕ} {old mid new : List Source} → IsTrue (is_readable old slot)
-    → (told ≡ true → least ≤ length (source_at old slot).left.bytes) → count ≤ least → HasLooked most slot old mid
+    → (told ≡ true → least ≤ length (source_at old slot).left.bytes) → count ≤ least → count < 2 ^ 63 → HasLooked most slot old mid
     → (IsTrue done → new ≡ changed_at slot (skips count) mid) → (done ≡ false → new ≡ mid)
     → PassesOver told most slot (if done then count else 0) (λ x. Unit {0}) old new
-passes_if told true can has within looked passed stays = passes_front told can has within looked (passed refl)
-passes_if told false can has within looked passed stays = rw (stays refl) (passes_none told _ looked tt)
+passes_if told true can has within few looked passed stays = passes_front told can has within few looked (passed refl)
+passes_if told false can has within few looked passed stays = rw (stays refl) (passes_none told _ looked tt)
 
 -- whether they were is known
 pub passes_by : {told : Bool} {most slot : ℕ} {Keeps : List ℕ → Type 0} {old new : List Source} (count : ℕ) (done : Bool) {is : Bool} → done ≡ is
@@ -112,6 +115,7 @@ pub passes_so : {told : Bool} {most slot count : ℕ} {Before : List ℕ → Typ
     → PassesOver told most slot count Before old new → ((x : List ℕ) → count ≡ length x → Before x → Keeps x)
     → PassesOver told most slot count Keeps old new
 passes_so Keeps passes so = record {
+  few = passes.few;
   front = passes.front;
   long = passes.long;
   there = passes.there;
@@ -123,12 +127,11 @@ passes_so Keeps passes so = record {
 
 -- a stage that takes in none stays as it was
 
-module _ {S : Type 0} (duty : Duty S) where
-  took_none : {stage : S} → duty.Holds stage [] → duty.size stage ≡ 0 → TookIn duty stage stage []
+module _ {S : Type 0} (terms : Terms S) where
+  took_none : {stage : S} → terms.Holds stage [] → terms.size stage ≡ 0 → TookIn terms stage stage []
   took_none fresh none = record {
     same = refl;
     size = omega (arith, none);
-    few = omega arith;
     holds = fresh;
     ready = λ slots is. is;
     owns = λ first slots is. is;
@@ -136,12 +139,12 @@ module _ {S : Type 0} (duty : Duty S) where
     going = inl refl;
   }
 
-  pub loads_none : (told : Bool) (most : ℕ) {slot : ℕ} {stage : S} {sources : List Source} → duty.Holds stage [] → duty.size stage ≡ 0
-      → Loads duty told most slot 0 stage stage sources sources
+  pub loads_none : (told : Bool) (most : ℕ) {slot : ℕ} {stage : S} {sources : List Source} → terms.Holds stage [] → terms.size stage ≡ 0
+      → Loads terms told most slot 0 stage stage sources sources
   loads_none told most {slot} {sources = sources} fresh none = passes_none told _ (looked_none most slot sources) (took_none fresh none)
 
   -- also where the input was looked at
-  pub loads_still : {told : Bool} {most slot : ℕ} {Before : List ℕ → Type 0} {stage : S} {old new : List Source} → duty.Holds stage []
-      → duty.size stage ≡ 0 → PassesOver told most slot 0 Before old new → Loads duty told most slot 0 stage stage old new
+  pub loads_still : {told : Bool} {most slot : ℕ} {Before : List ℕ → Type 0} {stage : S} {old new : List Source} → terms.Holds stage []
+      → terms.size stage ≡ 0 → PassesOver told most slot 0 Before old new → Loads terms told most slot 0 stage stage old new
   loads_still {stage = stage} fresh none passes = passes_so _ passes
-      (λ x long is. subst (TookIn duty stage stage) (sym (nil_from_length x (sym long))) (took_none fresh none))
+      (λ x long is. subst (TookIn terms stage stage) (sym (nil_from_length x (sym long))) (took_none fresh none))

@@ -11,8 +11,8 @@ use Rattle.ports_core.specs.declared.fault.Fault.TheVariants.{Memory, Write, Ope
 use Rattle.ports_core.specs.declared.fault.Fault.TheVariants as fault_is
 use Rattle.ports_core.specs.declared.verdict.Verdict.{Verdict}
 
--- What a stage says of each of its states: what its calls owe is told in these words.
-pub record Duty (S : Type 0) : Type 1 where
+-- What a stage says of each of its states: what its calls owe is said in these terms.
+pub record Terms (S : Type 0) : Type 1 where
   -- it can have been fed these bytes
   pub Holds : S → List ℕ → Type 0
   -- what it makes of its input
@@ -36,15 +36,15 @@ TakesIn Holds piece old new = (x : List ℕ) → Holds old x → Holds new (x ++
 
 -- It can have been fed x. The outputs have what is settled with x, from the state `before` on, and those opened since
 -- are its own.
-pub record StandsAt {S : Type 0} (duty : Duty S) (stage : S) (told : Bool) (before : List Slot) (x : List ℕ)
+pub record StandsAt {S : Type 0} (terms : Terms S) (stage : S) (told : Bool) (before : List Slot) (x : List ℕ)
     (now : List Slot) : Type 0 where
-  pub holds : duty.Holds stage x
-  pub owns : duty.Owns stage (length before) now
-  pub outputs : OutputsAt told before ((duty.work stage).settled x) now
+  pub holds : terms.Holds stage x
+  pub owns : terms.Owns stage (length before) now
+  pub outputs : OutputsAt told before ((terms.work stage).settled x) now
 
 -- whatever it was fed, if the outputs had what was settled with that, they have what is due
-abbrev pub PutsOut : {S : Type 0} → Duty S → S → (List ℕ → Part) → Bool → List Slot → List Slot → Type 0
-PutsOut duty stage due told old new = (before : List Slot) (x : List ℕ) → StandsAt duty stage told before x old
+abbrev pub PutsOut : {S : Type 0} → Terms S → S → (List ℕ → Part) → Bool → List Slot → List Slot → Type 0
+PutsOut terms stage due told old new = (before : List Slot) (x : List ℕ) → StandsAt terms stage told before x old
     → OutputsAt told before (due x) new
 
 -- a fault with which a tool's work itself ends
@@ -62,10 +62,10 @@ pub data Ended (output : Output) (told : Bool) (before : List Slot) (low high : 
       → Swept clears (length before) reached now → Ended output told before low high clears fault now
 
 -- how a fault leaves the outputs between what was settled and what was due
-abbrev pub CutsOff : {S : Type 0} → Duty S → S → (List ℕ → Part) → Bool → List Slot → List Slot → Fault → Type 0
-CutsOff duty stage due told old new fault = (before : List Slot) (x : List ℕ)
-    → StandsAt duty stage told before x old
-    → Ended (duty.work stage).means.output told before ((duty.work stage).settled x) (due x) (duty.work stage).clears
+abbrev pub CutsOff : {S : Type 0} → Terms S → S → (List ℕ → Part) → Bool → List Slot → List Slot → Fault → Type 0
+CutsOff terms stage due told old new fault = (before : List Slot) (x : List ℕ)
+    → StandsAt terms stage told before x old
+    → Ended (terms.work stage).means.output told before ((terms.work stage).settled x) (due x) (terms.work stage).clears
     fault new
 
 -- The causes of a fault that meets an engine which isn't over: `Lacks` where it may want memory, `Ends` where its work
@@ -79,22 +79,22 @@ IsMet means needs Lacks Ends old new (fault_is.Verdict verdict) = Ends verdict
 IsMet means needs Lacks Ends old new fault = ⊥
 
 -- whatever the stage was fed, with this piece its work ends so
-abbrev pub EndsWith : {S : Type 0} → Duty S → List ℕ → S → Verdict → Type 0
-EndsWith duty piece stage verdict = (x : List ℕ) → duty.Holds stage x
-    → IsSettled (duty.work stage) (x ++ piece) verdict
+abbrev pub EndsWith : {S : Type 0} → Terms S → List ℕ → S → Verdict → Type 0
+EndsWith terms piece stage verdict = (x : List ℕ) → terms.Holds stage x
+    → IsSettled (terms.work stage) (x ++ piece) verdict
 
 -- whatever the stage was fed, at its end the work ends so
-abbrev pub EndsThere : {S : Type 0} → Duty S → S → Verdict → Type 0
-EndsThere duty stage verdict = (x : List ℕ) → duty.Holds stage x → Judges (duty.work stage) x verdict
+abbrev pub EndsThere : {S : Type 0} → Terms S → S → Verdict → Type 0
+EndsThere terms stage verdict = (x : List ℕ) → terms.Holds stage x → Judges (terms.work stage) x verdict
 
 -- what causes a fault of a stage that takes in a piece
-abbrev pub IsMetWith : {S : Type 0} → Duty S → List ℕ → S → List Slot → List Slot → Fault → Type 0
-IsMetWith duty piece stage = IsMet (duty.work stage).means (duty.work stage).means.feeding
-    (duty.may_lack stage piece ≡ true) (EndsWith duty piece stage)
+abbrev pub IsMetWith : {S : Type 0} → Terms S → List ℕ → S → List Slot → List Slot → Fault → Type 0
+IsMetWith terms piece stage = IsMet (terms.work stage).means (terms.work stage).means.feeding
+    (terms.may_lack stage piece ≡ true) (EndsWith terms piece stage)
 
 -- what causes a fault of a stage at the end
-abbrev pub IsMetThere : {S : Type 0} → Duty S → S → List Slot → List Slot → Fault → Type 0
-IsMetThere duty stage = IsMet (duty.work stage).means (duty.work stage).means.closing (Unit {0}) (EndsThere duty stage)
+abbrev pub IsMetThere : {S : Type 0} → Terms S → S → List Slot → List Slot → Fault → Type 0
+IsMetThere terms stage = IsMet (terms.work stage).means (terms.work stage).means.closing (Unit {0}) (EndsThere terms stage)
 
 -- what causes each fault of a call that takes in `size` bytes, where `Met` causes those of an engine which isn't over
 pub data IsCaused (Met : Fault → Type 0) (is_over : Bool) (fed size : ℕ) (old new : List Slot) : Fault → Type 0 where
@@ -103,95 +103,95 @@ pub data IsCaused (Met : Fault → Type 0) (is_over : Bool) (fed size : ℕ) (ol
   met : (fault : Fault) → is_over ≡ false → Met fault → IsCaused Met is_over fed size old new fault
 
 -- the slots from this place on are the stage's own, before and after
-abbrev pub KeepsOwn : {S : Type 0} → Duty S → S → S → List Slot → List Slot → Type 0
-KeepsOwn duty old new before after = (first : ℕ) → duty.Owns old first before → duty.Owns new first after
+abbrev pub KeepsOwn : {S : Type 0} → Terms S → S → S → List Slot → List Slot → Type 0
+KeepsOwn terms old new before after = (first : ℕ) → terms.Owns old first before → terms.Owns new first after
 
 -- its files are cleared away if the work clears them, and else stay
-abbrev pub Clears : {S : Type 0} → Duty S → S → List Slot → List Slot → Type 0
-Clears duty stage old new = (first : ℕ) → duty.Owns stage first old → Swept (duty.work stage).clears first old new
+abbrev pub Clears : {S : Type 0} → Terms S → S → List Slot → List Slot → Type 0
+Clears terms stage old new = (first : ℕ) → terms.Owns stage first old → Swept (terms.work stage).clears first old new
 
--- What a stage leaves that took in a piece, or where a fault came, which `Met` says the cause of.
-pub record Passes {S : Type 0} (duty : Duty S) (told : Bool) (piece : List ℕ) (old new : S) (before after : List Slot)
+-- What a stage leaves that took in a piece. Where a fault came, `Met` says its cause.
+pub record Passes {S : Type 0} (terms : Terms S) (told : Bool) (piece : List ℕ) (old new : S) (before after : List Slot)
     (Met : List Slot → List Slot → Fault → Type 0) (result : Result (Unit {0}) Fault) : Type 0 where
   -- it makes of its input what it made
-  pub same : duty.work new ≡ duty.work old
-  -- it has no more to count than came in
-  pub size : duty.size new ≤ duty.size old + length piece
+  pub same : terms.work new ≡ terms.work old
+  -- it has no more to count than before, and what came in
+  pub size : terms.size new ≤ terms.size old + length piece
   -- it was fed the piece after what it was fed before
-  pub holds : OnOk result (TakesIn duty.Holds piece old new)
+  pub holds : OnOk result (TakesIn terms.Holds piece old new)
   -- outputs that had what was settled before the piece have what is settled with it
-  pub outputs : OnOk result (PutsOut duty old (λ x. (duty.work old).settled (x ++ piece)) told before after)
+  pub outputs : OnOk result (PutsOut terms old (λ x. (terms.work old).settled (x ++ piece)) told before after)
   -- those that it goes on with can be written
-  pub ready : OnOk result (duty.Ready new after)
-  -- the slots that were its own are
-  pub owns : KeepsOwn duty old new before after
+  pub ready : OnOk result (terms.Ready new after)
+  -- the slots that were its own still are
+  pub owns : KeepsOwn terms old new before after
   -- the files that it made are there, if they were before
-  pub there : AreThere (duty.files old) before → AreThere (duty.files new) after
+  pub there : AreThere (terms.files old) before → AreThere (terms.files new) after
   -- a fault leaves a beginning of what is settled with the piece, or all of it where the work ends so
-  pub cut : IfErr result (CutsOff duty old (λ x. (duty.work old).settled (x ++ piece)) told before after)
+  pub cut : IfErr result (CutsOff terms old (λ x. (terms.work old).settled (x ++ piece)) told before after)
   -- and has a cause
   pub met : IfErr result (Met before after)
 
--- What a stage leaves at the end of its input, or where a fault came, which `Met` says the cause of.
-pub record Finishes {S : Type 0} (duty : Duty S) (told : Bool) (old new : S) (before after : List Slot)
+-- What a stage leaves at the end of its input. Where a fault came, `Met` says its cause.
+pub record Finishes {S : Type 0} (terms : Terms S) (told : Bool) (old new : S) (before after : List Slot)
     (Met : List Slot → List Slot → Fault → Type 0) (result : Result (Unit {0}) Fault) : Type 0 where
   -- it makes of its input what it made
-  pub same : duty.work new ≡ duty.work old
-  -- it has no more to count
-  pub size : duty.size new ≤ duty.size old
+  pub same : terms.work new ≡ terms.work old
+  -- it has no more to count than before
+  pub size : terms.size new ≤ terms.size old
   -- the work ends well
-  pub well : OnOk result ((x : List ℕ) → duty.Holds old x → (duty.work old).verdict x ≡ None)
+  pub well : OnOk result ((x : List ℕ) → terms.Holds old x → (terms.work old).verdict x ≡ None)
   -- outputs that had what was settled have the whole
-  pub outputs : OnOk result (PutsOut duty old (duty.work old).whole told before after)
+  pub outputs : OnOk result (PutsOut terms old (terms.work old).whole told before after)
   -- standard output can be written to, if it writes there
-  pub writable : OnOk result (writes (duty.work old).means.output ≡ true → IsTrue (is_writable after 0))
-  -- the slots that were its own are
-  pub owns : KeepsOwn duty old new before after
+  pub writable : OnOk result (writes (terms.work old).means.output ≡ true → IsTrue (is_writable after 0))
+  -- the slots that were its own still are
+  pub owns : KeepsOwn terms old new before after
   -- the files that it made are there, if they were before
-  pub there : AreThere (duty.files old) before → AreThere (duty.files new) after
+  pub there : AreThere (terms.files old) before → AreThere (terms.files new) after
   -- a fault leaves a beginning of the whole, or all of it where the work ends so
-  pub cut : IfErr result (CutsOff duty old (duty.work old).whole told before after)
+  pub cut : IfErr result (CutsOff terms old (terms.work old).whole told before after)
   -- and has a cause
   pub met : IfErr result (Met before after)
 
 -- What a stage leaves that gives its files up: they are removed if its work clears them.
-pub record Sweeps {S : Type 0} (duty : Duty S) (old new : S) (before after : List Slot) : Type 0 where
+pub record Sweeps {S : Type 0} (terms : Terms S) (old new : S) (before after : List Slot) : Type 0 where
   -- it makes of its input what it made
-  pub same : duty.work new ≡ duty.work old
-  -- it has no more to count
-  pub size : duty.size new ≤ duty.size old
-  -- its files are removed, one after another, and those are left whose removal failed
-  pub removes : RemovesIf (duty.work old).clears (duty.files old) before (duty.files new) after
-  -- so none of the outputs that are its own has a file, but for those
-  pub swept : Clears duty old before after
-  -- the slots that were its own are
-  pub owns : KeepsOwn duty old new before after
+  pub same : terms.work new ≡ terms.work old
+  -- it has no more to count than before
+  pub size : terms.size new ≤ terms.size old
+  -- its files are removed, one after another, and those are left whose removal failed, if the work clears them; else all
+  -- stay
+  pub removes : RemovesIf (terms.work old).clears (terms.files old) before (terms.files new) after
+  -- so of the outputs that are its own none but those has a file then
+  pub swept : Clears terms old before after
+  -- the slots that were its own still are
+  pub owns : KeepsOwn terms old new before after
   -- the files that are left are there
-  pub there : AreThere (duty.files new) after
+  pub there : AreThere (terms.files new) after
 
 -- A stage that was fed nothing became one that was fed this text.
-pub record TookIn {S : Type 0} (duty : Duty S) (before after : S) (front : List ℕ) : Type 0 where
+pub record TookIn {S : Type 0} (terms : Terms S) (before after : S) (front : List ℕ) : Type 0 where
   -- it makes of its input what it made
-  pub same : duty.work after ≡ duty.work before
-  -- it has no more to count than that, and that is less than an engine takes
-  pub size : duty.size after ≤ length front
-  pub few : length front < 2 ^ 63
-  pub holds : duty.Holds after front
-  pub ready : (slots : List Slot) → duty.Ready before slots → duty.Ready after slots
-  pub owns : (first : ℕ) (slots : List Slot) → duty.Owns before first slots → duty.Owns after first slots
+  pub same : terms.work after ≡ terms.work before
+  -- it has no more to count than that
+  pub size : terms.size after ≤ length front
+  pub holds : terms.Holds after front
+  pub ready : (slots : List Slot) → terms.Ready before slots → terms.Ready after slots
+  pub owns : (first : ℕ) (slots : List Slot) → terms.Owns before first slots → terms.Owns after first slots
   -- nothing is settled with it, and its output isn't complete
-  pub idle : (duty.work before).settled front ≡ (duty.work before).settled []
-  pub going : (front ≡ []) ⊎ ((duty.work before).is_complete front ≡ false)
+  pub idle : (terms.work before).settled front ≡ (terms.work before).settled []
+  pub going : (front ≡ []) ⊎ ((terms.work before).is_complete front ≡ false)
 
--- It took in the first `count` bytes of what an input has left, which were passed over there and not read: looks asked
--- for at most `most` at once.
-abbrev pub Loads : {S : Type 0} → Duty S → Bool → ℕ → ℕ → ℕ → S → S → List Source → List Source → Type 0
-Loads duty told most slot count before after old new =
-    PassesOver told most slot count (TookIn duty before after) old new
+-- It took in the next `count` bytes of what an input has left, which were passed over there and not read: looks asked
+-- for at most `most` at once. Where inputs don't tell their bytes, it is as if it was fed some text of that length.
+abbrev pub Loads : {S : Type 0} → Terms S → Bool → ℕ → ℕ → ℕ → S → S → List Source → List Source → Type 0
+Loads terms told most slot count before after old new =
+    PassesOver told most slot count (TookIn terms before after) old new
 
 -- The next piece may have this many bytes. Whatever x the stage was fed, if more can change the output: where a piece of
 -- no more bytes than that completes it, those of its bytes that are not used, n at its end, are at most `ahead`.
-abbrev pub MayGet : {S : Type 0} → Duty S → S → ℕ → Type 0
-MayGet {S = S} duty stage most = (x piece : List ℕ) (after : S) (n : ℕ) → duty.Holds stage x
-    → (duty.work stage).is_complete x ≡ false → length piece ≤ most → duty.work after ≡ duty.work stage
-    → duty.Holds after (x ++ piece) → IsSpare (duty.work stage) (x ++ piece) n → n ≤ (duty.work stage).ahead
+abbrev pub MayGet : {S : Type 0} → Terms S → S → ℕ → Type 0
+MayGet {S = S} terms stage most = (x piece : List ℕ) (after : S) (n : ℕ) → terms.Holds stage x
+    → (terms.work stage).is_complete x ≡ false → length piece ≤ most → terms.work after ≡ terms.work stage
+    → terms.Holds after (x ++ piece) → IsSpare (terms.work stage) (x ++ piece) n → n ≤ (terms.work stage).ahead

@@ -1,7 +1,7 @@
 -- What all engines have in common: how much came in, and whether a fault came or the end.
 use Rattle.std.specs.Prelude.{◌≡◌, ℕ, Bool, false, List, length}
 use Rattle.ports_core.specs.Slot.{Slot}
-use Rattle.ports_core.specs.Engine.{Duty, IsCaused, IsMetThere, IsMetWith}
+use Rattle.ports_core.specs.Engine.{Terms, IsCaused, IsMetThere, IsMetWith}
 use Rattle.ports_core.specs.declared.fault.Fault.{Fault}
 
 pub record GuardState (S : Type 0) : Type 0 where
@@ -16,10 +16,10 @@ pub record HoldsIn {S : Type 0} (Holds : S → List ℕ → Type 0) (guard : Gua
   pub within : Holds guard.stage x
 
 -- what causes a fault of an engine that is fed a piece
-abbrev pub IsRefused : {S : Type 0} → Duty S → List ℕ → GuardState S → List Slot → List Slot → Fault → Type 0
-IsRefused duty piece guard old new =
-    IsCaused (IsMetWith duty piece guard.stage old new) guard.is_over guard.fed (length piece) old new
+abbrev pub IsRefusedWith : {S : Type 0} → Terms S → List ℕ → GuardState S → List Slot → List Slot → Fault → Type 0
+IsRefusedWith terms piece guard old new =
+    IsCaused (IsMetWith terms piece guard.stage old new) guard.is_over guard.fed (length piece) old new
 
 -- what causes a fault of an engine that is closed
-abbrev pub IsRefusedEnd : {S : Type 0} → Duty S → GuardState S → List Slot → List Slot → Fault → Type 0
-IsRefusedEnd duty guard old new = IsCaused (IsMetThere duty guard.stage old new) guard.is_over guard.fed 0 old new
+abbrev pub IsRefusedThere : {S : Type 0} → Terms S → GuardState S → List Slot → List Slot → Fault → Type 0
+IsRefusedThere terms guard old new = IsCaused (IsMetThere terms guard.stage old new) guard.is_over guard.fed 0 old new

@@ -148,11 +148,12 @@ pub record AreOpenings (line : List ℕ → List ℕ) (low part : Part) (IsDue :
 -- files, and with what it got since it has those for the files before this place. Where files have lines before they are
 -- opened, it got those for the files since.
 abbrev pub LinesInOrder : Output → Part → Part → Part → ℕ → Fault → Type 0
+LinesInOrder gets_none low part high place fault = Unit {0}
+LinesInOrder gets_bytes low part high place fault = Unit {0}
 LinesInOrder (gets_lines line) low part high place fault = (part ≡ low)
     ⊎ ((since : List ℕ) × (part.out ≡ low.out ++ since)
     × AreLines line (lines_for line low.files ++ since) part.files place fault)
 LinesInOrder (gets_openings line) low part high place fault = AreOpenings line low part (IsNext part high) fault
-LinesInOrder output low part high place fault = Unit {0}
 
 -- A fault stopped the outputs at some part between two, at one of its files, and left its mark. So a file is closed
 -- before the next is opened, the line for a closed one comes between the two, and nothing is written after an output that

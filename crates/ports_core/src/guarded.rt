@@ -5,7 +5,7 @@ ghost use Rattle.ports_core.specs.Source.{is_readable};
 ghost use Rattle.ports_core.specs.Engine.{Finishes, Loads, MayGet, Passes, Sweeps, TakesIn};
 ghost use Rattle.ports_core.specs.Work.{IsSpare};
 ghost use Rattle.ports_core.specs.Swept.{AreThere};
-ghost use Rattle.ports_core.specs.Guard.{GuardState, HoldsIn, IsRefused, IsRefusedEnd};
+ghost use Rattle.ports_core.specs.Guard.{GuardState, HoldsIn, IsRefusedWith, IsRefusedThere};
 
 use crate::{Fault, Inputs, Outs, Stage, fed_with};
 use std::marker::Model;
@@ -25,13 +25,13 @@ impl<S: Stage> Model for Guarded<S> {
 
     ghost view = { λ g. record { stage = g.stage; fed = g.fed; is_over = g.is_over } };
 
-    ghost invariant = { λ g. (g.fed < 2 ^ 63) × (S.duty.size g.stage ≤ g.fed) };
+    ghost invariant = { λ g. (g.fed < 2 ^ 63) × (S.terms.size g.stage ≤ g.fed) };
 }
 
 impl<S: Stage> Guarded<S> {
     /// An engine of this stage, which has been fed nothing.
     pub fn new(stage: S) -> Guarded<S>
-        requires { S.duty.size stage ≡ 0 }
+        requires { S.terms.size stage ≡ 0 }
         ensures { result ≡ record { stage = stage; fed = 0; is_over = false } }
     {
         Guarded {
@@ -52,10 +52,10 @@ impl<S: Stage> Guarded<S> {
     /// whatever comes: then the outputs have all that is settled, and the files are removed if the work clears them.
     /// After a fault, and after `close`, `Failed`: nothing is changed.
     pub fn feed<O: Outs>(&mut self, piece: &[u8], outs: &mut O) -> Result<(), Fault>
-        requires { self.old.is_over ≡ false → S.duty.Ready self.old.stage (O.slots outs.old) }
-        ensures passes { Passes S.duty O.told piece.now self.old.stage self.new.stage (O.slots outs.old)
-            (O.slots outs.new) (IsRefused S.duty piece.now self.old) result }
-        ensures holds { OnOk result (TakesIn (HoldsIn S.duty.Holds) piece.now self.old self.new) }
+        requires { self.old.is_over ≡ false → S.terms.Ready self.old.stage (O.slots outs.old) }
+        ensures passes { Passes S.terms O.told piece.now self.old.stage self.new.stage (O.slots outs.old)
+            (O.slots outs.new) (IsRefusedWith S.terms piece.now self.old) result }
+        ensures holds { OnOk result (TakesIn (HoldsIn S.terms.Holds) piece.now self.old self.new) }
         ensures fed { OnOk result (self.new.fed ≡ self.old.fed + length piece.now) }
         ensures bound { OnOk result (self.new.fed < 2 ^ 63) }
         ensures long { self.old.is_over ≡ false → 2 ^ 63 ≤ self.old.fed + length piece.now
@@ -88,9 +88,9 @@ impl<S: Stage> Guarded<S> {
     /// from its front.
     pub fn load<I: Inputs>(&mut self, slot: usize, buffer: &mut [u8], inputs: &mut I) -> u64
         requires room { 0 < length buffer.old }
-        requires fresh { HoldsIn S.duty.Holds self.old [] }
+        requires fresh { HoldsIn S.terms.Holds self.old [] }
         requires input { IsTrue (is_readable (I.sources inputs.old) slot) }
-        ensures loads { Loads S.duty I.told (length buffer.old) slot result self.old.stage self.new.stage
+        ensures loads { Loads S.terms I.told (length buffer.old) slot result self.old.stage self.new.stage
             (I.sources inputs.old) (I.sources inputs.new) }
         ensures fed { self.new.fed ≡ result }
         ensures live { self.new.is_over ≡ false }
@@ -110,9 +110,9 @@ impl<S: Stage> Guarded<S> {
     /// of it, and the files are removed if the work clears them. `Failed` after a fault or after `close`: nothing is
     /// changed.
     pub fn close<O: Outs>(&mut self, outs: &mut O) -> Result<(), Fault>
-        requires { self.old.is_over ≡ false → S.duty.Ready self.old.stage (O.slots outs.old) }
-        ensures finishes { Finishes S.duty O.told self.old.stage self.new.stage (O.slots outs.old) (O.slots outs.new)
-            (IsRefusedEnd S.duty self.old) result }
+        requires { self.old.is_over ≡ false → S.terms.Ready self.old.stage (O.slots outs.old) }
+        ensures finishes { Finishes S.terms O.told self.old.stage self.new.stage (O.slots outs.old) (O.slots outs.new)
+            (IsRefusedThere S.terms self.old) result }
         ensures failed { self.old.is_over ≡ true → IsErrOf result Fault.Failed × (self.new ≡ self.old)
             × (O.slots outs.new ≡ O.slots outs.old) }
         ensures over { self.new.is_over ≡ true }
@@ -127,8 +127,8 @@ impl<S: Stage> Guarded<S> {
     /// there, in order, if its work clears them. One that can't be removed is broken and closed, and the next is tried.
     /// After a verdict, or when called again, it tries those whose removal failed before.
     pub fn abandon<O: Outs>(&mut self, outs: &mut O)
-        requires { AreThere (S.duty.files self.old.stage) (O.slots outs.old) }
-        ensures sweeps { Sweeps S.duty self.old.stage self.new.stage (O.slots outs.old) (O.slots outs.new) }
+        requires { AreThere (S.terms.files self.old.stage) (O.slots outs.old) }
+        ensures sweeps { Sweeps S.terms self.old.stage self.new.stage (O.slots outs.old) (O.slots outs.new) }
         ensures over { self.new.is_over ≡ true }
     {
         self.is_over = true;
@@ -137,10 +137,10 @@ impl<S: Stage> Guarded<S> {
 
     /// Whether the output is complete: whatever comes, it stays.
     pub fn done(&self) -> bool
-        ensures complete { (x : List ℕ) → HoldsIn S.duty.Holds self.now x
-            → result ≡ (S.duty.work self.now.stage).is_complete x }
-        ensures exact { (x : List ℕ) → HoldsIn S.duty.Holds self.now x
-            → (IsTrue result ↔ S.duty.IsDone self.now.stage x) }
+        ensures complete { (x : List ℕ) → HoldsIn S.terms.Holds self.now x
+            → result ≡ (S.terms.work self.now.stage).is_complete x }
+        ensures exact { (x : List ℕ) → HoldsIn S.terms.Holds self.now x
+            → (IsTrue result ↔ S.terms.IsDone self.now.stage x) }
     {
         self.stage.is_done()
     }
@@ -148,24 +148,24 @@ impl<S: Stage> Guarded<S> {
     /// How many bytes the next piece may have, so that no more of them than its work's `ahead` are not used: of an input that
     /// others read after it, such as a pipe, no more is to be read at once.
     pub fn wanted(&self) -> u64
-        ensures some { (x : List ℕ) → HoldsIn S.duty.Holds self.now x
-            → (S.duty.work self.now.stage).is_complete x ≡ false → 0 < result }
-        ensures few { MayGet S.duty self.now.stage result }
+        ensures some { (x : List ℕ) → HoldsIn S.terms.Holds self.now x
+            → (S.terms.work self.now.stage).is_complete x ≡ false → 0 < result }
+        ensures few { MayGet S.terms self.now.stage result }
     {
         self.stage.wanted()
     }
 
     /// How many of the bytes that came in are not used: those after the byte with which the output was complete.
     pub fn unused(&self) -> u64
-        ensures { (x : List ℕ) → HoldsIn S.duty.Holds self.now x → IsSpare (S.duty.work self.now.stage) x result }
+        ensures { (x : List ℕ) → HoldsIn S.terms.Holds self.now x → IsSpare (S.terms.work self.now.stage) x result }
     {
         self.stage.unused()
     }
 
     /// How many bytes wait, and so aren't written: those that came in and of which it isn't decided yet where they go.
     pub fn held(&self) -> u64
-        ensures { (x : List ℕ) → HoldsIn S.duty.Holds self.now x
-            → result ≡ length ((S.duty.work self.now.stage).waiting x) }
+        ensures { (x : List ℕ) → HoldsIn S.terms.Holds self.now x
+            → result ≡ length ((S.terms.work self.now.stage).waiting x) }
     {
         self.stage.waits()
     }

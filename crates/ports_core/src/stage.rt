@@ -2,7 +2,7 @@ ghost use Rattle.std.specs.Prelude.{◌≡◌, ◌+◌, ◌^◌, ◌<◌, ◌↔
 ghost use Rattle.ports_core.specs.Slot.{Slot};
 ghost use Rattle.ports_core.specs.Source.{is_readable};
 ghost use Rattle.ports_core.specs.Work.{IsLawful, IsSpare};
-ghost use Rattle.ports_core.specs.Engine.{Duty, Finishes, IsMetThere, IsMetWith, Loads, MayGet, Passes, Sweeps};
+ghost use Rattle.ports_core.specs.Engine.{Terms, Finishes, IsMetThere, IsMetWith, Loads, MayGet, Passes, Sweeps};
 ghost use Rattle.ports_core.specs.Swept.{AreThere};
 
 use crate::{Fault, Inputs, Outs};
@@ -11,7 +11,7 @@ use crate::{Fault, Inputs, Outs};
 /// each call does.
 pub trait Stage {
     /// What it says of its states, in whose words the calls below say what they owe.
-    ghost duty: { Duty Self };
+    ghost terms: { Terms Self };
 
     /// Takes the next piece, and writes what is settled with it.
     ///
@@ -19,18 +19,18 @@ pub trait Stage {
     ///
     /// As `Guarded::feed`, but for `TooLong` and `Failed`.
     fn pass<O: Outs>(&mut self, piece: &[u8], outs: &mut O) -> Result<(), Fault>
-        requires fits { duty.size self.old + length piece.now < 2 ^ 63 }
-        requires ready { duty.Ready self.old (O.slots outs.old) }
-        ensures { Passes duty O.told piece.now self.old self.new (O.slots outs.old) (O.slots outs.new)
-            (IsMetWith duty piece.now self.old) result };
+        requires fits { terms.size self.old + length piece.now < 2 ^ 63 }
+        requires ready { terms.Ready self.old (O.slots outs.old) }
+        ensures { Passes terms O.told piece.now self.old self.new (O.slots outs.old) (O.slots outs.new)
+            (IsMetWith terms piece.now self.old) result };
 
-    /// Takes in what an input has left, before any piece, as `Guarded::load`. By itself it takes in none.
+    /// Takes in bytes that an input has left, before any piece, as `Guarded::load`. By itself it takes in none.
     fn load<I: Inputs>(&mut self, slot: usize, buffer: &mut [u8], inputs: &mut I) -> u64
         requires room { 0 < length buffer.old }
-        requires fresh { duty.Holds self.old [] }
-        requires none { duty.size self.old ≡ 0 }
+        requires fresh { terms.Holds self.old [] }
+        requires none { terms.size self.old ≡ 0 }
         requires input { IsTrue (is_readable (I.sources inputs.old) slot) }
-        ensures loads { Loads duty I.told (length buffer.old) slot result self.old self.new (I.sources inputs.old)
+        ensures loads { Loads terms I.told (length buffer.old) slot result self.old self.new (I.sources inputs.old)
             (I.sources inputs.new) }
         ensures laid { I.laid inputs.new ≡ I.laid inputs.old }
     {
@@ -46,37 +46,37 @@ pub trait Stage {
     ///
     /// As `Guarded::close`, but for `Failed`.
     fn finish<O: Outs>(&mut self, outs: &mut O) -> Result<(), Fault>
-        requires ready { duty.Ready self.old (O.slots outs.old) }
-        ensures { Finishes duty O.told self.old self.new (O.slots outs.old) (O.slots outs.new)
-            (IsMetThere duty self.old) result };
+        requires ready { terms.Ready self.old (O.slots outs.old) }
+        ensures { Finishes terms O.told self.old self.new (O.slots outs.old) (O.slots outs.new)
+            (IsMetThere terms self.old) result };
 
     /// Removes the files that it made and that are still there, in order, if its work clears them. One that can't be
     /// removed is broken and closed, and the next is tried.
     fn clear<O: Outs>(&mut self, outs: &mut O)
-        requires { AreThere (duty.files self.old) (O.slots outs.old) }
-        ensures { Sweeps duty self.old self.new (O.slots outs.old) (O.slots outs.new) };
+        requires { AreThere (terms.files self.old) (O.slots outs.old) }
+        ensures { Sweeps terms self.old self.new (O.slots outs.old) (O.slots outs.new) };
 
     /// Whether the output is complete: whatever comes, it stays.
     fn is_done(&self) -> bool
-        ensures complete { (x : List ℕ) → duty.Holds self.now x → result ≡ (duty.work self.now).is_complete x }
-        ensures exact { (x : List ℕ) → duty.Holds self.now x → (IsTrue result ↔ duty.IsDone self.now x) };
+        ensures complete { (x : List ℕ) → terms.Holds self.now x → result ≡ (terms.work self.now).is_complete x }
+        ensures exact { (x : List ℕ) → terms.Holds self.now x → (IsTrue result ↔ terms.IsDone self.now x) };
 
     /// How many bytes wait.
     fn waits(&self) -> u64
-        ensures { (x : List ℕ) → length x < 2 ^ 63 → duty.Holds self.now x
-            → result ≡ length ((duty.work self.now).waiting x) };
+        ensures { (x : List ℕ) → length x < 2 ^ 63 → terms.Holds self.now x
+            → result ≡ length ((terms.work self.now).waiting x) };
 
     /// How many bytes the next piece may have, so that at most its work's `ahead` of them are not used.
     fn wanted(&self) -> u64
-        ensures some { (x : List ℕ) → duty.Holds self.now x → (duty.work self.now).is_complete x ≡ false → 0 < result }
-        ensures few { MayGet duty self.now result };
+        ensures some { (x : List ℕ) → terms.Holds self.now x → (terms.work self.now).is_complete x ≡ false → 0 < result }
+        ensures few { MayGet terms self.now result };
 
     /// How many of the bytes that came in are not used: those after the byte with which the output was complete.
     fn unused(&self) -> u64
-        ensures { (x : List ℕ) → duty.Holds self.now x → IsSpare (duty.work self.now) x result };
+        ensures { (x : List ℕ) → terms.Holds self.now x → IsSpare (terms.work self.now) x result };
 
-    ghost lawful: { (stage : Self) → IsLawful (duty.work stage) };
+    ghost lawful: { (stage : Self) → IsLawful (terms.work stage) };
 
-    ghost there: { (stage : Self) (first : ℕ) (slots : List Slot) → duty.Owns stage first slots
-        → AreThere (duty.files stage) slots };
+    ghost there: { (stage : Self) (first : ℕ) (slots : List Slot) → terms.Owns stage first slots
+        → AreThere (terms.files stage) slots };
 }

@@ -8,8 +8,8 @@ use Rattle.ports_core.specs.Source.{Content, Source, source_at, is_readable, giv
 use Rattle.ports_core.specs.Part.{Part, OutputsAt}
 use Rattle.ports_core.specs.Swept.{Swept}
 use Rattle.ports_core.specs.Work.{Work, Means, Needs, IsLawful, IsComplete, IsNeeded, IsSpare, Judges, IsSettled}
-use Rattle.ports_core.specs.Engine.{Clears, Duty, Ended, EndsThere, EndsWith, IsCaused, IsMet, KeepsOwn, Passes, StandsAt, TakesIn, is_verdict}
-use Rattle.ports_core.specs.Guard.{GuardState, HoldsIn, IsRefused}
+use Rattle.ports_core.specs.Engine.{Clears, Terms, Ended, EndsThere, EndsWith, IsCaused, IsMet, KeepsOwn, Passes, StandsAt, TakesIn, is_verdict}
+use Rattle.ports_core.specs.Guard.{GuardState, HoldsIn, IsRefusedWith}
 use Rattle.ports_core.specs.declared.fault.Fault.{Fault}
 use Rattle.ports_core.specs.declared.fault.Fault.TheVariants as fault_is
 use Rattle.ports_core.specs.declared.verdict.Verdict.{Verdict}
@@ -111,20 +111,20 @@ short_of_end WasRead fed {fault} lawful got all alike needed read (engine.judged
     let same = got_alike _ fed lawful got in let (given, is, ends) = verdict judging in
     rw is (judged given (got_enough _ _ fed lawful got) (same.verdict ∙ ends) first (rw same.whole at) (rw (kept judging) cleared))
 
-module _ {S : Type 0} (duty : Duty S) where
+module _ {S : Type 0} (terms : Terms S) where
   -- the loop has fed the engine x
   pub record Feeds (told : Bool) (start now : GuardState S) (x : List ℕ) (old slots : List Slot) : Type 0 where
-    pub same : duty.work now.stage ≡ duty.work start.stage
-    pub holds : HoldsIn duty.Holds now x
-    pub owns : KeepsOwn duty start.stage now.stage old slots
-    pub outputs : (before : List Slot) → duty.Owns start.stage (length before) old → OutputsAt told before ((duty.work start.stage).settled []) old → OutputsAt told before ((duty.work now.stage).settled x) slots
+    pub same : terms.work now.stage ≡ terms.work start.stage
+    pub holds : HoldsIn terms.Holds now x
+    pub owns : KeepsOwn terms start.stage now.stage old slots
+    pub outputs : (before : List Slot) → terms.Owns start.stage (length before) old → OutputsAt told before ((terms.work start.stage).settled []) old → OutputsAt told before ((terms.work now.stage).settled x) slots
     pub bound : now.fed < 2 ^ 63
 
   -- the engine and its outputs stand at what it was fed
-  pub stands : (told : Bool) {start now : GuardState S} {x : List ℕ} {old mid before : List Slot} → Feeds told start now x old mid → duty.Owns start.stage (length before) old → OutputsAt told before ((duty.work start.stage).settled []) old → StandsAt duty now.stage told before x mid
+  pub stands : (told : Bool) {start now : GuardState S} {x : List ℕ} {old mid before : List Slot} → Feeds told start now x old mid → terms.Owns start.stage (length before) old → OutputsAt told before ((terms.work start.stage).settled []) old → StandsAt terms now.stage told before x mid
   stands told {before} so_far own at = record { holds = so_far.holds.within; owns = so_far.owns (length before) own; outputs = so_far.outputs before own at }
 
-  pub goes_on : (told : Bool) {start now next : GuardState S} {x : List ℕ} (piece : List ℕ) {old mid new : List Slot} {Met : List Slot → List Slot → Fault → Type 0} → Feeds told start now x old mid → Passes duty told piece now.stage next.stage mid new Met (Ok tt) → TakesIn (HoldsIn duty.Holds) piece now next → next.fed < 2 ^ 63 → Feeds told start next (x ++ piece) old new
+  pub goes_on : (told : Bool) {start now next : GuardState S} {x : List ℕ} (piece : List ℕ) {old mid new : List Slot} {Met : List Slot → List Slot → Fault → Type 0} → Feeds told start now x old mid → Passes terms told piece now.stage next.stage mid new Met (Ok tt) → TakesIn (HoldsIn terms.Holds) piece now next → next.fed < 2 ^ 63 → Feeds told start next (x ++ piece) old new
   goes_on told {x} piece so_far passes takes bound = record {
     same = passes.same ∙ so_far.same;
     holds = takes x so_far.holds;
@@ -134,38 +134,38 @@ module _ {S : Type 0} (duty : Duty S) where
   }
 
   -- the loop ended at a fault of the engine, within the input
-  pub stopped_feeding : (laws : (s : S) → IsLawful (duty.work s)) (told : Bool) {opening : Needs} {most : ℕ} {start now : GuardState S} (next : GuardState S) {content : Content} (WasRead : Step → Type 0) {x : List ℕ} (piece rest : List ℕ) {old mid reached new before : List Slot} {fault : Fault} → Feeds told start now x old mid → duty.Owns start.stage (length before) old → OutputsAt told before ((duty.work start.stage).settled []) old
-      → content.bytes ≡ (x ++ piece) ++ rest → length piece ≤ most → (duty.work now.stage).is_complete x ≡ false → WasRead (call_of (duty.work now.stage) (duty.work now.stage).means.feeding (x ++ piece) ((duty.work now.stage).settled x) ((duty.work now.stage).settled (x ++ piece)))
-      → Passes duty told piece now.stage next.stage mid reached (IsRefused duty piece now) (Err fault) → (is_verdict fault ≡ true → new ≡ reached) → (is_verdict fault ≡ false → Clears duty next.stage reached new)
-      → FedAs told before (duty.work start.stage) opening most content WasRead new (Err fault)
+  pub stopped_feeding : (laws : (s : S) → IsLawful (terms.work s)) (told : Bool) {opening : Needs} {most : ℕ} {start now : GuardState S} (next : GuardState S) {content : Content} (WasRead : Step → Type 0) {x : List ℕ} (piece rest : List ℕ) {old mid reached new before : List Slot} {fault : Fault} → Feeds told start now x old mid → terms.Owns start.stage (length before) old → OutputsAt told before ((terms.work start.stage).settled []) old
+      → content.bytes ≡ (x ++ piece) ++ rest → length piece ≤ most → (terms.work now.stage).is_complete x ≡ false → WasRead (call_of (terms.work now.stage) (terms.work now.stage).means.feeding (x ++ piece) ((terms.work now.stage).settled x) ((terms.work now.stage).settled (x ++ piece)))
+      → Passes terms told piece now.stage next.stage mid reached (IsRefusedWith terms piece now) (Err fault) → (is_verdict fault ≡ true → new ≡ reached) → (is_verdict fault ≡ false → Clears terms next.stage reached new)
+      → FedAs told before (terms.work start.stage) opening most content WasRead new (Err fault)
   stopped_feeding laws told {now = now} next WasRead {x} piece rest {before = before} so_far own at is within going read passes kept cleared =
       let why = rw so_far.holds.count at (rw so_far.holds.live at passes.met) in
       rw (← so_far.same) (short_of_piece WasRead piece rest (laws now.stage) is within going read (passes.cut before x (stands told so_far own at))
-      (λ unjudged. stops (duty.work now.stage) (x ++ piece) ((duty.work now.stage).settled x) ((duty.work now.stage).settled (x ++ piece)) false 0 _ (EndsWith duty piece now.stage) unjudged (λ long. let size : length (x ++ piece) ≡ length x + length piece = length-append x piece in omega (arith, long)) why)
-      (λ judging. let (verdict, is, ends) = judges (duty.work now.stage).means _ (EndsWith duty piece now.stage) judging passes.met in (verdict, is, ends x so_far.holds.within))
+      (λ unjudged. stops (terms.work now.stage) (x ++ piece) ((terms.work now.stage).settled x) ((terms.work now.stage).settled (x ++ piece)) false 0 _ (EndsWith terms piece now.stage) unjudged (λ long. let size : length (x ++ piece) ≡ length x + length piece = length-append x piece in omega (arith, long)) why)
+      (λ judging. let (verdict, is, ends) = judges (terms.work now.stage).means _ (EndsWith terms piece now.stage) judging passes.met in (verdict, is, ends x so_far.holds.within))
       kept
       (λ unjudged. rw passes.same at (cleared unjudged (length before) (passes.owns (length before) (so_far.owns (length before) own)))))
 
   -- the loop ended with the input, or where nothing more can follow
-  pub ended : (laws : (s : S) → IsLawful (duty.work s)) (told : Bool) {opening : Needs} {most : ℕ} {start now : GuardState S} {content : Content} (WasRead : Step → Type 0) {x z : List ℕ} {old mid new before : List Slot} {fed : Fed} {result : Result Fed Fault} → Feeds told start now x old mid → duty.Owns start.stage (length before) old → OutputsAt told before ((duty.work start.stage).settled []) old → HasGot (duty.work now.stage) content x fed → HasAll (duty.work now.stage) content z → MadeAlike (duty.work now.stage) x z → IsNeeded (duty.work now.stage).is_complete most z → WasRead (close_of (duty.work now.stage) z)
-      → EndsSo duty told now fed mid new result → FedAs told before (duty.work start.stage) opening most content WasRead new result
+  pub ended : (laws : (s : S) → IsLawful (terms.work s)) (told : Bool) {opening : Needs} {most : ℕ} {start now : GuardState S} {content : Content} (WasRead : Step → Type 0) {x z : List ℕ} {old mid new before : List Slot} {fed : Fed} {result : Result Fed Fault} → Feeds told start now x old mid → terms.Owns start.stage (length before) old → OutputsAt told before ((terms.work start.stage).settled []) old → HasGot (terms.work now.stage) content x fed → HasAll (terms.work now.stage) content z → MadeAlike (terms.work now.stage) x z → IsNeeded (terms.work now.stage).is_complete most z → WasRead (close_of (terms.work now.stage) z)
+      → EndsSo terms told now fed mid new result → FedAs told before (terms.work start.stage) opening most content WasRead new result
   ended laws told {now} WasRead {x} {before} {fed} so_far own at got all alike needed read (finished next finishes) =
       rw (← so_far.same) (fed_all WasRead fed (laws now.stage) got (finishes.well x so_far.holds.within) (finishes.outputs before x (stands told so_far own at)))
   ended laws told {now} WasRead {x} {z} {before} {fed} so_far own at got all alike needed read (fell_short fault next reached finishes kept cleared) =
       let why = rw so_far.holds.live at finishes.met in
       rw (← so_far.same) (short_of_end WasRead fed (laws now.stage) got all alike needed read (finishes.cut before x (stands told so_far own at))
-      (λ unjudged. stops (duty.work now.stage) z ((duty.work now.stage).settled z) ((duty.work now.stage).whole z) (not ((duty.work now.stage).is_complete z)) (if (duty.work now.stage).is_complete z then (duty.work now.stage).ahead else 0) (Unit {0}) (EndsThere duty now.stage) unjudged (λ long. absurd (let bound : now.fed < 2 ^ 63 = so_far.bound in omega (arith, bound, long))) why)
-      (λ judging. let (verdict, is, ends) = judges (duty.work now.stage).means (Unit {0}) (EndsThere duty now.stage) judging finishes.met in (verdict, is, ends x so_far.holds.within))
+      (λ unjudged. stops (terms.work now.stage) z ((terms.work now.stage).settled z) ((terms.work now.stage).whole z) (not ((terms.work now.stage).is_complete z)) (if (terms.work now.stage).is_complete z then (terms.work now.stage).ahead else 0) (Unit {0}) (EndsThere terms now.stage) unjudged (λ long. absurd (let bound : now.fed < 2 ^ 63 = so_far.bound in omega (arith, bound, long))) why)
+      (λ judging. let (verdict, is, ends) = judges (terms.work now.stage).means (Unit {0}) (EndsThere terms now.stage) judging finishes.met in (verdict, is, ends x so_far.holds.within))
       kept (λ unjudged. rw finishes.same at (cleared unjudged (length before) (finishes.owns (length before) (so_far.owns (length before) own)))))
 
   -- an input without bytes: the engine is closed at once
-  pub closed_at_start : (laws : (s : S) → IsLawful (duty.work s)) (told : Bool) {opening : Needs} {most : ℕ} {start : GuardState S} {old new before : List Slot} {fed : Fed} {result : Result Fed Fault} → HoldsIn duty.Holds start [] → start.fed < 2 ^ 63 → duty.Owns start.stage (length before) old → OutputsAt told before ((duty.work start.stage).settled []) old → HasGot (duty.work start.stage) empty [] fed
-      → EndsSo duty told start fed old new result → FedAs told before (duty.work start.stage) opening most empty (λ call. Unit {0}) new result
+  pub closed_at_start : (laws : (s : S) → IsLawful (terms.work s)) (told : Bool) {opening : Needs} {most : ℕ} {start : GuardState S} {old new before : List Slot} {fed : Fed} {result : Result Fed Fault} → HoldsIn terms.Holds start [] → start.fed < 2 ^ 63 → terms.Owns start.stage (length before) old → OutputsAt told before ((terms.work start.stage).settled []) old → HasGot (terms.work start.stage) empty [] fed
+      → EndsSo terms told start fed old new result → FedAs told before (terms.work start.stage) opening most empty (λ call. Unit {0}) new result
   closed_at_start laws told {start} {fed} holds bound own at got ends =
       ended laws told {start = start} (λ call. Unit {0}) (record { same = refl; holds = holds; owns = λ first own. own; outputs = λ before own at. at; bound = bound }) own at got (got_all fed got) (alike_itself) (inl refl) tt ends
 
   -- an input that ended, or was enough, didn't break off
-  pub ends_sound : (told : Bool) {engine : GuardState S} {fed : Fed} {old new : List Slot} {result : Result Fed Fault} (P : Type 0) → (fed ≡ Whole) ⊎ (fed ≡ Enough) → EndsSo duty told engine fed old new result → IfOk result (λ found. found ≡ Broken → P)
+  pub ends_sound : (told : Bool) {engine : GuardState S} {fed : Fed} {old new : List Slot} {result : Result Fed Fault} (P : Type 0) → (fed ≡ Whole) ⊎ (fed ≡ Enough) → EndsSo terms told engine fed old new result → IfOk result (λ found. found ≡ Broken → P)
   ends_sound told P sound (finished next finishes) = λ is. absurd (elim sound [ inl one ↦ cc | inr other ↦ cc ])
   ends_sound told P sound (fell_short fault next reached finishes kept cleared) = tt
 

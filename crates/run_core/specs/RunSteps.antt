@@ -6,19 +6,19 @@ use Rattle.ports_core.specs.Part.{OutputsAt, StoppedBetween, nothing}
 use Rattle.ports_core.specs.Swept.{Swept}
 use Rattle.ports_core.specs.Work.{Work, Needs}
 use Rattle.ports_core.specs.Guard.{GuardState, HoldsIn}
-use Rattle.ports_core.specs.Engine.{Duty, is_verdict}
+use Rattle.ports_core.specs.Engine.{Terms, is_verdict}
 use Rattle.ports_core.specs.declared.fault.Fault.{Fault}
 use Rattle.run_core.specs.Feeding.{Stops, call_of}
 use Rattle.run_core.specs.Input.{World}
 
 -- a tool's engine was opened from these outputs
-pub record Opens {S : Type 0} (duty : Duty S) (asked : Work) (told : Bool) (old new : List Slot)
+pub record Opens {S : Type 0} (terms : Terms S) (asked : Work) (told : Bool) (old new : List Slot)
     (engine : GuardState S) : Type 0 where
-  pub fresh : HoldsIn duty.Holds engine []
-  pub does : duty.work engine.stage ≡ asked
+  pub fresh : HoldsIn terms.Holds engine []
+  pub does : terms.work engine.stage ≡ asked
   pub bound : engine.fed < 2 ^ 63
-  pub ready : duty.Ready engine.stage new
-  pub owns : duty.Owns engine.stage (length old) new
+  pub ready : terms.Ready engine.stage new
+  pub owns : terms.Owns engine.stage (length old) new
   pub outputs : OutputsAt told old (asked.settled []) new
 
 -- it could not be opened: the outputs lie before what is written at first, and no file is left if the work clears them

@@ -41,7 +41,7 @@ pub trait Adapter {
     ) -> Result<Guarded<Self::Driven>, Fault>
         requires streams { 2 ≤ length (O.slots outs.old) }
         requires output { IsTrue (is_writable (O.slots outs.old) 0) }
-        ensures ok { IfOk result (Opens Self.Driven.duty ((task self.now).work coming) O.told (O.slots outs.old)
+        ensures ok { IfOk result (Opens Self.Driven.terms ((task self.now).work coming) O.told (O.slots outs.old)
             (O.slots outs.new)) }
         ensures err { IfErr result
             (OpensShort ((task self.now).work coming) (task self.now).opening O.told (O.slots outs.old)

@@ -40,27 +40,27 @@ pub fn feed_input<S: Stage, I: Inputs, O: Outs>(
     outs: &mut O,
 ) -> Result<Fed, Fault>
     requires room { 0 < length buffer.old }
-    requires fresh { HoldsIn S.duty.Holds engine.old [] }
+    requires fresh { HoldsIn S.terms.Holds engine.old [] }
     requires bound { engine.old.fed < 2 ^ 63 }
     requires input { IsTrue (is_readable (I.sources inputs.old) slot) }
-    requires output { S.duty.Ready engine.old.stage (O.slots outs.old) }
-    requires owns { (first : ℕ) × S.duty.Owns engine.old.stage first (O.slots outs.old) }
+    requires output { S.terms.Ready engine.old.stage (O.slots outs.old) }
+    requires owns { (first : ℕ) × S.terms.Owns engine.old.stage first (O.slots outs.old) }
     ensures ends { (before : List Slot) (opening : Needs)
-        → S.duty.Owns engine.old.stage (length before) (O.slots outs.old)
-        → OutputsAt O.told before ((S.duty.work engine.old.stage).settled []) (O.slots outs.old)
+        → S.terms.Owns engine.old.stage (length before) (O.slots outs.old)
+        → OutputsAt O.told before ((S.terms.work engine.old.stage).settled []) (O.slots outs.old)
         → OfContent I.told (source_at (I.sources inputs.old) slot).left
-        (λ content. (FedAs O.told before (S.duty.work engine.old.stage) opening (length buffer.old) content
+        (λ content. (FedAs O.told before (S.terms.work engine.old.stage) opening (length buffer.old) content
         (λ call. LeavesOf I.told content (source_at (I.sources inputs.new) slot) call
         × (I.told ≡ true → IsUnread (source_at (I.sources inputs.old) slot)
         → IsReadTo slot (source_at (I.sources inputs.new) slot) call)) (O.slots outs.new) result
         × (is_stop result ≡ false
-        → ToldEnd (S.duty.work engine.old.stage) content (source_at (I.sources inputs.new) slot)))
+        → ToldEnd (S.terms.work engine.old.stage) content (source_at (I.sources inputs.new) slot)))
         × CameFrom I.told content (source_at (I.sources inputs.new) slot)) }
     ensures reads { I.told ≡ true
-        → ReadsFor (S.duty.work engine.old.stage).is_complete (length buffer.old)
+        → ReadsFor (S.terms.work engine.old.stage).is_complete (length buffer.old)
         (source_at (I.sources inputs.old) slot).left (source_at (I.sources inputs.new) slot).left }
     ensures used { I.told ≡ true → is_stop result ≡ false → IsUnread (source_at (I.sources inputs.old) slot)
-        → Uses (S.duty.work engine.old.stage) (length buffer.old) slot (source_at (I.sources inputs.old) slot).left
+        → Uses (S.terms.work engine.old.stage) (length buffer.old) slot (source_at (I.sources inputs.old) slot).left
         (source_at (I.sources inputs.new) slot) }
     ensures asked { (source_at (I.sources inputs.old) slot).asked ≤ length buffer.old
         → (source_at (I.sources inputs.new) slot).asked ≤ length buffer.old }
@@ -144,14 +144,14 @@ fn read_part<I: Inputs>(
 ///
 /// The engine's fault.
 pub fn feed_nothing<S: Stage, O: Outs>(engine: &mut Guarded<S>, outs: &mut O) -> Result<Fed, Fault>
-    requires fresh { HoldsIn S.duty.Holds engine.old [] }
+    requires fresh { HoldsIn S.terms.Holds engine.old [] }
     requires bound { engine.old.fed < 2 ^ 63 }
-    requires output { S.duty.Ready engine.old.stage (O.slots outs.old) }
-    requires owns { (first : ℕ) × S.duty.Owns engine.old.stage first (O.slots outs.old) }
+    requires output { S.terms.Ready engine.old.stage (O.slots outs.old) }
+    requires owns { (first : ℕ) × S.terms.Owns engine.old.stage first (O.slots outs.old) }
     ensures ends { (before : List Slot) (opening : Needs) (most : ℕ)
-        → S.duty.Owns engine.old.stage (length before) (O.slots outs.old)
-        → OutputsAt O.told before ((S.duty.work engine.old.stage).settled []) (O.slots outs.old)
-        → FedAs O.told before (S.duty.work engine.old.stage) opening most empty (λ call. Unit {0})
+        → S.terms.Owns engine.old.stage (length before) (O.slots outs.old)
+        → OutputsAt O.told before ((S.terms.work engine.old.stage).settled []) (O.slots outs.old)
+        → FedAs O.told before (S.terms.work engine.old.stage) opening most empty (λ call. Unit {0})
         (O.slots outs.new) result }
 {
     if engine.done() {
@@ -166,9 +166,9 @@ pub fn feed_nothing<S: Stage, O: Outs>(engine: &mut Guarded<S>, outs: &mut O) ->
 ///
 /// The engine's fault.
 fn end<S: Stage, O: Outs>(engine: &mut Guarded<S>, fed: Fed, outs: &mut O) -> Result<Fed, Fault>
-    requires ready { engine.old.is_over ≡ false → S.duty.Ready engine.old.stage (O.slots outs.old) }
-    requires owns { (first : ℕ) × S.duty.Owns engine.old.stage first (O.slots outs.old) }
-    ensures { EndsSo S.duty O.told engine.old fed (O.slots outs.old) (O.slots outs.new) result }
+    requires ready { engine.old.is_over ≡ false → S.terms.Ready engine.old.stage (O.slots outs.old) }
+    requires owns { (first : ℕ) × S.terms.Owns engine.old.stage first (O.slots outs.old) }
+    ensures { EndsSo S.terms O.told engine.old fed (O.slots outs.old) (O.slots outs.new) result }
 {
     match engine.close(outs) {
         Ok(()) => Ok(fed),
@@ -178,11 +178,11 @@ fn end<S: Stage, O: Outs>(engine: &mut Guarded<S>, fed: Fed, outs: &mut O) -> Re
 
 /// Gives up an engine's files after its fault, unless that is a verdict on its input, and returns the fault.
 fn given_up<S: Stage, O: Outs>(engine: &mut Guarded<S>, fault: Fault, outs: &mut O) -> Fault
-    requires { is_verdict fault ≡ false → ((first : ℕ) × S.duty.Owns engine.old.stage first (O.slots outs.old)) }
+    requires { is_verdict fault ≡ false → ((first : ℕ) × S.terms.Owns engine.old.stage first (O.slots outs.old)) }
     ensures same { result ≡ fault }
     ensures judged { is_verdict fault ≡ true → O.slots outs.new ≡ O.slots outs.old }
     ensures swept { is_verdict fault ≡ false
-        → Clears S.duty engine.old.stage (O.slots outs.old) (O.slots outs.new) }
+        → Clears S.terms engine.old.stage (O.slots outs.old) (O.slots outs.new) }
 {
     let Fault::Verdict(_) = fault else {
         engine.abandon(outs);

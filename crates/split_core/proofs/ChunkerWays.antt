@@ -99,7 +99,7 @@ module _ (chunks : Chunks) (Why : Judgement → Type 0) (old new : List Slot) (f
 
 at_aim : {told : Bool} {state : ChunkerState} {start : List Slot} {x : List ℕ} {now : List Slot}
     → can_cut (course state.cutter) state.cutter.chunks.count ≡ true
-    → StandsAt ways.duty (way.Chunks state) told start x now
+    → StandsAt ways.terms (way.Chunks state) told start x now
     → AtAim told state.cutter.target.aim start ((made state).settled x) now
 at_aim {told} {state} {start} {x} {now} can at = record {
   owns = at.owns;
@@ -108,7 +108,7 @@ at_aim {told} {state} {start} {x} {now} can at = record {
 
 module _ (told : Bool) (old new : ChunkerState) (piece : List ℕ) (before after : List Slot) where
   passes_well : Passes told old piece before after new None
-      → engine.Passes ways.duty told piece (way.Chunks old) (way.Chunks new) before after (engine.IsMetWith ways.duty piece (way.Chunks old)) (Ok tt)
+      → engine.Passes ways.terms told piece (way.Chunks old) (way.Chunks new) before after (engine.IsMetWith ways.terms piece (way.Chunks old)) (Ok tt)
   passes_well passes = record {
     same = same_work old new passes.same passes.comes.stays;
     size = passes.bound;
@@ -123,7 +123,7 @@ module _ (told : Bool) (old new : ChunkerState) (piece : List ℕ) (before after
   }
 
   passes_cut : (why : Fault) → Passes told old piece before after new (Some why)
-      → engine.Passes ways.duty told piece (way.Chunks old) (way.Chunks new) before after (engine.IsMetWith ways.duty piece (way.Chunks old)) (Err why)
+      → engine.Passes ways.terms told piece (way.Chunks old) (way.Chunks new) before after (engine.IsMetWith ways.terms piece (way.Chunks old)) (Err why)
   passes_cut why passes = record {
     same = same_work old new passes.same passes.comes.stays;
     size = passes.bound;
@@ -138,13 +138,13 @@ module _ (told : Bool) (old new : ChunkerState) (piece : List ℕ) (before after
         (rw (output_is (course old.cutter) old.cutter.chunks old.said)
         (stopped_in_turn (output_on (course old.cutter)) told start _ _ why after (settled_lines (course old.cutter) old.cutter.chunks old.said x)
         (passes.comes.reaches x at.holds start (at_aim passes.same.can at)))));
-    met = subst (λ (those : Work). IsMet those.means those.means.feeding (true ≡ true) (EndsWith ways.duty piece (way.Chunks old)) before after why)
+    met = subst (λ (those : Work). IsMet those.means those.means.feeding (true ≡ true) (EndsWith ways.terms piece (way.Chunks old)) before after why)
         (sym (works_so old passes.same.can))
         (met_feeding old.cutter.chunks _ before after why (λ is x holds. absurd (passes.comes.named is x holds)) (course old.cutter) old.said passes.comes.slots passes.comes.only);
   }
 
   passes_lacking : LacksRoom old piece before after new
-      → engine.Passes ways.duty told piece (way.Chunks old) (way.Chunks new) before after (engine.IsMetWith ways.duty piece (way.Chunks old)) (Err Memory)
+      → engine.Passes ways.terms told piece (way.Chunks old) (way.Chunks new) before after (engine.IsMetWith ways.terms piece (way.Chunks old)) (Err Memory)
   passes_lacking lacks = record {
     same = same_work old new lacks.same (ap course_of lacks.aim);
     size = lacks.bound;
@@ -161,7 +161,7 @@ module _ (told : Bool) (old new : ChunkerState) (piece : List ℕ) (before after
 
   passes_changed : total new ≤ total old + length piece
       → Changes told old (λ x. (made old).settled (x ++ piece)) (λ x. IsSettled (made old) (x ++ piece) Changed) before after new
-      → engine.Passes ways.duty told piece (way.Chunks old) (way.Chunks new) before after (engine.IsMetWith ways.duty piece (way.Chunks old)) (Err (Verdict Changed))
+      → engine.Passes ways.terms told piece (way.Chunks old) (way.Chunks new) before after (engine.IsMetWith ways.terms piece (way.Chunks old)) (Err (Verdict Changed))
   passes_changed bound changes = record {
     same = same_work old new changes.same changes.all.stays;
     size = bound;
@@ -178,7 +178,7 @@ module _ (told : Bool) (old new : ChunkerState) (piece : List ℕ) (before after
   }
 
 pub passes_by : (told : Bool) (old new : ChunkerState) (piece : List ℕ) (before after : List Slot) (result : Result (Unit {0}) Fault)
-    → PassesAs told old piece before after new result → engine.Passes ways.duty told piece (way.Chunks old) (way.Chunks new) before after (engine.IsMetWith ways.duty piece (way.Chunks old)) result
+    → PassesAs told old piece before after new result → engine.Passes ways.terms told piece (way.Chunks old) (way.Chunks new) before after (engine.IsMetWith ways.terms piece (way.Chunks old)) result
 passes_by told old new piece before after (Ok u) passes = passes_well told old new piece before after passes
 passes_by told old new piece before after (Err why) (inl passes) = passes_cut told old new piece before after why passes
 passes_by told old new piece before after (Err why) (inr (inl (is, lacks))) = rw is (passes_lacking told old new piece before after lacks)
@@ -194,7 +194,7 @@ aimed_writable (to_output chunk) chunks said slots aimed told = aimed
 
 module _ (told : Bool) (old new : ChunkerState) (before after : List Slot) where
   ends_well : IsAimed old.cutter.target.aim before → Ends told old before after new None
-      → engine.Finishes ways.duty told (way.Chunks old) (way.Chunks new) before after (engine.IsMetThere ways.duty (way.Chunks old)) (Ok tt)
+      → engine.Finishes ways.terms told (way.Chunks old) (way.Chunks new) before after (engine.IsMetThere ways.terms (way.Chunks old)) (Ok tt)
   ends_well aimed ends = record {
     same = same_work old new ends.same ends.comes.stays;
     size = ends.bound;
@@ -210,7 +210,7 @@ module _ (told : Bool) (old new : ChunkerState) (before after : List Slot) where
   }
 
   ends_cut : (why : Fault) → Ends told old before after new (Some why)
-      → engine.Finishes ways.duty told (way.Chunks old) (way.Chunks new) before after (engine.IsMetThere ways.duty (way.Chunks old)) (Err why)
+      → engine.Finishes ways.terms told (way.Chunks old) (way.Chunks new) before after (engine.IsMetThere ways.terms (way.Chunks old)) (Err why)
   ends_cut why ends = record {
     same = same_work old new ends.same ends.comes.stays;
     size = ends.bound;
@@ -225,13 +225,13 @@ module _ (told : Bool) (old new : ChunkerState) (before after : List Slot) where
         (rw (output_is (course old.cutter) old.cutter.chunks old.said)
         (stopped_in_turn (output_on (course old.cutter)) told start _ _ why after (settled_lines (course old.cutter) old.cutter.chunks old.said x)
         (ends.comes.reaches x at.holds start (at_aim ends.same.can at)))));
-    met = subst (λ (those : Work). IsMet those.means those.means.closing (Unit {0}) (EndsThere ways.duty (way.Chunks old)) before after why)
+    met = subst (λ (those : Work). IsMet those.means those.means.closing (Unit {0}) (EndsThere ways.terms (way.Chunks old)) before after why)
         (sym (works_so old ends.same.can))
         (met_closing old.cutter.chunks _ before after why (λ is x holds. absurd (ends.comes.named is x holds)) (course old.cutter) old.said ends.comes.slots ends.comes.only ends.few);
   }
 
   ends_changed : total new ≤ total old → Changes told old (made old).whole (λ x. Judges (made old) x Changed) before after new
-      → engine.Finishes ways.duty told (way.Chunks old) (way.Chunks new) before after (engine.IsMetThere ways.duty (way.Chunks old)) (Err (Verdict Changed))
+      → engine.Finishes ways.terms told (way.Chunks old) (way.Chunks new) before after (engine.IsMetThere ways.terms (way.Chunks old)) (Err (Verdict Changed))
   ends_changed bound changes = record {
     same = same_work old new changes.same changes.all.stays;
     size = bound;
@@ -249,7 +249,7 @@ module _ (told : Bool) (old new : ChunkerState) (before after : List Slot) where
 
 pub finishes_by : (told : Bool) (old new : ChunkerState) (before after : List Slot) (result : Result (Unit {0}) Fault)
     → IsAimed old.cutter.target.aim before → EndsAs told old before after new result
-    → engine.Finishes ways.duty told (way.Chunks old) (way.Chunks new) before after (engine.IsMetThere ways.duty (way.Chunks old)) result
+    → engine.Finishes ways.terms told (way.Chunks old) (way.Chunks new) before after (engine.IsMetThere ways.terms (way.Chunks old)) result
 finishes_by told old new before after (Ok u) aimed ends = ends_well told old new before after aimed ends
 finishes_by told old new before after (Err why) aimed (inl ends) = ends_cut told old new before after why ends
 finishes_by told old new before after (Err why) aimed (inr (is, bound, changes)) =

@@ -137,11 +137,10 @@ module _ (chunker : ChunkerState) (front place : ℕ) (stands : StandsAfter chun
     waits = none.waits;
   })
 
-  pub took_in : front < 2 ^ 63 → TookIn ways.duty (way.Chunks chunker) (way.Chunks next) x
-  took_in few = record {
+  pub took_in : TookIn ways.terms (way.Chunks chunker) (way.Chunks next) x
+  took_in = record {
     same = refl;
     size = omega (arith, spare_none, ap length none.waits, long);
-    few = omega (arith, few, long);
     holds = holds_front;
     ready = λ slots is. is;
     owns = λ first slots is. is;
@@ -153,8 +152,8 @@ module _ (chunker : ChunkerState) (front place : ℕ) (stands : StandsAfter chun
   }
 
 pub loads_front : {told : Bool} {most slot front place : ℕ} {Before : List ℕ → Type 0} {chunker inside : ChunkerState} {old new : List Source}
-    → inside ≡ chunker → StandsAfter chunker front place → Holds chunker [] → PassesOver told most slot front Before old new → front < 2 ^ 63
-    → Loads ways.duty told most slot front (way.Chunks chunker) (way.Chunks (passed_to inside front place)) old new
-loads_front {front = front} {place} {chunker = chunker} is stands fresh passes few = passes_so _ passes (λ x long so.
-    subst (λ next. TookIn ways.duty (way.Chunks chunker) (way.Chunks (passed_to next front place)) x) (sym is)
-    (took_in chunker front place stands fresh x long few))
+    → inside ≡ chunker → StandsAfter chunker front place → Holds chunker [] → PassesOver told most slot front Before old new
+    → Loads ways.terms told most slot front (way.Chunks chunker) (way.Chunks (passed_to inside front place)) old new
+loads_front {front = front} {place} {chunker = chunker} is stands fresh passes = passes_so _ passes (λ x long so.
+    subst (λ next. TookIn ways.terms (way.Chunks chunker) (way.Chunks (passed_to next front place)) x) (sym is)
+    (took_in chunker front place stands fresh x long))

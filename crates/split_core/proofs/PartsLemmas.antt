@@ -495,27 +495,27 @@ never_done stands = sym (ap not (all_have_names stands))
 work_by : (state next : PartsState) → next.limit ≡ state.limit → filing_of next ≡ filing_of state → work next ≡ work state
 work_by state next limit names = cc
 
-at_writer : {told : Bool} {before : List Slot} {state : PartsState} {x : List ℕ} {now : List Slot} → StandsAt ways.duty (way.Parts state) told before x now → At told state.writer before (settled_part state x) now
+at_writer : {told : Bool} {before : List Slot} {state : PartsState} {x : List ℕ} {now : List Slot} → StandsAt ways.terms (way.Parts state) told before x now → At told state.writer before (settled_part state x) now
 at_writer at = search rules
 
 module _ (told : Bool) (state next : PartsState) (piece : List ℕ) (old new : List Slot) where
   -- names ran out: the files that have a name are written, and nothing can change that
-  settles : (f : Fault) → f ≡ fault_is.Verdict Suffixes → Takes told state piece old new next (Some f) → EndsWith ways.duty piece (way.Parts state) Suffixes
+  settles : (f : Fault) → f ≡ fault_is.Verdict Suffixes → Takes told state piece old new next (Some f) → EndsWith ways.terms piece (way.Parts state) Suffixes
   settles f is stop x stands =
       let none = have_names state (x ++ piece) (stop.short is x stands).none in
       (ap not none, ap (λ (have : Bool). cond (not have) (Some Suffixes) None) none)
 
-  cut_by : {f : Fault} → is_verdict f ≡ false → Takes told state piece old new next (Some f) → CutsOff ways.duty (way.Parts state) (λ x. (work state).settled (x ++ piece)) told old new f
+  cut_by : {f : Fault} → is_verdict f ≡ false → Takes told state piece old new next (Some f) → CutsOff ways.terms (way.Parts state) (λ x. (work state).settled (x ++ piece)) told old new f
   cut_by {f} kind stop before x at = engine.cut kind (stopped_in_turn (output_by (filing_of state).verbose) told before _ _ f new (has_told _ _) ((stop.reaches x at.holds).there before (at_writer at)))
 
-  cut_off : (f : Fault) → Takes told state piece old new next (Some f) → CutsOff ways.duty (way.Parts state) (λ x. (work state).settled (x ++ piece)) told old new f
+  cut_off : (f : Fault) → Takes told state piece old new next (Some f) → CutsOff ways.terms (way.Parts state) (λ x. (work state).settled (x ++ piece)) told old new f
   cut_off (fault_is.Verdict Suffixes) stop = λ before x at. engine.judged refl new ((stop.short refl x at.holds).all before (at_writer at)) refl
   cut_off Memory stop = cut_by refl stop
   cut_off (Write slot) stop = cut_by refl stop
   cut_off (Open slot) stop = cut_by refl stop
   cut_off f stop = absurd stop.leaves.slots
 
-  pub passes_by : (result : Result (Unit {0}) Fault) → IsReady state old → Takes told state piece old new next (fault_in result) → engine.Passes ways.duty told piece (way.Parts state) (way.Parts next) old new (engine.IsMetWith ways.duty piece (way.Parts state)) result
+  pub passes_by : (result : Result (Unit {0}) Fault) → IsReady state old → Takes told state piece old new next (fault_in result) → engine.Passes ways.terms told piece (way.Parts state) (way.Parts next) old new (engine.IsMetWith ways.terms piece (way.Parts state)) result
   passes_by (Ok done) ready takes = record {
     same = work_by state next takes.limit (filing_same state next takes.leaves);
     size = omega arith;
@@ -536,16 +536,16 @@ module _ (told : Bool) (state next : PartsState) (piece : List ℕ) (old new : L
     owns = takes.leaves.owns.owns;
     there = λ are. tt;
     cut = cut_off f takes;
-    met = met_files false _ _ (EndsWith ways.duty piece (way.Parts state)) (manner_in state.writer) (filing_of state).verbose old new f (refl, refl) refl (ap output_of ready.tells) takes.leaves.slots (λ is. settles f is takes);
+    met = met_files false _ _ (EndsWith ways.terms piece (way.Parts state)) (manner_in state.writer) (filing_of state).verbose old new f (refl, refl) refl (ap output_of ready.tells) takes.leaves.slots (λ is. settles f is takes);
   }
 
 -- the end
 
-end_met : (state : PartsState) (old new : List Slot) (f : Fault) → IsWrite f → TellsNoSizes state.writer.tells → Breaks (manner_in state.writer) old new f → IsMet (work state).means (work state).means.closing (Unit {0}) (EndsThere ways.duty (way.Parts state)) old new f
+end_met : (state : PartsState) (old new : List Slot) (f : Fault) → IsWrite f → TellsNoSizes state.writer.tells → Breaks (manner_in state.writer) old new f → IsMet (work state).means (work state).means.closing (Unit {0}) (EndsThere ways.terms (way.Parts state)) old new f
 end_met state old new f (slot, is) tells breaks = rw is (let (out, rose) = rw is at breaks in (λ none. subst (λ output. writes output ≡ true) (ap output_of tells) (out none), (λ none. absurd (cc)), rose))
 
 pub finishes_by : (told : Bool) (state next : PartsState) (old new : List Slot) (result : Result (Unit {0}) Fault) → IsReady state old → Finishes told state old new next (fault_in result)
-    → engine.Finishes ways.duty told (way.Parts state) (way.Parts next) old new (engine.IsMetThere ways.duty (way.Parts state)) result
+    → engine.Finishes ways.terms told (way.Parts state) (way.Parts next) old new (engine.IsMetThere ways.terms (way.Parts state)) result
 finishes_by told state next old new (Ok done) ready ends = record {
   same = work_by state next ends.limit (filing_same state next ends.leaves);
   size = omega arith;

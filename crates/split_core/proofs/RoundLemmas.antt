@@ -119,7 +119,7 @@ stands_is : {round : RoundState} {x : List ℕ} → Holds round x
     → part_by (filing_in round.files) (all_open (share_of round.delim round.count x)) (length round.files.outputs) ≡ (work round).settled x
 stands_is {round} {x} holds = ap (part_by (filing_in round.files) (all_open (share_of round.delim round.count x))) holds.opened ∙ sym (filed_are round.delim Open (filing_in round.files) round.elide round.count x holds.named)
 
-stand_at : (told : Bool) (round : RoundState) {before : List Slot} {x : List ℕ} {now : List Slot} → StandsAt ways.duty (way.Round round) told before x now
+stand_at : (told : Bool) (round : RoundState) {before : List Slot} {x : List ℕ} {now : List Slot} → StandsAt ways.terms (way.Round round) told before x now
     → StandAt told round.files before (share_of round.delim round.count x) now
 stand_at told round {before} {x} {now} at = search (rules, stands_is, none_yet)
 
@@ -128,7 +128,7 @@ count_is : {round : RoundState} {x : List ℕ} (piece : List ℕ) → Holds roun
 count_is {round} {x} piece holds = search (rules, length-map-range_with_len, opened_after)
 
 module _ (told : Bool) (round : RoundState) (piece : List ℕ) {old before : List Slot} {x : List ℕ}
-    (at : StandsAt ways.duty (way.Round round) told before x old) where
+    (at : StandsAt ways.terms (way.Round round) told before x old) where
   made_is : part_by (filing_in round.files) (all_open (share_of round.delim round.count (x ++ piece)))
       (max (length round.files.outputs) (length (dealt_first round.delim round.count round.next piece))) ≡ (work round).settled (x ++ piece)
   made_is = ap (part_by (filing_in round.files) (all_open (share_of round.delim round.count (x ++ piece)))) (count_is piece at.holds) ∙ sym (filed_are round.delim Open (filing_in round.files) round.elide round.count (x ++ piece) at.holds.named)
@@ -142,7 +142,7 @@ takes_in : (told : Bool) {old new : RoundState} {piece : List ℕ} {before after
 takes_in told {old} {new} {piece} deals x holds = grind (arith, common_steps, mod-add-mod, delimiters-append, count_is)
 
 pub passes_by : (told : Bool) (old new : RoundState) (piece : List ℕ) (before after : List Slot) (result : Result (Unit {0}) Fault)
-    → Deals told old piece before after new result → engine.Passes ways.duty told piece (way.Round old) (way.Round new) before after (engine.IsMetWith ways.duty piece (way.Round old)) result
+    → Deals told old piece before after new result → engine.Passes ways.terms told piece (way.Round old) (way.Round new) before after (engine.IsMetWith ways.terms piece (way.Round old)) result
 passes_by told old new piece before after (Ok u) deals = record {
   same = same_work old new deals.delim deals.count deals.elide deals.adds.filing;
   size = omega arith;
@@ -164,7 +164,7 @@ passes_by told old new piece before after (Err why) deals = record {
   there = λ are. tt;
   cut = λ start x at. cut (part.unjudged (always_named (is_verbose old.files.tells)) before after why deals.adds.caused (part.none_lacks (is_verbose old.files.tells) before after deals.adds.caused))
       (stopped_as (output_by (is_verbose old.files.tells)) told (stands_is at.holds) (made_is told old piece at) (stops_in_order (left_by told old piece at (Err why) deals.adds)));
-  met = part.met_files false _ _ (EndsWith ways.duty piece (way.Round old)) (always_named (is_verbose old.files.tells)) (is_verbose old.files.tells) before after why (refl, refl) refl refl deals.adds.caused (λ is. absurd (part.none_lacks (is_verbose old.files.tells) before after deals.adds.caused is));
+  met = part.met_files false _ _ (EndsWith ways.terms piece (way.Round old)) (always_named (is_verbose old.files.tells)) (is_verbose old.files.tells) before after why (refl, refl) refl refl deals.adds.caused (λ is. absurd (part.none_lacks (is_verbose old.files.tells) before after deals.adds.caused is));
 }
 
 -- The end
@@ -177,7 +177,7 @@ closed_part {round} {x} holds =
     ∙ ap (part_by filing (λ i. share Closed (has i))) holds.opened ∙ sym (filed_are round.delim Closed filing round.elide round.count x holds.named)
 
 pub finishes_by : (told : Bool) (round : RoundState) (old new : List Slot) (result : Result (Unit {0}) Fault)
-    → ClosesAll told round.files old new result → engine.Finishes ways.duty told (way.Round round) (way.Round round) old new (engine.IsMetThere ways.duty (way.Round round)) result
+    → ClosesAll told round.files old new result → engine.Finishes ways.terms told (way.Round round) (way.Round round) old new (engine.IsMetThere ways.terms (way.Round round)) result
 finishes_by told round old new (Ok u) closes = record {
   same = refl;
   size = omega arith;
@@ -198,7 +198,7 @@ finishes_by told round old new (Err why) closes = record {
   owns = closes.owned;
   there = λ are. tt;
   cut = λ before x at. cut (ap is_verdict closes.caused.1) (stopped_as (output_by (is_verbose round.files.tells)) told (stands_is at.holds) (closed_part at.holds) (closes.cut before _ (stand_at told round at)));
-  met = part.met_closing (is_verbose round.files.tells) (EndsThere ways.duty (way.Round round)) old new closes.caused;
+  met = part.met_closing (is_verbose round.files.tells) (EndsThere ways.terms (way.Round round)) old new closes.caused;
 }
 
 -- The start
@@ -313,7 +313,7 @@ spares : (splitter after : Splitter) (z : List ℕ) (n : ℕ) → ways.work afte
 spares splitter after z n same going spare = omega (arith, none_spare _ z n (lawful splitter) going spare)
 
 pub spares_none : (most : ℕ) (splitter : Splitter) → ((state : ChunkerState) → splitter ≡ way.Chunks state → ⊥)
-    → MayGet ways.duty splitter most
+    → MayGet ways.terms splitter most
 spares_none most (way.Parts parts) other x piece after n holds going within same later spare =
     spares (way.Parts parts) after (x ++ piece) n same
     (open_after _ (parts_state.filing_of parts).verbose refl after (x ++ piece) same later) spare

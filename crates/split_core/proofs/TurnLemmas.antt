@@ -73,7 +73,7 @@ met Ends {told} {bytes} {old} {new} can (stop.broke n broke) = ((λ is. refl), (
 
 pub passes_by : (told : Bool) (old new : TurnState) (piece : List ℕ) (before after : List Slot) (result : Result (Unit {0}) Fault)
     → IsTrue (is_writable before 0) → Picks told old piece before after new result
-    → engine.Passes ways.duty told piece (way.Turn old) (way.Turn new) before after (engine.IsMetWith ways.duty piece (way.Turn old)) result
+    → engine.Passes ways.terms told piece (way.Turn old) (way.Turn new) before after (engine.IsMetWith ways.terms piece (way.Turn old)) result
 passes_by told old new piece before after (Ok u) can picks = record {
   same = same_work old new picks.delim picks.count picks.place;
   size = omega arith;
@@ -97,12 +97,12 @@ passes_by told old new piece before after (Err why) can picks = record {
   cut = λ start x at. cut (unjudged picks.cut)
       (subst (λ part. StoppedBetween gets_bytes told start ((work old).settled x) part why after) (went_out piece at.holds)
       (between told _ at.outputs picks.cut));
-  met = met (EndsWith ways.duty piece (way.Turn old)) can picks.cut;
+  met = met (EndsWith ways.terms piece (way.Turn old)) can picks.cut;
 }
 
 -- At the end nothing is left to be written.
 pub finishes_by : (told : Bool) (turn : TurnState) (slots : List Slot) → IsTrue (is_writable slots 0)
-    → engine.Finishes ways.duty told (way.Turn turn) (way.Turn turn) slots slots (engine.IsMetThere ways.duty (way.Turn turn)) (Ok tt)
+    → engine.Finishes ways.terms told (way.Turn turn) (way.Turn turn) slots slots (engine.IsMetThere ways.terms (way.Turn turn)) (Ok tt)
 finishes_by told turn slots can = record {
   same = refl;
   size = omega arith;

@@ -93,7 +93,7 @@ made_by state on x holds is = works_so state (holds_can state.said state x holds
 
 pub few_of_chunk : (state : ChunkerState) (size chunk most : ℕ) → state.said ≡ Some size → course state.cutter ≡ in_output chunk
     → most ≡ max (chunk_start state.cutter.chunks.count size (chunk + 1) - state.cutter.at) 1
-    → MayGet ways.duty (way.Chunks state) most
+    → MayGet ways.terms (way.Chunks state) most
 few_of_chunk state size chunk most said on is x piece after n holds going within same later spare =
     let it : work state ≡ chunk_work chunk state.cutter.chunks (Some size) = made_by state (in_output chunk) x holds on ∙ ap (chunk_work chunk state.cutter.chunks) said in
     let can : nat_lt chunk state.cutter.chunks.count ≡ true = sym (ap (λ on. can_cut on state.cutter.chunks.count) on) ∙ holds_can state.said state x holds in
@@ -104,7 +104,7 @@ few_of_chunk state size chunk most said on is x piece after n holds going within
     )
 
 pub few_of_files : (most : ℕ) (state : ChunkerState) (filing : Filing) (elide : Bool) → course state.cutter ≡ in_files filing elide
-    → MayGet ways.duty (way.Chunks state) most
+    → MayGet ways.terms (way.Chunks state) most
 few_of_files most state filing elide on x piece after n holds going within same later spare =
     omega (
       arith,
@@ -112,6 +112,6 @@ few_of_files most state filing elide on x piece after n holds going within same 
           (ap (λ (those : Work). those.means.output) (made_by state (in_files filing elide) x holds on)) after (x ++ piece) same later) spare,
     )
 
-pub few_unsaid : (most : ℕ) (state : ChunkerState) → state.said ≡ None → MayGet ways.duty (way.Chunks state) most
+pub few_unsaid : (most : ℕ) (state : ChunkerState) → state.said ≡ None → MayGet ways.terms (way.Chunks state) most
 few_unsaid most state said x piece after n holds going within same later spare =
     omega (arith, none_spare (work state) (x ++ piece) n (lawful (way.Chunks state)) (unsaid_goes_on state x (x ++ piece) (ap is_some said) holds) spare)

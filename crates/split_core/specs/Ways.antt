@@ -2,7 +2,7 @@
 use Rattle.std.specs.Prelude.{◌≡◌, ℕ, List, [], true}
 use Rattle.ports_core.specs.Slot.{Slot}
 use Rattle.ports_core.specs.Work.{Work}
-use Rattle.ports_core.specs.Engine.{Duty}
+use Rattle.ports_core.specs.Engine.{Terms}
 use Rattle.split_core.specs.declared.splitter.Splitter.{Splitter}
 use Rattle.split_core.specs.declared.splitter.Splitter.TheVariants.{Parts, Round, Chunks, Turn}
 use Rattle.split_core.specs.PartsState.{Stands, IsReady}
@@ -41,8 +41,8 @@ size (Chunks state) = chunker.total state
 size splitter = 0
 
 -- it removes no files
-abbrev pub duty : Duty Splitter
-duty = record {
+abbrev pub terms : Terms Splitter
+terms = record {
   Holds = Holds;
   work = work;
   IsDone = λ splitter x. (work splitter).is_complete x ≡ true;

@@ -116,7 +116,7 @@ impl Chunker {
         requires fresh { Holds self.old [] }
         requires none { total self.old ≡ 0 }
         requires input { IsTrue (is_readable (I.sources inputs.old) slot) }
-        ensures loads { Loads ways.duty I.told (length buffer.old) slot result (way.Chunks self.old)
+        ensures loads { Loads ways.terms I.told (length buffer.old) slot result (way.Chunks self.old)
             (way.Chunks self.new) (I.sources inputs.old) (I.sources inputs.new) }
         ensures laid { I.laid inputs.new ≡ I.laid inputs.old }
     {
@@ -196,7 +196,7 @@ impl Chunker {
     /// How many bytes the next piece may have: where one chunk is written, as many as are missing to its end; one at least.
     pub(crate) fn most_wanted(&self) -> u64
         ensures some { 0 < result }
-        ensures few { MayGet ways.duty (way.Chunks self.now) result }
+        ensures few { MayGet ways.terms (way.Chunks self.now) result }
     {
         match (self.said, &self.cutter.target.aim) {
             (Some(size), Aim::Output { chunk }) => {

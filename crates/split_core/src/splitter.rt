@@ -8,7 +8,7 @@ ghost use Rattle.split_core.specs.Split.{TellsNoSizes, is_verbose, output_by, se
 ghost use Rattle.seg_core.specs.Cut.{IsWay};
 ghost use Rattle.split_core.specs.ChunkWork.{CanGive, CannotBegin, HasAllNames, work_by};
 ghost use Rattle.split_core.specs.Split.{HasNames};
-ghost use Rattle.split_core.specs.Ways.{Holds, Owns, Ready, duty, work};
+ghost use Rattle.split_core.specs.Ways.{Holds, Owns, Ready, terms, work};
 ghost use Rattle.ports_core.specs.Engine.{MayGet};
 ghost use Rattle.ports_core.specs.Work.{IsSpare};
 ghost use Rattle.split_core.specs.inner.Ways.{held};
@@ -108,7 +108,7 @@ impl Splitter {
 }
 
 impl Stage for Splitter {
-    ghost duty = { duty };
+    ghost terms = { terms };
 
     fn pass<O: Outs>(&mut self, piece: &[u8], outs: &mut O) -> Result<(), Fault> {
         match self {
@@ -166,7 +166,7 @@ impl Stage for Splitter {
     /// Where one chunk is written, as many as are missing to its end, and one at least; else any number.
     fn wanted(&self) -> u64
         ensures some { 0 < result }
-        ensures few { MayGet duty self.now result }
+        ensures few { MayGet terms self.now result }
     {
         let Splitter::Chunks(chunker) = self else {
             return u64::MAX;

@@ -6,7 +6,7 @@ use Rattle.ports_core.specs.Part.{OutputsAt, StoppedBetween, nothing, only_out}
 use Rattle.csplit_core.specs.Output.{manner_of}
 use Rattle.ports_core.specs.Work.{Work, Needs}
 use Rattle.ports_core.specs.Guard.{GuardState, HoldsIn}
-use Rattle.ports_core.specs.Engine.{Duty, is_verdict}
+use Rattle.ports_core.specs.Engine.{Terms, is_verdict}
 use Rattle.ports_core.specs.declared.fault.Fault.{Fault}
 use Rattle.ports_core.specs.declared.fault.Fault.TheVariants.{Memory, Write, Open, Verdict}
 use Rattle.ports_core.specs.declared.verdict.Verdict.TheVariants.{Suffixes}
@@ -77,12 +77,12 @@ verbose_is false = refl
 
 -- an engine that was opened, and left the outputs as they were
 
-pub opened_of : {S : Type 0} (duty : Duty S) {begun asked : Work} (told : Bool) (old new : List Slot) (result : Result (GuardState S) Fault) → begun ≡ asked → IfOk result (λ e. HoldsIn duty.Holds e [])
-    → IfOk result (λ e. duty.work e.stage ≡ begun) → IfOk result (λ e. e.fed < 2 ^ 63) → IfOk result (λ e. duty.Ready e.stage new)
-    → IfOk result (λ e. duty.Owns e.stage (length old) new) → OnOk result (OutputsAt told old (begun.settled []) new)
-    → IfOk result (Opens duty asked told old new)
-opened_of duty told old new (Ok e) is fresh does bound ready owns at = grind (arith, common_steps)
-opened_of duty told old new (Err fault) is fresh does bound ready owns at = tt
+pub opened_of : {S : Type 0} (terms : Terms S) {begun asked : Work} (told : Bool) (old new : List Slot) (result : Result (GuardState S) Fault) → begun ≡ asked → IfOk result (λ e. HoldsIn terms.Holds e [])
+    → IfOk result (λ e. terms.work e.stage ≡ begun) → IfOk result (λ e. e.fed < 2 ^ 63) → IfOk result (λ e. terms.Ready e.stage new)
+    → IfOk result (λ e. terms.Owns e.stage (length old) new) → OnOk result (OutputsAt told old (begun.settled []) new)
+    → IfOk result (Opens terms asked told old new)
+opened_of terms told old new (Ok e) is fresh does bound ready owns at = grind (arith, common_steps)
+opened_of terms told old new (Err fault) is fresh does bound ready owns at = tt
 
 -- one that could not be opened
 pub opened_short : {E : Type 0} (told : Bool) {begun asked : Work} {opening : Needs} (old new : List Slot) (result : Result E Fault) (Why Left : Fault → Type 0)

@@ -35,7 +35,7 @@ use Rattle.csplit_core.specs.declared.line_cutter.LineCutter.{LineCutter}
 use Rattle.csplit_core.specs.declared.line_cutter.Passed.{Passed}
 use Rattle.csplit_core.specs.Cutter.{CutterState, AimHolds, seen, suppress_in, state_in, kept_by, IsFit, IsSound, load, draft_by, IsAt, EndsNow, IsLive, Stands}
 use Rattle.ports_core.specs.Engine.{Sweeps}
-use Rattle.csplit_core.specs.CsplitState.{CsplitState, duty, whole_lines}
+use Rattle.csplit_core.specs.CsplitState.{CsplitState, terms, whole_lines}
 
 -- There are `total` lines; of the next operand it is known whether it matches the last one, if its search reaches that
 -- line, and that it matches none between the beginning of its search and the last line.
@@ -471,5 +471,5 @@ pub data Closes (told : Bool) (stage : CsplitState) (old new : List Slot) (next 
   ended_short : (fault : Fault) → Closed told stage old new next (Some fault)
       → Closes told stage old new next (Err fault)
   ended_so : (verdict : Verdict) (mid : CsplitState) (reached : List Slot) → Closed told stage old reached mid None
-      → Judges mid.cutter (Some verdict) → Sweeps duty mid next reached new
+      → Judges mid.cutter (Some verdict) → Sweeps terms mid next reached new
       → Closes told stage old new next (Err (fault_is.Verdict verdict))

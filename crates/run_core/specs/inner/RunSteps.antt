@@ -3,8 +3,8 @@
 use Rattle.std.specs.Prelude.{◌≡◌, ℕ, Bool, true, false, List, Result, Ok, Err, ◌&&◌, ◌||◌, ◌∷◌, ◌++◌, length, Option, Some, None, if◌then◌else◌, ◌≤◌, ◌<◌}
 use Rattle.ports_core.specs.Slot.{Slot, is_open, streams}
 use Rattle.ports_core.specs.Swept.{Swept}
-use Rattle.ports_core.specs.Guard.{GuardState, IsRefusedEnd}
-use Rattle.ports_core.specs.Engine.{Clears, Duty, Finishes, is_verdict}
+use Rattle.ports_core.specs.Guard.{GuardState, IsRefusedThere}
+use Rattle.ports_core.specs.Engine.{Clears, Terms, Finishes, is_verdict}
 use Rattle.ports_core.specs.declared.fault.Fault.{Fault}
 use Rattle.run_core.specs.declared.feeding.Fed.{Fed}
 use Rattle.ports_core.specs.Source.{Content, Source, source_at}
@@ -23,15 +23,15 @@ use Rattle.run_core.specs.Task.{Task, Outcome, made_by, after_part, header_text,
 
 -- How closing an engine ends that has got all of its input: it finished; or a fault stopped it, and its files went if
 -- the work clears them, by itself where that fault is a verdict.
-pub data EndsSo {S : Type 0} (duty : Duty S) (told : Bool) (engine : GuardState S) (fed : Fed)
+pub data EndsSo {S : Type 0} (terms : Terms S) (told : Bool) (engine : GuardState S) (fed : Fed)
     (old new : List Slot) : Result Fed Fault → Type 0 where
   finished : (next : S)
-      → Finishes duty told engine.stage next old new (IsRefusedEnd duty engine) (Ok tt)
-      → EndsSo duty told engine fed old new (Ok fed)
+      → Finishes terms told engine.stage next old new (IsRefusedThere terms engine) (Ok tt)
+      → EndsSo terms told engine fed old new (Ok fed)
   fell_short : (fault : Fault) (next : S) (reached : List Slot)
-      → Finishes duty told engine.stage next old reached (IsRefusedEnd duty engine) (Err fault)
-      → (is_verdict fault ≡ true → new ≡ reached) → (is_verdict fault ≡ false → Clears duty next reached new)
-      → EndsSo duty told engine fed old new (Err fault)
+      → Finishes terms told engine.stage next old reached (IsRefusedThere terms engine) (Err fault)
+      → (is_verdict fault ≡ true → new ≡ reached) → (is_verdict fault ≡ false → Clears terms next reached new)
+      → EndsSo terms told engine fed old new (Err fault)
 
 -- the outputs are at some part, and standard error is open
 pub record HasStreams (told : Bool) (slots : List Slot) : Type 0 where

@@ -4,13 +4,13 @@ use Rattle.std.proofs.lemmas.Option.{none-some}
 use Rattle.ports_core.specs.Slot.{Slot}
 use Rattle.ports_core.specs.Work.{Means, on_output}
 use Rattle.ports_core.specs.Engine.{EndsWith, IsCaused, IsMet, over, long, met}
-use Rattle.ports_core.specs.Guard.{GuardState, HoldsIn, IsRefused}
+use Rattle.ports_core.specs.Guard.{GuardState, HoldsIn, IsRefusedWith}
 use Rattle.ports_core.specs.declared.fault.Fault.{Fault}
 use Rattle.ports_core.specs.declared.fault.Fault.TheVariants.{Memory, Write, Open, TooLong}
 use Rattle.ports_core.specs.declared.fault.Fault.TheVariants as fault_is
 use Rattle.ports_core.specs.declared.verdict.Verdict.{Verdict}
 use Rattle.ends_core.specs.declared.ends.Ends.{Ends}
-use Rattle.ends_core.specs.Stage.{Holds, count_of, delim_of, duty, keeps, may_lack, stretch_of, unit_of}
+use Rattle.ends_core.specs.Stage.{Holds, count_of, delim_of, terms, keeps, may_lack, stretch_of, unit_of}
 use Rattle.ends_core.proofs.EndsLemmas.{always_well, on_means}
 
 -- of what writes to standard output alone, lacks no memory and has no fault of its own
@@ -29,12 +29,12 @@ only_these memory Ends live enough well (long going much same) = inr refl
 only_these memory Ends {old} {new} live enough well (met fault going cause) = only_writes memory Ends old new fault enough well cause
 
 fails : (engine : GuardState Ends) (x piece : List ℕ) (old new : List Slot) (fault : Fault) → HoldsIn Holds engine x → may_lack engine.stage ≡ false
-    → IsRefused duty piece engine old new fault → (fault ≡ Write 0) ⊎ (fault ≡ TooLong)
+    → IsRefusedWith terms piece engine old new fault → (fault ≡ Write 0) ⊎ (fault ≡ TooLong)
 fails engine x piece old new fault holds enough refused =
     let s = stretch_of engine.stage in
     let delim = delim_of engine.stage in
     let unit = unit_of engine.stage in
     let n = count_of engine.stage in
-    only_these (keeps s) (EndsWith duty piece engine.stage) holds.live enough
+    only_these (keeps s) (EndsWith terms piece engine.stage) holds.live enough
     (λ verdict ends. none-some verdict (sym (always_well s delim unit n (x ++ piece)) ∙ (ends x holds.within).1))
-    (subst (λ (means : Means). IsCaused (IsMet means means.feeding (may_lack engine.stage ≡ true) (EndsWith duty piece engine.stage) old new) engine.is_over engine.fed (length piece) old new fault) (on_means s delim unit n) refused)
+    (subst (λ (means : Means). IsCaused (IsMet means means.feeding (may_lack engine.stage ≡ true) (EndsWith terms piece engine.stage) old new) engine.is_over engine.fed (length piece) old new fault) (on_means s delim unit n) refused)

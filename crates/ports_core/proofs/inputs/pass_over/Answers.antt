@@ -19,7 +19,7 @@ skip-requires-clause-has g c tells = omega (
 
 pub returns-then-read_at-clause-passes : goal.returns-then-read_at-clause-passes
 returns-then-read_at-clause-passes g c =
-    passes_if _ c.skip.result c.requires.input c.requires.has c.requires.within
+    passes_if _ c.skip.result c.requires.input c.requires.has c.requires.within (omega (arith, c.requires.within, c.if-least-gt-MOST_BYTES.false))
     (looked_once c.requires.input (grind (arith, common_steps)) c.read_at.ensures.rest) c.skip.ensures.rest c.skip.ensures.unchanged
 
 pub returns-else-read_at-clause-passes : goal.returns-else-read_at-clause-passes

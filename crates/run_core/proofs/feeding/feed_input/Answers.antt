@@ -24,7 +24,7 @@ pieces-init g c =
         holds = record { live = c.load.ensures.live; count = c.load.ensures.fed ∙ loads.long; within = took.holds };
         owns = λ first own. took.owns first _ own;
         outputs = λ before own at. rw took.same (rw took.idle at);
-        bound = omega (arith, c.load.ensures.fed, loads.long, took.few);
+        bound = omega (arith, c.load.ensures.fed, loads.few);
       };
       readable = rw (passed, c.requires.input);
       others = keeps_again _ _ _ _ loads.looked.others (keeps_others _ _ _ _ loads.passed);
@@ -51,12 +51,12 @@ pieces-init g c =
 pub returns-in-Err : goal.returns-in-Err
 returns-in-Err g c =
     let so_far = c.pieces.invariant in
-    let going : (g.S.Stage.duty.work c.pieces.engine.stage).is_complete so_far.fed ≡ false = sym (c.done.ensures.complete so_far.fed so_far.feeds.holds) ∙ c.pieces-test.true in record {
+    let going : (g.S.Stage.terms.work c.pieces.engine.stage).is_complete so_far.fed ≡ false = sym (c.done.ensures.complete so_far.fed so_far.feeds.holds) ∙ c.pieces-test.true in record {
       ends = λ before opening own at.
           of_read g.I.Inputs.told _ so_far.fed true _ _ (λ told. read_broken _ _ _ _ (so_far.read told) (c.in-Err.ensures.break_off told)) (λ content. came_broken g.I.Inputs.told _ _ _ _ so_far.readable c.in-Err.ensures.err)
           (λ content is bytes breaks came. (
             rw (← so_far.feeds.same)
-                (broke_off breaks (ap (g.S.Stage.duty.work c.pieces.engine.stage).is_complete bytes ∙ going) (g.O.Outs.slots c.pieces.outs) (rw bytes (so_far.feeds.outputs before own at)) (c.abandon.ensures.sweeps.swept (length before) (so_far.feeds.owns (length before) own))),
+                (broke_off breaks (ap (g.S.Stage.terms.work c.pieces.engine.stage).is_complete bytes ∙ going) (g.O.Outs.slots c.pieces.outs) (rw bytes (so_far.feeds.outputs before own at)) (c.abandon.ensures.sweeps.swept (length before) (so_far.feeds.owns (length before) own))),
             λ ends sound going. absurd (false≢true (sym sound ∙ breaks)),
           ));
       others = keeps_again _ _ _ _ so_far.others (keeps_others _ _ _ _ c.in-Err.ensures.err);
@@ -77,7 +77,7 @@ returns-in-Err g c =
 pub returns-then-n-eq0 : goal.returns-then-n-eq0
 returns-then-n-eq0 g c =
     let so_far = c.pieces.invariant in
-    let going : (g.S.Stage.duty.work c.pieces.engine.stage).is_complete so_far.fed ≡ false = sym (c.done.ensures.complete so_far.fed so_far.feeds.holds) ∙ c.pieces-test.true in
+    let going : (g.S.Stage.terms.work c.pieces.engine.stage).is_complete so_far.fed ≡ false = sym (c.done.ensures.complete so_far.fed so_far.feeds.holds) ∙ c.pieces-test.true in
     let nothing : take c.in-Ok.n c.read_part.new.buffer ≡ [] = ap (λ k. take k c.read_part.new.buffer) c.if-n-eq0.true in
     let at_end = ended_now _ _ c.in-Ok.n _ _ so_far.readable c.in-Ok.ensures.rest c.if-n-eq0.true c.piece_size-size.ensures.some in
     let far : g.I.Inputs.told ≡ true → IsUnread (source_at (g.I.Inputs.sources c.args.inputs.now) c.args.slot) → (source_at (g.I.Inputs.sources c.read_part.new.inputs) c.args.slot).reached ≤ length so_far.fed
@@ -145,9 +145,9 @@ pieces-preserved g c =
 pub returns-in-Err-feed : goal.returns-in-Err-feed
 returns-in-Err-feed g c =
     let so_far = c.pieces.invariant in
-    let going : (g.S.Stage.duty.work c.pieces.engine.stage).is_complete so_far.fed ≡ false = sym (c.done.ensures.complete so_far.fed so_far.feeds.holds) ∙ c.pieces-test.true in
-    let settles : is_stop (Err c.given_up.result) ≡ false → OfVerdict c.in-Err-feed.fault (IsSettled (g.S.Stage.duty.work c.pieces.engine.stage) (so_far.fed ++ take c.in-Ok.n c.read_part.new.buffer))
-    = λ ends. let (verdict, is, settled) = judges (g.S.Stage.duty.work c.pieces.engine.stage).means _ (EndsWith g.S.Stage.duty (take c.in-Ok.n c.read_part.new.buffer) c.pieces.engine.stage) (ap is_verdict (sym c.given_up.ensures.same) ∙ not-false (is_verdict c.given_up.result) ends) c.in-Err-feed.ensures.passes.met in (verdict, is, settled so_far.fed so_far.feeds.holds.within) in record {
+    let going : (g.S.Stage.terms.work c.pieces.engine.stage).is_complete so_far.fed ≡ false = sym (c.done.ensures.complete so_far.fed so_far.feeds.holds) ∙ c.pieces-test.true in
+    let settles : is_stop (Err c.given_up.result) ≡ false → OfVerdict c.in-Err-feed.fault (IsSettled (g.S.Stage.terms.work c.pieces.engine.stage) (so_far.fed ++ take c.in-Ok.n c.read_part.new.buffer))
+    = λ ends. let (verdict, is, settled) = judges (g.S.Stage.terms.work c.pieces.engine.stage).means _ (EndsWith g.S.Stage.terms (take c.in-Ok.n c.read_part.new.buffer) c.pieces.engine.stage) (ap is_verdict (sym c.given_up.ensures.same) ∙ not-false (is_verdict c.given_up.result) ends) c.in-Err-feed.ensures.passes.met in (verdict, is, settled so_far.fed so_far.feeds.holds.within) in record {
       ends = λ before opening own at.
           let within : length (take c.in-Ok.n c.read_part.new.buffer) ≤ length c.args.buffer.now = piece_within c.read_part.new.buffer (omega (arith, c.in-Ok.ensures.bound, c.piece_size-size.ensures.within, so_far.room)) in
           let more = λ (told : g.I.Inputs.told ≡ true). (read_more _ _ _ _ _ _ _ _ _ (so_far.read told) so_far.readable (c.in-Ok.ensures.bytes told) c.in-Ok.ensures.rest).bytes in
@@ -193,9 +193,9 @@ give_back-requires-clause-within g c told =
 pub returns : goal.returns
 returns g c =
     let so_far = c.pieces.invariant in
-    let done : (g.S.Stage.duty.work c.pieces.engine.stage).is_complete so_far.fed ≡ true = sym (c.done.ensures.complete so_far.fed so_far.feeds.holds) ∙ c.pieces-test.false in
+    let done : (g.S.Stage.terms.work c.pieces.engine.stage).is_complete so_far.fed ≡ true = sym (c.done.ensures.complete so_far.fed so_far.feeds.holds) ∙ c.pieces-test.false in
     let spare = c.unused-unused.ensures so_far.fed so_far.feeds.holds in
-    let few : c.args.slot ≡ 0 → c.unused-unused.result ≤ (g.S.Stage.duty.work c.pieces.engine.stage).ahead = λ standard. rw so_far.feeds.same (so_far.few standard _ (rw so_far.feeds.same at spare)) in
+    let few : c.args.slot ≡ 0 → c.unused-unused.result ≤ (g.S.Stage.terms.work c.pieces.engine.stage).ahead = λ standard. rw so_far.feeds.same (so_far.few standard _ (rw so_far.feeds.same at spare)) in
     let back = c.give_back.ensures.rest in record {
       broke = ends_sound _ _ _ (inr refl) c.end-2.ensures;
       ends = λ before opening own at.

@@ -4,7 +4,7 @@ use Rattle.std.proofs.lemmas.Bool.{false≢true}
 use Rattle.std.proofs.lemmas.Result.{on_ok_weaker, IfErr-weaker}
 use Rattle.ports_core.specs.Work.{IsSpare}
 use Rattle.ports_core.specs.Engine.{EndsThere, EndsWith, MayGet}
-use Rattle.ends_core.specs.Stage.{count_of, delim_of, duty, stretch_of, unit_of, work}
+use Rattle.ends_core.specs.Stage.{count_of, delim_of, terms, stretch_of, unit_of, work}
 use Rattle.ends_core.specs.inner.Stage.{due, due_at_end}
 use Rattle.ports_core.proofs.SlotSteps.{written_writable}
 use Rattle.ends_core.proofs.EndsLemmas.{always_well, on_ok_each, same_work, takes_in, puts_out, cuts_off, lacks_kept, met, went_out, rest_out, loads, full_is, done_is_exact, may_get, spare_here, wants_some}
@@ -22,7 +22,7 @@ pass-tells g c =
       owns = λ first own. tt;
       there = λ are. tt;
       cut = IfErr-weaker c.result _ _ (λ fault stops. cuts_off g.O.Outs.told ends (due ends piece) (went_out ends piece) stops) c.ensures.wrote.cut;
-      met = IfErr-weaker c.result _ _ (λ fault stops. met g.O.Outs.told ends (λ means. means.feeding) _ (EndsWith duty piece ends)
+      met = IfErr-weaker c.result _ _ (λ fault stops. met g.O.Outs.told ends (λ means. means.feeding) _ (EndsWith terms piece ends)
           (λ lacking. (lacks_kept ends lacking, lacking)) c.requires.ready stops) c.ensures.wrote.cut;
     }
 
@@ -37,13 +37,13 @@ finish-tells g c =
       owns = λ first own. tt;
       there = λ are. tt;
       cut = IfErr-weaker c.result _ _ (λ fault stops. cuts_off g.O.Outs.told ends (due_at_end ends) (rest_out ends) stops) c.ensures.wrote.cut;
-      met = IfErr-weaker c.result _ _ (λ fault stops. met g.O.Outs.told ends (λ means. means.closing) _ (EndsThere duty ends)
+      met = IfErr-weaker c.result _ _ (λ fault stops. met g.O.Outs.told ends (λ means. means.closing) _ (EndsThere terms ends)
           (λ never. absurd (false≢true never)) c.requires.ready stops) c.ensures.wrote.cut;
     }
 
 pub load-tells : goal.load-tells
 load-tells g c = record {
-  loads = loads _ _ _ _ _ _ _ _ c.requires.fresh c.requires.none c.ensures.same c.ensures.past c.ensures.passes c.ensures.full c.ensures.bound;
+  loads = loads _ _ _ _ _ _ _ _ c.requires.fresh c.requires.none c.ensures.same c.ensures.past c.ensures.passes c.ensures.full;
   laid = c.ensures.laid;
 }
 
@@ -53,7 +53,7 @@ is_done-tells c = grind (arith, common_steps, full_is, done_is_exact)
 pub wanted-tells : goal.wanted-tells
 wanted-tells c = record {
   some = λ x holds going. subst (λ n. 0 < n) (sym c.ensures) (wants_some c.args.self.now holds going);
-  few = subst (MayGet duty c.args.self.now) (sym c.ensures) (may_get c.args.self.now);
+  few = subst (MayGet terms c.args.self.now) (sym c.ensures) (may_get c.args.self.now);
 }
 
 pub unused-tells : goal.unused-tells

@@ -5,10 +5,10 @@ use Rattle.ports_core.proofs.GuardLemmas.{is_long, pass_refused, passes_caused}
 use Rattle.ports_core.proofs.guarded.Guarded.feed.Goals as goal
 
 pub returns-then-self-clause-passes : goal.returns-then-self-clause-passes
-returns-then-self-clause-passes g c = rw (← c.self.view_is) (pass_refused g.S.Stage.duty g.O.Outs.told _ _ (g.met.S.Stage.lawful _) _ (inr refl) (over c.if-self.true refl))
+returns-then-self-clause-passes g c = rw (← c.self.view_is) (pass_refused g.S.Stage.terms g.O.Outs.told _ _ (g.met.S.Stage.lawful _) _ (inr refl) (over c.if-self.true refl))
 
 pub returns-in_default-clause-passes : goal.returns-in_default-clause-passes
-returns-in_default-clause-passes g c = rw (← c.self.view_is) (pass_refused g.S.Stage.duty g.O.Outs.told _ _ (g.met.S.Stage.lawful _) _ (inl refl) (long c.if-self.false (is_long c.self.inside.fed (length c.args.piece.now) c.in_default.ensures) refl))
+returns-in_default-clause-passes g c = rw (← c.self.view_is) (pass_refused g.S.Stage.terms g.O.Outs.told _ _ (g.met.S.Stage.lawful _) _ (inl refl) (long c.if-self.false (is_long c.self.inside.fed (length c.args.piece.now) c.in_default.ensures) refl))
 
 pub returns-in-Ok-clause-passes : goal.returns-in-Ok-clause-passes
 returns-in-Ok-clause-passes g c = rw (← c.self.view_is) (passes_caused c.if-self.false c.in-Ok.ensures)

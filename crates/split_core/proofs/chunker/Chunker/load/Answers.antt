@@ -23,4 +23,4 @@ returns-then-not-pass_over-clause-loads g c = loads_still _ c.requires.fresh c.r
 pub returns-clause-loads : goal.returns-clause-loads
 returns-clause-loads g c = loads_front c.self.view_is
     (subst (λ found. IfSome found (λ found. StandsAfter c.args.self.now found.0 found.1)) c.in-Some.is c.front.ensures) c.requires.fresh
-    (passes_by _ c.pass_over.result c.if-not-pass_over.false c.pass_over.ensures.passes) (c.pass_over.ensures.bound c.if-not-pass_over.false)
+    (passes_by _ c.pass_over.result c.if-not-pass_over.false c.pass_over.ensures.passes)
