@@ -53,6 +53,7 @@ pub record Owns (stage : CsplitState) (first : ℕ) (slots : List Slot) : Type 0
 abbrev pub files : CsplitState → List ℕ
 files stage = stage.cutter.writer.files
 
+-- it is never complete
 abbrev pub terms : Terms CsplitState
 terms = record {
   Holds = Holds;

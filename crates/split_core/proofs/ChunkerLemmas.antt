@@ -376,7 +376,7 @@ module _ {chunker next : ChunkerState} {size : ℕ} {told : Bool} {old new : Lis
       (low_is chunker said same.can) (λ x holds. whole_said (is_said said holds) ∙ ap (λ (work : Work). work.whole x) (made_is chunker said)) ends
 
   pub said_stops : {why : Fault} → TargetEnds told chunker.cutter.target old new next.cutter.target (Some why) → IsWrite why → Ends told chunker old new next (Some why)
-  said_stops {why} ends broke = record { same = same; bound = bound; comes = end_comes (Some why) ends; well = tt; few = λ some. broke }
+  said_stops {why} ends broke = record { same = same; bound = bound; comes = end_comes (Some why) ends; well = tt; only_write = λ some. broke }
 
   pub said_ends : TargetEnds told chunker.cutter.target old new next.cutter.target None → (is_past_on chunker.cutter.target ≡ true) ⊎ (size ≤ chunker.cutter.at) → Ends told chunker old new next None
   said_ends ends full = record {
@@ -388,7 +388,7 @@ module _ {chunker next : ChunkerState} {size : ℕ} {told : Bool} {old new : Lis
           | inl past ↦ inl (sym (past_is (cut_is has)) ∙ past)
           | inr all ↦ inr (omega (arith, all, has.cut.at))
         ]);
-    few = λ some. tt;
+    only_write = λ some. tt;
   }
 
   pub said_changed : TargetEnds told chunker.cutter.target old new next.cutter.target None → is_past_on chunker.cutter.target ≡ false → chunker.cutter.at < size

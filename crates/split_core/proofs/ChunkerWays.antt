@@ -227,7 +227,7 @@ module _ (told : Bool) (old new : ChunkerState) (before after : List Slot) where
         (ends.comes.reaches x at.holds start (at_aim ends.same.can at)))));
     met = subst (λ (those : Work). IsMet those.means those.means.closing (Unit {0}) (EndsThere ways.terms (way.Chunks old)) before after why)
         (sym (works_so old ends.same.can))
-        (met_closing old.cutter.chunks _ before after why (λ is x holds. absurd (ends.comes.named is x holds)) (course old.cutter) old.said ends.comes.slots ends.comes.only ends.few);
+        (met_closing old.cutter.chunks _ before after why (λ is x holds. absurd (ends.comes.named is x holds)) (course old.cutter) old.said ends.comes.slots ends.comes.only ends.only_write);
   }
 
   ends_changed : total new ≤ total old → Changes told old (made old).whole (λ x. Judges (made old) x Changed) before after new

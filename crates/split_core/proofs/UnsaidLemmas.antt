@@ -455,7 +455,7 @@ ends_unsaid {chunker = chunker} {size = size} fault said same spare can size_is 
       (λ x holds. let has = is_unsaid said holds in ap (λ z. whole_on (course chunker.cutter) (chunks_within chunker.cutter.chunks size z)) (all_came has) ∙ ap (λ n. whole_on (course chunker.cutter) (chunks_within chunker.cutter.chunks n x)) (long x has)
       ∙ ap (whole_on (course chunker.cutter)) (sym (cut_of chunker.cutter.chunks (length x) x (omega arith))) ∙ sym (whole_none (course chunker.cutter) chunker.cutter.chunks x) ∙ ap (λ (work : Work). work.whole x) (made_none chunker said)) ends.brings;
   well = in_any fault (λ x holds. ap (λ (work : Work). work.verdict x) (sym (made_none chunker said)) ∙ well_none (course chunker.cutter) chunker.cutter.chunks x);
-  few = λ some. absurd (false≢true (sym some ∙ ap is_none said));
+  only_write = λ some. absurd (false≢true (sym some ∙ ap is_none said));
 } where
   long : (x : List ℕ) → IsUnsaid chunker x → size ≡ length x
   long x has = omega (arith, size_is, has.cut.at, length-append (cut_front chunker x) chunker.waiting, ap length (all_came has))

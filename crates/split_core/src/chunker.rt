@@ -161,7 +161,8 @@ impl Chunker {
     ///
     /// # Errors
     ///
-    /// As `pass`; `Changed` where the input has fewer bytes than it said.
+    /// `Changed` where the input has fewer bytes than it said, and `Write` where an output broke. Where it didn't say its
+    /// length, those of `pass`.
     pub(crate) fn finish<O: Outs>(&mut self, outs: &mut O) -> Result<(), Fault>
         requires ready { Ready self.old (O.slots outs.old) }
         ensures { EndsAs O.told self.old (O.slots outs.old) (O.slots outs.new) self.new result }

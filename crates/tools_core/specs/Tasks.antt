@@ -1,6 +1,7 @@
 -- What each tool does with its inputs, where words ask for it: POSIX.1-2017, XCU head, tail, split and csplit; several
 -- files for tail, headers and their options, bytes, and all but the last are GNU's, and so is what split does where an
 -- input breaks off.
+use Rattle.std.specs.Option.{unwrap_or}
 use Rattle.std.specs.Prelude.{ℕ, ◌==◌, ◌||◌, nat_lt, Bool, true, false, not, List, [], ◌∷◌, length, slice_index_or, codes, Option, Some, None, if◌then◌else◌}
 use Rattle.ports_core.specs.Name.{Naming, numbering_of}
 use Rattle.ports_core.specs.declared.verdict.Verdict.{Verdict}
@@ -23,7 +24,7 @@ use Rattle.words_core.specs.declared.settings.Settings.{Settings}
 use Rattle.words_core.specs.declared.settings.Settings.TheVariants.{Head, Tail, Split, Csplit, Tee, About}
 use Rattle.words_core.specs.CsplitWords.{CsplitAsked}
 use Rattle.words_core.specs.EndsWords.{EndsAsked}
-use Rattle.words_core.specs.SplitWords.{SplitAsked, first_number}
+use Rattle.words_core.specs.SplitWords.{SplitAsked}
 
 abbrev pub is_minus : Sign → Bool
 is_minus Plain = false
@@ -69,7 +70,7 @@ tail_task asked = record {
 abbrev pub naming_of : SplitAsked → Naming
 naming_of asked = record {
   prefix = asked.prefix;
-  numbering = numbering_of asked.alphabet asked.width asked.auto (first_number asked.from);
+  numbering = numbering_of asked.alphabet asked.width asked.auto (unwrap_or asked.from 0);
   ending = asked.ending;
 }
 

@@ -84,7 +84,8 @@ pub record Ends (told : Bool) (chunker : ChunkerState) (old new : List Slot) (ne
   pub bound : total next ≤ total chunker
   pub comes : Comes told chunker (made chunker).whole old new next fault
   pub well : IfNone fault ((x : List ℕ) → Holds chunker x → (made chunker).verdict x ≡ None)
-  pub few : is_none chunker.said ≡ false → IfSome fault IsWrite
+  -- where the size was said, only an output can break
+  pub only_write : is_none chunker.said ≡ false → IfSome fault IsWrite
 
 abbrev pub EndsAs : Bool → ChunkerState → List Slot → List Slot → ChunkerState → Result (Unit {0}) Fault → Type 0
 EndsAs told chunker old new next (Ok done) = Ends told chunker old new next None
