@@ -94,7 +94,8 @@ IsMetWith terms piece stage = IsMet (terms.work stage).means (terms.work stage).
 
 -- what causes a fault of a stage at the end
 abbrev pub IsMetThere : {S : Type 0} → Terms S → S → List Slot → List Slot → Fault → Type 0
-IsMetThere terms stage = IsMet (terms.work stage).means (terms.work stage).means.closing (Unit {0}) (EndsThere terms stage)
+IsMetThere terms stage =
+    IsMet (terms.work stage).means (terms.work stage).means.closing (Unit {0}) (EndsThere terms stage)
 
 -- what causes each fault of a call that takes in `size` bytes, where `Met` causes those of an engine which isn't over
 pub data IsCaused (Met : Fault → Type 0) (is_over : Bool) (fed size : ℕ) (old new : List Slot) : Fault → Type 0 where
@@ -160,8 +161,8 @@ pub record Sweeps {S : Type 0} (terms : Terms S) (old new : S) (before after : L
   pub same : terms.work new ≡ terms.work old
   -- it has no more to count than before
   pub size : terms.size new ≤ terms.size old
-  -- its files are removed, one after another, and those are left whose removal failed, if the work clears them; else all
-  -- stay
+  -- its files are removed, one after another, and those are left whose removal failed, if the work clears them; else
+  -- all stay
   pub removes : RemovesIf (terms.work old).clears (terms.files old) before (terms.files new) after
   -- so of the outputs that are its own none but those has a file then
   pub swept : Clears terms old before after

@@ -68,7 +68,8 @@ pub trait Stage {
 
     /// How many bytes the next piece may have, so that at most its work's `ahead` of them are not used.
     fn wanted(&self) -> u64
-        ensures some { (x : List ℕ) → terms.Holds self.now x → (terms.work self.now).is_complete x ≡ false → 0 < result }
+        ensures some { (x : List ℕ) → terms.Holds self.now x → (terms.work self.now).is_complete x ≡ false
+            → 0 < result }
         ensures few { MayGet terms self.now result };
 
     /// How many of the bytes that came in are not used: those after the byte with which the output was complete.
