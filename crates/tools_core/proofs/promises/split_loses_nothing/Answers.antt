@@ -1,4 +1,4 @@
-use Rattle.std.proofs.Common.{length, refl}
+use Rattle.std.proofs.Common.{length}
 use Rattle.seg_core.specs.Line.{line_count}
 use Rattle.split_core.proofs.ChunkLemmas.{line_in_chunk}
 use Rattle.tools_core.specs.Promises.{AreChunks, AreDealt, AreEven, AreLinePieces, ArePieces, AreUncut, BeginInChunks, KeepLines}
