@@ -18,7 +18,7 @@ use Rattle.words_core.specs.declared.table.Takes.TheVariants as takes
 use Rattle.words_core.specs.declared.spelling.State.{State}
 use Rattle.words_core.specs.declared.spelling.State.TheVariants.{First, Reading, Awaiting, OnlyOperands, Ended}
 use Rattle.words_core.specs.Table.{OptionRow, begins_one, beginning, full_or, is_among, only_one, option_called, option_named}
-use Rattle.words_core.specs.Division.{all_in, division_in, numbers_in, one_in}
+use Rattle.words_core.specs.Division.{all_in, division_in, numbers_in}
 use Rattle.words_core.specs.declared.division.Dealing.{Dealing}
 use Rattle.words_core.specs.SplitWords.{AreFew}
 use Rattle.words_core.specs.Given.{Given, GivenOperand, bare, joined}

@@ -14,7 +14,9 @@ use Rattle.words_core.specs.declared.choice.Choice.TheVariants as choice
 use Rattle.words_core.specs.declared.choice.Kind.{Kind}
 use Rattle.words_core.specs.declared.choice.Kind.TheVariants as kind
 
--- Of a text only its bytes count, and not where it lies: so that is the same for all. Those of a format are what it writes.
+-- The texts of a choice lie somewhere among the words. Only their bytes count, so here all lie at one place. Of a format
+-- the code has the texts as they are spelled, with two `%` for each that a name has; here they are in the same type
+-- (`Written`) as names have them, with one.
 
 abbrev pub text : List ℕ → Bor (List ℕ)
 text bytes = record { ref_ptr = (0, 0); now = bytes }

@@ -32,7 +32,8 @@ pub record CsplitAsked : Type 0 where
   pub operands : List (List ℕ)
   pub places : List ℕ
 
--- what is asked for without options: names begin with `xx` and have two digits, and nothing is kept, dropped or left out
+-- what is asked for without options: names begin with `xx` and have two digits, and nothing is kept, dropped or left
+-- out
 abbrev pub plain : CsplitOptions
 plain = record {
   prefix = text (codes "xx");

@@ -4,6 +4,7 @@ use Rattle.seg_core.specs.declared.count.Sign.TheVariants.{Plain}
 use Rattle.seg_core.specs.declared.unit.Unit.TheVariants.{Lines}
 use Rattle.words_core.specs.declared.choice.Choice.{Choice}
 use Rattle.words_core.specs.declared.choice.Choice.TheVariants as choice
+use Rattle.words_core.specs.declared.spelled.Chosen.{Chosen}
 use Rattle.words_core.specs.declared.settings.Headers.TheVariants.{ForSeveral}
 use Rattle.words_core.specs.Given.{asked_by, Given, GivenOperand, texts_of}
 use Rattle.seg_core.specs.declared.count.Count.{Count}
@@ -47,5 +48,9 @@ or_dash (name ∷ names) = name ∷ names
 abbrev pub names_asked : List GivenOperand → List (List ℕ)
 names_asked operands = or_dash (texts_of operands)
 
+-- what options ask, of these inputs
+abbrev pub ends_of : List (List ℕ) → List Chosen → EndsAsked
+ends_of names options = asked_by ends_by (ten_lines names) options
+
 abbrev pub ends_asked : Given → EndsAsked
-ends_asked given = asked_by ends_by (ten_lines (names_asked given.operands)) given.options
+ends_asked given = ends_of (names_asked given.operands) given.options

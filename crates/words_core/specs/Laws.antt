@@ -3,11 +3,7 @@ use Rattle.std.specs.Prelude.{◌≡◌, ◌≢◌, ℕ, ◌+◌, ◌<◌, ◌==
 use Rattle.std.specs.List.{list_any}
 use Rattle.seg_core.specs.declared.count.Count.{Count}
 use Rattle.seg_core.specs.declared.unit.Unit.{Unit as Measured}
-use Rattle.ports_core.specs.declared.form.Base.TheVariants.{Decimal}
-use Rattle.ports_core.specs.declared.form.Filling.TheVariants.{BlanksBefore}
 use Rattle.ports_core.specs.declared.fault.Fault.{Fault}
-use Rattle.ports_core.specs.declared.on_broken.OnBroken.{OnBroken}
-use Rattle.ports_core.specs.declared.slot.Mode.{Mode}
 use Rattle.operand_core.specs.Style.{Style}
 use Rattle.words_core.specs.declared.choice.Choice.{Choice}
 use Rattle.words_core.specs.declared.choice.Choice.TheVariants as choice
@@ -20,29 +16,16 @@ use Rattle.words_core.specs.declared.table.Takes.TheVariants as takes
 use Rattle.words_core.specs.declared.spelling.State.{State}
 use Rattle.words_core.specs.declared.spelling.State.TheVariants.{Reading}
 use Rattle.words_core.specs.declared.value.Followed.TheVariants.{Descriptor}
-use Rattle.words_core.specs.EndsWords.{EndsAsked, ends_by, ten_lines}
-use Rattle.words_core.specs.SplitWords.{SplitAsked, no_options, split_by}
+use Rattle.words_core.specs.CsplitWords.{style_of}
+use Rattle.words_core.specs.EndsWords.{EndsAsked, ten_lines}
+use Rattle.words_core.specs.SplitWords.{SplitAsked, no_options}
 use Rattle.words_core.specs.declared.tail_words.TailSettings.{TailSettings}
-use Rattle.words_core.specs.Given.{asked_by, Given, GivenOperand, one_option}
+use Rattle.words_core.specs.Given.{Given, GivenOperand, one_option}
 use Rattle.words_core.specs.Spelling.{given_before, is_equals, spelled}
 use Rattle.words_core.specs.Table.{OptionRow, alone, option_named}
-use Rattle.words_core.specs.TailWords.{tail_by, unfollowed}
-use Rattle.words_core.specs.TeeWords.{TeeAsked, fresh, tee_by}
+use Rattle.words_core.specs.TailWords.{unfollowed}
+use Rattle.words_core.specs.TeeWords.{TeeAsked, fresh}
 use Rattle.words_core.specs.Words.{settings_of}
-
--- what options ask of `head` or `tail`, of `split`, of `tail` as a whole, and of `tee`
-
-abbrev pub ends_of : List Chosen → EndsAsked
-ends_of options = asked_by ends_by (ten_lines []) options
-
-abbrev pub split_of : List Chosen → SplitAsked
-split_of options = asked_by split_by no_options options
-
-abbrev pub tail_of : List Chosen → TailSettings
-tail_of options = asked_by tail_by (unfollowed (ten_lines [])) options
-
-abbrev pub tee_of : List Chosen → TeeAsked
-tee_of options = asked_by tee_by (fresh []) options
 
 -- which unit is counted, and how many
 abbrev pub amount_of : EndsAsked → Measured × Count
@@ -62,8 +45,8 @@ abbrev pub heads : Choice → Bool
 heads (choice.Headers headers) = true
 heads other = false
 
--- of `tail`: one that says what is followed, that a name is looked for again, how often inputs are looked at, how long they
--- are waited for, and after the end of which process no more
+-- of `tail`: one that says what is followed, that a name is looked for again, how often inputs are looked at, how long
+-- they are waited for, and after the end of which process no more
 
 abbrev pub says_followed : Choice → Bool
 says_followed (choice.Follow followed) = true
@@ -87,8 +70,8 @@ abbrev pub names_process : Choice → Bool
 names_process (choice.Process process) = true
 names_process other = false
 
--- of `split`: one that says which characters suffixes have, and with that from which number on they count; of `csplit` too:
--- one that says how wide numbers are
+-- of `split`: one that says which characters suffixes have, and with that from which number on they count; of `csplit`
+-- too: one that says how wide numbers are
 
 abbrev pub spells : Choice → Bool
 spells (choice.Suffixes alphabet from) = true
@@ -98,8 +81,8 @@ abbrev pub widens : Choice → Bool
 widens (choice.Width width) = true
 widens other = false
 
--- one that gives the byte that lines end with, and the ending of names; one that leaves empty files out, and one that tells of
--- files
+-- one that gives the byte that lines end with, and the ending of names; one that leaves empty files out, and one that
+-- tells of files
 
 abbrev pub separates : Choice → Bool
 separates (choice.Separator byte) = true
@@ -218,8 +201,8 @@ is_plain [] = true
 is_plain (byte ∷ []) = true
 is_plain (byte ∷ next ∷ rest) = not (byte == 45)
 
--- What options ask for, given alone: of `head` and `tail` alike, of `split`, and of `csplit` with the operand `1`, for standard
--- input; of `tail` that follows the file `f`, and of `tee` for it.
+-- What options ask for, given alone: of `head` and `tail` alike, of `split`, and of `csplit` with the operand `1`, for
+-- standard input; of `tail` that follows the file `f`, and of `tee` for it.
 
 abbrev pub ten_of_input : EndsAsked
 ten_of_input = ten_lines (codes "-" ∷ [])
@@ -254,18 +237,13 @@ CsplitAsks words style = settings_of (codes "csplit" ∷ words ++ codes "-" ∷ 
       places = (length words + 2) ∷ [];
     }))
 
-abbrev pub TeeAsks : List (List ℕ) → Mode → OnBroken → Type 0
-TeeAsks words mode on_broken = settings_of (codes "tee" ∷ words ++ codes "f" ∷ [])
-    ≡ Ok (Tee (record { mode = mode; on_broken = on_broken; names = codes "f" ∷ [] }))
+-- the file `f`, which begins empty
+abbrev pub fresh_file : TeeAsked
+fresh_file = fresh (codes "f" ∷ [])
+
+abbrev pub TeeAsks : List (List ℕ) → TeeAsked → Type 0
+TeeAsks words asked = settings_of (codes "tee" ∷ words ++ codes "f" ∷ []) ≡ Ok (Tee asked)
 
 -- files as they are made without options
 abbrev pub plain_style : Style
-plain_style = record {
-  prefix = codes "xx";
-  form = record { base = Decimal; is_marked = false; width = 0; filling = BlanksBefore; precision = 2 };
-  ending = [];
-  keep = false;
-  quiet = false;
-  elide = false;
-  suppress = false;
-}
+plain_style = style_of []

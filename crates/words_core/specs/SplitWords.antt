@@ -67,6 +67,10 @@ split_by asked choice.Verbose = record asked { verbose = true }
 split_by asked (choice.Ending ending) = record asked { ending = ending.now }
 split_by asked choice = asked
 
+-- what options ask, but for the way to split
+abbrev pub split_of : List Chosen → SplitAsked
+split_of options = asked_by split_by no_options options
+
 -- the byte that lines end with: the newline, or what the last separator says
 
 abbrev pub delim_by : ℕ → Choice → ℕ
@@ -85,6 +89,7 @@ way_in delim (choice.LineBytesEach size) = Some (Cut (Parts (LineBytes size deli
 way_in delim (choice.Divided division) = Some (way_of_division delim division)
 way_in delim choice = None
 
+-- whether an option gives one, which doesn't depend on the byte: 10 stands for any
 abbrev pub is_way : Chosen → Bool
 is_way option = is_some (way_in 10 option.choice)
 
@@ -161,7 +166,7 @@ files_in (input ∷ prefix ∷ extra ∷ more) = Err (Usage ExtraOperand extra.w
 -- the line as a whole: first its ways to split, then the suffixes, then the operands
 abbrev pub split_asked : Given → Result SplitAsked Fault
 split_asked given =
-    let asked = asked_by split_by no_options given.options in
+    let asked = split_of given.options in
     then_check (way_of given.options) (λ way.
     then_check (suffix_for way asked.alphabet asked.from asked.width) (λ suffix.
     then_check (files_in given.operands) (λ files.

@@ -6,6 +6,7 @@ use Rattle.ports_core.specs.declared.fault.Fault.TheVariants.{Usage}
 use Rattle.ports_core.specs.declared.fault.UsageKind.TheVariants.{BadFollow}
 use Rattle.words_core.specs.declared.choice.Choice.{Choice}
 use Rattle.words_core.specs.declared.choice.Choice.TheVariants.{Follow, FollowNames, Retry, Looks, Pause, Process}
+use Rattle.words_core.specs.declared.spelled.Chosen.{Chosen}
 use Rattle.words_core.specs.declared.value.Followed.{Followed}
 use Rattle.words_core.specs.declared.value.Followed.TheVariants.{Descriptor, Name}
 use Rattle.words_core.specs.EndsWords.{EndsAsked, ends_by, names_asked, ten_lines}
@@ -61,8 +62,12 @@ followed_in (Some Descriptor) false names = by_descriptor names
 followed_in (Some Name) true names = by_name names
 followed_in followed retry names = bad_follow
 
+-- what options ask, of these inputs
+abbrev pub tail_of : List (List ℕ) → List Chosen → TailSettings
+tail_of names options = asked_by tail_by (unfollowed (ten_lines names)) options
+
 abbrev pub tail_asked : Given → Result TailSettings Fault
 tail_asked given =
-    let asked = asked_by tail_by (unfollowed (ten_lines (names_asked given.operands))) given.options in
+    let asked = tail_of (names_asked given.operands) given.options in
     then_check (followed_in asked.followed (asked_by retry_by false given.options) (texts_of given.operands))
     (λ followed. Ok (record asked { followed = followed }))

@@ -4,6 +4,7 @@ use Rattle.std.specs.Prelude.{ℕ, List}
 use Rattle.ports_core.specs.declared.slot.Mode.TheVariants.{Fresh, Append}
 use Rattle.words_core.specs.declared.choice.Choice.{Choice}
 use Rattle.words_core.specs.declared.choice.Choice.TheVariants as choice
+use Rattle.words_core.specs.declared.spelled.Chosen.{Chosen}
 use Rattle.words_core.specs.Given.{asked_by, Given, texts_of}
 use Rattle.ports_core.specs.declared.on_broken.OnBroken.{OnBroken}
 use Rattle.ports_core.specs.declared.slot.Mode.{Mode}
@@ -28,6 +29,10 @@ tee_by asked choice.Append = record asked { mode = Append }
 tee_by asked (choice.OnBroken on_broken) = record asked { on_broken = on_broken }
 tee_by asked choice = asked
 
+-- what options ask, of these files
+abbrev pub tee_of : List (List ℕ) → List Chosen → TeeAsked
+tee_of names options = asked_by tee_by (fresh names) options
+
 -- the operands are the files' names, and `-` is a name as any other
 abbrev pub tee_asked : Given → TeeAsked
-tee_asked given = asked_by tee_by (fresh (texts_of given.operands)) given.options
+tee_asked given = tee_of (texts_of given.operands) given.options

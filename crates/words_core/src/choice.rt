@@ -44,7 +44,7 @@ pub enum Choice<'a> {
     LineBytesEach(u64),
     /// Among how many files an input is divided, and how.
     Divided(Division),
-    /// How many characters the number in a name has, 0 to 255.
+    /// How many characters the number in a name has, of `csplit` at least, 0 to 255.
     Width(u8),
     /// The characters of suffixes, and the number of the first file, at most 2^63-1, where one is given.
     Suffixes(Alphabet, Option<u64>),
@@ -97,11 +97,12 @@ pub enum Kind {
     LineBytesEach,
     /// `N` or `K/N`, with `l/` or `r/` before it or nothing: digits, N from 1 to 65,535, K from 1 to N.
     Divided,
-    /// How many characters the number in a name has: digits, 0 to 255.
+    /// How many characters the number in a name has, of `csplit` at least: digits, 0 to 255.
     Width,
-    /// The number of the first file, which digits write: 0 to 2^63-1.
+    /// Suffixes of digits, and the number of the first file: digits, 0 to 2^63-1.
     NumericSuffixes,
-    /// The same in hexadecimal: digits and `a` to `f`, also as capitals.
+    /// Suffixes in hexadecimal, and the number of the first file, which digits and `a` to `f`, also as capitals, write: 0 to
+    /// 2^63-1.
     HexSuffixes,
     /// One byte, or the two bytes `\0`, which stand for byte 0.
     Separator,
@@ -122,7 +123,8 @@ pub enum Kind {
 /// # Errors
 ///
 /// What is wrong with the value: it isn't of its kind's form, or else its number is too large, or else it is 0. A byte,
-/// an ending, a format, what is followed or what is done once an output is broken has a fault of its own where it isn't of its form.
+/// an ending, a format, what is followed or what is done once an output is broken has a fault of its own where it isn't of
+/// its form.
 pub(crate) fn read_choice(kind: Kind, text: &str) -> Result<Choice<'_>, UsageKind>
     ensures { seen_in result ≡ choice_in kind text.now }
 {

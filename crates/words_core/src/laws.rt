@@ -13,14 +13,15 @@ ghost use Rattle.words_core.specs.Choice.{choice_in};
 ghost use Rattle.words_core.specs.CsplitWords.{chosen_by, decimal_form, style_of};
 ghost use Rattle.words_core.specs.declared.format.Format.{Format as Written};
 ghost use Rattle.words_core.specs.Format.{Format, format_in};
-ghost use Rattle.words_core.specs.Laws.{AreAmong, CsplitAsks, EndsAsk, FollowAsks, Gives, IsLast, IsLetter, IsName, IsSwitch, LastDecides, LeaveTheRest, SplitAsks, TeeAsks, amount_of, appends, as_operands, as_wide, counts, counts_looks, counts_pause, drops_sizes, elides_files, ends_of, ends_with_zero, following, gives_ending, gives_format, has, heads, is_plain, keeps_files, leaves_lines_out, names_prefix, names_process, plain_style, retries, says_followed, says_on_broken, separates, spells, split_of, tail_of, tee_of, tells_of_files, ten_of_input, thousands, widens};
+ghost use Rattle.words_core.specs.Laws.{AreAmong, CsplitAsks, EndsAsk, FollowAsks, Gives, IsLast, IsLetter, IsName, IsSwitch, LastDecides, LeaveTheRest, SplitAsks, TeeAsks, amount_of, appends, as_operands, as_wide, counts, counts_looks, counts_pause, drops_sizes, elides_files, ends_with_zero, following, fresh_file, gives_ending, gives_format, has, heads, is_plain, keeps_files, leaves_lines_out, names_prefix, names_process, plain_style, retries, says_followed, says_on_broken, separates, spells, tells_of_files, ten_of_input, thousands, widens};
+ghost use Rattle.words_core.specs.EndsWords.{ends_of};
 ghost use Rattle.words_core.specs.Lettered.{is_lettered, unit_of, with_letters};
-ghost use Rattle.words_core.specs.SplitWords.{SplitAsked, is_way, least_width, split_asked, way_in, way_of, separator_in};
+ghost use Rattle.words_core.specs.SplitWords.{SplitAsked, is_way, least_width, split_asked, split_of, way_in, way_of, separator_in};
 ghost use Rattle.words_core.specs.Spelling.{given_before, mixed, spelled};
 ghost use Rattle.words_core.specs.Table.{OptionRow, beginning, head_table, option_called, option_named, tail_table};
 ghost use Rattle.words_core.specs.declared.table.Letters.TheVariants.{OfHead, OfTail};
-ghost use Rattle.words_core.specs.TailWords.{retry_by};
-ghost use Rattle.words_core.specs.TeeWords.{tee_asked};
+ghost use Rattle.words_core.specs.TailWords.{retry_by, tail_of};
+ghost use Rattle.words_core.specs.TeeWords.{tee_asked, tee_of};
 ghost use Rattle.words_core.specs.Value.{counted, hex_in, size_in, up_to};
 ghost use Rattle.words_core.specs.Words.{settings_for, settings_of};
 
@@ -31,32 +32,40 @@ use crate::spelled::Chosen;
 use crate::spelling::State;
 use crate::table::{Letters, Takes};
 use crate::value::Followed;
-use ports_core::{Alphabet, Fault, Mode, OnBroken, Tool};
+use ports_core::{Alphabet, Base, Fault, Filling, Mode, OnBroken, Tool};
 use seg_core::count::{Count, Sign};
 use seg_core::cut::{Cut, Limit, Way};
 use seg_core::unit::Unit;
 
 /// Of several counts for `head` or `tail` the last decides, as if it stood alone, whatever options stand before it;
 /// and so does the last option for headers. Other options change neither (POSIX.1-2017, XBD 12.2, guideline 11,
-/// leaves this to the tool).
+/// leaves this to the tool). What options ask of `head` they ask of `tail` too, of what is written of each input at first.
 pub fn last_of_ends_decides()
-    ensures counts { LastDecides counts (λ options. amount_of (ends_of options)) (amount_of (ends_of [])) }
-    ensures headers { LastDecides heads (λ options. (ends_of options).headers) (ends_of []).headers }
-    ensures tail { (options : List Chosen) → (tail_of options).ends ≡ ends_of options }
+    ensures counts { (names : List (List ℕ))
+        → LastDecides counts (λ options. amount_of (ends_of names options)) (amount_of (ends_of names [])) }
+    ensures headers { (names : List (List ℕ))
+        → LastDecides heads (λ options. (ends_of names options).headers) (ends_of names []).headers }
+    ensures tail { (names : List (List ℕ)) (options : List Chosen)
+        → (tail_of names options).ends ≡ ends_of names options }
 {}
 
 /// Of several options that say what `tail` follows the last decides, as if it stood alone, whatever options stand before it,
-/// and so do the last number of looks, the last pause and the last process. A name that leads nowhere is looked for again where any option says so.
+/// and so do the last number of looks, the last pause and the last process. A name that leads nowhere is looked for again
+/// where any option says so.
 pub fn last_of_tail_decides()
-    ensures followed { LastDecides says_followed (λ options. (tail_of options).followed) None }
-    ensures looks { LastDecides counts_looks (λ options. (tail_of options).looks) (2 ^ 63 - 1) }
-    ensures pause { LastDecides counts_pause (λ options. (tail_of options).pause) 1000 }
-    ensures process { LastDecides names_process (λ options. (tail_of options).process) None }
+    ensures followed { (names : List (List ℕ))
+        → LastDecides says_followed (λ options. (tail_of names options).followed) None }
+    ensures looks { (names : List (List ℕ))
+        → LastDecides counts_looks (λ options. (tail_of names options).looks) (2 ^ 63 - 1) }
+    ensures pause { (names : List (List ℕ)) → LastDecides counts_pause (λ options. (tail_of names options).pause) 1000 }
+    ensures process { (names : List (List ℕ))
+        → LastDecides names_process (λ options. (tail_of names options).process) None }
     ensures retry { (options : List Chosen) → asked_by retry_by false options ≡ has retries options }
 {}
 
 /// Of several options for the characters of suffixes the last decides, as if it stood alone, whatever options stand before it,
-/// also which number the first file has, if it says so; and so do the last width, the last byte that lines end with, and the last ending of names. Other options change none.
+/// also which number the first file has, if it says so; and so do the last width, the last byte that lines end with, and the
+/// last ending of names. Other options change none.
 pub fn last_of_split_decides()
     ensures alphabet { LastDecides spells (λ options. (split_of options).alphabet) (split_of []).alphabet }
     ensures from { LastDecides spells (λ options. (split_of options).from) None }
@@ -83,7 +92,8 @@ pub fn last_of_csplit_decides()
 /// Of several options of `tee` that say what is done once an output is broken the last decides, as if it stood alone, whatever
 /// options stand before it. Without one it goes on with those that are left.
 pub fn last_of_tee_decides()
-    ensures on_broken { LastDecides says_on_broken (λ options. (tee_of options).on_broken) OnBroken.GoOn }
+    ensures on_broken { (names : List (List ℕ))
+        → LastDecides says_on_broken (λ options. (tee_of names options).on_broken) OnBroken.GoOn }
 {}
 
 /// An option that is taken without effect, with or without a value, changes nothing: the others ask for what they ask for without
@@ -98,7 +108,8 @@ pub fn some_have_no_effect()
 {}
 
 /// What an option without a value asks is asked for exactly where the option is given, wherever it stands and however
-/// often: of `csplit` and `tee`, `-e` of `split`, and `-z` of `head` and `tail`, without which lines end with the newline.
+/// often: of `csplit` and `tee`, `-e` and `--verbose` of `split`, and `-z` of `head` and `tail`, without which lines end with
+/// the newline.
 pub fn options_stand_anywhere()
     ensures keep { (options : List Chosen) → (style_of options).keep ≡ has keeps_files options }
     ensures quiet { (options : List Chosen) → (style_of options).quiet ≡ has drops_sizes options }
@@ -106,8 +117,8 @@ pub fn options_stand_anywhere()
     ensures suppress { (options : List Chosen) → (style_of options).suppress ≡ has leaves_lines_out options }
     ensures leave_out { (options : List Chosen) → (split_of options).elide ≡ has elides_files options }
     ensures tell { (options : List Chosen) → (split_of options).verbose ≡ has tells_of_files options }
-    ensures zero { (options : List Chosen)
-        → (ends_of options).delim ≡ (if has ends_with_zero options then 0 else 10) }
+    ensures zero { (names : List (List ℕ)) (options : List Chosen)
+        → (ends_of names options).delim ≡ (if has ends_with_zero options then 0 else 10) }
     ensures append { (given : Given) → ((tee_asked given).mode ≡ Mode.Append) ↔ (has appends given.options ≡ true) }
 {}
 
@@ -190,9 +201,9 @@ pub fn operands_may_mix()
         ≡ given_before (one_operand word place) (spelled rows words (place + 1) Reading) }
 {}
 
-/// Of several faults of single words the leftmost word's is told: one that is found among the first words is told whatever follows them, but
-/// that a value is missing, which is so only where no word follows; and where nothing is wrong with the first words, the
-/// fault stands after them.
+/// Of several faults of single words the leftmost word's is told: one that is found among the first words is told whatever
+/// follows them, but that a value is missing, which is so only where no word follows; and where nothing is wrong with the
+/// first words, the fault stands after them.
 pub fn leftmost_fault_decides()
     ensures decides { (rows : List OptionRow) (first more : List (List ℕ)) (place : ℕ) (state : State)
         (kind : UsageKind) (word : ℕ) → spelled rows first place state ≡ Err (Fault.Usage kind word)
@@ -270,9 +281,16 @@ pub fn letters_take_no_option_away()
         → mixed tail_table place (codes "-" ++ text) ≡ Err (Fault.Usage UnknownOption place) }
 {}
 
-/// What the options of `head` and `tail` ask for, each alone: lines and bytes with their count, headers never or
-/// always (POSIX.1-2017, XCU head and tail; GNU coreutils manual).
+/// What the options of `head` and `tail` ask for, each alone, and what is asked for without any: lines and bytes with their
+/// count, headers never or always (POSIX.1-2017, XCU head and tail; GNU coreutils manual).
 pub fn ends_options_ask()
+    ensures nothing { EndsAsk [] (record {
+      unit = Unit.Lines;
+      count = record { sign = Sign.Plain; amount = 10 };
+      headers = Headers.ForSeveral;
+      delim = 10;
+      names = codes "-" ∷ [];
+    }) }
     ensures lines { (value : List ℕ) (count : Count) → count_of value ≡ Ok count
         → EndsAsk (codes "-n" ∷ value ∷ []) (record ten_of_input { count = count }) }
     ensures bytes { (value : List ℕ) (count : Count) → count_of value ≡ Ok count
@@ -281,10 +299,18 @@ pub fn ends_options_ask()
     ensures verbose { EndsAsk (codes "-v" ∷ []) (record ten_of_input { headers = Headers.Always }) }
 {}
 
-/// What the options of `tail` for following ask for: files that are opened once, or names; as many looks as can be, or this many;
-/// pauses of a second at most, or of this many milliseconds (POSIX.1-2017, XCU tail; GNU coreutils manual).
+/// What the options of `tail` for following ask for, and what is asked for without any: files that are opened once, or names;
+/// as many looks as can be, or this many; pauses of a second at most, or of this many milliseconds (POSIX.1-2017, XCU tail;
+/// GNU coreutils manual).
 #[tactic(auto, unfolding(crate::specs::Spelling::foremost, crate::specs::Table::tools, seg_core::specs::Count::digits_of))]
 pub fn tail_options_ask()
+    ensures nothing { settings_of (codes "tail" ∷ []) ≡ Ok (Settings.Tail (record {
+      ends = ten_of_input;
+      followed = None;
+      looks = 2 ^ 63 - 1;
+      pause = 1000;
+      process = None;
+    })) }
     ensures follows { FollowAsks (codes "-f" ∷ []) following }
     ensures long { FollowAsks (codes "--follow" ∷ []) following }
     ensures descriptor { FollowAsks (codes "--follow=descriptor" ∷ []) following }
@@ -298,8 +324,21 @@ pub fn tail_options_ask()
         (record following { pause = 51 }) }
 {}
 
-/// What the options of `split` ask for, each alone (POSIX.1-2017, XCU split; GNU coreutils manual).
+/// What the options of `split` ask for, each alone, and what is asked for without any (POSIX.1-2017, XCU split; GNU coreutils
+/// manual).
 pub fn split_options_ask()
+    ensures nothing { SplitAsks [] (record {
+      way = Way.Cut (Cut.Parts (Limit.Lines 1000 10));
+      alphabet = Alphabet.Letters;
+      width = 2;
+      auto = true;
+      from = None;
+      elide = false;
+      verbose = false;
+      input = codes "-";
+      prefix = codes "x";
+      ending = [];
+    }) }
     ensures lines { (value : List ℕ) (size : ℕ) → size_in value ≡ Ok size
         → SplitAsks (codes "-l" ∷ value ∷ []) (record thousands { way = Way.Cut (Cut.Parts (Limit.Lines size 10)) }) }
     ensures bytes { (value : List ℕ) (size : ℕ) → size_in value ≡ Ok size
@@ -332,7 +371,21 @@ pub fn split_options_ask()
 /// What the options of `csplit` ask for, each alone, and what is asked for without any (POSIX.1-2017, XCU csplit; GNU
 /// coreutils manual).
 pub fn csplit_options_ask()
-    ensures nothing { CsplitAsks [] plain_style }
+    ensures nothing { CsplitAsks [] (record {
+      prefix = codes "xx";
+      form = record {
+        base = Base.Decimal;
+        is_marked = false;
+        width = 0;
+        filling = Filling.BlanksBefore;
+        precision = 2;
+      };
+      ending = [];
+      keep = false;
+      quiet = false;
+      elide = false;
+      suppress = false;
+    }) }
     ensures prefix { (text : List ℕ) → CsplitAsks (codes "-f" ∷ text ∷ []) (record plain_style { prefix = text }) }
     ensures digits { (value : List ℕ) (digits : ℕ) → up_to 255 (digits_of value) ≡ Ok digits
         → CsplitAsks (codes "-n" ∷ value ∷ []) (record plain_style { form = decimal_form digits }) }
@@ -353,11 +406,13 @@ pub fn csplit_options_ask()
 /// (POSIX.1-2017, XCU tee; GNU coreutils manual).
 #[tactic(auto, unfolding(crate::specs::Table::tools))]
 pub fn tee_options_ask()
-    ensures nothing { TeeAsks [] Mode.Fresh OnBroken.GoOn }
-    ensures append { TeeAsks (codes "-a" ∷ []) Mode.Append OnBroken.GoOn }
-    ensures warn { TeeAsks (codes "-p" ∷ []) Mode.Fresh OnBroken.GoOn }
-    ensures stop { TeeAsks (codes "--output-error=exit" ∷ []) Mode.Fresh OnBroken.Stop }
-    ensures stop_at_no_pipe { TeeAsks (codes "--output-error=exit-nopipe" ∷ []) Mode.Fresh OnBroken.Stop }
+    ensures nothing { TeeAsks []
+        (record { mode = Mode.Fresh; on_broken = OnBroken.GoOn; names = codes "f" ∷ [] }) }
+    ensures append { TeeAsks (codes "-a" ∷ []) (record fresh_file { mode = Mode.Append }) }
+    ensures warn { TeeAsks (codes "-p" ∷ []) fresh_file }
+    ensures stop { TeeAsks (codes "--output-error=exit" ∷ []) (record fresh_file { on_broken = OnBroken.Stop }) }
+    ensures stop_at_no_pipe { TeeAsks (codes "--output-error=exit-nopipe" ∷ [])
+        (record fresh_file { on_broken = OnBroken.Stop }) }
 {}
 
 /// A hyphen and digits as the only word mean what `-n` means with these digits for `head` and `tail`, and what `-l` means for

@@ -2,8 +2,8 @@
 //! `--additional-suffix` and `--verbose` are GNU's.
 ghost use Rattle.std.specs.Prelude.{◌≡◌, ℕ, ◌+◌, ◌^◌, ◌<◌, ◌≤◌, filter, map, IfOk, IfErr};
 ghost use Rattle.ports_core.specs.Name.{name_count};
-ghost use Rattle.words_core.specs.Given.{asked_by, operand_seen, option_seen};
-ghost use Rattle.words_core.specs.SplitWords.{SplitAsked, files_in, first_number, fixed, for_all, free, least_width, names_all, no_options, numbered, or_two, separator_in, split_by, split_asked, suffix_for, thousand_lines, way_in, is_way, only_way, wide_enough};
+ghost use Rattle.words_core.specs.Given.{operand_seen, option_seen};
+ghost use Rattle.words_core.specs.SplitWords.{SplitAsked, files_in, first_number, fixed, for_all, free, least_width, names_all, no_options, numbered, or_two, separator_in, split_asked, split_by, split_of, suffix_for, thousand_lines, way_in, is_way, only_way, wide_enough};
 ghost use Rattle.words_core.specs.Division.{dealt_by, way_of_division};
 ghost use Rattle.words_core.specs.declared.division.Dealing.TheVariants.{Turns};
 ghost use Rattle.words_core.specs.inner.SplitWords.{with_way};
@@ -140,7 +140,7 @@ pub fn settle_split<'a>(spelled: &Spelled<'a>) -> Result<SplitSettings<'a>, Faul
 
 /// What all options ask for, but for the way to split.
 fn choose_split<'a>(options: &[Chosen<'a>]) -> SplitSettings<'a>
-    ensures { result ≡ asked_by split_by no_options (map option_seen options.now) }
+    ensures { result ≡ split_of (map option_seen options.now) }
 {
     let mut asked = no_options();
     for option in options {

@@ -410,7 +410,7 @@ pub fn find_row<'a>(rows: &'a [ToolRow], name: &str) -> Option<&'a ToolRow>
     None
 }
 
-/// The option of this name in a tool's table, and what it takes and asks for.
+/// What the option of this name takes and asks for, by a tool's table.
 pub fn find_option(rows: &[OptionRow], name: &[u8]) -> Option<Takes>
     ensures { result ≡ option_named (map row_seen rows.now) name.now }
 {
@@ -434,7 +434,7 @@ pub fn is_among(names: &[&str], name: &[u8]) -> bool
     false
 }
 
-/// The option of this long name, or else the only one of which a name begins so, and what it takes and asks for.
+/// What the option of this long name takes and asks for, or else the only one of which a name begins so.
 ///
 /// # Errors
 ///
@@ -448,7 +448,7 @@ pub fn find_called(rows: &[OptionRow], name: &[u8]) -> Result<Takes, UsageKind>
     }
 }
 
-/// The only option of which a name begins so, and what it takes and asks for.
+/// What the only option of which a name begins so takes and asks for.
 fn find_only(rows: &[OptionRow], start: &[u8]) -> Result<Takes, UsageKind>
     ensures { result ≡ only_one (beginning start.now (map row_seen rows.now)) }
 {

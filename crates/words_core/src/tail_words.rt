@@ -80,18 +80,26 @@ fn with_retry(retry: bool, choice: Choice<'_>) -> bool
 /// # Errors
 ///
 /// `Usage` with `BadFollow` where names are followed and not looked for again, or the reverse, or where standard input would
-/// be followed: by name, or beside other inputs. `Memory` where there is no room for the names.
+/// be followed: by name, or beside other inputs. After these `Memory` where there is no room for the names.
 pub fn settle_tail<'a>(alloc: Global, spelled: &Spelled<'a>) -> Result<TailSettings<'a>, Fault>
     ensures { Reads (tail_asked spelled.now) result }
 {
-    let mut asked = unfollowed(ten_lines(names_of(alloc, &spelled.operands)?));
+    let mut asked = unfollowed(ten_lines(Vec::new(alloc)));
     let mut retry = false;
     for option in &spelled.options {
         asked.take(option.choice);
         retry = with_retry(retry, option.choice);
     }
-    asked.followed = check_following(asked.followed, retry, &spelled.operands)?;
-    Ok(asked)
+    let followed = check_following(asked.followed, retry, &spelled.operands)?;
+    let names = names_of(alloc, &spelled.operands)?;
+    Ok(TailSettings {
+        ends: EndsSettings {
+            names,
+            ..asked.ends
+        },
+        followed,
+        ..asked
+    })
 }
 
 /// What is followed of these operands.

@@ -1,4 +1,3 @@
-use Rattle.std.proofs.Common.{[]}
 use Rattle.words_core.specs.EndsWords.{ends_by, ten_lines}
 use Rattle.words_core.specs.Laws.{amount_of, counts, heads}
 use Rattle.words_core.specs.TailWords.{unfollowed}
@@ -7,7 +6,7 @@ use Rattle.words_core.proofs.laws.last_of_ends_decides.Goals as goal
 
 pub returns : goal.returns
 returns c = record {
-  counts = last_decides ends_by amount_of counts (λ a o c. (ends-sets a o c).0) (ten_lines []);
-  headers = last_decides ends_by (λ asked. asked.headers) heads (λ a o c. (ends-sets a o c).1) (ten_lines []);
-  tail = tail_ends (unfollowed (ten_lines []));
+  counts = λ names. last_decides ends_by amount_of counts (λ a o c. (ends-sets a o c).0) (ten_lines names);
+  headers = λ names. last_decides ends_by (λ asked. asked.headers) heads (λ a o c. (ends-sets a o c).1) (ten_lines names);
+  tail = λ names. tail_ends (unfollowed (ten_lines names));
 }

@@ -1,4 +1,4 @@
-use Rattle.std.proofs.Common.{[], false, refl}
+use Rattle.std.proofs.Common.{false, refl}
 use Rattle.words_core.specs.EndsWords.{ten_lines}
 use Rattle.words_core.specs.TailWords.{retry_by, tail_by, unfollowed}
 use Rattle.words_core.specs.Laws.{counts_looks, counts_pause, names_process, retries, says_followed}
@@ -7,9 +7,9 @@ use Rattle.words_core.proofs.laws.last_of_tail_decides.Goals as goal
 
 pub returns : goal.returns
 returns c = record {
-  followed = last_decides tail_by (λ asked. asked.followed) says_followed (λ a o c. (tail-sets a o c).0) (unfollowed (ten_lines []));
-  looks = last_decides tail_by (λ asked. asked.looks) counts_looks (λ a o c. (tail-sets a o c).1) (unfollowed (ten_lines []));
-  pause = last_decides tail_by (λ asked. asked.pause) counts_pause (λ a o c. (tail-sets a o c).2) (unfollowed (ten_lines []));
-  process = last_decides tail_by (λ asked. asked.process) names_process (λ a o c. (tail-sets a o c).3) (unfollowed (ten_lines []));
+  followed = λ names. last_decides tail_by (λ asked. asked.followed) says_followed (λ a o c. (tail-sets a o c).0) (unfollowed (ten_lines names));
+  looks = λ names. last_decides tail_by (λ asked. asked.looks) counts_looks (λ a o c. (tail-sets a o c).1) (unfollowed (ten_lines names));
+  pause = λ names. last_decides tail_by (λ asked. asked.pause) counts_pause (λ a o c. (tail-sets a o c).2) (unfollowed (ten_lines names));
+  process = λ names. last_decides tail_by (λ asked. asked.process) names_process (λ a o c. (tail-sets a o c).3) (unfollowed (ten_lines names));
   retry = so_where_given retry_by (λ retry. retry) retries retry-sets false refl;
 }

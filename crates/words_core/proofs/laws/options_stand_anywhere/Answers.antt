@@ -1,4 +1,4 @@
-use Rattle.std.proofs.Common.{[], refl}
+use Rattle.std.proofs.Common.{refl}
 use Rattle.ports_core.specs.declared.slot.Mode.TheVariants.{Append}
 use Rattle.words_core.specs.CsplitWords.{csplit_by, plain}
 use Rattle.words_core.specs.Given.{texts_of}
@@ -17,7 +17,7 @@ returns c = record {
   suppress = so_where_given csplit_by (λ asked. asked.suppress) leaves_lines_out (λ a c. (csplit-sets a a c).6) plain refl;
   leave_out = so_where_given split_by (λ asked. asked.elide) elides_files (λ a c. (split-sets a a c).3) no_options refl;
   tell = so_where_given split_by (λ asked. asked.verbose) tells_of_files (λ a c. (split-sets a a c).4) no_options refl;
-  zero = given_anywhere ends_by (λ asked. asked.delim) ends_with_zero 0 (λ a c. (ends-sets a a c).2) (ten_lines []);
+  zero = λ names. given_anywhere ends_by (λ asked. asked.delim) ends_with_zero 0 (λ a c. (ends-sets a a c).2) (ten_lines names);
   append = λ given.
       rw (given_anywhere tee_by (λ asked. asked.mode) appends Append (λ a c. (tee-sets a a c).0) (fresh (texts_of given.operands)) given.options) (append_is (has appends given.options));
 }
