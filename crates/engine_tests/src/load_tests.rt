@@ -1,6 +1,7 @@
 //! What a tail, or one chunk, takes in of an input without reading all of it, by blocks that are shorter than the texts.
-ghost use Rattle.std.specs.Prelude.{[]};
+ghost use Rattle.std.specs.Prelude.{[], List};
 ghost use Rattle.ports_core.specs.Guard.{HoldsIn};
+ghost use Rattle.ports_core.specs.Slot.{Slot};
 
 use crate::chunk_tests::{CHANGED, LINES as LINES_OF_THREE, THREE, open as open_chunks};
 use crate::ends_plain::{Asked, Side};
@@ -260,6 +261,7 @@ fn takes_in<S: Stage>(
     taken: u64,
 ) -> bool
     requires { HoldsIn S.terms.Holds engine.old [] }
+    ensures { (slots : List Slot) → S.terms.Ready engine.old.stage slots → S.terms.Ready engine.new.stage slots }
 {
     let mut inputs = MemIn::new(alloc).expect(rt, "there is memory");
     inputs.file("f", text).expect(rt, "there is memory");
