@@ -14,7 +14,7 @@ use Rattle.seg_core.specs.declared.cut.Chunks.{Chunks}
 use Rattle.split_core.specs.Chunks.{chunks_of, chunks_within, ended, has_ended}
 use Rattle.split_core.specs.ChunkerState.{AimState, Carries, ChunkerState, Course, CutterState, Holds, HoldsBy, IsSaid, TargetState, can_cut, course, course_of, in_files, in_output, to_files, to_output, work_on, total}
 use Rattle.split_core.specs.inner.Chunker.{Changes, Comes, Ends, IsLike, Passes, TakesAs, made}
-use Rattle.split_core.specs.inner.Cutter.{Cuts, CutsAs, IsCut, part_so}
+use Rattle.split_core.specs.inner.Cutter.{Cuts, CutsAs, IsCut, part_so, said_work}
 use Rattle.split_core.specs.inner.Seen.{is_each_on, is_past_at, is_past_on}
 use Rattle.split_core.specs.inner.Sends.{Ends as TargetEnds, part_on, whole_on}
 use Rattle.split_core.specs.Parts.{CutUp}
@@ -51,7 +51,7 @@ past_at chunks size place (to_output chunk) x can fits is = elim (cases_lt chunk
   by true has past = absurd (omega (arith, past, is, ended_after chunks size x chunk (ltb-true _ _ can) has))
   by false has past = has
 
-pub past_is : {cutter : CutterState} {size : ℕ} {x : List ℕ} → IsCut cutter size x → is_past_on cutter.target ≡ (work_on (course cutter) cutter.chunks (Some size)).is_complete x
+pub past_is : {cutter : CutterState} {size : ℕ} {x : List ℕ} → IsCut cutter size x → is_past_on cutter.target ≡ (said_work cutter size).is_complete x
 past_is {cutter} {size} {x} is = past_at cutter.chunks size cutter.target.place cutter.target.aim x is.cut.can is.fits (placed_at is)
 
 -- and where a text has its size
@@ -70,7 +70,7 @@ so_used {work} {x} lawful spare = elim spare.enough [
 pub cut_is : {chunker : ChunkerState} {size : ℕ} {x : List ℕ} (has : IsSaid chunker size x) → IsCut chunker.cutter size has.spare.used
 cut_is has = record { cut = has.cut; fits = has.within }
 
-part_is : {chunker : ChunkerState} {size : ℕ} {x : List ℕ} → IsSaid chunker size x → part_so chunker.cutter size (take chunker.cutter.at x) ≡ (work_on (course chunker.cutter) chunker.cutter.chunks (Some size)).settled x
+part_is : {chunker : ChunkerState} {size : ℕ} {x : List ℕ} → IsSaid chunker size x → part_so chunker.cutter size (take chunker.cutter.at x) ≡ (said_work chunker.cutter size).settled x
 part_is {chunker} {size} {x} has = let on = course chunker.cutter in let chunks = chunker.cutter.chunks in
     let used : take chunker.cutter.at x ≡ has.spare.used = ap (take chunker.cutter.at) has.spare.joined ∙ take_at has.spare.used has.spare.rest chunker.cutter.at (sym has.cut.at) in
     ap (part_so chunker.cutter size) used ∙ ap (part_on on) (sym (cut_of chunks size has.spare.used has.within)) ∙ sym (settled_is on chunks size has.spare.used)
@@ -111,17 +111,17 @@ module _ {chunker next : ChunkerState} {size : ℕ} {piece : List ℕ} {x : List
   next_cut : IsCut next.cutter size (has.spare.used ++ done)
   next_cut = takes.cuts.stands has.spare.used (cut_is has) fits_done
 
-  next_work : (work_on (course next.cutter) next.cutter.chunks (Some size)) ≡ (work_on (course chunker.cutter) chunker.cutter.chunks (Some size))
+  next_work : (said_work next.cutter size) ≡ (said_work chunker.cutter size)
   next_work = ap (λ on. work_on on next.cutter.chunks (Some size)) takes.cuts.brings.stays ∙ ap (λ chunks. work_on (course chunker.cutter) chunks (Some size)) takes.cuts.chunks
 
-  needed_so : IsNeeded (work_on (course chunker.cutter) chunker.cutter.chunks (Some size)).is_complete 1 (has.spare.used ++ done)
+  needed_so : IsNeeded (said_work chunker.cutter size).is_complete 1 (has.spare.used ++ done)
   needed_so = elim takes.needed [
     | inl all ↦ (let e : length piece - past ≡ 0 = omega (arith, all) in
-        subst (IsNeeded (work_on (course chunker.cutter) chunker.cutter.chunks (Some size)).is_complete 1) (sym (ap (λ n. has.spare.used ++ take n piece) e ∙ append-nil has.spare.used)) has.spare.needed)
+        subst (IsNeeded (said_work chunker.cutter size).is_complete 1) (sym (ap (λ n. has.spare.used ++ take n piece) e ∙ append-nil has.spare.used)) has.spare.needed)
     | inr needed ↦ needed has.spare.used (cut_is has)
   ]
 
-  enough_so : ((has.spare.rest ++ over) ≡ []) ⊎ ((work_on (course chunker.cutter) chunker.cutter.chunks (Some size)).is_complete (has.spare.used ++ done) ≡ true)
+  enough_so : ((has.spare.rest ++ over) ≡ []) ⊎ ((said_work chunker.cutter size).is_complete (has.spare.used ++ done) ≡ true)
   enough_so = elim takes.enough [
     | inl none ↦ zero_past none
     | inr later ↦ elim later [
@@ -133,14 +133,14 @@ module _ {chunker next : ChunkerState} {size : ℕ} {piece : List ℕ} {x : List
       ]
     ]
   ] where
-    zero_past : past ≡ 0 → ((has.spare.rest ++ over) ≡ []) ⊎ ((work_on (course chunker.cutter) chunker.cutter.chunks (Some size)).is_complete (has.spare.used ++ done) ≡ true)
+    zero_past : past ≡ 0 → ((has.spare.rest ++ over) ≡ []) ⊎ ((said_work chunker.cutter size).is_complete (has.spare.used ++ done) ≡ true)
     zero_past none = let out : over ≡ [] = drop_all (length piece - past) piece (omega (arith, none)) in elim has.spare.enough [
       | inl rest ↦ inl (rw (rest, out) refl)
       | inr complete ↦ (let e : length piece - past ≡ 0 = omega (arith, takes.still (past_is (cut_is has) ∙ complete)) in
-          inr (ap (work_on (course chunker.cutter) chunker.cutter.chunks (Some size)).is_complete (ap (λ n. has.spare.used ++ take n piece) e ∙ append-nil has.spare.used) ∙ complete))
+          inr (ap (said_work chunker.cutter size).is_complete (ap (λ n. has.spare.used ++ take n piece) e ∙ append-nil has.spare.used) ∙ complete))
     ]
 
-  abbrev spare_on : IsSpare (work_on (course chunker.cutter) chunker.cutter.chunks (Some size)) (x ++ piece) (chunker.spare + past)
+  abbrev spare_on : IsSpare (said_work chunker.cutter size) (x ++ piece) (chunker.spare + past)
   spare_on = record {
     used = has.spare.used ++ done;
     rest = has.spare.rest ++ over;
@@ -165,7 +165,7 @@ module _ {chunker next : ChunkerState} {size : ℕ} {piece : List ℕ} {x : List
     waits = takes.waiting ∙ has.waits;
   }
 
-  pub part_on_said : part_so chunker.cutter size (has.spare.used ++ done) ≡ (work_on (course chunker.cutter) chunker.cutter.chunks (Some size)).settled (x ++ piece)
+  pub part_on_said : part_so chunker.cutter size (has.spare.used ++ done) ≡ (said_work chunker.cutter size).settled (x ++ piece)
   part_on_said = let on = course chunker.cutter in let chunks = chunker.cutter.chunks in
       ap (part_on on) (sym (cut_of chunks size (has.spare.used ++ done) fits_done)) ∙ sym (settled_is on chunks size (has.spare.used ++ done)) ∙ so_used (lawful_on on chunks (Some size) has.cut.can) spare_on
 
@@ -340,7 +340,7 @@ complete_whole : (on : Course) (chunks : Chunks) (size : ℕ) (x : List ℕ) →
 complete_whole (in_files filing elide) chunks size x fits complete = absurd (omega (arith, fits, ltb-true _ _ complete))
 complete_whole (in_output chunk) chunks size x fits complete = λ cut. refl
 
-whole_said : {chunker : ChunkerState} {size : ℕ} {x : List ℕ} → IsSaid chunker size x → whole_on (course chunker.cutter) (chunks_within chunker.cutter.chunks size (take chunker.cutter.at x)) ≡ (work_on (course chunker.cutter) chunker.cutter.chunks (Some size)).whole x
+whole_said : {chunker : ChunkerState} {size : ℕ} {x : List ℕ} → IsSaid chunker size x → whole_on (course chunker.cutter) (chunks_within chunker.cutter.chunks size (take chunker.cutter.at x)) ≡ (said_work chunker.cutter size).whole x
 whole_said {chunker} {size} {x} has =
     let on = course chunker.cutter in let chunks = chunker.cutter.chunks in let work = work_on on chunks (Some size) in let used = has.spare.used in
     let here : whole_on on (chunks_within chunks size (take chunker.cutter.at x)) ≡ work.whole used =
@@ -403,7 +403,7 @@ module _ {chunker next : ChunkerState} {size : ℕ} {told : Bool} {old new : Lis
           | inr complete ↦ absurd (false≢true (sym open_still ∙ complete))
         ] in
         subst (λ (work : Work). Judges work x Changed) (made_is chunker said)
-        (ends_badly chunker.cutter.target.aim chunker.cutter.chunks size x (omega (arith, short, has.cut.at, ap length used)) (ap (work_on (course chunker.cutter) chunker.cutter.chunks (Some size)).is_complete (sym used) ∙ open_still));
+        (ends_badly chunker.cutter.target.aim chunker.cutter.chunks size x (omega (arith, short, has.cut.at, ap length used)) (ap (said_work chunker.cutter size).is_complete (sym used) ∙ open_still));
   }
 
 past_so : (one two : AimState) (place : ℕ) → course_of two ≡ course_of one → is_past_at two place ≡ is_past_at one place

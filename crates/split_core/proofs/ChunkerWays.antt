@@ -9,7 +9,7 @@ use Rattle.ports_core.specs.Engine.{EndsThere, EndsWith, IsMet, StandsAt, is_ver
 use Rattle.ports_core.specs.Engine as engine
 use Rattle.ports_core.specs.Draft.{Manner}
 use Rattle.ports_core.specs.FileWriter.{Breaks, IsWrite}
-use Rattle.ports_core.specs.Part.{OutputsAt, gets_bytes, writes}
+use Rattle.ports_core.specs.Part.{OutputsAt, Part, gets_bytes, writes}
 use Rattle.ports_core.specs.Slot.{Slot, is_writable}
 use Rattle.ports_core.specs.Work.{IsSettled, IsSpare, Judges, Means, Needs, Work, on_output}
 use Rattle.ports_core.specs.declared.fault.Fault.{Fault}
@@ -26,7 +26,7 @@ use Rattle.split_core.specs.Chunks.{is_longer, undecided}
 use Rattle.split_core.specs.Split.{Filing, manner_of}
 use Rattle.split_core.specs.Ways as ways
 use Rattle.split_core.specs.declared.splitter.Splitter.TheVariants as way
-use Rattle.split_core.specs.inner.Chunker.{Changes, Ends, EndsAs, IsLike, LacksRoom, Passes, PassesAs, made}
+use Rattle.split_core.specs.inner.Chunker.{Changes, Comes, Ends, EndsAs, IsLike, LacksRoom, Passes, PassesAs, made}
 use Rattle.split_core.specs.inner.Sends.{AtAim, IsOf, manner_on, output_on}
 use Rattle.split_core.specs.laws.WorkLaws.{lawful}
 use Rattle.split_core.proofs.PartsLemmas.{met_files, told_writable}
@@ -106,15 +106,41 @@ at_aim {told} {state} {start} {x} {now} can at = record {
   outputs = subst (λ (those : Work). OutputsAt told start (those.settled x) now) (works_so state can) at.outputs;
 }
 
+-- How a call leaves the outputs that were to come to what is due.
+module _ {told : Bool} {old : ChunkerState} (new : ChunkerState) {before after : List Slot} (due : Work → List ℕ → Part)
+    (can : can_cut (course old.cutter) old.cutter.chunks.count ≡ true) where
+  went_out : Comes told old (due (made old)) before after new None → engine.PutsOut ways.terms (way.Chunks old) (due (work old)) told before after
+  went_out comes start x at = subst (λ (those : Work). OutputsAt told start (due those x) after) (sym (works_so old can))
+      (comes.reaches x at.holds start (at_aim can at)).outputs
+
+  was_cut : {why : Fault} → Comes told old (due (made old)) before after new (Some why)
+      → engine.CutsOff ways.terms (way.Chunks old) (due (work old)) told before after why
+  was_cut {why} comes start x at = subst
+      (λ (those : Work). engine.Ended those.means.output told start (those.settled x) (due those x) those.clears why after)
+      (sym (works_so old can))
+      (engine.cut (unjudged (manner_on (course old.cutter)) before after why comes.slots (λ is. comes.named is x at.holds))
+      (rw (output_is (course old.cutter) old.cutter.chunks old.said)
+      (stopped_in_turn (output_on (course old.cutter)) told start _ _ why after (settled_lines (course old.cutter) old.cutter.chunks old.said x)
+      (comes.reaches x at.holds start (at_aim can at)))))
+
+  was_judged : Comes told old (due (made old)) before after new None
+      → engine.CutsOff ways.terms (way.Chunks old) (due (work old)) told before after (Verdict Changed)
+  was_judged comes start x at = subst
+      (λ (those : Work). engine.Ended those.means.output told start (those.settled x) (due those x) those.clears (Verdict Changed) after)
+      (sym (works_so old can))
+      (engine.judged refl after (comes.reaches x at.holds start (at_aim can at)).outputs (rw (clears_none (course old.cutter) old.cutter.chunks old.said) refl))
+
 module _ (told : Bool) (old new : ChunkerState) (piece : List ℕ) (before after : List Slot) where
+  abbrev Owed : Result (Unit {0}) Fault → Type 0
+  Owed result = engine.Passes ways.terms told piece (way.Chunks old) (way.Chunks new) before after (engine.IsMetWith ways.terms piece (way.Chunks old)) result
+
   passes_well : Passes told old piece before after new None
-      → engine.Passes ways.terms told piece (way.Chunks old) (way.Chunks new) before after (engine.IsMetWith ways.terms piece (way.Chunks old)) (Ok tt)
+      → Owed (Ok tt)
   passes_well passes = record {
     same = same_work old new passes.same passes.comes.stays;
     size = passes.bound;
     holds = passes.stands;
-    outputs = λ start x at. subst (λ (those : Work). OutputsAt told start (those.settled (x ++ piece)) after)
-        (sym (works_so old passes.same.can)) (passes.comes.reaches x at.holds start (at_aim passes.same.can at)).outputs;
+    outputs = went_out new (λ work x. work.settled (x ++ piece)) passes.same.can passes.comes;
     ready = passes.comes.ready;
     owns = passes.comes.owns;
     there = λ are. tt;
@@ -123,7 +149,7 @@ module _ (told : Bool) (old new : ChunkerState) (piece : List ℕ) (before after
   }
 
   passes_cut : (why : Fault) → Passes told old piece before after new (Some why)
-      → engine.Passes ways.terms told piece (way.Chunks old) (way.Chunks new) before after (engine.IsMetWith ways.terms piece (way.Chunks old)) (Err why)
+      → Owed (Err why)
   passes_cut why passes = record {
     same = same_work old new passes.same passes.comes.stays;
     size = passes.bound;
@@ -132,19 +158,14 @@ module _ (told : Bool) (old new : ChunkerState) (piece : List ℕ) (before after
     ready = tt;
     owns = passes.comes.owns;
     there = λ are. tt;
-    cut = λ start x at. subst (λ (those : Work). engine.Ended those.means.output told start (those.settled x) (those.settled (x ++ piece)) those.clears why after)
-        (sym (works_so old passes.same.can))
-        (engine.cut (unjudged (manner_on (course old.cutter)) before after why passes.comes.slots (λ is. passes.comes.named is x at.holds))
-        (rw (output_is (course old.cutter) old.cutter.chunks old.said)
-        (stopped_in_turn (output_on (course old.cutter)) told start _ _ why after (settled_lines (course old.cutter) old.cutter.chunks old.said x)
-        (passes.comes.reaches x at.holds start (at_aim passes.same.can at)))));
+    cut = was_cut new (λ work x. work.settled (x ++ piece)) passes.same.can passes.comes;
     met = subst (λ (those : Work). IsMet those.means those.means.feeding (true ≡ true) (EndsWith ways.terms piece (way.Chunks old)) before after why)
         (sym (works_so old passes.same.can))
         (met_feeding old.cutter.chunks _ before after why (λ is x holds. absurd (passes.comes.named is x holds)) (course old.cutter) old.said passes.comes.slots passes.comes.only);
   }
 
   passes_lacking : LacksRoom old piece before after new
-      → engine.Passes ways.terms told piece (way.Chunks old) (way.Chunks new) before after (engine.IsMetWith ways.terms piece (way.Chunks old)) (Err Memory)
+      → Owed (Err Memory)
   passes_lacking lacks = record {
     same = same_work old new lacks.same (ap course_of lacks.aim);
     size = lacks.bound;
@@ -161,7 +182,7 @@ module _ (told : Bool) (old new : ChunkerState) (piece : List ℕ) (before after
 
   passes_changed : total new ≤ total old + length piece
       → Changes told old (λ x. (made old).settled (x ++ piece)) (λ x. IsSettled (made old) (x ++ piece) Changed) before after new
-      → engine.Passes ways.terms told piece (way.Chunks old) (way.Chunks new) before after (engine.IsMetWith ways.terms piece (way.Chunks old)) (Err (Verdict Changed))
+      → Owed (Err (Verdict Changed))
   passes_changed bound changes = record {
     same = same_work old new changes.same changes.all.stays;
     size = bound;
@@ -170,10 +191,7 @@ module _ (told : Bool) (old new : ChunkerState) (piece : List ℕ) (before after
     ready = tt;
     owns = changes.all.owns;
     there = λ are. tt;
-    cut = λ start x at. subst (λ (those : Work). engine.Ended those.means.output told start (those.settled x) (those.settled (x ++ piece)) those.clears (Verdict Changed) after)
-        (sym (works_so old changes.same.can))
-        (engine.judged refl after (changes.all.reaches x at.holds start (at_aim changes.same.can at)).outputs
-        (rw (clears_none (course old.cutter) old.cutter.chunks old.said) refl));
+    cut = was_judged new (λ work x. work.settled (x ++ piece)) changes.same.can changes.all;
     met = λ x holds. subst (λ (those : Work). IsSettled those (x ++ piece) Changed) (sym (works_so old changes.same.can)) (changes.judged x holds);
   }
 
@@ -193,14 +211,16 @@ aimed_writable (to_files writer elide) chunks said slots aimed told = told_writa
 aimed_writable (to_output chunk) chunks said slots aimed told = aimed
 
 module _ (told : Bool) (old new : ChunkerState) (before after : List Slot) where
+  abbrev OwedThere : Result (Unit {0}) Fault → Type 0
+  OwedThere result = engine.Finishes ways.terms told (way.Chunks old) (way.Chunks new) before after (engine.IsMetThere ways.terms (way.Chunks old)) result
+
   ends_well : IsAimed old.cutter.target.aim before → Ends told old before after new None
-      → engine.Finishes ways.terms told (way.Chunks old) (way.Chunks new) before after (engine.IsMetThere ways.terms (way.Chunks old)) (Ok tt)
+      → OwedThere (Ok tt)
   ends_well aimed ends = record {
     same = same_work old new ends.same ends.comes.stays;
     size = ends.bound;
     well = λ x holds. subst (λ (those : Work). those.verdict x ≡ None) (sym (works_so old ends.same.can)) (ends.well x holds);
-    outputs = λ start x at. subst (λ (those : Work). OutputsAt told start (those.whole x) after)
-        (sym (works_so old ends.same.can)) (ends.comes.reaches x at.holds start (at_aim ends.same.can at)).outputs;
+    outputs = went_out new (λ work. work.whole) ends.same.can ends.comes;
     writable = subst (λ (those : Work). writes those.means.output ≡ true → IsTrue (is_writable after 0)) (sym (works_so old ends.same.can))
         (λ told_is. ends.comes.output (aimed_writable old.cutter.target.aim old.cutter.chunks old.said before aimed told_is));
     owns = ends.comes.owns;
@@ -210,7 +230,7 @@ module _ (told : Bool) (old new : ChunkerState) (before after : List Slot) where
   }
 
   ends_cut : (why : Fault) → Ends told old before after new (Some why)
-      → engine.Finishes ways.terms told (way.Chunks old) (way.Chunks new) before after (engine.IsMetThere ways.terms (way.Chunks old)) (Err why)
+      → OwedThere (Err why)
   ends_cut why ends = record {
     same = same_work old new ends.same ends.comes.stays;
     size = ends.bound;
@@ -219,19 +239,14 @@ module _ (told : Bool) (old new : ChunkerState) (before after : List Slot) where
     writable = tt;
     owns = ends.comes.owns;
     there = λ are. tt;
-    cut = λ start x at. subst (λ (those : Work). engine.Ended those.means.output told start (those.settled x) (those.whole x) those.clears why after)
-        (sym (works_so old ends.same.can))
-        (engine.cut (unjudged (manner_on (course old.cutter)) before after why ends.comes.slots (λ is. ends.comes.named is x at.holds))
-        (rw (output_is (course old.cutter) old.cutter.chunks old.said)
-        (stopped_in_turn (output_on (course old.cutter)) told start _ _ why after (settled_lines (course old.cutter) old.cutter.chunks old.said x)
-        (ends.comes.reaches x at.holds start (at_aim ends.same.can at)))));
+    cut = was_cut new (λ work. work.whole) ends.same.can ends.comes;
     met = subst (λ (those : Work). IsMet those.means those.means.closing (Unit {0}) (EndsThere ways.terms (way.Chunks old)) before after why)
         (sym (works_so old ends.same.can))
         (met_closing old.cutter.chunks _ before after why (λ is x holds. absurd (ends.comes.named is x holds)) (course old.cutter) old.said ends.comes.slots ends.comes.only ends.only_write);
   }
 
   ends_changed : total new ≤ total old → Changes told old (made old).whole (λ x. Judges (made old) x Changed) before after new
-      → engine.Finishes ways.terms told (way.Chunks old) (way.Chunks new) before after (engine.IsMetThere ways.terms (way.Chunks old)) (Err (Verdict Changed))
+      → OwedThere (Err (Verdict Changed))
   ends_changed bound changes = record {
     same = same_work old new changes.same changes.all.stays;
     size = bound;
@@ -240,10 +255,7 @@ module _ (told : Bool) (old new : ChunkerState) (before after : List Slot) where
     writable = tt;
     owns = changes.all.owns;
     there = λ are. tt;
-    cut = λ start x at. subst (λ (those : Work). engine.Ended those.means.output told start (those.settled x) (those.whole x) those.clears (Verdict Changed) after)
-        (sym (works_so old changes.same.can))
-        (engine.judged refl after (changes.all.reaches x at.holds start (at_aim changes.same.can at)).outputs
-        (rw (clears_none (course old.cutter) old.cutter.chunks old.said) refl));
+    cut = was_judged new (λ work. work.whole) changes.same.can changes.all;
     met = λ x holds. subst (λ (those : Work). Judges those x Changed) (sym (works_so old changes.same.can)) (changes.judged x holds);
   }
 

@@ -21,7 +21,7 @@ use Rattle.split_core.specs.ChunkWork.{draft_by, piece_at}
 use Rattle.split_core.specs.ChunkerState.{AimState, Carries, Course, CutterState, HasAll, HasCut, IsAimed, can_cut, course_of, to_files, to_output, work_on, TargetState, course, in_files, in_output}
 use Rattle.split_core.specs.Parts.{CutUp}
 use Rattle.split_core.specs.Split.{manner_of}
-use Rattle.split_core.specs.inner.Cutter.{Cuts, CutsAs, EndsBefore, EndsFull, EndsUp, IsCut, IsCutOff, IsOpen, IsUpTo, WritesTo, cut_to, part_so}
+use Rattle.split_core.specs.inner.Cutter.{Cuts, CutsAs, EndsBefore, EndsFull, EndsUp, IsCut, IsCutOff, IsOpen, IsUpTo, WritesTo, cut_to, part_so, said_work}
 use Rattle.split_core.specs.inner.Chunks.{GoesOn as Goes, HaveEnded}
 use Rattle.split_core.specs.inner.Seen.{is_past_at, is_past_on}
 use Rattle.split_core.specs.inner.Sends.{Brings, Changes, GoesOn, HasName, Sends, with_full, with_fulls, with_rest, part_on}
@@ -520,7 +520,7 @@ pub record CutsAway (told : Bool) (cutter : CutterState) (size : ℕ) (text left
   pub at : now.at ≡ cutter.at + length done
   pub start : ((now ≡ cutter) × (done ≡ [])) ⊎ (is_past_on cutter.target ≡ false)
   pub needed : (done ≡ []) ⊎ ((x : List ℕ) → IsCut cutter size x → length (x ++ text) ≤ size
-      → IsNeeded (work_on (course cutter) cutter.chunks (Some size)).is_complete 1 (x ++ done))
+      → IsNeeded (said_work cutter size).is_complete 1 (x ++ done))
 
 pub away_none : {told : Bool} {cutter : CutterState} {size : ℕ} {text : List ℕ} {slots : List Slot} → IsAimed cutter.target.aim slots → CutsAway told cutter size text text slots slots cutter
 away_none {text = text} ready = record { done = []; both = refl; cuts = cuts_nothing ready; at = omega arith; start = inl (refl, refl); needed = inl refl }

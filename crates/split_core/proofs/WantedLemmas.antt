@@ -13,6 +13,7 @@ use Rattle.split_core.specs.ChunkerState.{ChunkerState, Course, Holds, HoldsBy, 
 use Rattle.split_core.specs.Split.{Filing}
 use Rattle.split_core.specs.Ways as ways
 use Rattle.split_core.specs.declared.splitter.Splitter.TheVariants as way
+use Rattle.split_core.specs.inner.Cutter.{said_work}
 use Rattle.split_core.specs.inner.Seen.{is_past_on}
 use Rattle.split_core.specs.laws.BegunLaws.{open_within}
 use Rattle.split_core.specs.laws.ChunkLaws.{passed_full, passed_open}
@@ -26,10 +27,10 @@ complete_by : (said : Option ℕ) (state : ChunkerState) (x : List ℕ) → is_s
     → is_past_on state.cutter.target ≡ (work_on (course state.cutter) state.cutter.chunks said).is_complete x
 complete_by None state x some holds = absurd (false≢true some)
 complete_by (Some size) state x some holds = past_is (cut_is holds) ∙ elim holds.spare.enough [
-  | inl none ↦ ap (work_on (course state.cutter) state.cutter.chunks (Some size)).is_complete
+  | inl none ↦ ap (said_work state.cutter size).is_complete
       (sym (holds.spare.joined ∙ ap (λ rest. holds.spare.used ++ rest) none ∙ append-nil holds.spare.used))
   | inr complete ↦ complete
-      ∙ sym (ap (work_on (course state.cutter) state.cutter.chunks (Some size)).is_complete holds.spare.joined
+      ∙ sym (ap (said_work state.cutter size).is_complete holds.spare.joined
       ∙ ((lawful_on (course state.cutter) state.cutter.chunks (Some size) holds.cut.can).stays holds.spare.used holds.spare.rest complete).still)
 ]
 

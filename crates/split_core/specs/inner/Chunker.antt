@@ -11,7 +11,7 @@ use Rattle.ports_core.specs.declared.fault.Fault.TheVariants.{Memory, Verdict}
 use Rattle.seg_core.specs.declared.unit.Unit.TheVariants.{Bytes}
 use Rattle.split_core.specs.Chunks.{chunk_start}
 use Rattle.split_core.specs.ChunkerState.{ChunkerState, Holds, can_cut, course, to_output, total, work_on}
-use Rattle.split_core.specs.inner.Cutter.{Cuts, IsCut}
+use Rattle.split_core.specs.inner.Cutter.{Cuts, IsCut, said_work}
 use Rattle.split_core.specs.inner.Seen.{is_past_on}
 use Rattle.split_core.specs.inner.Sends.{Brings}
 
@@ -104,7 +104,7 @@ pub record TakesAs (told : Bool) (chunker : ChunkerState) (size : ℕ) (piece : 
   pub fits : chunker.cutter.at ≤ size → chunker.cutter.at + (length piece - past) ≤ size
   pub still : is_past_on chunker.cutter.target ≡ true → past ≡ length piece
   pub needed : (past ≡ length piece) ⊎ ((x : List ℕ) → IsCut chunker.cutter size x
-      → IsNeeded (work_on (course chunker.cutter) chunker.cutter.chunks (Some size)).is_complete 1
+      → IsNeeded (said_work chunker.cutter size).is_complete 1
       (x ++ take (length piece - past) piece))
   pub enough : (past ≡ 0) ⊎ (is_past_on next.cutter.target ≡ true) ⊎ (size ≤ next.cutter.at)
 

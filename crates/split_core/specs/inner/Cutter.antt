@@ -3,7 +3,7 @@ use Rattle.std.specs.Prelude.{◌≡◌, ℕ, ◌+◌, ◌-◌, ◌<◌, ◌≤�
 use Rattle.ports_core.specs.Part.{Part}
 use Rattle.ports_core.specs.Slot.{Slot}
 use Rattle.ports_core.specs.Turn.{fault_in}
-use Rattle.ports_core.specs.Work.{IsNeeded}
+use Rattle.ports_core.specs.Work.{IsNeeded, Work}
 use Rattle.ports_core.specs.declared.fault.Fault.{Fault}
 use Rattle.split_core.specs.Chunks.{before_chunk, begun_before, chunk_start, chunks_within, ended, is_within}
 use Rattle.split_core.specs.ChunkerState.{Carries, CutterState, HasAll, HasCut, course, first_on, work_on}
@@ -79,6 +79,10 @@ abbrev pub EndsFull : Bool → CutterState → ℕ → List Slot → List Slot �
 EndsFull told cutter size old new next fault =
     EndsAll (IsCutOff cutter size) (λ x. x.1) (λ x. ended cutter.chunks size x.0) told cutter old new next fault
 
+-- what is made of an input that says that it has this size
+abbrev pub said_work : CutterState → ℕ → Work
+said_work cutter size = work_on (course cutter) cutter.chunks (Some size)
+
 -- a text was cut off that has no more than its size, and is cut up as chunks say
 pub record IsCut (cutter : CutterState) (size : ℕ) (x : List ℕ) : Type 0 where
   pub cut : HasCut cutter x (chunks_within cutter.chunks size x)
@@ -100,7 +104,7 @@ pub record Cuts (told : Bool) (cutter : CutterState) (size : ℕ) (bytes : List 
 
 -- as long as its output isn't complete
 abbrev pub IsOpen : CutterState → ℕ → List ℕ → Type 0
-IsOpen cutter size x = (work_on (course cutter) cutter.chunks (Some size)).is_complete x ≡ false
+IsOpen cutter size x = (said_work cutter size).is_complete x ≡ false
 
 -- a stretch of the text was cut off, or a fault came
 abbrev pub Steps : Bool → CutterState → ℕ → List ℕ → List Slot → List Slot → CutterState → Result ℕ Fault → Type 0
@@ -118,7 +122,7 @@ pub record CutsAs (told : Bool) (cutter : CutterState) (size : ℕ) (text : List
   pub still : is_past_on cutter.target ≡ true → left ≡ length text
   pub cuts : Cuts told cutter size (take (length text - left) text) old new next None
   pub needed : (left ≡ length text) ⊎ ((x : List ℕ) → IsCut cutter size x → length (x ++ text) ≤ size
-      → IsNeeded (work_on (course cutter) cutter.chunks (Some size)).is_complete 1
+      → IsNeeded (said_work cutter size).is_complete 1
       (x ++ take (length text - left) text))
   pub enough : (left ≡ 0) ⊎ (is_past_on next.target ≡ true)
 
