@@ -79,7 +79,10 @@ _cutters() {
         _cutters_offer warn warn-nopipe exit exit-nopipe
         return
         ;;
-    --numeric-suffixes= | --hex-suffixes=) return ;;
+    --numeric-suffixes= | --hex-suffixes=)
+        _cutters_offer 0 1
+        return
+        ;;
     esac
     case " $valued " in
     *" ${before%=} "*)
