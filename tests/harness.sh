@@ -44,6 +44,29 @@ is_run() {
     [ "$status" = "$1" ] && cmp -s out "$2" && [ "$(cat err)" = "$3" ]
 }
 
+# pipes FOLDER NAME..: makes named pipes in this folder, each with a reader that puts into the folder `read` what it gets.
+pipes() {
+    local folder=$1 name
+    shift
+    rm -rf read; mkdir read
+    readers=
+    for name in "$@"; do
+        mkfifo "$folder/$name"
+        timeout 20 cat "$folder/$name" >"read/$name" &
+        readers="$readers $!"
+    done
+}
+
+# unpiped FOLDER: lets readers go whose pipe nobody opened, waits for all, and puts what they got in the place of the pipes.
+unpiped() {
+    local file
+    for file in read/*; do
+        : <>"$1/${file#read/}"
+    done
+    wait $readers
+    mv -f read/* "$1"
+}
+
 # end: the last line, and the status.
 end() {
     echo "$passed passed, $failed failed"

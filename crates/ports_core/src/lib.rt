@@ -12,6 +12,7 @@ mod file_writer;
 mod form;
 mod guarded;
 mod input_files;
+mod input_place;
 mod inputs;
 mod laws;
 mod length;

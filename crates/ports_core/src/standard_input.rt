@@ -1,5 +1,7 @@
 ghost use Rattle.std.specs.Prelude.{◌≤◌, length, IfOk};
 
+use crate::input_files::{id_of, is_standard_output};
+use crate::input_place::standard_input_place;
 use std::fs;
 use std::io::{self, BufRead, Lock, Read, StdinLock};
 use std::mem::replace;
@@ -11,6 +13,17 @@ const AHEAD: usize = 4_096;
 /// A name that leads to standard input.
 const STANDARD_INPUT_FILE: &str = "/dev/stdin";
 
+/// What standard input is.
+#[derive(Clone, Copy)]
+enum Kind {
+    /// That wasn't asked yet.
+    Unasked,
+    /// A regular file, so that it can be set back.
+    File,
+    /// Anything else, or no name leads to it, so that it isn't known.
+    Other,
+}
+
 /// The real standard input.
 ///
 /// Where it is a file, the bytes of a read of at most 4,096 stay in the library's lock until the next read, or until this
@@ -19,38 +32,56 @@ const STANDARD_INPUT_FILE: &str = "/dev/stdin";
 /// caller's buffer, and nothing of them can be given back.
 pub(crate) struct StandardInput {
     lock: StdinLock<'static>,
-    is_file: bool,
+    kind: Kind,
     /// How many of the bytes that the last read gave are in the lock still, and were not given back.
     given: usize,
 }
 
 impl StandardInput {
-    pub(crate) fn new(files: &impl Files, standard: Stdin) -> Self {
+    pub(crate) fn new(standard: Stdin) -> Self {
         StandardInput {
             lock: standard.lock(),
-            is_file: is_file(files),
+            kind: Kind::Unasked,
             given: 0,
         }
     }
 
-    /// Gives back the last `count` bytes of those that the last read gave, as far as they are there.
-    pub(crate) fn give_back(&mut self, count: u64) {
-        self.given = (self.given as u64).saturating_sub(count) as usize;
+    /// Asks what standard input is, before the first read. Where it is a file to which standard output writes, this returns how
+    /// many bytes it has left, or all that it has where its place isn't known. None where it is anything else, or was asked
+    /// before.
+    pub(crate) fn ask(&mut self, files: &impl Files) -> Option<u64> {
+        let Kind::Unasked = self.kind else {
+            return None;
+        };
+        self.kind = Kind::Other;
+        let about = fs::metadata(files, STANDARD_INPUT_FILE).ok()?;
+        if !about.is_file() {
+            return None;
+        }
+        self.kind = Kind::File;
+        if !is_standard_output(files, id_of(&about)) {
+            return None;
+        }
+        let place = standard_input_place(files).unwrap_or(0);
+        Some(about.len().saturating_sub(place))
     }
-}
 
-/// Whether standard input is a file, so that it can be set back. Where no name leads to it, that isn't known.
-fn is_file(files: &impl Files) -> bool {
-    match fs::metadata(files, STANDARD_INPUT_FILE) {
-        Ok(about) => about.is_file(),
-        Err(_) => false,
+    /// Gives back the last `count` bytes of those that the last read gave, as far as they are there, and returns how many
+    /// that were.
+    pub(crate) fn give_back(&mut self, count: u64) -> u64 {
+        let back = count.min(self.given as u64);
+        self.given -= back as usize;
+        back
     }
 }
 
 impl Read for StandardInput {
     fn read(&mut self, buf: &mut [u8]) -> io::Result<usize> {
         self.lock.consume(replace(&mut self.given, 0));
-        if !self.is_file || AHEAD < buf.len() {
+        let Kind::File = self.kind else {
+            return self.lock.read(buf);
+        };
+        if AHEAD < buf.len() {
             return self.lock.read(buf);
         }
         match self.lock.fill_buf() {
@@ -69,7 +100,7 @@ impl Drop for StandardInput {
     fn drop(self) {
         let StandardInput {
             mut lock,
-            is_file: _,
+            kind: _,
             given,
         } = self;
         lock.consume(given);

@@ -2,8 +2,8 @@ use Rattle.std.proofs.Common.{arith, rules}
 use Rattle.std.proofs.lemmas.Grind.{common_steps}
 use Rattle.ports_core.proofs.dir_out.open_again.Goals as goal
 
-pub returns-then-is_some : goal.returns-then-is_some
-returns-then-is_some g c = search rules
+pub returns-then-holds_file : goal.returns-then-holds_file
+returns-then-holds_file g c = search rules
 
 pub take_back-requires : goal.take_back-requires
 take_back-requires g c = grind (arith, common_steps)
