@@ -13,10 +13,10 @@ use std::rt::{Clock, Files};
 use std::thread;
 use std::time::Duration;
 
-/// How many milliseconds pass before changes are looked for again, right after one was seen.
+/// How many milliseconds pass at least before changes are looked for again.
 const SHORTEST: u64 = 1;
 
-/// How many pass at most, while none is seen.
+/// How many pass at most.
 const LONGEST: u64 = 50;
 
 /// How many milliseconds a look is waited for at most, where nothing else was said: a second.
@@ -48,8 +48,6 @@ pub struct DirWatch<R: Files<File = File> + Clock + Drop> {
     alloc: Global,
     /// How many looks began.
     turns: u64,
-    /// How many milliseconds pass before changes are looked for again.
-    step: u64,
     /// How many milliseconds a look is waited for at most.
     most: u64,
     names: Vec<DirName>,
@@ -72,7 +70,6 @@ impl<R: Files<File = File> + Clock + Drop> DirWatch<R> {
             runtime,
             alloc,
             turns: 0,
-            step: SHORTEST,
             most: SECOND,
             names: Vec::new(alloc),
             process: None,
@@ -80,60 +77,67 @@ impl<R: Files<File = File> + Clock + Drop> DirWatch<R> {
     }
 }
 
-/// Whether any name has changed since the call before.
-fn any_changed(files: &impl Files, names: &mut Vec<DirName>) -> bool
+/// Looks for changes of the names for which that is due at this time. Returns when the next one is due, at the most 50 ms from then;
+/// none where one has changed.
+fn next_due(files: &impl Files, names: &mut Vec<DirName>, now: u64) -> Option<u64>
     ensures { names.new.items ≡ names.old.items }
 {
     let mut changed = false;
+    let mut due = now.saturating_add(LONGEST);
     for place in 0..names.len() {
-        // Each name is asked, so that a change ends no second waiting.
-        if names[place].has_changed(files) {
+        // Each that is due is asked, so that a change ends no second waiting and a stream needn't wait for the others to be silent.
+        if names[place].has_changed(files, now) {
             changed = true;
         }
+        due = due.min(names[place].due());
     }
-    changed
+    if changed {
+        return None;
+    }
+    Some(due)
 }
 
-/// Takes what comes next of each open stream, and returns whether that is any.
-fn take_all(names: &mut Vec<DirName>) -> bool
+/// Has changes of all names looked for at once.
+fn hurry_all(names: &mut Vec<DirName>)
     ensures { names.new.items ≡ names.old.items }
 {
-    let mut came = false;
     for place in 0..names.len() {
-        // Each stream is read, so that none has to wait for the others to be silent.
-        if names[place].take() {
-            came = true;
-        }
+        names[place].hurry();
     }
-    came
 }
 
-/// Waits until something came of a stream, a name has changed or this process is gone, `most` milliseconds at most where no stream
-/// is waited for. The first step is of `first` milliseconds. Returns of how many the next one is to be.
+/// Waits until a name has changed, something came of a stream or this process is gone, `most` milliseconds at most where no stream is
+/// waited for.
 fn wait<R: Files + Clock>(
     runtime: &R,
     names: &mut Vec<DirName>,
     process: &Option<Process>,
-    first: u64,
     most: u64,
-) -> u64
+)
     ensures { names.new.items ≡ names.old.items }
 {
-    let mut step = first;
     let mut left = most;
     while left > 0 {
-        if take_all(names) || has_ended(runtime, process) {
-            return SHORTEST;
+        let now = time_of(runtime);
+        let Some(due) = next_due(runtime, names, now) else {
+            return;
+        };
+        if has_ended(runtime, process) {
+            return;
         }
-        let pause = step.max(SHORTEST).min(left);
+        let pause = due.saturating_sub(now).max(SHORTEST).min(left);
         thread::sleep(runtime, Duration::from_millis(pause));
-        if any_changed(runtime, names) {
-            return SHORTEST;
-        }
         left -= pause;
-        step = step.saturating_mul(2).min(LONGEST);
     }
-    step
+    next_due(runtime, names, time_of(runtime));
+}
+
+/// What the clock tells, in milliseconds. Where it tells nothing, 0: then each name is always due.
+fn time_of(clock: &impl Clock) -> u64 {
+    match clock.monotonic() {
+        Ok(time) => u64::try_from(time.as_millis()).unwrap_or(0),
+        Err(_) => 0,
+    }
 }
 
 /// Whether the end of this process is waited for.
@@ -173,14 +177,11 @@ impl<R: Files<File = File> + Clock + Drop> Watch for DirWatch<R> {
         let Some(turns) = self.turns.checked_add(1) else {
             return Err(Fault::Memory);
         };
-        if self.turns == 0 {
-            any_changed(&self.runtime, &mut self.names);
-        } else {
-            self.step = wait(
+        if self.turns > 0 {
+            wait(
                 &self.runtime,
                 &mut self.names,
                 &self.process,
-                self.step,
                 self.most,
             );
         }
@@ -195,7 +196,12 @@ impl<R: Files<File = File> + Clock + Drop> Watch for DirWatch<R> {
             };
             self.process = Some(process);
         }
-        has_ended(&self.runtime, &self.process)
+        let is_gone = has_ended(&self.runtime, &self.process);
+        if is_gone {
+            // The next look is to see all that the process wrote.
+            hurry_all(&mut self.names);
+        }
+        is_gone
     }
 
     fn wait_at_most(&mut self, milliseconds: u64) {
