@@ -27,18 +27,24 @@ const SECOND: u64 = 1000;
 ///
 /// Each look but the first begins with waiting, which ends soon after a change, at once where a stream has something, and
 /// without either after a second, or what `wait_at_most` said. A change is another length of a file that is open or that a name
-/// leads to, or a name that comes to lead elsewhere. Changes are looked for 1 ms after one was seen, and then after 2, 4 and so
-/// on, 50 at the most: what comes to a regular file t milliseconds after the last change is to be seen within t + 1, and within
-/// 50. Where a process was asked for, waiting ends at once where that is gone, and within 50 ms where that comes to be so: where
-/// the system lists its processes, and lists none of this number. While nothing changes, waiting asks the system twice for each
-/// name every 50 ms, once or twice for the process, and does nothing else. It takes no memory, and no thread waits on another.
+/// leads to, or a name that comes to lead elsewhere. Each name is asked at a pace of its own: right after it changed, after 1 ms
+/// and then after 2, 4 and so on, 50 at the most. What comes to a regular file t milliseconds after its last change is to be seen
+/// within t + 1, and within 50. Where a process was asked for, waiting ends at once where that is gone, and within 50 ms where that
+/// comes to be so: where the system lists its processes, and lists none of this number. The next look after that sees all that the
+/// process wrote. Waiting takes no memory, and no thread waits on another.
+///
+/// A look is told what was found when its name was asked last, so it asks the system nothing of a name that didn't change. Where
+/// a name leads is one question to the system, which tells the length too where it leads to the open file; where looks ask open
+/// files alone, theirs is one. So while nothing changes the system is asked once for each name every 50 ms, and once or twice for
+/// the process.
 ///
 /// Any file but a regular one is a stream, which is read as it comes, into a buffer of 64 KiB of its own: when it is opened, and as
 /// each look begins. Its length is that of all that was taken of it. A read of it waits while nothing comes and somebody has it open
 /// to write, and the opening of a named pipe waits for who writes: that holds up the looks at all names. A pipe that nobody has open
 /// to write gives nothing, until somebody has again. A folder opens where the system lets it, and breaks at its first read.
 ///
-/// A regular file of which the system says that it has no bytes has as many as reads give.
+/// A regular file of which the system says that it has no bytes has as many as reads give. Each look has them counted once more that
+/// begins 50 ms after the last count; where reads gave none for a minute, the file is empty until the system says another length.
 ///
 /// At most one file of a name is open; it is given back once another is opened or the name is broken, and all are when this is
 /// dropped.
@@ -178,12 +184,7 @@ impl<R: Files<File = File> + Clock + Drop> Watch for DirWatch<R> {
             return Err(Fault::Memory);
         };
         if self.turns > 0 {
-            wait(
-                &self.runtime,
-                &mut self.names,
-                &self.process,
-                self.most,
-            );
+            wait(&self.runtime, &mut self.names, &self.process, self.most);
         }
         self.turns = turns;
         Ok(())
