@@ -1,4 +1,5 @@
 ghost use Rattle.std.specs.Prelude.{◌≡◌, ◌≤◌, ◌<◌, ◌+◌, ◌^◌, false, length, IfSome, IsTrue};
+ghost use Rattle.std.proofs.Props.{props};
 
 use ports_core::{MOST_BYTES, PIECE};
 use std::alloc::Global;
@@ -14,7 +15,7 @@ const COUNTED: usize = 4_096;
 #[derive(Drop)]
 pub(crate) enum DirFile {
     /// A regular file, which is read from any place.
-    Placed(File),
+    Placed(Placed),
     /// Any other, such as a named pipe, a terminal or another device, which is read as it comes.
     Stream(Stream),
 }
@@ -24,35 +25,29 @@ impl DirFile {
     /// somebody has it open to write.
     pub(crate) fn new(alloc: Global, file: File, about: &Metadata) -> io::Result<DirFile> {
         if about.is_file() {
-            return Ok(DirFile::Placed(file));
+            return Ok(DirFile::Placed(Placed::new(file, about.len())));
         }
         Ok(DirFile::Stream(Stream::new(alloc, file)?))
     }
 
-    /// How many bytes it has; of a stream those that were taken. None where that can't be told, or where it is more than
-    /// a watch tells. Where the system says of a regular file that it has none, they are counted by reading, for so it says
-    /// of its own files, as those in /proc.
-    pub(crate) fn len(&self) -> Option<u64>
+    /// How many bytes it had when changes were last looked for; of a stream those that were taken. None where that couldn't be
+    /// told, or where it is more than a watch tells.
+    pub(crate) fn len(&mut self) -> Option<u64>
         ensures { IfSome result (λ len. len < 2 ^ 63) }
     {
-        let len = self.told_len()?;
-        if len > MOST_BYTES {
-            return None;
-        }
         match self {
-            DirFile::Placed(file) if len == 0 => count(file),
-            _ => Some(len),
+            DirFile::Placed(file) => file.len(),
+            DirFile::Stream(stream) => stream.len(),
         }
     }
 
-    /// The same without counting: as the system says, so that it costs no read.
-    pub(crate) fn told_len(&self) -> Option<u64> {
+    /// Looks for a change: another length of a regular file, or something that comes next of a stream. That is taken in place of what
+    /// was taken before, and waited for as long as somebody has the stream open to write. `told` is how many bytes a regular file has,
+    /// where the system was asked by its name; `is_at_rest` that it didn't change for long.
+    pub(crate) fn has_changed(&mut self, told: Option<u64>, is_at_rest: bool) -> bool {
         match self {
-            DirFile::Placed(file) => match file.metadata() {
-                Ok(about) => Some(about.len()),
-                Err(_) => None,
-            },
-            DirFile::Stream(stream) => stream.len(),
+            DirFile::Placed(file) => file.has_changed(told, is_at_rest),
+            DirFile::Stream(stream) => stream.take(),
         }
     }
 
@@ -61,18 +56,70 @@ impl DirFile {
         ensures { IfSome result (λ n. n ≤ length buffer.old) }
     {
         match self {
-            DirFile::Placed(file) => read_some_at(file, from, buffer),
+            DirFile::Placed(placed) => read_some_at(&placed.file, from, buffer),
             DirFile::Stream(stream) => stream.read_at(from, buffer),
         }
     }
+}
 
-    /// Takes what comes next of a stream, in place of what was taken before, and returns whether that is any. It waits
-    /// for it as long as somebody has the stream open to write.
-    pub(crate) fn take(&mut self) -> bool {
-        match self {
-            DirFile::Placed(_) => false,
-            DirFile::Stream(stream) => stream.take(),
+/// A regular file, and how long it was when changes were last looked for.
+#[derive(Drop)]
+pub(crate) struct Placed {
+    file: File,
+    /// How many bytes it had, as the system said. None where that couldn't be told.
+    told: Option<u64>,
+    /// How many bytes reads gave, where the system said that it had none, for so it says of its own files, as those in /proc. None
+    /// where they are to be counted.
+    counted: Option<u64>,
+    ghost bound: { IfSome counted (λ len. len < 2 ^ 63) } by { Prim.hlevel props },
+}
+
+impl Placed {
+    /// A file that was just opened, of this length as the system says.
+    fn new(file: File, told: u64) -> Self {
+        Placed {
+            file,
+            told: Some(told),
+            counted: None,
         }
+    }
+
+    fn len(&mut self) -> Option<u64>
+        ensures { IfSome result (λ len. len < 2 ^ 63) }
+    {
+        let len = self.told?;
+        if len > MOST_BYTES {
+            return None;
+        }
+        if len > 0 {
+            return Some(len);
+        }
+        if self.counted.is_none() {
+            self.counted = count(&self.file);
+        }
+        self.counted
+    }
+
+    fn has_changed(&mut self, told: Option<u64>, is_at_rest: bool) -> bool {
+        let told = match told {
+            Some(len) => Some(len),
+            None => len_of(&self.file),
+        };
+        let changed = told != self.told;
+        // One that is empty isn't read for ever.
+        if changed || !is_at_rest || self.counted != Some(0) {
+            self.counted = None;
+        }
+        self.told = told;
+        changed
+    }
+}
+
+/// How many bytes a file has, as the system says. None where that can't be told.
+fn len_of(file: &File) -> Option<u64> {
+    match file.metadata() {
+        Ok(about) => Some(about.len()),
+        Err(_) => None,
     }
 }
 
@@ -105,6 +152,7 @@ impl Stream {
         Ok(stream)
     }
 
+    /// Takes what comes next, in place of what was taken before, and returns whether that is any.
     fn take(&mut self) -> bool
         ensures came { IsTrue result → self.old.before + self.old.waiting < self.new.before + self.new.waiting }
         ensures nothing { result ≡ false → self.new.before + self.new.waiting ≡ self.old.before + self.old.waiting }

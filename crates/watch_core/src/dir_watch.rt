@@ -13,10 +13,10 @@ use std::rt::{Clock, Files};
 use std::thread;
 use std::time::Duration;
 
-/// How many milliseconds pass before changes are looked for again, right after one was seen.
+/// How many milliseconds pass at least before changes are looked for again.
 const SHORTEST: u64 = 1;
 
-/// How many pass at most, while none is seen.
+/// How many pass at most.
 const LONGEST: u64 = 50;
 
 /// How many milliseconds a look is waited for at most, where nothing else was said: a second.
@@ -27,18 +27,24 @@ const SECOND: u64 = 1000;
 ///
 /// Each look but the first begins with waiting, which ends soon after a change, at once where a stream has something, and
 /// without either after a second, or what `wait_at_most` said. A change is another length of a file that is open or that a name
-/// leads to, or a name that comes to lead elsewhere. Changes are looked for 1 ms after one was seen, and then after 2, 4 and so
-/// on, 50 at the most: what comes to a regular file t milliseconds after the last change is to be seen within t + 1, and within
-/// 50. Where a process was asked for, waiting ends at once where that is gone, and within 50 ms where that comes to be so: where
-/// the system lists its processes, and lists none of this number. While nothing changes, waiting asks the system twice for each
-/// name every 50 ms, once or twice for the process, and does nothing else. It takes no memory, and no thread waits on another.
+/// leads to, or a name that comes to lead elsewhere. Each name is asked at a pace of its own: right after it changed, after 1 ms
+/// and then after 2, 4 and so on, 50 at the most. What comes to a regular file t milliseconds after its last change is to be seen
+/// within t + 1, and within 50. Where a process was asked for, waiting ends at once where that is gone, and within 50 ms where that
+/// comes to be so: where the system lists its processes, and lists none of this number. The next look after that sees all that the
+/// process wrote. Waiting takes no memory, and no thread waits on another.
+///
+/// A look is told what was found when its name was asked last, so it asks the system nothing of a name that didn't change. Where
+/// a name leads is one question to the system, which tells the length too where it leads to the open file; where looks ask open
+/// files alone, theirs is one. So while nothing changes the system is asked once for each name every 50 ms, and once or twice for
+/// the process.
 ///
 /// Any file but a regular one is a stream, which is read as it comes, into a buffer of 64 KiB of its own: when it is opened, and as
 /// each look begins. Its length is that of all that was taken of it. A read of it waits while nothing comes and somebody has it open
 /// to write, and the opening of a named pipe waits for who writes: that holds up the looks at all names. A pipe that nobody has open
 /// to write gives nothing, until somebody has again. A folder opens where the system lets it, and breaks at its first read.
 ///
-/// A regular file of which the system says that it has no bytes has as many as reads give.
+/// A regular file of which the system says that it has no bytes has as many as reads give. Each look has them counted once more that
+/// begins 50 ms after the last count; where reads gave none for a minute, the file is empty until the system says another length.
 ///
 /// At most one file of a name is open; it is given back once another is opened or the name is broken, and all are when this is
 /// dropped.
@@ -48,8 +54,6 @@ pub struct DirWatch<R: Files<File = File> + Clock + Drop> {
     alloc: Global,
     /// How many looks began.
     turns: u64,
-    /// How many milliseconds pass before changes are looked for again.
-    step: u64,
     /// How many milliseconds a look is waited for at most.
     most: u64,
     names: Vec<DirName>,
@@ -72,7 +76,6 @@ impl<R: Files<File = File> + Clock + Drop> DirWatch<R> {
             runtime,
             alloc,
             turns: 0,
-            step: SHORTEST,
             most: SECOND,
             names: Vec::new(alloc),
             process: None,
@@ -80,60 +83,67 @@ impl<R: Files<File = File> + Clock + Drop> DirWatch<R> {
     }
 }
 
-/// Whether any name has changed since the call before.
-fn any_changed(files: &impl Files, names: &mut Vec<DirName>) -> bool
+/// Looks for changes of the names for which that is due at this time. Returns when the next one is due, at the most 50 ms from then;
+/// none where one has changed.
+fn next_due(files: &impl Files, names: &mut Vec<DirName>, now: u64) -> Option<u64>
     ensures { names.new.items ≡ names.old.items }
 {
     let mut changed = false;
+    let mut due = now.saturating_add(LONGEST);
     for place in 0..names.len() {
-        // Each name is asked, so that a change ends no second waiting.
-        if names[place].has_changed(files) {
+        // Each that is due is asked, so that a change ends no second waiting and a stream needn't wait for the others to be silent.
+        if names[place].has_changed(files, now) {
             changed = true;
         }
+        due = due.min(names[place].due());
     }
-    changed
+    if changed {
+        return None;
+    }
+    Some(due)
 }
 
-/// Takes what comes next of each open stream, and returns whether that is any.
-fn take_all(names: &mut Vec<DirName>) -> bool
+/// Has changes of all names looked for at once.
+fn hurry_all(names: &mut Vec<DirName>)
     ensures { names.new.items ≡ names.old.items }
 {
-    let mut came = false;
     for place in 0..names.len() {
-        // Each stream is read, so that none has to wait for the others to be silent.
-        if names[place].take() {
-            came = true;
-        }
+        names[place].hurry();
     }
-    came
 }
 
-/// Waits until something came of a stream, a name has changed or this process is gone, `most` milliseconds at most where no stream
-/// is waited for. The first step is of `first` milliseconds. Returns of how many the next one is to be.
+/// Waits until a name has changed, something came of a stream or this process is gone, `most` milliseconds at most where no stream is
+/// waited for.
 fn wait<R: Files + Clock>(
     runtime: &R,
     names: &mut Vec<DirName>,
     process: &Option<Process>,
-    first: u64,
     most: u64,
-) -> u64
+)
     ensures { names.new.items ≡ names.old.items }
 {
-    let mut step = first;
     let mut left = most;
     while left > 0 {
-        if take_all(names) || has_ended(runtime, process) {
-            return SHORTEST;
+        let now = time_of(runtime);
+        let Some(due) = next_due(runtime, names, now) else {
+            return;
+        };
+        if has_ended(runtime, process) {
+            return;
         }
-        let pause = step.max(SHORTEST).min(left);
+        let pause = due.saturating_sub(now).max(SHORTEST).min(left);
         thread::sleep(runtime, Duration::from_millis(pause));
-        if any_changed(runtime, names) {
-            return SHORTEST;
-        }
         left -= pause;
-        step = step.saturating_mul(2).min(LONGEST);
     }
-    step
+    next_due(runtime, names, time_of(runtime));
+}
+
+/// What the clock tells, in milliseconds. Where it tells nothing, 0: then each name is always due.
+fn time_of(clock: &impl Clock) -> u64 {
+    match clock.monotonic() {
+        Ok(time) => u64::try_from(time.as_millis()).unwrap_or(0),
+        Err(_) => 0,
+    }
 }
 
 /// Whether the end of this process is waited for.
@@ -173,16 +183,8 @@ impl<R: Files<File = File> + Clock + Drop> Watch for DirWatch<R> {
         let Some(turns) = self.turns.checked_add(1) else {
             return Err(Fault::Memory);
         };
-        if self.turns == 0 {
-            any_changed(&self.runtime, &mut self.names);
-        } else {
-            self.step = wait(
-                &self.runtime,
-                &mut self.names,
-                &self.process,
-                self.step,
-                self.most,
-            );
+        if self.turns > 0 {
+            wait(&self.runtime, &mut self.names, &self.process, self.most);
         }
         self.turns = turns;
         Ok(())
@@ -195,7 +197,12 @@ impl<R: Files<File = File> + Clock + Drop> Watch for DirWatch<R> {
             };
             self.process = Some(process);
         }
-        has_ended(&self.runtime, &self.process)
+        let is_gone = has_ended(&self.runtime, &self.process);
+        if is_gone {
+            // The next look is to see all that the process wrote.
+            hurry_all(&mut self.names);
+        }
+        is_gone
     }
 
     fn wait_at_most(&mut self, milliseconds: u64) {

@@ -4,6 +4,7 @@
 mod dir_file;
 mod dir_name;
 mod dir_watch;
+mod pace;
 mod process;
 mod watch;
 

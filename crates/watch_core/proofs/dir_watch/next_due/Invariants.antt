@@ -1,5 +1,5 @@
 use Rattle.std.proofs.Common.{◌≡◌}
-use Rattle.watch_core.proofs.dir_watch.any_changed.Given as goal
+use Rattle.watch_core.proofs.dir_watch.next_due.Given as goal
 
 abbrev pub invariant-loop-place : goal.invariant-loop-place
 invariant-loop-place g l = l.names.items ≡ l.fn.names.items

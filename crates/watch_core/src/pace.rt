@@ -1,0 +1,67 @@
+//! How often a name is asked for changes.
+ghost use Rattle.std.specs.Prelude.{◌≡◌, ◌≤◌, ◌+◌};
+
+/// How many milliseconds pass at most until a name is asked again.
+const LONGEST: u64 = 50;
+
+/// After how many milliseconds without a change a name is at rest: a minute.
+const MINUTE: u64 = 60_000;
+
+/// When a name is asked, in milliseconds of a clock: right after a change at once, then after as long as it didn't change for, and
+/// every 50 ms at the least. Names that didn't change for so long are asked at the same times, so that waiting for all of them wakes
+/// once.
+#[derive(Drop)]
+pub(crate) struct Pace {
+    /// When it changed the last time.
+    changed: u64,
+    /// When it is to be asked again; 0 for at once, as after a change.
+    due: u64,
+}
+
+impl Pace {
+    /// Of a name that is to be asked at once.
+    pub(crate) fn new() -> Self {
+        Pace { changed: 0, due: 0 }
+    }
+
+    /// When it is to be asked.
+    pub(crate) fn due(&self) -> u64 {
+        self.due
+    }
+
+    /// Whether it didn't change for a minute.
+    pub(crate) fn is_at_rest(&self, now: u64) -> bool {
+        now.saturating_sub(self.changed) >= MINUTE
+    }
+
+    /// Has it asked at once, as after a change.
+    pub(crate) fn hurry(&mut self) {
+        self.due = 0;
+    }
+
+    /// Has it asked no more.
+    pub(crate) fn end(&mut self) {
+        self.due = u64::MAX;
+    }
+
+    /// Goes on once it was asked, and had changed or not.
+    pub(crate) fn go_on(&mut self, now: u64, has_changed: bool)
+        ensures { self.new.due ≤ now + 50 }
+    {
+        if has_changed || self.due == 0 {
+            self.changed = now;
+        }
+        self.due = now.saturating_add(pause_of(now, now.saturating_sub(self.changed)));
+    }
+}
+
+/// How long to wait before a name is asked that didn't change for some milliseconds: as long again, or up to the next of the times at
+/// which all those are asked that didn't change for longer.
+fn pause_of(now: u64, passed: u64) -> u64
+    ensures { result ≤ 50 }
+{
+    if passed < LONGEST {
+        return passed;
+    }
+    LONGEST - now % LONGEST
+}
