@@ -201,6 +201,10 @@ impl DirName {
         let is_elsewhere = self.leads_elsewhere(files);
         let changed = self.has_grown(now) || is_elsewhere;
         self.pace.go_on(now, changed);
+        if changed && matches!(&self.file, Some(DirFile::Stream(_))) {
+            // More may be there already, and its writer isn't to wait.
+            self.pace.hurry();
+        }
         changed
     }
 

@@ -7,8 +7,8 @@ const LONGEST: u64 = 50;
 /// After how many milliseconds without a change a name is at rest: a minute.
 const MINUTE: u64 = 60_000;
 
-/// When a name is asked, in milliseconds of a clock: right after a change at once, then after as long as it didn't change for, and
-/// every 50 ms at the least. Names that didn't change for so long are asked at the same times, so that waiting for all of them wakes
+/// When a name is asked, in milliseconds of a clock: 1 ms after a change, then after as long again as it didn't change for, and every
+/// 50 ms at the least. Names that didn't change for so long are asked at the same times, so that waiting for all of them wakes
 /// once.
 #[derive(Drop)]
 pub(crate) struct Pace {
@@ -55,13 +55,13 @@ impl Pace {
     }
 }
 
-/// How long to wait before a name is asked that didn't change for some milliseconds: as long again, or up to the next of the times at
+/// How long to wait before a name is asked that didn't change for some milliseconds: 1 ms longer, or up to the next of the times at
 /// which all those are asked that didn't change for longer.
 fn pause_of(now: u64, passed: u64) -> u64
     ensures { result ≤ 50 }
 {
     if passed < LONGEST {
-        return passed;
+        return passed + 1;
     }
     LONGEST - now % LONGEST
 }
