@@ -27,9 +27,9 @@ const SECOND: u64 = 1000;
 ///
 /// Each look but the first begins with waiting, which ends soon after a change, at once where a stream has something, and
 /// without either after a second, or what `wait_at_most` said. A change is another length of a file that is open or that a name
-/// leads to, or a name that comes to lead elsewhere. Each name is asked at a pace of its own: 1 ms after it changed, and then
-/// after 2, 4 and so on, 50 at the most. What comes to a regular file t milliseconds after its last change is to be seen
-/// within t + 1, and within 50. Where a process was asked for, waiting ends at once where that is gone, and within 50 ms where that
+/// leads to, or a name that comes to lead elsewhere. Each name is asked at a pace of its own, at multiples of 5 ms: at the next one
+/// after it changed, and then after twice as long each time, 50 ms at the most. What comes to a regular file t milliseconds after its
+/// last change is to be seen within t + 5, and within 50. Where a process was asked for, waiting ends at once where that is gone, and within 50 ms where that
 /// comes to be so: where the system lists its processes, and lists none of this number. The next look after that sees all that the
 /// process wrote. Waiting takes no memory, and no thread waits on another.
 ///

@@ -1,15 +1,18 @@
 //! How often a name is asked for changes.
 ghost use Rattle.std.specs.Prelude.{◌≡◌, ◌≤◌, ◌+◌};
 
-/// How many milliseconds pass at most until a name is asked again.
+/// Names are asked at multiples of this number of milliseconds.
+const TICK: u64 = 5;
+
+/// How many milliseconds pass at most until a name is asked again: a multiple of `TICK`.
 const LONGEST: u64 = 50;
 
 /// After how many milliseconds without a change a name is at rest: a minute.
 const MINUTE: u64 = 60_000;
 
-/// When a name is asked, in milliseconds of a clock: 1 ms after a change, then after as long again as it didn't change for, and every
-/// 50 ms at the least. Names that didn't change for so long are asked at the same times, so that waiting for all of them wakes
-/// once.
+/// When a name is asked, in milliseconds of a clock: within 5 ms after a change, then after as long again as it didn't change for and 5
+/// more at most, and every 50 ms at the least. Names are asked at the same times, the multiples of 5, and those that didn't change for
+/// so long at the multiples of 50, so that waiting for all of them wakes once.
 #[derive(Drop)]
 pub(crate) struct Pace {
     /// When it changed the last time.
@@ -55,13 +58,13 @@ impl Pace {
     }
 }
 
-/// How long to wait before a name is asked that didn't change for some milliseconds: 1 ms longer, or up to the next of the times at
-/// which all those are asked that didn't change for longer.
+/// How long to wait before a name is asked that didn't change for some milliseconds: as long again and up to the next tick, or up to the
+/// next of the times at which all those are asked that didn't change for longer.
 fn pause_of(now: u64, passed: u64) -> u64
     ensures { result ≤ 50 }
 {
-    if passed < LONGEST {
-        return passed + 1;
+    if passed < LONGEST - TICK {
+        return passed + TICK - now.wrapping_add(passed) % TICK;
     }
     LONGEST - now % LONGEST
 }
