@@ -10,7 +10,7 @@ ghost use Rattle.seg_core.specs.declared.cut.Cut.TheVariants.{Round};
 ghost use Rattle.seg_core.specs.declared.cut.Way.TheVariants as way;
 ghost use Rattle.seg_core.specs.declared.unit.Unit.TheVariants.{Bytes, Lines};
 ghost use Rattle.split_core.specs.Chunks.{IsInChunk, IsInPiece, chunk_start, chunks_in, is_as_said, is_longer};
-ghost use Rattle.split_core.specs.ChunkAgreed.{AgreeAt, CanFollow, chunk_spots, one_chunk_spots};
+ghost use Rattle.split_core.specs.ChunkAgreed.{AgreeAt, AreMade, CanFollow, TwoDiffer, chunk_spots, one_chunk_spots};
 ghost use Rattle.split_core.specs.Place.{beside_output};
 ghost use Rattle.split_core.specs.ChunkWork.{ChunksPlan, chunk_work, chunks_settled, chunks_whole, chunks_work, turn_work, way_work};
 ghost use Rattle.split_core.specs.Split.{Filing, are_named};
@@ -61,7 +61,8 @@ pub fn one_chunk_is_its_file()
 /// What is settled is what all continuations agree on, and the bytes that wait are those that two continuations put to
 /// different places, or one of them nowhere. So nothing is written that could still go into another file, and nothing
 /// is kept back that can't. Where the size was said, continuations are those with which the input has it, and no byte
-/// waits. Where a byte goes is said by spots, which are right.
+/// waits. Where a byte goes is said by spots, which are right. Files are closed as soon as all continuations have them
+/// and those before them alike in the end, empty ones too, and one more is open once it has a byte.
 pub fn chunks_agree()
     ensures outputs { (plan : ChunksPlan) (said : Option ℕ) (x : List ℕ)
         → 0 < plan.chunks.count → plan.filing.verbose ≡ false
@@ -71,6 +72,9 @@ pub fn chunks_agree()
         → 0 < plan.chunks.count → are_named plan.filing.names plan.chunks.count ≡ true → is_longer said x ≡ false
         → AgreeAt (CanFollow said x) (beside_output (chunks_work plan said)) x
         (record ((chunks_work plan said).settled x) { out = [] }) }
+    ensures made { (plan : ChunksPlan) (said : Option ℕ) (x : List ℕ)
+        → 0 < plan.chunks.count → are_named plan.filing.names plan.chunks.count ≡ true → is_longer said x ≡ false
+        → AreMade (CanFollow said x) (chunks_work plan said) x ((chunks_work plan said).settled x).files }
     ensures waits { (plan : ChunksPlan) (said : Option ℕ) (x : List ℕ)
         → 0 < plan.chunks.count → are_named plan.filing.names plan.chunks.count ≡ true → is_longer said x ≡ false
         → DifferOn (CanFollow said x) (chunk_spots plan said) x ((chunks_work plan said).waiting x) }
