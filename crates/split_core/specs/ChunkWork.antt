@@ -71,8 +71,8 @@ chunks_work plan said = record {
 abbrev pub piece_at : ℕ → CutUp → Part
 piece_at place cut = only_out (get_or (pieces_in cut) place [])
 
--- Standard output has all that goes with its chunk; only where the size was said that is known. Then the run ends, and it
--- isn't seen whether the input changed.
+-- The chunk and those before it have all that goes with them; only where the size was said that is known. Then the run
+-- ends, and it isn't seen whether the input changed.
 abbrev pub is_written : ℕ → Chunks → Option ℕ → List ℕ → Bool
 is_written place chunks None x = false
 is_written place chunks (Some size) x = has_ended chunks size x place

@@ -92,6 +92,17 @@ pub fn chunks_agree()
         → IsAgreed (turn_work place count delim) x ((turn_work place count delim).settled x) }
 {}
 
+/// The output of one chunk is complete where what that chunk and those before it have stays, whatever comes, and no sooner:
+/// so an empty one is complete with those before it. That is only so where the size was said.
+pub fn one_chunk_is_complete()
+    ensures complete { (place : ℕ) (chunks : Chunks) (said : Option ℕ) (x : List ℕ) → place < chunks.count
+        → (chunk_work place chunks said).is_complete x ≡ true → (at : ℕ) → at ≤ place → (y z : List ℕ)
+        → (chunk_work at chunks said).whole (x ++ y) ≡ (chunk_work at chunks said).whole (x ++ z) }
+    ensures going { (place : ℕ) (chunks : Chunks) (said : Option ℕ) (x : List ℕ) → place < chunks.count
+        → is_longer said x ≡ false → (chunk_work place chunks said).is_complete x ≡ false
+        → (at : ℕ) × (at ≤ place) × TwoDiffer (CanFollow said x) (λ y. (chunk_work at chunks said).whole (x ++ y)) }
+{}
+
 /// Where standard output is told of the files of chunks, it has a line for each that was opened, in their order, and
 /// nothing else: once some bytes came in, and in the end. Else it has nothing.
 pub fn lines_are_of_chunk_files()
