@@ -29,7 +29,7 @@ use Rattle.split_core.proofs.CutLaws.{bytes_of_shares}
 use Rattle.split_core.proofs.ChunkLemmas.{bytes_filed, few_files, made_few, same_pieces}
 use Rattle.split_core.proofs.RoundLemmas.{named_fewer}
 use Rattle.split_core.specs.laws.BegunLaws.{begin_short, begun_begins, begun_first, begun_first_place, begun_monotone, begun_on, begun_within, open_within}
-use Rattle.split_core.specs.laws.ChunkLaws.{all_joined, before_stays, chunks_are, cut_all, cut_before, ended_is, full_stays, map_parts, passed_open, start_first, start_grows, start_past}
+use Rattle.split_core.specs.laws.ChunkLaws.{all_joined, before_stays, chunks_are, cut_all, ended_is, full_stays, map_parts, passed_open, start_first, start_grows, start_past}
 
 -- Bytes that are all the same
 

@@ -1,9 +1,10 @@
 //! Laws of chunks, with no code: each stands on the contract of a function whose body is empty.
-ghost use Rattle.std.specs.Prelude.{◌≡◌, ◌<◌, ◌≤◌, ◌+◌, ◌-◌, ◌++◌, ◌/◌, ◌%◌, ℕ, List, [], Option, drop, false, get_or, length, take, true};
-ghost use Rattle.std.specs.List.{flat_map, range_with_len};
+ghost use Rattle.std.specs.Prelude.{◌≡◌, ◌<◌, ◌≤◌, ◌+◌, ◌-◌, ◌++◌, ◌/◌, ◌%◌, ℕ, List, [], Option, Some, drop, false, get_or, length, take, true};
+ghost use Rattle.std.specs.List.{filter, flat_map, range_with_len};
 ghost use Rattle.ports_core.specs.Agreed.{ArePlaced, DifferOn, IsAgreed, file_bytes};
 ghost use Rattle.ports_core.specs.Draft.{opening_line};
 ghost use Rattle.ports_core.specs.Part.{only_out, openings_for};
+ghost use Rattle.ports_core.specs.declared.verdict.Verdict.TheVariants.{Changed};
 ghost use Rattle.seg_core.specs.Line.{first_lines, joined, line_count, lines_of};
 ghost use Rattle.seg_core.specs.declared.cut.Chunks.{Chunks};
 ghost use Rattle.seg_core.specs.declared.cut.Cut.TheVariants.{Round};
@@ -13,7 +14,7 @@ ghost use Rattle.split_core.specs.Chunks.{IsInChunk, IsInPiece, chunk_start, chu
 ghost use Rattle.split_core.specs.ChunkAgreed.{AgreeAt, AreMade, CanFollow, TwoDiffer, chunk_spots, one_chunk_spots};
 ghost use Rattle.split_core.specs.Place.{beside_output};
 ghost use Rattle.split_core.specs.ChunkWork.{ChunksPlan, chunk_work, chunks_settled, chunks_whole, chunks_work, turn_work, way_work};
-ghost use Rattle.split_core.specs.Split.{Filing, are_named};
+ghost use Rattle.split_core.specs.Split.{Filing, are_named, has_bytes};
 
 /// What goes with each chunk of a whole text: there are as many of these pieces as were asked for, and together they
 /// are the text. Chunks of bytes have the bytes from where they begin to where the next one does; all have the same
@@ -101,6 +102,41 @@ pub fn one_chunk_is_complete()
     ensures going { (place : ℕ) (chunks : Chunks) (said : Option ℕ) (x : List ℕ) → place < chunks.count
         → is_longer said x ≡ false → (chunk_work place chunks said).is_complete x ≡ false
         → (at : ℕ) × (at ≤ place) × TwoDiffer (CanFollow said x) (λ y. (chunk_work at chunks said).whole (x ++ y)) }
+{}
+
+/// Where empty files are left out, the files have what those have that aren't empty where none is: once some bytes came in,
+/// and in the end.
+pub fn empty_chunks_are_left_out()
+    ensures settled { (chunks : Chunks) (filing : Filing) (said : Option ℕ) (x : List ℕ)
+        → 0 < chunks.count → are_named filing.names chunks.count ≡ true
+        → file_bytes (chunks_settled (record { chunks = chunks; elide = true; filing = filing }) said x)
+        ≡ filter has_bytes
+        (file_bytes (chunks_settled (record { chunks = chunks; elide = false; filing = filing }) said x)) }
+    ensures whole { (chunks : Chunks) (filing : Filing) (said : Option ℕ) (x : List ℕ)
+        → 0 < chunks.count → are_named filing.names chunks.count ≡ true
+        → file_bytes (chunks_whole (record { chunks = chunks; elide = true; filing = filing }) said x)
+        ≡ filter has_bytes
+        (file_bytes (chunks_whole (record { chunks = chunks; elide = false; filing = filing }) said x)) }
+{}
+
+/// An input that has another length than it said has changed; where one chunk is written, that is seen as long as the output
+/// isn't complete. With more bytes than were said there are all chunks as they were said, and with fewer what came: the
+/// files have it where they had it before the end.
+pub fn other_lengths_are_changes()
+    ensures files { (plan : ChunksPlan) (size : ℕ) (x : List ℕ) → (length x ≡ size → ⊥)
+        → (chunks_work plan (Some size)).verdict x ≡ Some Changed }
+    ensures alone { (place : ℕ) (chunks : Chunks) (size : ℕ) (x : List ℕ) → (length x ≡ size → ⊥)
+        → (chunk_work place chunks (Some size)).is_complete x ≡ false
+        → (chunk_work place chunks (Some size)).verdict x ≡ Some Changed }
+    ensures more { (plan : ChunksPlan) (size : ℕ) (x : List ℕ)
+        → (chunks_work plan (Some size)).whole x ≡ (chunks_work plan (Some size)).whole (take size x) }
+    ensures all { (plan : ChunksPlan) (size : ℕ) (x : List ℕ)
+        → 0 < plan.chunks.count → are_named plan.filing.names plan.chunks.count ≡ true
+        → joined (file_bytes ((chunks_work plan (Some size)).whole x)) ≡ take size x }
+    ensures same { (plan : ChunksPlan) (size : ℕ) (x : List ℕ)
+        → 0 < plan.chunks.count → are_named plan.filing.names plan.chunks.count ≡ true
+        → file_bytes ((chunks_work plan (Some size)).whole x)
+        ≡ file_bytes ((chunks_work plan (Some size)).settled x) }
 {}
 
 /// Where standard output is told of the files of chunks, it has a line for each that was opened, in their order, and
