@@ -29,7 +29,7 @@ use Rattle.split_core.proofs.CutLaws.{bytes_of_shares}
 use Rattle.split_core.proofs.ChunkLemmas.{bytes_filed, few_files, made_few, same_pieces}
 use Rattle.split_core.proofs.RoundLemmas.{named_fewer}
 use Rattle.split_core.specs.laws.BegunLaws.{begin_short, begun_begins, begun_first, begun_first_place, begun_monotone, begun_on, begun_within, open_within}
-use Rattle.split_core.specs.laws.ChunkLaws.{all_joined, before_stays, chunks_are, cut_all, cut_before, ended_is, full_stays, map_parts, passed_open, start_first, start_grows, start_past}
+use Rattle.split_core.specs.laws.ChunkLaws.{all_joined, before_stays, chunks_are, cut_all, ended_is, full_stays, map_parts, passed_open, start_first, start_grows, start_past}
 
 -- Bytes that are all the same
 
@@ -211,7 +211,7 @@ parts_split f p m = let e : 0 + p ≡ p = omega arith in
     map_parts f 0 p m ∙ ap (λ n. map f (range_with_len 0 p) ++ f n ∷ map f (range_with_len (n + 1) m)) e
 
 -- the files of a whole text, by a place
-files_split : (elide : Bool) (chunks : Chunks) (size : ℕ) (w : List ℕ) (p m : ℕ) → 0 < chunks.count → length w ≡ size
+pub files_split : (elide : Bool) (chunks : Chunks) (size : ℕ) (w : List ℕ) (p m : ℕ) → 0 < chunks.count → length w ≡ size
     → p + suc m ≡ chunks.count → files_by elide (chunks_of chunks size w)
     ≡ kept elide (map (chunk_at chunks size w) (range_with_len 0 p))
     ++ kept elide (map (chunk_at chunks size w) (range_with_len p (suc m)))
@@ -226,49 +226,50 @@ files_split elide chunks size w p m some long is = let f = chunk_at chunks size 
 
 -- Where the size was said
 
+-- more comes, so not all chunks have ended
+pub chunks_left : (chunks : Chunks) (size : ℕ) (x : List ℕ) → 0 < chunks.count → length x < size
+    → (m : ℕ) × (ended chunks size x + suc m ≡ chunks.count)
+chunks_left chunks size x some short = let p = ended chunks size x in elim (cases_lt p chunks.count) [
+  | inl less ↦ (chunks.count - p - 1, omega (arith, less))
+  | inr last ↦ absurd (omega (
+    arith,
+    short,
+    start_past chunks.count size p some last,
+    (ended_is chunks size x).before,
+    passed_open chunks size x short,
+    open_within chunks.unit chunks.delim x,
+  ))
+]
+
+-- in the end there are the files of those that have ended, and then those of all others
+pub said_split : (elide : Bool) (chunks : Chunks) (size : ℕ) (x y : List ℕ) (m : ℕ) → 0 < chunks.count
+    → length x < size → length (x ++ y) ≡ size → let p = ended chunks size x in p + suc m ≡ chunks.count
+    → files_by elide (chunks_of chunks size (x ++ y)) ≡ kept elide (chunks_of chunks size x).full
+    ++ kept elide (map (chunk_at chunks size (x ++ y)) (range_with_len p (suc m)))
+said_split elide chunks size x y m some short long is =
+    let p = ended chunks size x in
+    let here : HaveEnded chunks size x p = ended_is chunks size x in
+    files_split elide chunks size (x ++ y) p m some long is
+    ∙ ap (λ front. kept elide front ++ kept elide (map (chunk_at chunks size (x ++ y)) (range_with_len p (suc m))))
+    (full_stays chunks size p x y (omega (arith, long)) here.before
+    ∙ sym (ap (λ cut. cut.full) (chunks_are chunks size x some (omega (arith, short)) here)))
+
 said_files : (elide : Bool) (chunks : Chunks) (size : ℕ) (x y : List ℕ) (c : ℕ) → 0 < chunks.count → length x < size
     → length (x ++ y) ≡ size → IsRun c y → (tail : List (List ℕ)) × IsTail c (chunks_of chunks size x).rest tail
     × (files_by elide (chunks_of chunks size (x ++ y)) ≡ kept elide (chunks_of chunks size x).full ++ tail)
-said_files elide chunks size x y c some short long run = (
-  kept elide (map f (range_with_len p (suc m))),
-  tail_kept elide c (chunks_of chunks size x).rest (map f (range_with_len p (suc m)))
-      (subst (λ r. IsTail c r (map f (range_with_len p (suc m)))) (sym (ap (λ cut. cut.rest) cut_x))
-      (tail_is chunks size x y c p m run (before_stays chunks size p x y (omega (arith, long)) here.before)
-      (omega (arith, here.next less, passed_open chunks size x short)))),
-  files_split elide chunks size (x ++ y) p m some long is
-      ∙ ap (λ front. kept elide front ++ kept elide (map f (range_with_len p (suc m))))
-      (full_stays chunks size p x y (omega (arith, long)) here.before ∙ sym (ap (λ cut. cut.full) cut_x)),
-) where
-  p : ℕ
-  p = ended chunks size x
-
-  here : HaveEnded chunks size x p
-  here = ended_is chunks size x
-
-  less : p < chunks.count
-  less = elim (cases_lt p chunks.count) [
-    | inl before ↦ before
-    | inr last ↦ absurd (omega (
-      arith,
-      short,
-      start_past chunks.count size p some last,
-      here.before,
-      passed_open chunks size x short,
-      open_within chunks.unit chunks.delim x,
-    ))
-  ]
-
-  m : ℕ
-  m = chunks.count - p - 1
-
-  is : p + suc m ≡ chunks.count
-  is = omega (arith, less)
-
-  f : ℕ → List ℕ
-  f = chunk_at chunks size (x ++ y)
-
-  cut_x : chunks_of chunks size x ≡ cut_before chunks size x p
-  cut_x = chunks_are chunks size x some (omega (arith, short)) here
+said_files elide chunks size x y c some short long run =
+    let (m, is) = chunks_left chunks size x some short in
+    let p = ended chunks size x in
+    let here : HaveEnded chunks size x p = ended_is chunks size x in
+    let those = map (chunk_at chunks size (x ++ y)) (range_with_len p (suc m)) in (
+      kept elide those,
+      tail_kept elide c (chunks_of chunks size x).rest those
+          (subst (λ (cut : CutUp). IsTail c cut.rest those)
+          (sym (chunks_are chunks size x some (omega (arith, short)) here))
+          (tail_is chunks size x y c p m run (before_stays chunks size p x y (omega (arith, long)) here.before)
+          (omega (arith, here.next (omega (arith, is)), passed_open chunks size x short)))),
+      said_split elide chunks size x y m some short long is,
+    )
 
 -- two continuations that have no more in common in any file than what is decided
 pub record AreFiles (elide : Bool) (chunks : Chunks) (said : Option ℕ) (x : List ℕ) (place : ℕ) : Type 0 where
@@ -351,7 +352,7 @@ pub none_before_first : (chunks : Chunks) (size : ℕ) (x : List ℕ) → before
 none_before_first chunks size x = ap (λ at. begun_before chunks.unit chunks.delim at x) (start_first chunks.count size)
     ∙ begun_first_place chunks.unit chunks.delim x
 
-none_kept : (elide : Bool) → kept elide [] ≡ []
+pub none_kept : (elide : Bool) → kept elide [] ≡ []
 none_kept true = refl
 none_kept false = refl
 
@@ -560,7 +561,7 @@ few_kept elide cut count few = omega (
   length-append cut.full (unless_empty cut.rest),
 )
 
-few_decided : (elide : Bool) (chunks : Chunks) (said : Option ℕ) (x : List ℕ) → 0 < chunks.count
+pub few_decided : (elide : Bool) (chunks : Chunks) (said : Option ℕ) (x : List ℕ) → 0 < chunks.count
     → length (files_by elide (decided chunks 1 said x)) ≤ chunks.count
 few_decided elide chunks None x some =
     few_kept elide (decided chunks 1 None x) chunks.count

@@ -48,9 +48,9 @@ clears_none : (on : Course) (chunks : Chunks) (said : Option ℕ) → (work_on o
 clears_none (in_files filing elide) chunks said = refl
 clears_none (in_output chunk) chunks said = refl
 
-feeds_memory : (on : Course) (chunks : Chunks) (said : Option ℕ) → (work_on on chunks said).means.feeding.memory ≡ true
-feeds_memory (in_files filing elide) chunks said = refl
-feeds_memory (in_output chunk) chunks said = refl
+feeds_memory : (on : Course) (chunks : Chunks) {said : Option ℕ} → said ≡ None → (work_on on chunks said).means.feeding.memory ≡ true
+feeds_memory (in_files filing elide) chunks unsaid = refl
+feeds_memory (in_output chunk) chunks unsaid = ap is_none unsaid
 
 -- standard output has the lines of what is settled
 settled_lines : (on : Course) (chunks : Chunks) (said : Option ℕ) (x : List ℕ)
@@ -68,17 +68,17 @@ unjudged manner old new (Open slot) breaks other = refl
 unjudged manner old new (Verdict Suffixes) breaks other = absurd (other refl)
 unjudged manner old new fault breaks other = absurd breaks
 
-met_output : (needs : Needs) (Lacks : Type 0) (Why : Judgement → Type 0) (old new : List Slot) (chunk : ℕ) (fault : Fault)
-    → Breaks (manner_on (in_output chunk)) old new fault → fault ≡ Write 0 → IsMet (on_output true) needs Lacks Why old new fault
-met_output needs Lacks Why old new chunk (Write slot) breaks is = ((λ none. refl), (λ none. cc), breaks.1)
-met_output needs Lacks Why old new chunk fault breaks is = absurd (cc)
+met_output : (memory : Bool) (needs : Needs) (Lacks : Type 0) (Why : Judgement → Type 0) (old new : List Slot) (chunk : ℕ) (fault : Fault)
+    → Breaks (manner_on (in_output chunk)) old new fault → fault ≡ Write 0 → IsMet (on_output memory) needs Lacks Why old new fault
+met_output memory needs Lacks Why old new chunk (Write slot) breaks is = ((λ none. refl), (λ none. cc), breaks.1)
+met_output memory needs Lacks Why old new chunk fault breaks is = absurd (cc)
 
 module _ (chunks : Chunks) (Why : Judgement → Type 0) (old new : List Slot) (fault : Fault) (ends : fault ≡ Verdict Suffixes → Why Suffixes) where
   met_feeding : (on : Course) (said : Option ℕ) → Breaks (manner_on on) old new fault → IsOf on fault
       → IsMet (work_on on chunks said).means (work_on on chunks said).means.feeding (true ≡ true) Why old new fault
   met_feeding (in_files filing elide) said breaks of =
       met_files (is_none said) _ _ Why (manner_of filing) filing.verbose old new fault (refl, refl) refl refl breaks ends
-  met_feeding (in_output chunk) said breaks of = met_output _ _ Why old new chunk fault breaks of
+  met_feeding (in_output chunk) said breaks of = met_output (is_none said) _ _ Why old new chunk fault breaks of
 
   -- where an output broke, no need matters
   met_broken : (means : Means) (needs other : Needs) (Lacks Or : Type 0) → IsWrite fault
@@ -93,7 +93,7 @@ module _ (chunks : Chunks) (Why : Judgement → Type 0) (old new : List Slot) (f
       met_broken means means.feeding means.closing (true ≡ true) (Unit {0}) (few refl) (met_feeding on (Some size) breaks of)
   met_closing (in_files filing elide) None breaks of few =
       met_files true _ _ Why (manner_of filing) filing.verbose old new fault (refl, tt) refl refl breaks ends
-  met_closing (in_output chunk) None breaks of few = met_output _ _ Why old new chunk fault breaks of
+  met_closing (in_output chunk) None breaks of few = met_output true _ _ Why old new chunk fault breaks of
 
 -- What a piece leaves
 
@@ -177,7 +177,7 @@ module _ (told : Bool) (old new : ChunkerState) (piece : List ℕ) (before after
     cut = λ start x at. engine.cut refl (stopped_here (work old).means.output told start ((work old).settled x) ((work old).settled (x ++ piece))
         Memory before after at.outputs ((lawful (way.Chunks old)).grows x piece) lacks.slots tt tt);
     met = subst (λ (those : Work). (those.means.feeding.memory ≡ true) × (true ≡ true)) (sym (works_so old lacks.same.can))
-        (feeds_memory (course old.cutter) old.cutter.chunks old.said, refl);
+        (feeds_memory (course old.cutter) old.cutter.chunks lacks.unsaid, refl);
   }
 
   passes_changed : total new ≤ total old + length piece

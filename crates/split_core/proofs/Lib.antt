@@ -2,6 +2,7 @@ pub mod RoundLemmas
 pub mod AgreedLemmas
 pub mod ChunkLemmas
 pub mod ChunkAgreedLemmas
+pub mod ChunkMadeLemmas
 pub mod ChunkWaitLemmas
 pub mod OneChunkLemmas
 pub mod CutLaws

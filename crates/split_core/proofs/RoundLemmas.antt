@@ -56,7 +56,7 @@ use Rattle.split_core.specs.PartsState as parts_state
 -- Names
 
 -- where this many files have names, each of them has one
-named_at : (names : Naming) (count place : ℕ) → are_named names count ≡ true → place < count → has_name names place ≡ true
+pub named_at : (names : Naming) (count place : ℕ) → are_named names count ≡ true → place < count → has_name names place ≡ true
 named_at names zero place are within = absurd (omega arith)
 named_at names (suc last) place are within = named_before names place last are (omega arith)
 

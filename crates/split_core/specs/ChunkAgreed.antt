@@ -1,11 +1,13 @@
 -- What all continuations of an input agree on that is cut into chunks. In the end each of them makes all files, so what
 -- they agree on is said of each output by itself.
-use Rattle.std.specs.Prelude.{◌≡◌, ℕ, ◌-◌, ◌≤◌, nat_lt, true, List, [], ◌∷◌, ◌++◌, get_or, length, take, Option, if◌then◌else◌}
+use Rattle.std.specs.Prelude.{◌≡◌, ◌≢◌, ◌⊎◌, ℕ, ◌-◌, ◌<◌, ◌≤◌, suc, nat_lt, true, List, [], ◌∷◌, ◌++◌, get_or, length, take, Option, if◌then◌else◌}
 use Rattle.seg_core.specs.Line.{joined}
 use Rattle.seg_core.specs.declared.cut.Chunks.{Chunks}
 use Rattle.ports_core.specs.Agreed.{CanCome, Spot, file_bytes, output_at, spots_from}
-use Rattle.ports_core.specs.Part.{Part, IsBeginning, Begins}
+use Rattle.ports_core.specs.Part.{File, Part, IsBeginning, Begins}
+use Rattle.ports_core.specs.Turn.{AllClosed}
 use Rattle.ports_core.specs.Work.{Work}
+use Rattle.ports_core.specs.declared.slot.State.TheVariants.{Open}
 use Rattle.split_core.specs.Chunks.{in_the_end, is_as_said, pieces_in}
 use Rattle.split_core.specs.ChunkWork.{ChunksPlan, chunks_whole}
 
@@ -22,6 +24,24 @@ pub record AgreeAt (comes : List ℕ → Type 0) (work : Work) (x : List ℕ) (a
   pub longest : (place : ℕ) → (y : List ℕ) × (z : List ℕ) × comes y × comes z
       × ((front : List ℕ) → IsBeginning front (output_at (work.whole (x ++ y)) place)
       → IsBeginning front (output_at (work.whole (x ++ z)) place) → length front ≤ length (output_at agreed place))
+
+-- two continuations give different things
+abbrev pub TwoDiffer : {A : Type 0} → (List ℕ → Type 0) → (List ℕ → A) → Type 0
+TwoDiffer comes given = (y : List ℕ) × (z : List ℕ) × comes y × comes z × (given y ≢ given z)
+
+-- Which files there are: the first ones that all continuations have alike in the end, closed; and then the one that has
+-- a byte, open.
+pub record AreMade (comes : List ℕ → Type 0) (work : Work) (x : List ℕ) (files : List File) : Type 0 where
+  pub closed : List File
+  pub next : List File
+  pub are : files ≡ closed ++ next
+  pub are_closed : AllClosed closed
+  -- in the end every continuation has these
+  pub stay : (y : List ℕ) → comes y → take (length closed) (work.whole (x ++ y)).files ≡ closed
+  -- and no other, or two of them differ in one more
+  pub most : ((y : List ℕ) → comes y → (work.whole (x ++ y)).files ≡ closed)
+      ⊎ TwoDiffer comes (λ y. take (suc (length closed)) (work.whole (x ++ y)).files)
+  pub begun : (next ≡ []) ⊎ ((file : File) × (next ≡ file ∷ []) × (file.state ≡ Open) × (0 < length file.bytes))
 
 -- where byte i of an input goes, counted from 0: files are its chunks, one after another
 abbrev pub chunk_spots : ChunksPlan → Option ℕ → List ℕ → ℕ → List Spot

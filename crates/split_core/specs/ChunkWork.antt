@@ -71,13 +71,14 @@ chunks_work plan said = record {
 abbrev pub piece_at : ℕ → CutUp → Part
 piece_at place cut = only_out (get_or (pieces_in cut) place [])
 
--- Standard output has all that goes with its chunk; only where the size was said that is known. Then the run ends, and it
--- isn't seen whether the input changed.
+-- The chunk and those before it have all that goes with them; only where the size was said that is known. Then the run
+-- ends, and it isn't seen whether the input changed.
 abbrev pub is_written : ℕ → Chunks → Option ℕ → List ℕ → Bool
 is_written place chunks None x = false
 is_written place chunks (Some size) x = has_ended chunks size x place
 
--- What goes before the chunk is passed over, and the first one is written as far as it is decided.
+-- What goes before the chunk is passed over, and the first one is written as far as it is decided. Where the size was
+-- said, nothing waits, and so no memory is asked for.
 abbrev pub chunk_work : ℕ → Chunks → Option ℕ → Work
 chunk_work place chunks said = record {
   settled = λ x. piece_at place (decided chunks (max place 1) said x);
@@ -86,7 +87,7 @@ chunk_work place chunks said = record {
   is_complete = is_written place chunks said;
   verdict = λ x. if is_written place chunks said x || is_as_said said x then None else Some Changed;
   clears = false;
-  means = on_output true;
+  means = on_output (is_none said);
   ahead = 0;
 }
 

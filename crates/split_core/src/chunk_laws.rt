@@ -1,19 +1,20 @@
 //! Laws of chunks, with no code: each stands on the contract of a function whose body is empty.
-ghost use Rattle.std.specs.Prelude.{◌≡◌, ◌<◌, ◌≤◌, ◌+◌, ◌-◌, ◌++◌, ◌/◌, ◌%◌, ℕ, List, [], Option, drop, false, get_or, length, take, true};
-ghost use Rattle.std.specs.List.{flat_map, range_with_len};
+ghost use Rattle.std.specs.Prelude.{◌≡◌, ◌<◌, ◌≤◌, ◌+◌, ◌-◌, ◌++◌, ◌/◌, ◌%◌, ℕ, List, [], Option, Some, drop, false, get_or, length, take, true};
+ghost use Rattle.std.specs.List.{filter, flat_map, range_with_len};
 ghost use Rattle.ports_core.specs.Agreed.{ArePlaced, DifferOn, IsAgreed, file_bytes};
 ghost use Rattle.ports_core.specs.Draft.{opening_line};
 ghost use Rattle.ports_core.specs.Part.{only_out, openings_for};
+ghost use Rattle.ports_core.specs.declared.verdict.Verdict.TheVariants.{Changed};
 ghost use Rattle.seg_core.specs.Line.{first_lines, joined, line_count, lines_of};
 ghost use Rattle.seg_core.specs.declared.cut.Chunks.{Chunks};
 ghost use Rattle.seg_core.specs.declared.cut.Cut.TheVariants.{Round};
 ghost use Rattle.seg_core.specs.declared.cut.Way.TheVariants as way;
 ghost use Rattle.seg_core.specs.declared.unit.Unit.TheVariants.{Bytes, Lines};
 ghost use Rattle.split_core.specs.Chunks.{IsInChunk, IsInPiece, chunk_start, chunks_in, is_as_said, is_longer};
-ghost use Rattle.split_core.specs.ChunkAgreed.{AgreeAt, CanFollow, chunk_spots, one_chunk_spots};
+ghost use Rattle.split_core.specs.ChunkAgreed.{AgreeAt, AreMade, CanFollow, TwoDiffer, chunk_spots, one_chunk_spots};
 ghost use Rattle.split_core.specs.Place.{beside_output};
 ghost use Rattle.split_core.specs.ChunkWork.{ChunksPlan, chunk_work, chunks_settled, chunks_whole, chunks_work, turn_work, way_work};
-ghost use Rattle.split_core.specs.Split.{Filing, are_named};
+ghost use Rattle.split_core.specs.Split.{Filing, are_named, has_bytes};
 
 /// What goes with each chunk of a whole text: there are as many of these pieces as were asked for, and together they
 /// are the text. Chunks of bytes have the bytes from where they begin to where the next one does; all have the same
@@ -61,7 +62,8 @@ pub fn one_chunk_is_its_file()
 /// What is settled is what all continuations agree on, and the bytes that wait are those that two continuations put to
 /// different places, or one of them nowhere. So nothing is written that could still go into another file, and nothing
 /// is kept back that can't. Where the size was said, continuations are those with which the input has it, and no byte
-/// waits. Where a byte goes is said by spots, which are right.
+/// waits. Where a byte goes is said by spots, which are right. Files are closed as soon as all continuations have them
+/// and those before them alike in the end, empty ones too, and one more is open once it has a byte.
 pub fn chunks_agree()
     ensures outputs { (plan : ChunksPlan) (said : Option ℕ) (x : List ℕ)
         → 0 < plan.chunks.count → plan.filing.verbose ≡ false
@@ -71,6 +73,9 @@ pub fn chunks_agree()
         → 0 < plan.chunks.count → are_named plan.filing.names plan.chunks.count ≡ true → is_longer said x ≡ false
         → AgreeAt (CanFollow said x) (beside_output (chunks_work plan said)) x
         (record ((chunks_work plan said).settled x) { out = [] }) }
+    ensures made { (plan : ChunksPlan) (said : Option ℕ) (x : List ℕ)
+        → 0 < plan.chunks.count → are_named plan.filing.names plan.chunks.count ≡ true → is_longer said x ≡ false
+        → AreMade (CanFollow said x) (chunks_work plan said) x ((chunks_work plan said).settled x).files }
     ensures waits { (plan : ChunksPlan) (said : Option ℕ) (x : List ℕ)
         → 0 < plan.chunks.count → are_named plan.filing.names plan.chunks.count ≡ true → is_longer said x ≡ false
         → DifferOn (CanFollow said x) (chunk_spots plan said) x ((chunks_work plan said).waiting x) }
@@ -86,6 +91,52 @@ pub fn chunks_agree()
         → ArePlaced (chunk_work place chunks said) (one_chunk_spots place chunks said) }
     ensures turn { (place count delim : ℕ) (x : List ℕ)
         → IsAgreed (turn_work place count delim) x ((turn_work place count delim).settled x) }
+{}
+
+/// The output of one chunk is complete where what that chunk and those before it have stays, whatever comes, and no sooner:
+/// so an empty one is complete with those before it. That is only so where the size was said.
+pub fn one_chunk_is_complete()
+    ensures complete { (place : ℕ) (chunks : Chunks) (said : Option ℕ) (x : List ℕ) → place < chunks.count
+        → (chunk_work place chunks said).is_complete x ≡ true → (at : ℕ) → at ≤ place → (y z : List ℕ)
+        → (chunk_work at chunks said).whole (x ++ y) ≡ (chunk_work at chunks said).whole (x ++ z) }
+    ensures going { (place : ℕ) (chunks : Chunks) (said : Option ℕ) (x : List ℕ) → place < chunks.count
+        → is_longer said x ≡ false → (chunk_work place chunks said).is_complete x ≡ false
+        → (at : ℕ) × (at ≤ place) × TwoDiffer (CanFollow said x) (λ y. (chunk_work at chunks said).whole (x ++ y)) }
+{}
+
+/// Where empty files are left out, the files have what those have that aren't empty where none is: once some bytes came in,
+/// and in the end.
+pub fn empty_chunks_are_left_out()
+    ensures settled { (chunks : Chunks) (filing : Filing) (said : Option ℕ) (x : List ℕ)
+        → 0 < chunks.count → are_named filing.names chunks.count ≡ true
+        → file_bytes (chunks_settled (record { chunks = chunks; elide = true; filing = filing }) said x)
+        ≡ filter has_bytes
+        (file_bytes (chunks_settled (record { chunks = chunks; elide = false; filing = filing }) said x)) }
+    ensures whole { (chunks : Chunks) (filing : Filing) (said : Option ℕ) (x : List ℕ)
+        → 0 < chunks.count → are_named filing.names chunks.count ≡ true
+        → file_bytes (chunks_whole (record { chunks = chunks; elide = true; filing = filing }) said x)
+        ≡ filter has_bytes
+        (file_bytes (chunks_whole (record { chunks = chunks; elide = false; filing = filing }) said x)) }
+{}
+
+/// An input that has another length than it said has changed; where one chunk is written, that is seen as long as the output
+/// isn't complete. With more bytes than were said there are all chunks as they were said, and with fewer what came: the
+/// files have it where they had it before the end.
+pub fn other_lengths_are_changes()
+    ensures files { (plan : ChunksPlan) (size : ℕ) (x : List ℕ) → (length x ≡ size → ⊥)
+        → (chunks_work plan (Some size)).verdict x ≡ Some Changed }
+    ensures alone { (place : ℕ) (chunks : Chunks) (size : ℕ) (x : List ℕ) → (length x ≡ size → ⊥)
+        → (chunk_work place chunks (Some size)).is_complete x ≡ false
+        → (chunk_work place chunks (Some size)).verdict x ≡ Some Changed }
+    ensures more { (plan : ChunksPlan) (size : ℕ) (x : List ℕ)
+        → (chunks_work plan (Some size)).whole x ≡ (chunks_work plan (Some size)).whole (take size x) }
+    ensures all { (plan : ChunksPlan) (size : ℕ) (x : List ℕ)
+        → 0 < plan.chunks.count → are_named plan.filing.names plan.chunks.count ≡ true
+        → joined (file_bytes ((chunks_work plan (Some size)).whole x)) ≡ take size x }
+    ensures same { (plan : ChunksPlan) (size : ℕ) (x : List ℕ)
+        → 0 < plan.chunks.count → are_named plan.filing.names plan.chunks.count ≡ true
+        → file_bytes ((chunks_work plan (Some size)).whole x)
+        ≡ file_bytes ((chunks_work plan (Some size)).settled x) }
 {}
 
 /// Where standard output is told of the files of chunks, it has a line for each that was opened, in their order, and

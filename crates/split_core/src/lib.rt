@@ -19,7 +19,8 @@ mod step;
 mod turn;
 
 pub use chunk_laws::{
-    chunks_agree, chunks_are_even, lines_are_of_chunk_files, one_chunk_is_its_file,
+    chunks_agree, chunks_are_even, empty_chunks_are_left_out, lines_are_of_chunk_files,
+    one_chunk_is_complete, one_chunk_is_its_file, other_lengths_are_changes,
 };
 pub use laws::{
     agreed_is_settled, all_files_have_names, line_byte_parts, lines_are_dealt,

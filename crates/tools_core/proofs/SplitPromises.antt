@@ -9,7 +9,7 @@ use Rattle.ports_core.specs.Name.{ordered_count, IsWide, keeps_order, Naming, ha
 use Rattle.ports_core.specs.declared.numbering.Numbering.TheVariants.{Formatted}
 use Rattle.ports_core.specs.declared.form.Form.{Form}
 use Rattle.ports_core.proofs.OrderLemmas.{in_order}
-use Rattle.tools_core.specs.Promises.{AreChunks, AreEven, AreInOrder, KeepLines, WritesChunk, makes_files, text_at, Run, Does, HasInput, AreListed, ArePieces, AreLinePieces, AreUncut, AreDealt, EndsLine, IsFilled, IsSound, contents_of, files_of, lines_telling, output_of}
+use Rattle.tools_core.specs.Promises.{AreChunks, AreEven, AreInOrder, KeepLines, Splits, makes_files, text_at, Run, Does, HasInput, AreListed, ArePieces, AreLinePieces, AreUncut, AreDealt, EndsLine, IsFilled, IsSound, contents_of, files_of, lines_telling, output_of}
 use Rattle.std.proofs.lemmas.List.{get_or_append_left, length-map, length-take, length-take-le, length-drop, get_or-take, get_or_past, take-append-drop, take-append-le, take_all}
 use Rattle.std.proofs.lemmas.List.FromFn.{get_or-map-range_with_len, length-map-range_with_len}
 use Rattle.std.proofs.lemmas.Nat.{mod_below}
@@ -30,7 +30,7 @@ use Rattle.run_core.specs.Input.{is_dash}
 use Rattle.run_core.specs.Task.{after_part}
 use Rattle.split_core.specs.Chunks.{chunks_in, chunks_of, in_the_end, is_as_said, size_by}
 use Rattle.split_core.specs.ChunkWork.{files_by, kept, piece_at, way_work}
-use Rattle.split_core.specs.laws.ChunkLaws.{rest_none}
+use Rattle.split_core.specs.laws.ChunkLaws.{map_same, rest_none}
 use Rattle.split_core.proofs.ChunkLemmas.{all_pieces, count_chunks, join_chunks, lines_in_chunks, longer_chunk, shorter_chunk}
 use Rattle.ports_core.specs.Draft.{opening_line, part_of, told_of_files}
 use Rattle.ports_core.specs.Part.{File, only_out}
@@ -518,11 +518,11 @@ dealt_lines {delim} {n} {elide} {x} some = record {
 -- Chunks
 
 pub chunk_files : (chunks : Chunks) (elide : Bool) (x : List ℕ) → 0 < chunks.count
-    → AreChunks chunks.count elide x (kept elide (chunks_in chunks x))
+    → AreChunks chunks.count elide x (chunks_in chunks x) (kept elide (chunks_in chunks x))
 chunk_files chunks elide x some = record {
+  count = count_chunks chunks x some;
+  files = refl;
   all = joined_kept elide (chunks_in chunks x) ∙ join_chunks chunks x some;
-  count = λ is. ap (λ those. length (kept those (chunks_in chunks x))) is ∙ count_chunks chunks x some;
-  left_out = λ is. rw is (all_some (chunks_in chunks x));
 } where
   joined_kept : (elide : Bool) (pieces : List (List ℕ)) → joined (kept elide pieces) ≡ joined pieces
   joined_kept true pieces = joined_some pieces
@@ -555,29 +555,39 @@ by_way {asked} {way} {input} P holds does has is =
     rw (split.contents ∙ ap (λ those. pieces_by those asked.elide input) is) (holds (rw is at split.can.way))
 
 -- what a run wrote to standard output alone
-pub wrote_alone : {run : Run} {asked : SplitAsked} {way : Way} {input : List ℕ} → Does run (Split asked) → HasInput run input
-    → asked.way ≡ way → makes_files way ≡ false → output_of run ≡ alone_by way input
-wrote_alone {input = input} does has is makes =
-    (is_split does has).alone (ap makes_files is ∙ makes) ∙ ap (λ way. alone_by way input) is
+pub wrote_alone : {run : Run} {asked : SplitAsked} {way : Way} {input : List ℕ} → Splits run asked way input
+    → makes_files way ≡ false → output_of run ≡ alone_by way input
+wrote_alone {input = input} splits makes =
+    (is_split splits.does splits.has).alone (ap makes_files splits.is ∙ makes) ∙ ap (λ way. alone_by way input) splits.is
 
 -- One file alone
 
-pub chunk_alone : {one split : Run} {alone asked : SplitAsked} {place : ℕ} {chunks : Chunks} {input : List ℕ}
-    → WritesChunk one alone place chunks input → Does split (Split asked) → HasInput split input
-    → asked.way ≡ way.Chunks chunks → asked.elide ≡ false → output_of one ≡ text_at (contents_of split) place
-chunk_alone {asked = asked} {place} {chunks} {input} writes does has is elide =
-    wrote_alone writes.does writes.has writes.way refl
-    ∙ sym (by_way (λ contents. text_at contents place ≡ get_or (chunks_in chunks input) place []) (λ some. rw elide refl) does has is)
+-- it is one of those that all files have
+turn_is : {one : Run} {asked : SplitAsked} {place n delim : ℕ} {input : List ℕ}
+    → Splits one asked (way.Turn place n delim) input → output_of one ≡ text_at (round_robin delim n input) place
+turn_is {asked = asked} {place} {n} {delim} {input} splits =
+    let limits : IsInLimits (way.Turn place n delim) = rw splits.is at (is_split splits.does splits.has).can.way in
+    wrote_alone splits refl ∙ sym (get_or-map-range_with_len (share_of delim n input) 0 n place place [] limits.1 (omega arith))
 
 pub turn_alone : {one split : Run} {alone asked : SplitAsked} {place n delim : ℕ} {input : List ℕ}
-    → Does one (Split alone) → HasInput one input → alone.way ≡ way.Turn place n delim → Does split (Split asked)
-    → HasInput split input → asked.way ≡ way.Cut (Round n delim) → asked.elide ≡ false
-    → output_of one ≡ text_at (contents_of split) place
-turn_alone {alone = alone} {asked} {place} {n} {delim} {input} does has is does_too has_too is_too elide =
-    let limits : IsInLimits (way.Turn place n delim) = rw is at (is_split does has).can.way in
-    wrote_alone does has is refl
-    ∙ sym (by_way (λ contents. text_at contents place ≡ share_of delim n input place)
-    (λ some. rw elide (get_or-map-range_with_len (share_of delim n input) 0 n place place [] limits.1 (omega arith))) does_too has_too is_too)
+    → Splits one alone (way.Turn place n delim) input → Splits split asked (way.Cut (Round n delim)) input
+    → asked.elide ≡ false → output_of one ≡ text_at (contents_of split) place
+turn_alone {asked = asked} {place} {n} {delim} {input} splits too elide = turn_is splits
+    ∙ sym (by_way (λ contents. text_at contents place ≡ text_at (round_robin delim n input) place) (λ some. rw elide refl)
+    too.does too.has too.is)
+
+pub turn_lines : {one : Run} {asked : SplitAsked} {place n delim : ℕ} (k : ℕ) {input : List ℕ}
+    → Splits one asked (way.Turn place n delim) input
+    → text_at (lines_of delim (output_of one)) k ≡ text_at (lines_of delim input) (place + k * n)
+turn_lines {asked = asked} {place} {n} {delim} k {input} splits =
+    let limits : IsInLimits (way.Turn place n delim) = rw splits.is at (is_split splits.does splits.has).can.way in
+    ap (λ text. text_at (lines_of delim text) k) (turn_is splits) ∙ line_at delim n place k input limits.1
+
+pub all_turns : (runs : ℕ → Run) (asked : ℕ → SplitAsked) (n delim : ℕ) (input : List ℕ) → 0 < n
+    → ((place : ℕ) → place < n → Splits (runs place) (asked place) (way.Turn place n delim) input)
+    → AreDealt delim n false input (map (λ place. output_of (runs place)) (range_with_len 0 n))
+all_turns runs asked n delim input some each = rw (map_same (λ place. output_of (runs place)) (share_of delim n input) 0 n
+    (λ place from within. wrote_alone (each place (omega (arith, within))) refl)) (dealt_lines some)
 
 flat_alike : (f g : ℕ → List ℕ) (start n : ℕ) → ((place : ℕ) → place < start + n → f place ≡ g place)
     → flat_map f (range_with_len start n) ≡ flat_map g (range_with_len start n)
@@ -587,11 +597,11 @@ flat_alike f g start (suc n) same =
     ∙ ap (λ rest. g start ++ rest) (flat_alike f g (start + 1) n (λ place within. same place (omega (arith, within))))
 
 pub all_alone : (runs : ℕ → Run) (asked : ℕ → SplitAsked) (chunks : Chunks) (input : List ℕ) → 0 < chunks.count
-    → ((place : ℕ) → place < chunks.count → WritesChunk (runs place) (asked place) place chunks input)
+    → ((place : ℕ) → place < chunks.count → Splits (runs place) (asked place) (way.Chunk place chunks) input)
     → flat_map (λ place. output_of (runs place)) (range_with_len 0 chunks.count) ≡ input
 all_alone runs asked chunks input some each =
     flat_alike (λ place. output_of (runs place)) (λ place. get_or (chunks_in chunks input) place []) 0 chunks.count
-    (λ place within. let writes = each place (omega (arith, within)) in wrote_alone writes.does writes.has writes.way refl)
+    (λ place within. wrote_alone (each place (omega (arith, within))) refl)
     ∙ ap (λ n. flat_map (λ place. get_or (chunks_in chunks input) place []) (range_with_len 0 n)) (sym (count_chunks chunks input some))
     ∙ all_pieces (chunks_in chunks input) 0 (chunks_in chunks input) (λ i. ap (λ at. get_or (chunks_in chunks input) at []) (omega arith))
     ∙ join_chunks chunks input some

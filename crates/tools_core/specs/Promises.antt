@@ -45,10 +45,10 @@ use Rattle.words_core.specs.declared.settings.Settings.{Settings}
 use Rattle.words_core.specs.declared.settings.Settings.TheVariants.{Head, Tail, Split, Csplit, Tee, About}
 use Rattle.words_core.specs.EndsWords.{EndsAsked}
 use Rattle.words_core.specs.declared.value.Followed.{Followed}
-use Rattle.seg_core.specs.declared.cut.Chunks.{Chunks}
 use Rattle.seg_core.specs.declared.cut.Way.{Way}
 use Rattle.seg_core.specs.declared.cut.Way.TheVariants as way
 use Rattle.split_core.specs.Chunks.{IsInChunk, IsInPiece}
+use Rattle.split_core.specs.ChunkWork.{kept}
 use Rattle.words_core.specs.SplitWords.{SplitAsked}
 use Rattle.words_core.specs.Words.{HasBadOperands, settings_of}
 use Rattle.watch_core.specs.Snapshot.{Snapshot}
@@ -223,26 +223,27 @@ pub record AreDealt (delim n : ℕ) (elide : Bool) (input : List ℕ) (contents 
   pub count : elide ≡ false → length contents ≡ n
   pub left_out : elide ≡ true → All (λ bytes. 0 < length bytes) contents
 
--- The files of chunks are joined the input. There are n, or those that have a byte, where the others are left out.
-pub record AreChunks (n : ℕ) (elide : Bool) (input : List ℕ) (contents : List (List ℕ)) : Type 0 where
+-- There are n pieces. Each has its file, or those that have a byte, where the others are left out; joined these are the
+-- input.
+pub record AreChunks (n : ℕ) (elide : Bool) (input : List ℕ) (pieces contents : List (List ℕ)) : Type 0 where
+  pub count : length pieces ≡ n
+  pub files : contents ≡ kept elide pieces
   pub all : joined contents ≡ input
-  pub count : elide ≡ false → length contents ≡ n
-  pub left_out : elide ≡ true → All (λ bytes. 0 < length bytes) contents
 
 -- each has as many bytes as any other, or one more: the first ones do
 abbrev pub AreEven : ℕ → List ℕ → List (List ℕ) → Type 0
-AreEven n input contents = (place : ℕ) → place < n
-    → length (text_at contents place) ≡ length input / n + (if nat_lt place (length input % n) then 1 else 0)
+AreEven n input pieces = (place : ℕ) → place < n
+    → length (text_at pieces place) ≡ length input / n + (if nat_lt place (length input % n) then 1 else 0)
 
 -- their lines are those of the input, in their order, so none is cut
 abbrev pub KeepLines : ℕ → List ℕ → List (List ℕ) → Type 0
 KeepLines delim input contents = flat_map (lines_of delim) contents ≡ lines_of delim input
 
--- each line is in the file in whose chunk its first byte is
+-- each line is in the piece in whose chunk its first byte is
 abbrev pub BeginInChunks : ℕ → ℕ → List ℕ → List (List ℕ) → Type 0
-BeginInChunks delim n input contents = (place i : ℕ) → place < n → i < line_count delim input
+BeginInChunks delim n input pieces = (place i : ℕ) → place < n → i < line_count delim input
     → IsInChunk n (length input) place (length (first_lines delim i input))
-    → IsInPiece contents place (length (first_lines delim i input))
+    → IsInPiece pieces place (length (first_lines delim i input))
 
 -- the input goes to files, and not what one of them would have to standard output
 abbrev pub makes_files : Way → Bool
@@ -251,11 +252,11 @@ makes_files (way.Chunks chunks) = true
 makes_files (way.Chunk place chunks) = false
 makes_files (way.Turn place n delim) = false
 
--- a run wrote the chunk at this place, of the input, to standard output
-pub record WritesChunk (run : Run) (asked : SplitAsked) (place : ℕ) (chunks : Chunks) (input : List ℕ) : Type 0 where
+-- a run split this input in this way
+pub record Splits (run : Run) (asked : SplitAsked) (way : Way) (input : List ℕ) : Type 0 where
   pub does : Does run (Split asked)
   pub has : HasInput run input
-  pub way : asked.way ≡ way.Chunk place chunks
+  pub is : asked.way ≡ way
 
 -- This operand begins with `%` (37). One that does so is a pattern whose section is skipped, where the operands of a
 -- `csplit` are right.

@@ -1,14 +1,14 @@
 //! What people rest on, as laws of runs, with no code: each stands on the contract of a function whose body is empty. They
 //! speak of runs over inputs and outputs that tell their bytes, as those in memory do, and of what `run` and `run_follow` ensure of
 //! each; where nothing else is said, of runs whose status is 0. Each run of the program, `run_words`, is one of these.
-ghost use Rattle.std.specs.Prelude.{◌≡◌, ◌<◌, ◌^◌, ◌⊎◌, ◌+◌, ◌++◌, ◌∷◌, [], ℕ, List, Ok, true, false, length, if◌then◌else◌};
+ghost use Rattle.std.specs.Prelude.{◌≡◌, ◌<◌, ◌^◌, ◌⊎◌, ◌+◌, ◌*◌, ◌++◌, ◌∷◌, [], ℕ, List, Ok, true, false, length, map, if◌then◌else◌};
 ghost use Rattle.ends_core.specs.Ends.{tail_of};
 ghost use Rattle.follow_core.specs.Run.{AreKept, name_text};
 ghost use Rattle.follow_core.specs.Version.{entries_of};
 ghost use Rattle.ports_core.specs.Slot.{slot_at};
 ghost use Rattle.ports_core.specs.declared.on_broken.OnBroken.TheVariants.{Stop};
 ghost use Rattle.ports_core.specs.Source.{source_of};
-ghost use Rattle.seg_core.specs.Line.{joined, line_count};
+ghost use Rattle.seg_core.specs.Line.{joined, line_count, lines_of};
 ghost use Rattle.seg_core.specs.declared.count.Sign.TheVariants.{Minus, Plain, Plus};
 ghost use Rattle.seg_core.specs.declared.cut.Cut.TheVariants.{Parts, Round};
 ghost use Rattle.seg_core.specs.declared.cut.Limit.TheVariants.{Bytes, LineBytes, Lines};
@@ -17,10 +17,11 @@ ghost use Rattle.seg_core.specs.declared.cut.Way.TheVariants as way;
 ghost use Rattle.seg_core.specs.declared.cut.Chunks.{Chunks};
 ghost use Rattle.seg_core.specs.declared.unit.Unit.TheVariants as unit;
 ghost use Rattle.std.specs.List.{flat_map, range_with_len};
+ghost use Rattle.split_core.specs.Chunks.{chunks_in};
 ghost use Rattle.operand_core.specs.Reading.{Asks};
 ghost use Rattle.operand_core.specs.declared.operand.Operand.{Operand};
 ghost use Rattle.tools_core.specs.Following.{is_name};
-ghost use Rattle.tools_core.specs.Promises.{AreChunks, AreCopies, AreDealt, AreEven, AreLinePieces, AreListed, AreNumbered, ArePieces, AreSections, AreUncut, BeginInChunks, BeginsEach, Completes, CountAlike, Does, AsksToFollow, EndsWithBreak, FindAlike, Follows, HasInput, HasLong, IsBare, IsHead, IsOfProgram, IsStopped, IsTail, KeepLines, SaysWhy, LeaveAlike, OnlyGrows, Ran, Run, SkipNothing, WhyBroken, WritesChunk, contents_of, files_of, lines_telling, makes_files, output_of, text_at};
+ghost use Rattle.tools_core.specs.Promises.{AreChunks, AreCopies, AreDealt, AreEven, AreLinePieces, AreListed, AreNumbered, ArePieces, AreSections, AreUncut, BeginInChunks, BeginsEach, Completes, CountAlike, Does, AsksToFollow, EndsWithBreak, FindAlike, Follows, HasInput, HasLong, IsBare, IsHead, IsOfProgram, IsStopped, IsTail, KeepLines, SaysWhy, LeaveAlike, OnlyGrows, Ran, Run, SkipNothing, Splits, WhyBroken, contents_of, files_of, lines_telling, makes_files, output_of, text_at};
 ghost use Rattle.tools_core.specs.Tasks.{is_plus};
 ghost use Rattle.words_core.specs.CsplitWords.{CsplitAsked};
 ghost use Rattle.words_core.specs.EndsWords.{EndsAsked};
@@ -87,11 +88,12 @@ pub fn cutting_changes_nothing()
 /// `-l N` and `-b N` they are joined the input, and each but the last has N lines or bytes; `-l` cuts no line. With `-C N`
 /// they are joined the input, each has as many lines as fit into N bytes, where an open last line counts with its delimiter,
 /// and a line is cut only where it is longer than that; an input has just one such list of pieces. With `-n r/N` each line is
-/// in just one file, in turn. With `-n N` and `-n l/N` there are N files, or with `-e` those that have a byte, and they are
-/// joined the input; `-n l/N` cuts no line. Without `-e`, with `-n N` each has as many bytes as any other, or one more, the
-/// first ones; and with `-n l/N` each line is where its first byte's chunk is. Standard output has nothing; with `--verbose`
-/// it has a line for each file, in their order. With K, as in `-n K/N`, there is no file, and standard output has what file
-/// K has without `-e`; so `split -n K/N`, for K from 1 to N, writes the input.
+/// in just one file, in turn. With `-n N` and `-n l/N` the input is N pieces, and each has its file, or with `-e` each that has
+/// a byte; joined they are the input, and `-n l/N` cuts no line. With `-n N` each piece has as many bytes as any other, or one
+/// more, the first ones; and with `-n l/N` each line is in the piece in whose chunk its first byte is. Standard output has
+/// nothing; with `--verbose` it has a line for each file, in their order. With K there is no file, and standard output has
+/// piece K, or with `-n r/K/N` what file K has without `-e`: the lines from the Kth on, each N lines after the one before. So
+/// `split -n K/N`, for K from 1 to N, writes the input, and `-n r/K/N` each of its lines once.
 pub fn split_loses_nothing()
     ensures listed { (split : Run) (asked : SplitAsked) (input : List ℕ) → Does split (Split asked)
         → HasInput split input → AreListed asked (files_of split) }
@@ -114,32 +116,33 @@ pub fn split_loses_nothing()
     ensures dealt { (split : Run) (asked : SplitAsked) (n delim : ℕ) (input : List ℕ) → Does split (Split asked)
         → HasInput split input → asked.way ≡ Cut (Round n delim)
         → AreDealt delim n asked.elide input (contents_of split) }
-    ensures chunks { (split : Run) (asked : SplitAsked) (chunks : Chunks) (input : List ℕ) → Does split (Split asked)
-        → HasInput split input → asked.way ≡ way.Chunks chunks
-        → AreChunks chunks.count asked.elide input (contents_of split) }
-    ensures even { (split : Run) (asked : SplitAsked) (chunks : Chunks) (input : List ℕ) → Does split (Split asked)
-        → HasInput split input → asked.way ≡ way.Chunks chunks → chunks.unit ≡ unit.Bytes → asked.elide ≡ false
-        → AreEven chunks.count input (contents_of split) }
+    ensures chunks { (split : Run) (asked : SplitAsked) (chunks : Chunks) (input : List ℕ)
+        → Splits split asked (way.Chunks chunks) input
+        → AreChunks chunks.count asked.elide input (chunks_in chunks input) (contents_of split) }
+    ensures even { (chunks : Chunks) (input : List ℕ) → chunks.unit ≡ unit.Bytes
+        → AreEven chunks.count input (chunks_in chunks input) }
     ensures whole_lines { (split : Run) (asked : SplitAsked) (chunks : Chunks) (input : List ℕ)
-        → Does split (Split asked) → HasInput split input → asked.way ≡ way.Chunks chunks → chunks.unit ≡ unit.Lines
+        → Splits split asked (way.Chunks chunks) input → chunks.unit ≡ unit.Lines
         → KeepLines chunks.delim input (contents_of split) }
-    ensures first_bytes { (split : Run) (asked : SplitAsked) (chunks : Chunks) (input : List ℕ)
-        → Does split (Split asked) → HasInput split input → asked.way ≡ way.Chunks chunks → chunks.unit ≡ unit.Lines
-        → asked.elide ≡ false → BeginInChunks chunks.delim chunks.count input (contents_of split) }
+    ensures first_bytes { (chunks : Chunks) (input : List ℕ) → chunks.unit ≡ unit.Lines
+        → BeginInChunks chunks.delim chunks.count input (chunks_in chunks input) }
     ensures alone { (one : Run) (asked : SplitAsked) (input : List ℕ) → Does one (Split asked) → HasInput one input
         → makes_files asked.way ≡ false → files_of one ≡ [] }
-    ensures chunk { (one split : Run) (alone asked : SplitAsked) (place : ℕ) (chunks : Chunks) (input : List ℕ)
-        → WritesChunk one alone place chunks input → Does split (Split asked) → HasInput split input
-        → asked.way ≡ way.Chunks chunks → asked.elide ≡ false
-        → output_of one ≡ text_at (contents_of split) place }
+    ensures chunk { (one : Run) (asked : SplitAsked) (place : ℕ) (chunks : Chunks) (input : List ℕ)
+        → Splits one asked (way.Chunk place chunks) input → output_of one ≡ text_at (chunks_in chunks input) place }
     ensures turn { (one split : Run) (alone asked : SplitAsked) (place n delim : ℕ) (input : List ℕ)
-        → Does one (Split alone) → HasInput one input → alone.way ≡ way.Turn place n delim → Does split (Split asked)
-        → HasInput split input → asked.way ≡ Cut (Round n delim) → asked.elide ≡ false
-        → output_of one ≡ text_at (contents_of split) place }
+        → Splits one alone (way.Turn place n delim) input → Splits split asked (Cut (Round n delim)) input
+        → asked.elide ≡ false → output_of one ≡ text_at (contents_of split) place }
+    ensures turn_lines { (one : Run) (asked : SplitAsked) (place n delim k : ℕ) (input : List ℕ)
+        → Splits one asked (way.Turn place n delim) input
+        → text_at (lines_of delim (output_of one)) k ≡ text_at (lines_of delim input) (place + k * n) }
     ensures together { (runs : ℕ → Run) (asked : ℕ → SplitAsked) (chunks : Chunks) (input : List ℕ)
         → 0 < chunks.count
-        → ((place : ℕ) → place < chunks.count → WritesChunk (runs place) (asked place) place chunks input)
+        → ((place : ℕ) → place < chunks.count → Splits (runs place) (asked place) (way.Chunk place chunks) input)
         → flat_map (λ place. output_of (runs place)) (range_with_len 0 chunks.count) ≡ input }
+    ensures turns { (runs : ℕ → Run) (asked : ℕ → SplitAsked) (n delim : ℕ) (input : List ℕ) → 0 < n
+        → ((place : ℕ) → place < n → Splits (runs place) (asked place) (way.Turn place n delim) input)
+        → AreDealt delim n false input (map (λ place. output_of (runs place)) (range_with_len 0 n)) }
 {}
 
 /// `csplit` loses nothing. Its files are numbered in their order, and no two have one name. Their order is that of their names,

@@ -60,9 +60,10 @@ pub record Changes (told : Bool) (chunker : ChunkerState) (high : List ℕ → P
   pub all : Comes told chunker high old new next None
   pub judged : (x : List ℕ) → Holds chunker x → Judged x
 
--- there was no room for the piece, and nothing was written
+-- bytes wait, and there was no room for the piece: nothing was written
 pub record LacksRoom (chunker : ChunkerState) (piece : List ℕ) (old new : List Slot) (next : ChunkerState)
     : Type 0 where
+  pub unsaid : chunker.said ≡ None
   pub same : IsLike chunker next
   pub aim : next.cutter.target.aim ≡ chunker.cutter.target.aim
   pub bound : total next ≤ total chunker + length piece

@@ -1,0 +1,445 @@
+-- Which files of chunks there are once some bytes came in, and when the output of one chunk is complete.
+use Rattle.std.proofs.Common.{◌≡◌, ℕ, ◌+◌, ◌-◌, ◌*◌, ◌<◌, ◌≤◌, max, zero, suc, Bool, true, false, List, [], ◌∷◌, ◌++◌, length, take, drop, map, get_or, replicate, Option, Some, None, ◌⊎◌, inl, inr, refl, sym, ◌∙◌, ap, subst, arith}
+use Rattle.std.proofs.Math.Seq.{get_or-append_seam, take-append_seam}
+use Rattle.std.proofs.lemmas.Bool.{cases_lt, cond_both, eq-eqb, eqb-true, false≢true, leb-true, le-leb, ne_eqb}
+use Rattle.std.proofs.lemmas.List.{append-nil, drop-append-le, length-append, length-map, length-replicate, map-append, take-take}
+use Rattle.std.proofs.lemmas.List.Elements.{filter-append}
+use Rattle.std.proofs.lemmas.List.FromFn.{length-map-range_with_len}
+use Rattle.std.specs.List.{filter, range_with_len}
+use Rattle.seg_core.specs.Line.{joined}
+use Rattle.seg_core.specs.declared.cut.Chunks.{Chunks}
+use Rattle.seg_core.specs.declared.unit.Unit.{Unit as Which}
+use Rattle.seg_core.specs.declared.unit.Unit.TheVariants.{Bytes, Lines}
+use Rattle.ports_core.specs.Agreed.{file_bytes}
+use Rattle.ports_core.specs.Draft.{files_from, file_at, part_of}
+use Rattle.ports_core.specs.Part.{File, Part}
+use Rattle.ports_core.specs.declared.slot.State.TheVariants.{Open, Closed}
+use Rattle.ports_core.specs.declared.verdict.Verdict.TheVariants.{Changed}
+use Rattle.ports_core.proofs.AgreedLemmas.{copies_come}
+use Rattle.ports_core.proofs.ShareLemmas.{closed_files, one_on}
+use Rattle.split_core.specs.Parts.{CutUp, unless_empty}
+use Rattle.split_core.specs.Split.{Filing, Share, are_named, has_bytes, manner_of, share}
+use Rattle.split_core.specs.Chunks.{before_chunk, begun_before, chunk_at, chunk_start, chunks_of, chunks_within, decided, ended, has_ended, in_the_end, is_longer, open_from, pieces_in}
+use Rattle.split_core.specs.ChunkAgreed.{AreMade, CanFollow, TwoDiffer}
+use Rattle.split_core.specs.ChunkWork.{ChunksPlan, chunk_work, chunks_settled, chunks_whole, chunks_work, files_by, kept}
+use Rattle.split_core.specs.laws.BegunLaws.{begun_first, begun_on, begun_within, open_within}
+use Rattle.split_core.specs.laws.ChunkLaws.{all_joined, before_stays, chunks_are, ended_all, ended_is, has_ended_before, no_more, passed_open, rest_none, start_by_size, start_grows}
+use Rattle.split_core.specs.laws.ChunkWorkLaws.{chunk_lawful, first_kept}
+use Rattle.split_core.proofs.ChunkAgreedLemmas.{chunks_left, far, few_decided, files_split, joined_files, none_before_first, none_kept, said_split, settled_files, whole_files}
+use Rattle.split_core.proofs.ChunkLemmas.{bytes_filed, same_pieces}
+use Rattle.split_core.proofs.RoundLemmas.{named_at}
+
+-- A text that goes on with a byte
+
+front_of : (unit : Which) (delim place byte : ℕ) (y : List ℕ) → 0 < place
+    → (more : List ℕ) × (begun_before unit delim place (byte ∷ y) ≡ byte ∷ more)
+front_of Bytes delim zero byte y some = absurd (omega (arith, some))
+front_of Bytes delim (suc place) byte y some = (take place y, refl)
+front_of Lines delim place byte y some = (_, begun_first delim byte place y some)
+
+-- it goes with the chunk that is begun
+next_is : (chunks : Chunks) (size : ℕ) (x y : List ℕ) (byte p : ℕ)
+    → before_chunk chunks size p (x ++ byte ∷ y) ≡ before_chunk chunks size p x
+    → open_from chunks.unit chunks.delim x < chunk_start chunks.count size (p + 1)
+    → (more : List ℕ) × (chunk_at chunks size (x ++ byte ∷ y) p
+    ≡ drop (length (before_chunk chunks size p x)) x ++ byte ∷ more)
+next_is chunks size x y byte p same past =
+    let end = chunk_start chunks.count size (p + 1) in
+    let before = length (before_chunk chunks size p x) in
+    let (more, is) = front_of chunks.unit chunks.delim (max (end - length x) 1) byte y (omega arith) in (
+      more,
+      ap (λ low. drop (length low) (before_chunk chunks size (p + 1) (x ++ byte ∷ y))) same
+          ∙ ap (drop before) (begun_on chunks.unit chunks.delim end x (byte ∷ y) past)
+          ∙ drop-append-le before x _ (begun_within chunks.unit chunks.delim _ x)
+          ∙ ap (λ more. drop before x ++ more) is,
+    )
+
+-- In one continuation the files are those that have ended, then one that goes on with this byte, and later ones.
+record GoesOnWith (elide : Bool) (chunks : Chunks) (said : Option ℕ) (x r : List ℕ) (byte : ℕ) : Type 0 where
+  y : List ℕ
+  comes : CanFollow said x y
+  more : List ℕ
+  later : List (List ℕ)
+  files : files_by elide (in_the_end chunks said (x ++ y))
+      ≡ kept elide (decided chunks 1 said x).full ++ (r ++ byte ∷ more) ∷ later
+
+some_after : (r : List ℕ) (byte : ℕ) (more : List ℕ) → has_bytes (r ++ byte ∷ more) ≡ true
+some_after [] byte more = refl
+some_after (one ∷ r) byte more = refl
+
+first_has : (elide : Bool) (r : List ℕ) (byte : ℕ) (more : List ℕ) {piece : List ℕ} (later : List (List ℕ))
+    → piece ≡ r ++ byte ∷ more → kept elide (piece ∷ later) ≡ (r ++ byte ∷ more) ∷ kept elide later
+first_has elide r byte more later is = rw is (first_kept elide (r ++ byte ∷ more) later (some_after r byte more))
+
+said_goes_on : (elide : Bool) (chunks : Chunks) (size : ℕ) (x : List ℕ) (byte : ℕ) → 0 < chunks.count
+    → length x < size → byte < 256 → GoesOnWith elide chunks (Some size) x (chunks_of chunks size x).rest byte
+said_goes_on elide chunks size x byte some short small = record {
+  y = byte ∷ replicate k byte;
+  comes = (copies_come (suc k) byte small, eq-eqb _ _ long);
+  more = next.0;
+  later = kept elide (map f (range_with_len (p + 1) left.0));
+  files = said_split elide chunks size x (byte ∷ replicate k byte) left.0 some short long left.1
+      ∙ ap (λ tail. kept elide (chunks_of chunks size x).full ++ tail)
+      (first_has elide (chunks_of chunks size x).rest byte next.0 (map f (range_with_len (p + 1) left.0)) (next.1
+      ∙ ap (λ (cut : CutUp). cut.rest ++ byte ∷ next.0) (sym (chunks_are chunks size x some (omega (arith, short))
+      (ended_is chunks size x)))));
+} where
+  k : ℕ
+  k = size - length x - 1
+
+  p : ℕ
+  p = ended chunks size x
+
+  long : length (x ++ byte ∷ replicate k byte) ≡ size
+  long = omega (arith, length-append x (byte ∷ replicate k byte), length-replicate k byte, short)
+
+  left : (m : ℕ) × (p + suc m ≡ chunks.count)
+  left = chunks_left chunks size x some short
+
+  f : ℕ → List ℕ
+  f = chunk_at chunks size (x ++ byte ∷ replicate k byte)
+
+  next : (more : List ℕ) × (f p ≡ drop (length (before_chunk chunks size p x)) x ++ byte ∷ more)
+  next = next_is chunks size x (replicate k byte) byte p
+      (before_stays chunks size p x (byte ∷ replicate k byte) (omega (arith, long)) (ended_is chunks size x).before)
+      (omega (
+        arith,
+        (ended_is chunks size x).next (omega (arith, left.1)),
+        passed_open chunks size x short,
+      ))
+
+none_goes_on : (elide : Bool) (chunks : Chunks) (x : List ℕ) (byte : ℕ) → 0 < chunks.count → byte < 256
+    → GoesOnWith elide chunks None x x byte
+none_goes_on elide chunks x byte some small = by chunks.count refl where
+  k : ℕ
+  k = suc (length x) * chunks.count
+
+  w : List ℕ
+  w = x ++ byte ∷ replicate k byte
+
+  long : length w ≡ length x + suc k
+  long = length-append x (byte ∷ replicate k byte) ∙ ap (λ n. length x + suc n) (length-replicate k byte)
+
+  past : open_from chunks.unit chunks.delim x < chunk_start chunks.count (length w) (0 + 1)
+  past = omega (
+    arith,
+    open_within chunks.unit chunks.delim x,
+    far chunks.count (length x) some,
+    start_by_size chunks.count (length x + k) (length w) (0 + 1) some (omega (arith, some)) (omega (arith, long)),
+  )
+
+  f : ℕ → List ℕ
+  f = chunk_at chunks (length w) w
+
+  next : (more : List ℕ) × (f 0 ≡ x ++ byte ∷ more)
+  next = subst (λ low. (more : List ℕ) × (f 0 ≡ drop (length low) x ++ byte ∷ more))
+      (none_before_first chunks (length w) x) (next_is chunks (length w) x (replicate k byte) byte 0
+      (none_before_first chunks (length w) w ∙ sym (none_before_first chunks (length w) x)) past)
+
+  by : (n : ℕ) → chunks.count ≡ n → GoesOnWith elide chunks None x x byte
+  by zero is = absurd (omega (arith, some, is))
+  by (suc m) is = record {
+    y = byte ∷ replicate k byte;
+    comes = (copies_come (suc k) byte small, refl);
+    more = next.0;
+    later = kept elide (map f (range_with_len (0 + 1) m));
+    files = files_split elide chunks (length w) w 0 m some refl (omega (arith, is))
+        ∙ ap (λ tail. kept elide [] ++ tail)
+        (first_has elide x byte next.0 (map f (range_with_len (0 + 1) m)) next.1);
+  }
+
+heads_differ : (r more other : List ℕ) → r ++ 0 ∷ more ≡ r ++ 1 ∷ other → ⊥
+heads_differ [] more other same = omega (arith, ap (λ z. get_or z 0 2) same)
+heads_differ (byte ∷ r) more other same = heads_differ r more other (ap (drop 1) same)
+
+-- so two differ in the file after those that have ended
+two_files : {elide : Bool} {chunks : Chunks} {said : Option ℕ} {x r : List ℕ} {n : ℕ}
+    → n ≡ length (kept elide (decided chunks 1 said x).full)
+    → (one : GoesOnWith elide chunks said x r 0) (two : GoesOnWith elide chunks said x r 1)
+    → get_or (files_by elide (in_the_end chunks said (x ++ one.y))) n []
+    ≡ get_or (files_by elide (in_the_end chunks said (x ++ two.y))) n [] → ⊥
+two_files {elide} {chunks} {said} {x} {r} {n} is one two same = heads_differ r one.more two.more (sym (at one) ∙ same ∙ at two) where
+  at : {byte : ℕ} (on : GoesOnWith elide chunks said x r byte)
+      → get_or (files_by elide (in_the_end chunks said (x ++ on.y))) n [] ≡ r ++ byte ∷ on.more
+  at {byte} on = let front = kept elide (decided chunks 1 said x).full in
+      ap (λ files. get_or files n []) on.files
+      ∙ ap (λ n. get_or (front ++ (r ++ byte ∷ on.more) ∷ on.later) n []) is
+      ∙ get_or-append_seam front (r ++ byte ∷ on.more) on.later []
+
+-- two continuations that go on with different bytes
+record Grows (elide : Bool) (chunks : Chunks) (said : Option ℕ) (x : List ℕ) : Type 0 where
+  r : List ℕ
+  one : GoesOnWith elide chunks said x r 0
+  two : GoesOnWith elide chunks said x r 1
+
+none_grows : (elide : Bool) (chunks : Chunks) (x : List ℕ) → 0 < chunks.count → Grows elide chunks None x
+none_grows elide chunks x some = record {
+  r = x;
+  one = none_goes_on elide chunks x 0 some (omega arith);
+  two = none_goes_on elide chunks x 1 some (omega arith);
+}
+
+said_grows : (elide : Bool) (chunks : Chunks) (size : ℕ) (x : List ℕ) → 0 < chunks.count → length x < size
+    → Grows elide chunks (Some size) x
+said_grows elide chunks size x some short = record {
+  r = (chunks_of chunks size x).rest;
+  one = said_goes_on elide chunks size x 0 some short (omega arith);
+  two = said_goes_on elide chunks size x 1 some short (omega arith);
+}
+
+-- What all continuations have
+
+no_rest : (elide : Bool) (chunks : Chunks) (size : ℕ) (x y : List ℕ) → 0 < chunks.count → size ≤ length x
+    → CanFollow (Some size) x y
+    → files_by elide (chunks_of chunks size (x ++ y)) ≡ kept elide (chunks_of chunks size x).full ++ []
+no_rest elide chunks size x y some full comes =
+    ap (λ y. files_by elide (chunks_of chunks size (x ++ y)))
+    (no_more x y size (omega (arith, eqb-true _ _ comes.1)) full)
+    ∙ ap (λ z. files_by elide (chunks_of chunks size z)) (append-nil x)
+    ∙ ap (λ r. kept elide (chunks_of chunks size x).full ++ unless_empty r) (rest_none chunks size x some full)
+
+ended_first : (elide : Bool) (chunks : Chunks) (said : Option ℕ) (x y : List ℕ) → 0 < chunks.count
+    → CanFollow said x y → (tail : List (List ℕ))
+    × (files_by elide (in_the_end chunks said (x ++ y)) ≡ kept elide (decided chunks 1 said x).full ++ tail)
+ended_first elide chunks None x y some comes = let files = files_by elide (in_the_end chunks None (x ++ y)) in
+    (files, ap (λ front. front ++ files) (sym (none_kept elide)))
+ended_first elide chunks (Some size) x y some comes = elim (cases_lt (length x) size) [
+  | inl short ↦ (let left = chunks_left chunks size x some short in
+      (_, said_split elide chunks size x y left.0 some short (eqb-true _ _ comes.1) left.1))
+  | inr full ↦ ([], no_rest elide chunks size x y some full comes)
+]
+
+-- The files
+
+files_then : (filing : Filing) (count place : ℕ) (front rest : List Share) → are_named filing.names count ≡ true
+    → place + length front ≤ count → files_from (manner_of filing) place (front ++ rest)
+    ≡ files_from (manner_of filing) place front ++ files_from (manner_of filing) (place + length front) rest
+files_then filing count place [] rest named few =
+    ap (λ n. files_from (manner_of filing) n rest) (let e : place ≡ place + 0 = omega arith in e)
+files_then filing count place (one ∷ front) rest named few = cc (
+  named_at filing.names count place named (omega (arith, few)),
+  one_on place (length front),
+  files_then filing count (place + 1) front rest named (omega (arith, few)),
+)
+
+bytes_at : (files : List File) (n : ℕ)
+    → get_or (map (λ (file : File). file.bytes) (take (suc n) files)) n []
+    ≡ get_or (map (λ (file : File). file.bytes) files) n []
+bytes_at [] n = refl
+bytes_at (file ∷ files) zero = refl
+bytes_at (file ∷ files) (suc n) = bytes_at files n
+
+-- the one that is open has a byte
+begun_by : (filing : Filing) (place : ℕ) (rest : List ℕ)
+    → let next = files_from (manner_of filing) place (map (share Open) (unless_empty rest)) in
+    (next ≡ []) ⊎ ((file : File) × (next ≡ file ∷ []) × (file.state ≡ Open) × (0 < length file.bytes))
+begun_by filing place [] = inl refl
+begun_by filing place (byte ∷ rest) = let file = file_at (manner_of filing) place (share Open (byte ∷ rest)) in
+    cond_both ((manner_of filing).has_name place) (file ∷ []) []
+    (λ next. (next ≡ []) ⊎ ((file : File) × (next ≡ file ∷ []) × (file.state ≡ Open) × (0 < length file.bytes)))
+    (λ is. inr (file, refl, refl, omega arith)) (λ is. inl refl)
+
+module _ (plan : ChunksPlan) (said : Option ℕ) (x : List ℕ) (some : 0 < plan.chunks.count)
+    (named : are_named plan.filing.names plan.chunks.count ≡ true) where
+  abbrev cut : CutUp
+  cut = decided plan.chunks 1 said x
+
+  abbrev front : List (List ℕ)
+  front = kept plan.elide cut.full
+
+  abbrev place : ℕ
+  place = 0 + length (map (share Closed) front)
+
+  abbrev closed : List File
+  closed = files_from (manner_of plan.filing) 0 (map (share Closed) front)
+
+  few : length front ≤ plan.chunks.count
+  few = omega (
+    arith,
+    few_decided plan.elide plan.chunks said x some,
+    length-append front (unless_empty cut.rest),
+  )
+
+  within : place ≤ plan.chunks.count
+  within = omega (arith, length-map front (share Closed), few)
+
+  long : length closed ≡ length front
+  long = sym (length-map closed (λ (file : File). file.bytes))
+      ∙ ap length (bytes_filed plan.filing plan.chunks.count front named few)
+
+  whole_so : (y : List ℕ) (tail : List (List ℕ))
+      → files_by plan.elide (in_the_end plan.chunks said (x ++ y)) ≡ front ++ tail
+      → (chunks_whole plan said (x ++ y)).files
+      ≡ closed ++ files_from (manner_of plan.filing) place (map (share Closed) tail)
+  whole_so y tail is =
+      ap (λ those. files_from (manner_of plan.filing) 0 (map (share Closed) those)) is
+      ∙ ap (files_from (manner_of plan.filing) 0) (map-append (share Closed) front tail)
+      ∙ files_then plan.filing plan.chunks.count 0 (map (share Closed) front) (map (share Closed) tail) named within
+
+  stay : (y : List ℕ) → CanFollow said x y
+      → take (length closed) (chunks_whole plan said (x ++ y)).files ≡ closed
+  stay y comes = let (tail, is) = ended_first plan.elide plan.chunks said x y some comes in
+      ap (take (length closed)) (whole_so y tail is) ∙ take-append_seam closed _
+
+  differ : Grows plan.elide plan.chunks said x
+      → TwoDiffer (CanFollow said x) (λ y. take (suc (length closed)) (chunks_whole plan said (x ++ y)).files)
+  differ on = (
+    on.one.y,
+    on.two.y,
+    on.one.comes,
+    on.two.comes,
+    λ same. two_files long on.one on.two (sym (at on.one.y)
+        ∙ ap (λ files. get_or (map (λ (file : File). file.bytes) files) (length closed) []) same ∙ at on.two.y),
+  ) where
+    at : (y : List ℕ) → get_or (map (λ (file : File). file.bytes)
+        (take (suc (length closed)) (chunks_whole plan said (x ++ y)).files)) (length closed) []
+        ≡ get_or (files_by plan.elide (in_the_end plan.chunks said (x ++ y))) (length closed) []
+    at y = bytes_at (chunks_whole plan said (x ++ y)).files (length closed)
+        ∙ ap (λ files. get_or files (length closed) []) (whole_files plan said (x ++ y) some named)
+
+  made_by : (((y : List ℕ) → CanFollow said x y → (chunks_whole plan said (x ++ y)).files ≡ closed)
+      ⊎ TwoDiffer (CanFollow said x) (λ y. take (suc (length closed)) (chunks_whole plan said (x ++ y)).files))
+      → AreMade (CanFollow said x) (chunks_work plan said) x (chunks_settled plan said x).files
+  made_by most = record {
+    closed = closed;
+    next = files_from (manner_of plan.filing) place (map (share Open) (unless_empty cut.rest));
+    are = files_then plan.filing plan.chunks.count 0 (map (share Closed) front)
+        (map (share Open) (unless_empty cut.rest)) named within;
+    are_closed = closed_files (manner_of plan.filing) 0 front;
+    stay = stay;
+    most = most;
+    begun = begun_by plan.filing place cut.rest;
+  }
+
+pub chunks_made : (plan : ChunksPlan) (said : Option ℕ) (x : List ℕ) → 0 < plan.chunks.count
+    → are_named plan.filing.names plan.chunks.count ≡ true → is_longer said x ≡ false
+    → AreMade (CanFollow said x) (chunks_work plan said) x (chunks_settled plan said x).files
+chunks_made plan None x some named fits =
+    made_by plan None x some named (inr (differ plan None x some named (none_grows plan.elide plan.chunks x some)))
+chunks_made plan (Some size) x some named fits = elim (cases_lt (length x) size) [
+  | inl short ↦ made_by plan (Some size) x some named
+      (inr (differ plan (Some size) x some named (said_grows plan.elide plan.chunks size x some short)))
+  | inr full ↦ made_by plan (Some size) x some named (inl (λ y comes.
+      whole_so plan (Some size) x some named y [] (no_rest plan.elide plan.chunks size x y some full comes)
+      ∙ append-nil _))
+]
+
+-- Whether the output of one chunk is complete
+
+pub chunk_complete : (place : ℕ) (chunks : Chunks) (said : Option ℕ) (x : List ℕ) → place < chunks.count
+    → (chunk_work place chunks said).is_complete x ≡ true → (at : ℕ) → at ≤ place → (y z : List ℕ)
+    → (chunk_work at chunks said).whole (x ++ y) ≡ (chunk_work at chunks said).whole (x ++ z)
+chunk_complete place chunks None x within has at before y z = absurd (false≢true has)
+chunk_complete place chunks (Some size) x within has at before y z = stays y ∙ sym (stays z) where
+  ended_too : has_ended chunks size x at ≡ true
+  ended_too = le-leb _ _ (omega (
+    arith,
+    leb-true _ _ has,
+    start_grows chunks.count size (at + 1) (place + 1) (omega (arith, before)),
+  ))
+
+  stays : (y : List ℕ) → (chunk_work at chunks (Some size)).whole (x ++ y)
+      ≡ (chunk_work at chunks (Some size)).settled x
+  stays y = ((chunk_lawful at chunks (Some size) (omega (arith, before, within))).stays x y ended_too).whole_stays
+
+still_going : (chunks : Chunks) (said : Option ℕ) (x : List ℕ) → Grows false chunks said x
+    → TwoDiffer (CanFollow said x)
+    (λ y. (chunk_work (length (decided chunks 1 said x).full) chunks said).whole (x ++ y))
+still_going chunks said x on = (
+  on.one.y,
+  on.two.y,
+  on.one.comes,
+  on.two.comes,
+  λ same. two_files refl on.one on.two
+      (sym (at on.one.y) ∙ ap (λ (part : Part). part.out) same ∙ at on.two.y),
+) where
+  n : ℕ
+  n = length (decided chunks 1 said x).full
+
+  at : (y : List ℕ) → get_or (pieces_in (in_the_end chunks said (x ++ y))) n []
+      ≡ get_or (files_by false (in_the_end chunks said (x ++ y))) n []
+  at y = let cut = in_the_end chunks said (x ++ y) in same_pieces cut.full cut.rest n
+
+pub chunk_going : (place : ℕ) (chunks : Chunks) (said : Option ℕ) (x : List ℕ) → place < chunks.count
+    → is_longer said x ≡ false → (chunk_work place chunks said).is_complete x ≡ false
+    → (at : ℕ) × (at ≤ place) × TwoDiffer (CanFollow said x) (λ y. (chunk_work at chunks said).whole (x ++ y))
+chunk_going place chunks None x within fits going =
+    (0, omega arith, still_going chunks None x (none_grows false chunks x (omega (arith, within))))
+chunk_going place chunks (Some size) x within fits going = (
+  length (chunks_of chunks size x).full,
+  omega (arith, count, few),
+  still_going chunks (Some size) x (said_grows false chunks size x some short),
+) where
+  some : 0 < chunks.count
+  some = omega (arith, within)
+
+  few : ended chunks size x ≤ place
+  few = elim (cases_lt place (ended chunks size x)) [
+    | inl past ↦ absurd (false≢true (sym going ∙ has_ended_before chunks size x place past))
+    | inr those ↦ those
+  ]
+
+  short : length x < size
+  short = elim (cases_lt (length x) size) [
+    | inl fewer ↦ fewer
+    | inr full ↦ absurd (omega (arith, ended_all chunks x some full, few, within))
+  ]
+
+  count : length (chunks_of chunks size x).full ≡ ended chunks size x
+  count = ap (λ (cut : CutUp). length cut.full)
+      (chunks_are chunks size x some (omega (arith, short)) (ended_is chunks size x))
+      ∙ length-map-range_with_len (chunk_at chunks size x) 0 (ended chunks size x)
+
+-- Empty files that are left out
+
+made_some : (rest : List ℕ) → unless_empty rest ≡ filter has_bytes (unless_empty rest)
+made_some [] = refl
+made_some (byte ∷ rest) = refl
+
+left_out : (cut : CutUp) → files_by true cut ≡ filter has_bytes (files_by false cut)
+left_out cut = ap (λ rest. filter has_bytes cut.full ++ rest) (made_some cut.rest)
+    ∙ sym (filter-append has_bytes cut.full (unless_empty cut.rest))
+
+module _ (chunks : Chunks) (filing : Filing) (said : Option ℕ) (x : List ℕ) (some : 0 < chunks.count)
+    (named : are_named filing.names chunks.count ≡ true) where
+  abbrev plan_by : Bool → ChunksPlan
+  plan_by elide = record { chunks = chunks; elide = elide; filing = filing }
+
+  pub settled_left_out : file_bytes (chunks_settled (plan_by true) said x)
+      ≡ filter has_bytes (file_bytes (chunks_settled (plan_by false) said x))
+  settled_left_out = settled_files (plan_by true) said x some named ∙ left_out (decided chunks 1 said x)
+      ∙ ap (filter has_bytes) (sym (settled_files (plan_by false) said x some named))
+
+  pub whole_left_out : file_bytes (chunks_whole (plan_by true) said x)
+      ≡ filter has_bytes (file_bytes (chunks_whole (plan_by false) said x))
+  whole_left_out = whole_files (plan_by true) said x some named ∙ left_out (in_the_end chunks said x)
+      ∙ ap (filter has_bytes) (sym (whole_files (plan_by false) said x some named))
+
+-- An input that has another length than it said
+
+pub changed_told : (plan : ChunksPlan) (size : ℕ) (x : List ℕ) → (length x ≡ size → ⊥)
+    → (chunks_work plan (Some size)).verdict x ≡ Some Changed
+changed_told plan size x differs = rw (ne_eqb (length x) size differs) refl
+
+pub changed_alone : (place : ℕ) (chunks : Chunks) (size : ℕ) (x : List ℕ) → (length x ≡ size → ⊥)
+    → (chunk_work place chunks (Some size)).is_complete x ≡ false
+    → (chunk_work place chunks (Some size)).verdict x ≡ Some Changed
+changed_alone place chunks size x differs going = rw (going, ne_eqb (length x) size differs) refl
+
+pub changed_more : (plan : ChunksPlan) (size : ℕ) (x : List ℕ)
+    → (chunks_work plan (Some size)).whole x ≡ (chunks_work plan (Some size)).whole (take size x)
+changed_more plan size x =
+    ap (λ z. part_of (manner_of plan.filing) (map (share Closed) (files_by plan.elide
+    (chunks_within plan.chunks size z)))) (sym (take-take size size x (omega arith)))
+
+pub changed_all : (plan : ChunksPlan) (size : ℕ) (x : List ℕ) → 0 < plan.chunks.count
+    → are_named plan.filing.names plan.chunks.count ≡ true
+    → joined (file_bytes ((chunks_work plan (Some size)).whole x)) ≡ take size x
+changed_all plan size x some named = ap joined (whole_files plan (Some size) x some named)
+    ∙ joined_files plan.elide (chunks_of plan.chunks size x) ∙ all_joined plan.chunks size x some
+
+pub changed_same : (plan : ChunksPlan) (size : ℕ) (x : List ℕ) → 0 < plan.chunks.count
+    → are_named plan.filing.names plan.chunks.count ≡ true
+    → file_bytes ((chunks_work plan (Some size)).whole x) ≡ file_bytes ((chunks_work plan (Some size)).settled x)
+changed_same plan size x some named =
+    whole_files plan (Some size) x some named ∙ sym (settled_files plan (Some size) x some named)
