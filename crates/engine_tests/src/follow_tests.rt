@@ -10,7 +10,7 @@ ghost use Rattle.follow_core.specs.inner.Placing.{looks_after};
 use ends_core::Unit;
 use follow_core::{Follow, Limits, Start, follow_files};
 use mem_core::{Edit, MemOut, MemWatch};
-use ports_core::Fault;
+use ports_core::{Calling, Fault};
 use std::alloc::Global;
 use std::process::Abort;
 use std::test::Fail;
@@ -171,6 +171,7 @@ fn wait_for(rt: &impl Abort, alloc: Global, row: &Waited) -> Result<(), Fault> {
     };
     let status = follow_files(
         alloc,
+        Calling::Cutters,
         &["f"],
         LAST_LINE,
         true,

@@ -2,11 +2,12 @@
 use Rattle.std.proofs.lemmas.Grind.{common_steps}
 use Rattle.std.proofs.Common.{subst₂, ◌≡◌, ℕ, Bool, List, [], ◌∷◌, ◌++◌, ◌⊎◌, inl, inr, ◌∙◌, ap, subst, ◌+◌, ◌<◌, length, take, true, false, not, if◌then◌else◌, Some, None, Option, refl, sym, arith, append_assoc, length-append, ◌-◌, ◌≤◌, drop, bytes_eq, nat_lt, is_none, option_map, suc, zero, IsTrue, is_some, rules}
 use Rattle.ports_core.specs.Slot.{Slot, with_written, with_broken, told_of, is_open, changed_at}
-use Rattle.ports_core.specs.Message.{Says, PrintsOn}
-use Rattle.ports_core.specs.declared.tool.Tool.TheVariants.{Tail}
+use Rattle.ports_core.specs.Message.{SaysFor, PrintsOn}
+use Rattle.ports_core.specs.Text.{Message, line_of}
+use Rattle.ports_core.specs.declared.reason.Reason.TheVariants.{Other}
 use Rattle.ports_core.proofs.MessageLemmas.{printed_open}
 use Rattle.follow_core.specs.Sharing.{CameTo, WroteBy, CanPrint}
-use Rattle.follow_core.specs.Telling.{IsFailure, Tells, TellsAll}
+use Rattle.follow_core.specs.Telling.{IsFailure, Tells, TellsAll, plain}
 use Rattle.std.proofs.lemmas.List.{append-nil, take-append-le, take-append-drop, take_all, length-drop, length-take-le, drop-drop as drop_drop}
 use Rattle.std.proofs.Math.Seq.{take-append-add, take-add}
 use Rattle.std.proofs.Math.Bool.{and-false}
@@ -44,7 +45,7 @@ use Rattle.ports_core.specs.declared.fault.Fault.TheVariants as fault
 -- lines that following says, one after another
 
 -- the message of a failure that was said
-pub failure_said : {told : Bool} {line : List ℕ} {old new : Slot} → IsFailure line → Says told Tail line old new → Tells told line old new
+pub failure_said : {told : Bool} {message : Message} {old new : Slot} → IsFailure (line_of plain Other message) → SaysFor told plain Other message old new → Tells told (line_of plain Other message) old new
 failure_said failure says = record { said = says.said; is = elim says.is [ inl same ↦ inl same | inr memory ↦ inr (failure, memory) ]; printed = says.printed }
 
 pub tells_state : (told : Bool) (lines : List (List ℕ)) (old new : Slot) → TellsAll told lines old new → new.state ≡ old.state

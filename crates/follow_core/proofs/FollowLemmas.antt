@@ -28,6 +28,7 @@ use Rattle.follow_core.specs.declared.follow.Stage.TheVariants.{Fresh, Looking, 
 use Rattle.follow_core.specs.Version.{open_after}
 use Rattle.watch_core.proofs.NameLemmas.{latest-last}
 use Rattle.follow_core.specs.declared.start.Start.{Start}
+use Rattle.ports_core.specs.declared.calling.Calling.{Calling}
 use Rattle.follow_core.specs.Ending.{AreMost, FollowEndsAs, FollowEndsBy, is_over, until_over, Made, StoppedIn, seen_first}
 use Rattle.ports_core.specs.declared.fault.Fault.TheVariants as fault
 
@@ -800,12 +801,12 @@ until_last {process} {shows} {now} {made} {count} {seen} is below found gone sam
 
 -- a whole run
 
-pub ends_by : {told_in told : Bool} {ways : Ways} {headers : Bool} {names : List (List ℕ)} {count : ℕ} {shows : ℕ → Snapshot} {first : List Slot} {seen : List Snapshot} {watched : List Watched} {new : List Slot} {status : ℕ}
-    (process : Option ℕ) (most : ℕ) → AreMost told_in process shows count most → FollowEndsAs told_in told ways headers names most shows first seen watched new status
-    → FollowEndsBy process told_in told ways headers names count shows first seen watched new status
+pub ends_by : {told_in told : Bool} {calling : Calling} {ways : Ways} {headers : Bool} {names : List (List ℕ)} {count : ℕ} {shows : ℕ → Snapshot} {first : List Slot} {seen : List Snapshot} {watched : List Watched} {new : List Slot} {status : ℕ}
+    (process : Option ℕ) (most : ℕ) → AreMost told_in process shows count most → FollowEndsAs told_in told calling ways headers names most shows first seen watched new status
+    → FollowEndsBy process told_in told calling ways headers names count shows first seen watched new status
 ends_by (Some process) most are ends = (most, are, ends)
-ends_by {told_in} {told} {ways} {headers} {names} {count} {shows} {first} {seen} {watched} {new} {status} None most are ends =
-    subst (λ n. FollowEndsAs told_in told ways headers names n shows first seen watched new status) (no_fewer (cases_lt most count)) ends where
+ends_by {told_in} {told} {calling} {ways} {headers} {names} {count} {shows} {first} {seen} {watched} {new} {status} None most are ends =
+    subst (λ n. FollowEndsAs told_in told calling ways headers names n shows first seen watched new status) (no_fewer (cases_lt most count)) ends where
       no_fewer : (most < count) ⊎ (count ≤ most) → most ≡ count
       no_fewer (inl fewer) = absurd (false≢true (are.found fewer).2)
       no_fewer (inr all) = let within = are.within in omega (arith, all, within)

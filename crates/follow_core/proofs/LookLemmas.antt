@@ -21,15 +21,15 @@ use Rattle.follow_core.specs.Notice.{is_missing}
 use Rattle.follow_core.specs.Share.{BeginsShare, Due, Share, due_at, due_later, failure_line, failure_of, gain, gains_from, given_by, is_kept, is_unopened, led_before, missing_share, no_share, opened_in, share_by}
 use Rattle.follow_core.proofs.RunLemmas.{gains-append, last_from-append, text_goes_on, text_is_gains, entries-append}
 use Rattle.ports_core.specs.Slot.{Slot, changed_at}
-use Rattle.ports_core.specs.Text.{message_of}
+use Rattle.ports_core.specs.Text.{Message, line_of, message_of}
 use Rattle.ports_core.specs.Message.{SaysOn}
-use Rattle.ports_core.specs.declared.tool.Tool.TheVariants.{Tail}
+use Rattle.ports_core.specs.declared.reason.Reason.TheVariants.{Other}
 use Rattle.ports_core.specs.declared.fault.Fault.{Fault}
 use Rattle.ports_core.specs.declared.fault.Fault.TheVariants.{Open, Read}
 use Rattle.follow_core.specs.declared.visitor.Stop.TheVariants.{Broke, Over}
 use Rattle.follow_core.specs.inner.Visits.{Visits, TellsStop, Visited}
 use Rattle.follow_core.specs.Printing.{PrinterState}
-use Rattle.follow_core.specs.Telling.{IsFailure}
+use Rattle.follow_core.specs.Telling.{IsFailure, failure_text, plain}
 use Rattle.follow_core.specs.declared.visitor.Stop.{Stop}
 use Rattle.std.proofs.lemmas.Bool.{and_parts, false≢true}
 use Rattle.watch_core.proofs.NameLemmas.{latest-last, watchable_within}
@@ -222,9 +222,9 @@ pub record Looked (told_in told : Bool) (ways : Ways) (before : List Look) (snap
   pub shared : Shared told printer share old after new None
 
 -- the message of a failure is told after what was given
-said_after : {told : Bool} {printer after : PrinterState} {opened : Bool} {name bytes : List ℕ} {lines : List (List ℕ)} {line : List ℕ} {old mid new : List Slot}
-    → Came told printer opened name bytes lines old after mid None → IsFailure line → SaysOn told Tail line mid new
-    → Came told printer opened name bytes (lines ++ line ∷ []) old after new None
+said_after : {told : Bool} {printer after : PrinterState} {opened : Bool} {name bytes : List ℕ} {lines : List (List ℕ)} {message : Message} {old mid new : List Slot}
+    → Came told printer opened name bytes lines old after mid None → IsFailure (line_of plain Other message) → SaysOn told plain Other message mid new
+    → Came told printer opened name bytes (lines ++ line_of plain Other message ∷ []) old after new None
 said_after {printer} {opened} {name} {bytes} came failure says = record {
   printer_is = came.printer_is;
   slots = wrote_after _ _ _ _ _ _ None (append-nil (text_under printer opened name bytes)) refl came.slots
@@ -237,14 +237,14 @@ all_came : {told : Bool} {printer after : PrinterState} {opened : Bool} {name by
 all_came {told} {printer} {after} {opened} {name} {bytes} lines {old} {new} {over} came = subst (λ those. Came told printer opened name bytes those old after new over) (sym (append-nil lines)) came
 
 -- what the message of a name that broke says
-is_failure : (place : ℕ) (name : List ℕ) (fate : Fate) → IsFailure (message_of Tail (fault_by place fate) name)
+is_failure : (place : ℕ) (name : List ℕ) (fate : Fate) → IsFailure (failure_text (fault_by place fate) name)
 is_failure place name fate = by (is_read fate) where
-  by : (read : Bool) → IsFailure (message_of Tail (if read then Read place else Open place) name)
+  by : (read : Bool) → IsFailure (failure_text (if read then Read place else Open place) name)
   by true = (name, inr refl)
   by false = (name, inl refl)
 
 fault_line : (place : ℕ) (name : List ℕ) (fate : Fate) → is_some (failed_by fate None) ≡ true
-    → (message_of Tail (fault_by place fate) name ∷ [] ≡ failure_line name (failure_of fate)) × (is_some (failure_of fate) ≡ true)
+    → (failure_text (fault_by place fate) name ∷ [] ≡ failure_line name (failure_of fate)) × (is_some (failure_of fate) ≡ true)
 fault_line place name sound broke = absurd (false≢true broke)
 fault_line place name unled broke = (refl, refl)
 fault_line place name unopened broke = (refl, refl)
@@ -283,7 +283,7 @@ module _ {told_in told : Bool} {ways : Ways} {before : List Look} {snapshot : Sn
   pub looked_broke : (place : ℕ) {new : List Slot} {why : Fault} (fate : Fate) → is_some (failed_by fate None) ≡ true → why ≡ fault_by place fate
       → (not (is_unopened fate) && is_first before) ≡ is_first before
       → Ends told_in (WereFound (IsTold before snapshot name) (StartsIn before name) snapshot name fate (Some (Broke why))) told (is_first before) printer name (due.came ++ due.led) (given_by due snapshot opened fate) old after mid (Some (Broke why))
-      → (is_first before ≡ true → (file : ℕ) × Found snapshot name (opens_as (Some file))) → SaysOn told Tail (message_of Tail why name) mid new
+      → (is_first before ≡ true → (file : ℕ) × Found snapshot name (opens_as (Some file))) → SaysOn told plain Other (message_of why name) mid new
       → Looked told_in told ways before snapshot name printer old after new true fate
   looked_broke place {new} {why} fate broke fault openly ends there says =
       let line = fault_line place name fate broke in record {
@@ -292,7 +292,7 @@ module _ {told_in told : Bool} {ways : Ways} {before : List Look} {snapshot : Sn
         found = inl (record { named = refl; opened = sym openly; failed = refl; events = ends.found; there = there });
         failed = line.1;
         shared = subst (λ last. Came told printer (is_first before) name (bytes_in ends.events) (lines_in name ends.events ++ last) old after new None) line.0
-            (said_after ends.came (is_failure place name fate) (subst (λ those. SaysOn told Tail (message_of Tail those name) mid new) fault says));
+            (said_after ends.came (is_failure place name fate) (subst (λ those. SaysOn told plain Other (message_of those name) mid new) fault says));
       } where
         share_is : told_in ≡ true → (fates : List Fate) → is_some (failure_of fate) ≡ true → (events : List Event) → events ≡ given_by due snapshot opened fate
             → shared_as (is_first before) name events (failure_of fate) ≡ share_by ways name before (seeing snapshot fates) fate
@@ -463,7 +463,7 @@ module _ {told_in told : Bool} {ways : Ways} {snapshot : Snapshot} {place : ℕ}
 
 pub first_missing : {told_in told : Bool} {ways : Ways} {snapshot : Snapshot} {place : ℕ} {name : List ℕ} {printer : PrinterState}
     {slots slots_new : List Slot} {old new : List Watched} {is_there : Bool} → Reopens told_in snapshot old new place is_there → is_there ≡ false
-    → (watched_at old place).name ≡ name → IsTrue (is_watchable old place) → SaysOn told Tail (message_of Tail (Open place) name) slots slots_new
+    → (watched_at old place).name ≡ name → IsTrue (is_watchable old place) → SaysOn told plain Other (message_of (Open place) name) slots slots_new
     → Visits told_in told ways snapshot place name New old printer slots (if ways.by_name then Followed 0 else Left) new printer slots_new (Ok true)
 first_missing {told_in} {told} {ways} {snapshot} {place} {name} {printer} {slots} {slots_new} {old} {new} reopens gone named can says =
     visits_by _ (opens reopens.file) reopens.names (ready ways.by_name)

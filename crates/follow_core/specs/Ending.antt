@@ -1,8 +1,11 @@
 -- How a run of following ends, by what its looks saw.
 use Rattle.std.specs.Prelude.{◌≡◌, ◌<◌, ◌≤◌, ◌+◌, ◌++◌, ◌∷◌, ℕ, zero, suc, Bool, true, false, IsTrue, List, [], length, take, Option, Some, None, if◌then◌else◌}
-use Rattle.ports_core.specs.Message.{SaysOn, output_named}
+use Rattle.ports_core.specs.Message.{SaysOn, TellsOn, output_named}
 use Rattle.ports_core.specs.Slot.{Slot}
-use Rattle.ports_core.specs.Text.{message_of}
+use Rattle.ports_core.specs.Text.{message_of, status_after}
+use Rattle.ports_core.specs.declared.calling.Calling.{Calling}
+use Rattle.ports_core.specs.declared.calling.Speaker.{Speaker}
+use Rattle.ports_core.specs.declared.reason.Reason.{Reason}
 use Rattle.ports_core.specs.declared.fault.Fault.{Fault}
 use Rattle.ports_core.specs.declared.fault.Fault.TheVariants.{Memory}
 use Rattle.ports_core.specs.declared.tool.Tool.TheVariants.{Tail}
@@ -62,10 +65,14 @@ pub record AreMost (told_in : Bool) (process : Option ℕ) (shows : ℕ → Snap
   pub within : most ≤ count
   pub found : most < count → (last : ℕ) × (most ≡ suc last) × IsTrue (is_over process (shows last))
 
+-- `tail`, called so
+abbrev pub tail_by : Calling → Speaker
+tail_by calling = record { calling = calling; tool = Tail }
+
 -- A run ended so: these looks and no others were made, as many as were asked for, or those after which nothing more can
 -- come, and the outputs have exactly what they give; or a look was stopped, and the outputs have all of the looks
--- before it, a beginning of it, and the message; or there was no memory to begin, and no look was made.
-pub data FollowEndsAs (told_in told : Bool) (ways : Ways) (headers : Bool) (names : List (List ℕ)) (count : ℕ)
+-- before it, a beginning of it, and the message, but of a reader that is gone where none is due; or there was no memory to begin, and no look was made.
+pub data FollowEndsAs (told_in told : Bool) (calling : Calling) (ways : Ways) (headers : Bool) (names : List (List ℕ)) (count : ℕ)
     (shows : ℕ → Snapshot) (first : List Slot) (seen : List Snapshot) (watched : List Watched) (new : List Slot)
     (status : ℕ) : Type 0 where
   looked : (looks : List Look) (shares : List Share) → seen ≡ snapshots looks → AreWatched ways looks names watched
@@ -74,19 +81,20 @@ pub data FollowEndsAs (told_in told : Bool) (ways : Ways) (headers : Bool) (name
       × NoneGoesOn ways watched)
       → (told_in ≡ true → shares ≡ shares_of ways names looks) → AreFound ways names looks shares
       → Leaves told (made_of headers shares) first new status
-      → FollowEndsAs told_in told ways headers names count shows first seen watched new status
-  stopped : (mid : List Slot) (why : Fault)
-      → StoppedIn told_in told ways headers names count shows first seen watched mid why
-      → SaysOn told Tail (message_of Tail why (output_named mid why)) mid new → status ≡ 1
-      → FollowEndsAs told_in told ways headers names count shows first seen watched new status
-  no_room : seen ≡ [] → watched ≡ [] → SaysOn told Tail (message_of Tail Memory []) first new → status ≡ 1
-      → FollowEndsAs told_in told ways headers names count shows first seen watched new status
+      → FollowEndsAs told_in told calling ways headers names count shows first seen watched new status
+  stopped : (mid : List Slot) (fault : Fault) (why : Reason)
+      → StoppedIn told_in told ways headers names count shows first seen watched mid fault
+      → TellsOn told (tail_by calling) why fault (output_named mid fault) mid new
+      → status ≡ status_after fault calling why
+      → FollowEndsAs told_in told calling ways headers names count shows first seen watched new status
+  no_room : (why : Reason) → seen ≡ [] → watched ≡ [] → SaysOn told (tail_by calling) why (message_of Memory []) first new
+      → status ≡ 1 → FollowEndsAs told_in told calling ways headers names count shows first seen watched new status
 
 -- a run that ends once this process is gone, where one is waited for
-abbrev pub FollowEndsBy : Option ℕ → (told_in told : Bool) → Ways → Bool → List (List ℕ) → (count : ℕ)
+abbrev pub FollowEndsBy : Option ℕ → (told_in told : Bool) → Calling → Ways → Bool → List (List ℕ) → (count : ℕ)
     → (ℕ → Snapshot) → List Slot → List Snapshot → List Watched → List Slot → (status : ℕ) → Type 0
-FollowEndsBy None told_in told ways headers names count shows first seen watched new status =
-    FollowEndsAs told_in told ways headers names count shows first seen watched new status
-FollowEndsBy (Some process) told_in told ways headers names count shows first seen watched new status = (most : ℕ)
-    × AreMost told_in (Some process) shows count most
-    × FollowEndsAs told_in told ways headers names most shows first seen watched new status
+FollowEndsBy None told_in told calling ways headers names count shows first seen watched new status =
+    FollowEndsAs told_in told calling ways headers names count shows first seen watched new status
+FollowEndsBy (Some process) told_in told calling ways headers names count shows first seen watched new status =
+    (most : ℕ) × AreMost told_in (Some process) shows count most
+    × FollowEndsAs told_in told calling ways headers names most shows first seen watched new status

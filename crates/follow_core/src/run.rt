@@ -9,7 +9,7 @@ ghost use Rattle.follow_core.specs.Look.{Ways, ways_of};
 
 use crate::follow::Follow;
 use crate::start::Start;
-use ports_core::{Fault, Outs, Tool, tell};
+use ports_core::{Calling, Fault, Outs, Speaker, Tool, tell};
 use std::alloc::Global;
 use watch_core::Watch;
 
@@ -24,7 +24,8 @@ pub struct Limits {
 
 /// A whole run of `tail` that follows these names (POSIX.1-2017, XCU tail, `-f`; GNU's `--follow=name` too): looks, one directly
 /// after another, up to the limits. It ends sooner where after a look no further one can give anything. Its status is 1 where a name was
-/// missing at the first look or failed, or a fault ended following, and else 0.
+/// missing at the first look or failed, or a fault ended following, and else 0; where `tail` was called by its own name and the reader
+/// of its output is gone, 141.
 ///
 /// Standard output has exactly what the looks saw: of each file the part that `start` says, then what it has past the length that the
 /// look before saw; all of a file that was truncated, that came back, or that the name leads to in place of another. Standard error has
@@ -33,6 +34,7 @@ pub struct Limits {
 /// anything is opened, and for its lines and headers.
 pub fn follow_files<W: Watch, O: Outs>(
     alloc: Global,
+    calling: Calling,
     names: &[&str],
     start: Start,
     by_name: bool,
@@ -44,23 +46,21 @@ pub fn follow_files<W: Watch, O: Outs>(
     requires unseen { W.seen watch.old ≡ [] }
     requires unwatched { W.watched watch.old ≡ [] }
     requires outputs { O.slots outs.old ≡ streams }
-    ensures { FollowEndsBy limits.process W.told O.told (ways_of 0 by_name start) headers
+    ensures { FollowEndsBy limits.process W.told O.told calling (ways_of 0 by_name start) headers
         (map (λ name. name.now) names.now) limits.looks (W.shows watch.old) (O.slots outs.old) (W.seen watch.new)
         (W.watched watch.new) (O.slots outs.new) result }
 {
+    let speaker = Speaker {
+        calling,
+        tool: Tool::Tail,
+    };
     let mut follow = match Follow::open(alloc, names, start, by_name, headers) {
         Ok(follow) => follow,
-        Err(fault) => {
-            tell(alloc, Tool::Tail, &fault, outs);
-            return 1;
-        }
+        Err(fault) => return tell(alloc, speaker, &fault, outs),
     };
     match make_looks(&mut follow, limits, watch, outs) {
         Ok(()) => u8::from(follow.failed()),
-        Err(fault) => {
-            tell(alloc, Tool::Tail, &fault, outs);
-            1
-        }
+        Err(fault) => tell(alloc, speaker, &fault, outs),
     }
 }
 

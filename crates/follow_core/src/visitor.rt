@@ -1,7 +1,10 @@
 //! A look at one name: what came to its file is written, and what changed or failed is told.
 ghost use Rattle.std.specs.Prelude.{◌≡◌, ◌≤◌, ◌<◌, ◌-◌, ◌∷◌, [], ℕ, List, Bool, true, false, length, drop, nat_lt, option_map, if◌then◌else◌, IsTrue, IfOk, IfErr, OnOk, Some};
 ghost use Rattle.ends_core.specs.Ends.{tail_of};
-ghost use Rattle.ports_core.specs.Slot.{is_writable};
+ghost use Rattle.ports_core.specs.Slot.{is_open, is_writable, slot_at};
+ghost use Rattle.ports_core.specs.Message.{SaysOn};
+ghost use Rattle.ports_core.specs.Text.{message_of};
+ghost use Rattle.ports_core.specs.declared.reason.Reason.TheVariants.{Other};
 ghost use Rattle.watch_core.specs.Snapshot.{latest};
 ghost use Rattle.watch_core.specs.Watched.{is_readable, is_watchable, open_contents, watched_at};
 ghost use Rattle.follow_core.specs.declared.name.Standing.TheVariants.{New, Followed};
@@ -11,12 +14,13 @@ ghost use Rattle.follow_core.specs.inner.Giving.{Adds, CanGoOn, Copies, Ends, Ho
 ghost use Rattle.follow_core.specs.Sharing.{CanPrint};
 ghost use Rattle.follow_core.specs.inner.Visits.{TellsStop, Visits};
 ghost use Rattle.follow_core.specs.Look.{is_sought, ways_of};
+ghost use Rattle.follow_core.specs.Telling.{plain};
 
 use crate::name::Standing;
 use crate::notice::{Notice, notice_line};
 use crate::printer::Printer;
 use crate::start::Start;
-use ports_core::{Fault, Outs, PIECE, Tool, print, say};
+use ports_core::{Calling, Fault, Outs, PIECE, Reason, Speaker, Tool, print, say};
 use std::alloc::Global;
 use std::marker::Model;
 use watch_core::{Seen, Watch};
@@ -92,7 +96,7 @@ impl Visitor {
         match watch.reopen(place) {
             Ok(true) => {}
             Ok(false) => {
-                say(self.alloc, Tool::Tail, &Fault::Open(place), name, outs);
+                say_failure(self.alloc, &Fault::Open(place), name, outs);
                 *standing = if by_name {
                     Standing::Followed(0)
                 } else {
@@ -307,13 +311,25 @@ impl Visitor {
     {
         match stop {
             Stop::Broke(fault) => {
-                say(self.alloc, Tool::Tail, &fault, name, outs);
+                say_failure(self.alloc, &fault, name, outs);
                 *standing = Standing::Left;
                 Ok(true)
             }
             Stop::Over(fault) => Err(fault),
         }
     }
+}
+
+/// Tells that a call on a name failed.
+fn say_failure<O: Outs>(alloc: Global, fault: &Fault, name: &str, outs: &mut O)
+    requires { is_open (slot_at (O.slots outs.old) 1).state ≡ true }
+    ensures { SaysOn O.told plain Other (message_of fault.now name.now) (O.slots outs.old) (O.slots outs.new) }
+{
+    let speaker = Speaker {
+        calling: Calling::Cutters,
+        tool: Tool::Tail,
+    };
+    say(alloc, speaker, Reason::Other, fault, name, outs);
 }
 
 /// Writes the open file's bytes from a place to another, or to where a read gives none, by way of the buffer. Returns the other place.

@@ -27,6 +27,8 @@ use Rattle.tools_core.specs.Following.{FollowingEndsAt, is_name, start_of}
 use Rattle.tools_core.specs.Program.{ProgramEndsAt, looks_at}
 use Rattle.tools_core.specs.Tasks.{has_headers, is_plus}
 use Rattle.words_core.specs.Words.{follows, looks, settings_of}
+use Rattle.ports_core.specs.declared.calling.Calling.{Calling}
+use Rattle.tools_core.proofs.LeftLemmas.{status_some}
 use Rattle.words_core.specs.declared.settings.Settings.{Settings}
 use Rattle.ports_core.specs.Source.{source_of}
 use Rattle.tools_core.proofs.LeftLemmas.{unfailed}
@@ -168,22 +170,22 @@ pub record WroteText (ways : Ways) (name : List ℕ) (shows : ℕ → Snapshot) 
   pub full : length looks < count → (0 < length looks) × (◌≡◌ {A = Bool} true true → is_alive ways (name ∷ []) looks ≡ false)
   pub is : (slot_at new 0).written ≡ name_text ways.start (entries_of ways.by_name name seen)
 
-wrote_text : (ways : Ways) (name : List ℕ) (shows : ℕ → Snapshot) (count : ℕ) (seen : List Snapshot) (watched : List Watched) (new : List Slot) → (seen ≡ seen_first shows (length seen) → AreKept (entries_of ways.by_name name seen))
-    → FollowEndsAs true true ways false (name ∷ []) count shows streams seen watched new 0 → WroteText ways name shows count seen new
+wrote_text : {calling : Calling} (ways : Ways) (name : List ℕ) (shows : ℕ → Snapshot) (count : ℕ) (seen : List Snapshot) (watched : List Watched) (new : List Slot) → (seen ≡ seen_first shows (length seen) → AreKept (entries_of ways.by_name name seen))
+    → FollowEndsAs true true calling ways false (name ∷ []) count shows streams seen watched new 0 → WroteText ways name shows count seen new
 wrote_text ways name shows count seen watched new keeps_bytes (looked looks shares seen_is broken made few full are found leaves) =
     let ends : length looks < count → (0 < length looks) × (◌≡◌ {A = Bool} true true → is_alive ways (name ∷ []) looks ≡ false) = (λ fewer. ((full fewer).0, (full fewer).1)) in grind (arith, common_steps, unfailed, length-map, wrote_all, looks_give_text)
-wrote_text ways name shows count seen watched new keeps_bytes (stopped mid why stop says failed) = search rules
-wrote_text ways name shows count seen watched new keeps_bytes (no_room unseen unwatched says failed) = search rules
+wrote_text ways name shows count seen watched new keeps_bytes (stopped mid fault why stop says failed) = absurd (status_some fault _ why (sym failed))
+wrote_text ways name shows count seen watched new keeps_bytes (no_room why unseen unwatched says failed) = absurd (omega (arith, failed))
 
 pub follows_text : {run : Run} {count : ℕ} {options : EndsAsked} {followed : Followed} {name : List ℕ} → Follows run count options followed → IsBare options
     → options.names ≡ name ∷ [] → (run.seen ≡ seen_first run.shows (length run.seen) → AreKept (entries_of (is_name followed) name run.seen))
     → WroteText (ways_of 0 (is_name followed) (start_of options)) name run.shows count run.seen run.outputs
 follows_text {run} {count} {options} {followed} {name} follows bare named keeps_bytes =
     let ways = ways_of 0 (is_name followed) (start_of options) in
-    let ends = subst (FollowingEndsAt true true run.words count run.shows run.seen run.watched run.outputs run.status) follows.read.1 follows.ends in
-    let one = subst (λ names. FollowEndsAs true true ways (has_headers options.headers options.names) names count run.shows streams run.seen run.watched run.outputs run.status) named ends in
-    let headless = subst (λ headers. FollowEndsAs true true ways headers (name ∷ []) count run.shows streams run.seen run.watched run.outputs run.status) bare one in
-    wrote_text ways name run.shows count run.seen run.watched run.outputs keeps_bytes (subst (FollowEndsAs true true ways false (name ∷ []) count run.shows streams run.seen run.watched run.outputs) follows.well headless)
+    let ends = subst (FollowingEndsAt run.calling true true run.words count run.shows run.seen run.watched run.outputs run.status) follows.read.1 follows.ends in
+    let one = subst (λ names. FollowEndsAs true true run.calling ways (has_headers options.headers options.names) names count run.shows streams run.seen run.watched run.outputs run.status) named ends in
+    let headless = subst (λ headers. FollowEndsAs true true run.calling ways headers (name ∷ []) count run.shows streams run.seen run.watched run.outputs run.status) bare one in
+    wrote_text ways name run.shows count run.seen run.watched run.outputs keeps_bytes (subst (FollowEndsAs true true run.calling ways false (name ∷ []) count run.shows streams run.seen run.watched run.outputs) follows.well headless)
 
 pub tells_all : (run : Run) (options : EndsAsked) (followed : Followed) (name came : List ℕ) (file n : ℕ) → Follows run (n + 1) options followed → IsBare options → options.names ≡ name ∷ [] → OnlyGrows (length run.seen) run.shows name file
     → (run.shows n).holds file ≡ (run.shows 0).holds file ++ came
@@ -200,10 +202,10 @@ tells_all run options followed name came file n follows bare named grows is =
 
 -- A run of the program is a run of one of both kinds, by what its words ask for.
 
-ends_at : (run : Run) {looks : Option ℕ} → IsOfProgram run → looks_at (settings_of run.words) ≡ looks → ProgramEndsAt true true true run.words run.world.laid (source_of run.world.standard ∷ []) run.inputs run.shows run.seen run.watched run.outputs run.status looks
-ends_at run ends is = subst (ProgramEndsAt true true true run.words run.world.laid (source_of run.world.standard ∷ []) run.inputs run.shows run.seen run.watched run.outputs run.status) is ends
+ends_at : (run : Run) {looks : Option ℕ} → IsOfProgram run → looks_at (settings_of run.calling run.words) ≡ looks → ProgramEndsAt run.calling true true true run.words run.world.laid (source_of run.world.standard ∷ []) run.inputs run.shows run.seen run.watched run.outputs run.status looks
+ends_at run ends is = subst (ProgramEndsAt run.calling true true true run.words run.world.laid (source_of run.world.standard ∷ []) run.inputs run.shows run.seen run.watched run.outputs run.status) is ends
 
-pub runs_tool : (run : Run) (asked : Settings) → IsOfProgram run → settings_of run.words ≡ Ok asked → follows asked ≡ false → Ran run asked × (run.seen ≡ []) × (run.watched ≡ [])
+pub runs_tool : (run : Run) (asked : Settings) → IsOfProgram run → settings_of run.calling run.words ≡ Ok asked → follows asked ≡ false → Ran run asked × (run.seen ≡ []) × (run.watched ≡ [])
 runs_tool run asked ends read none =
     let (unseen, unwatched, ran) = ends_at run ends (ap looks_at read ∙ ap (λ is. cond is (Some (looks asked)) None) none) in (record { read = read; ends = ran }, unseen, unwatched)
 

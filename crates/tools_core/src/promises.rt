@@ -6,7 +6,7 @@ ghost use Rattle.ends_core.specs.Ends.{tail_of};
 ghost use Rattle.follow_core.specs.Run.{AreKept, name_text};
 ghost use Rattle.follow_core.specs.Version.{entries_of};
 ghost use Rattle.ports_core.specs.Slot.{slot_at};
-ghost use Rattle.ports_core.specs.declared.on_broken.OnBroken.TheVariants.{Stop};
+ghost use Rattle.ports_core.specs.declared.on_broken.OnBroken.TheVariants.{Exit};
 ghost use Rattle.ports_core.specs.Source.{source_of};
 ghost use Rattle.seg_core.specs.Line.{joined, line_count, lines_of};
 ghost use Rattle.seg_core.specs.declared.count.Sign.TheVariants.{Minus, Plain, Plus};
@@ -21,7 +21,7 @@ ghost use Rattle.split_core.specs.Chunks.{chunks_in};
 ghost use Rattle.operand_core.specs.Reading.{Asks};
 ghost use Rattle.operand_core.specs.declared.operand.Operand.{Operand};
 ghost use Rattle.tools_core.specs.Following.{is_name};
-ghost use Rattle.tools_core.specs.Promises.{AreChunks, AreCopies, AreDealt, AreEven, AreLinePieces, AreListed, AreNumbered, ArePieces, AreSections, AreUncut, BeginInChunks, BeginsEach, Completes, CountAlike, Does, AsksToFollow, EndsWithBreak, FindAlike, Follows, HasInput, HasLong, IsBare, IsHead, IsOfProgram, IsStopped, IsTail, KeepLines, SaysWhy, LeaveAlike, OnlyGrows, Ran, Run, SkipNothing, Splits, WhyBroken, contents_of, files_of, lines_telling, makes_files, output_of, text_at};
+ghost use Rattle.tools_core.specs.Promises.{AreChunks, AreCopies, AreDealt, AreEven, AreLinePieces, AreListed, AreNumbered, ArePieces, AreSections, AreUncut, BeginInChunks, BeginsEach, Completes, CountAlike, Does, AsksToFollow, EndsWithBreak, FindAlike, Follows, HasInput, HasLong, IsBare, IsHead, IsOfProgram, IsSilent, IsStopped, IsTail, KeepLines, SaysWhy, LeaveAlike, OnlyGrows, Ran, Run, SkipNothing, Splits, WhyBroken, contents_of, files_of, lines_telling, makes_files, output_of, text_at};
 ghost use Rattle.tools_core.specs.Tasks.{is_plus};
 ghost use Rattle.words_core.specs.CsplitWords.{CsplitAsked};
 ghost use Rattle.words_core.specs.EndsWords.{EndsAsked};
@@ -36,7 +36,7 @@ ghost use Rattle.words_core.specs.declared.value.Followed.{Followed};
 /// be followed, it ended as `run` ensures, and no file was watched. Where they ask `tail` to follow files, it ended as `run_follow`
 /// ensures, in as many looks as the words ask for, and no input was opened or read.
 pub fn program_makes_these_runs()
-    ensures runs { (run : Run) (asked : Settings) → IsOfProgram run → settings_of run.words ≡ Ok asked
+    ensures runs { (run : Run) (asked : Settings) → IsOfProgram run → settings_of run.calling run.words ≡ Ok asked
         → follows asked ≡ false → Ran run asked × (run.seen ≡ []) × (run.watched ≡ []) }
     ensures followed { (run : Run) (options : EndsAsked) (followed : Followed) (looks : ℕ) → IsOfProgram run
         → AsksToFollow run options followed looks → run.status ≡ 0 → Follows run looks options followed
@@ -65,7 +65,7 @@ pub fn tee_copies()
         → output_of tee ≡ input }
     ensures files { (tee : Run) (asked : TeeAsked) (input : List ℕ) → Does tee (Tee asked) → HasInput tee input
         → AreCopies asked.mode asked.names input (files_of tee) }
-    ensures stops { (tee : Run) (asked : TeeAsked) → Ran tee (Tee asked) → asked.on_broken ≡ Stop
+    ensures stops { (tee : Run) (asked : TeeAsked) → Ran tee (Tee asked) → asked.on_broken ≡ Exit
         → length tee.world.standard.bytes < 2 ^ 63 → EndsWithBreak tee (Tee asked) }
 {}
 
@@ -79,7 +79,8 @@ pub fn tee_copies()
 pub fn cutting_changes_nothing()
     ensures same { (one other : Run) (asked : Settings) → Does one asked → Does other asked → FindAlike one other
         → one.outputs ≡ other.outputs }
-    ensures ended { (run : Run) (asked : Settings) → Ran run asked → Completes run asked ⊎ IsStopped run asked }
+    ensures ended { (run : Run) (asked : Settings) → Ran run asked
+        → Completes run asked ⊎ IsStopped run asked ⊎ IsSilent run asked }
     ensures alike { (one other : Run) (asked : Settings) → Completes one asked → Completes other asked
         → FindAlike one other → LeaveAlike asked one other }
 {}
@@ -171,9 +172,10 @@ pub fn faults_leave_a_beginning()
         → BeginsEach run well }
     ensures beside { (run : Run) (asked : Settings) → Ran run asked → HasOperands asked → (HasLong run asked → ⊥)
         → (well : Run) × FindAlike run well × Completes well asked }
-    ensures says { (run : Run) (asked : Settings) → Ran run asked → run.status ≡ 1 → SaysWhy run asked }
+    ensures says { (run : Run) (asked : Settings) → Ran run asked → run.status ≡ 1
+        → SaysWhy run asked ⊎ IsSilent run asked }
     ensures broken { (run : Run) (asked : Settings) (place : ℕ) → Ran run asked → (place ≡ 1 → ⊥)
-        → (slot_at run.outputs place).is_broken ≡ true → (run.status ≡ 1) × WhyBroken run asked place }
+        → (slot_at run.outputs place).is_broken ≡ true → ((run.status ≡ 1) × WhyBroken run asked place) ⊎ IsSilent run asked }
 {}
 
 /// `tail -f` tells all, once. Of one file that only grows, where no header is written, it writes the last lines or bytes that

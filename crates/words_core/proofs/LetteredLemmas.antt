@@ -15,7 +15,7 @@ use Rattle.ports_core.specs.declared.fault.UsageKind.TheVariants.{UnknownOption}
 use Rattle.words_core.specs.declared.table.Letters.TheVariants.{OfHead, OfTail}
 use Rattle.ports_core.specs.declared.fault.UsageKind.{UsageKind}
 use Rattle.words_core.specs.declared.spelling.State.{State}
-use Rattle.seg_core.specs.declared.count.Sign.TheVariants.{Plain}
+use Rattle.seg_core.specs.declared.count.Sign.{Sign}
 use Rattle.seg_core.specs.declared.unit.Unit.{Unit as Measured}
 use Rattle.seg_core.specs.declared.unit.Unit.TheVariants.{Lines}
 use Rattle.words_core.specs.declared.choice.Choice.{Choice}
@@ -35,11 +35,11 @@ adds_both old one more new (Ok next) is = grind (arith, common_steps)
 adds_both old one more new (Err fault) is = search rules
 
 -- the count was added, and then the options
-pub adds_count : (rows : List OptionRow) (place : ℕ) (text : List ℕ) (unit : Measured × ℕ) (counted : Result Count UsageKind) {count : Count} (old mid new : Given) (result : Result State Fault)
-    → unit ≡ unit_in (after_digits text) → counted ≡ times (leading_digits text) unit.1 → counted ≡ Ok count → mid ≡ joined old (one_option (Amount unit.0 count) place)
-    → Adds (reading (switches rows place (after_digits text))) mid new result → Adds (given_at place (with_letters rows place text)) old new result
-adds_count rows place text unit counted {count} old mid new result which many is met adds =
-    let told : times (leading_digits text) (unit_in (after_digits text)).1 ≡ Ok count = rw (← which) (sym many ∙ is) in
+pub adds_count : (rows : List OptionRow) (sign : Sign) (place : ℕ) (text : List ℕ) (unit : Measured × ℕ) (counted : Result Count UsageKind) {count : Count} (old mid new : Given) (result : Result State Fault)
+    → unit ≡ unit_in (after_digits text) → counted ≡ times sign (leading_digits text) unit.1 → counted ≡ Ok count → mid ≡ joined old (one_option (Amount unit.0 count) place)
+    → Adds (reading (switches rows place (after_digits text))) mid new result → Adds (given_at place (with_letters rows sign place text)) old new result
+adds_count rows sign place text unit counted {count} old mid new result which many is met adds =
+    let told : times sign (leading_digits text) (unit_in (after_digits text)).1 ≡ Ok count = rw (← which) (sym many ∙ is) in
     rw told (rw (← which) (adds_both old (one_option (Amount unit.0 count) place) _ new result (rw met at adds)))
 
 -- such a word means nothing else
@@ -81,33 +81,33 @@ tail_letters text place is =
 
 -- what the letters after digits ask
 
-digits_in : (digits rest : List ℕ) → list_all is_ascii_digit digits ≡ true → prefix_len is_ascii_digit rest ≡ 0 → prefix_len is_ascii_digit (digits ++ rest) ≡ length digits
+pub digits_in : (digits rest : List ℕ) → list_all is_ascii_digit digits ≡ true → prefix_len is_ascii_digit rest ≡ 0 → prefix_len is_ascii_digit (digits ++ rest) ≡ length digits
 digits_in [] rest all none = none
 digits_in (digit ∷ digits) rest all none =
     let both = and_parts (is_ascii_digit digit) _ all in
     let more = digits_in digits rest both.1 none in
     rw (both.0) (omega (arith, more))
 
-pub one_letter : (rows : List OptionRow) (digits : List ℕ) (letter place : ℕ) → is_number digits ≡ true → is_ascii_digit letter ≡ false
-    → with_letters rows place (digits ++ letter ∷ []) ≡ counted_with (unit_in (letter ∷ [])).0 place (switches rows place (letter ∷ [])) (times digits (unit_in (letter ∷ [])).1)
-one_letter rows digits letter place number other = search (rules, digits_in, nat_tests, common_steps, take-append_seam, drop-append_seam)
+pub one_letter : (rows : List OptionRow) (sign : Sign) (digits : List ℕ) (letter place : ℕ) → is_number digits ≡ true → is_ascii_digit letter ≡ false
+    → with_letters rows sign place (digits ++ letter ∷ []) ≡ counted_with (unit_in (letter ∷ [])).0 place (switches rows place (letter ∷ [])) (times sign digits (unit_in (letter ∷ [])).1)
+one_letter rows sign digits letter place number other = search (rules, digits_in, nat_tests, common_steps, take-append_seam, drop-append_seam)
 
-not_empty : (digits : List ℕ) → is_number digits ≡ true → (length digits == 0) ≡ false
+pub not_empty : (digits : List ℕ) → is_number digits ≡ true → (length digits == 0) ≡ false
 not_empty [] is = absurd (cc)
 not_empty (digit ∷ digits) is = grind (arith, nat_tests)
 
 unit_is_no_digit : (letter : ℕ) {unit : Measured × ℕ} → unit_of letter ≡ Some unit → is_ascii_digit letter ≡ false
 unit_is_no_digit letter is = search rules
 
-pub unit_asks : (rows : List OptionRow) (digits : List ℕ) (letter place : ℕ) (unit : Measured × ℕ) (count : Count) → is_number digits ≡ true → unit_of letter ≡ Some unit → counted (sized Plain (value_of digits * unit.1)) ≡ Ok count
-    → with_letters rows place (digits ++ letter ∷ []) ≡ Ok (one_option (Amount unit.0 count) place)
-unit_asks rows digits letter place unit count number is many = grind (arith, common_steps, one_letter, unit_is_no_digit, not_empty)
+pub unit_asks : (rows : List OptionRow) (sign : Sign) (digits : List ℕ) (letter place : ℕ) (unit : Measured × ℕ) (count : Count) → is_number digits ≡ true → unit_of letter ≡ Some unit → counted (sized sign (value_of digits * unit.1)) ≡ Ok count
+    → with_letters rows sign place (digits ++ letter ∷ []) ≡ Ok (one_option (Amount unit.0 count) place)
+unit_asks rows sign digits letter place unit count number is many = grind (arith, common_steps, one_letter, unit_is_no_digit, not_empty)
 
 switched_so : (place : ℕ) (takes : Takes) {choice : Choice} → alone takes ≡ Some choice → switched place (Some takes) ≡ bare choice place
 switched_so place (takes.Nothing choice) is = cc
 switched_so place (takes.Optional choice kind) is = cc
 switched_so place other is = absurd (cc)
 
-pub option_asks : (rows : List OptionRow) (digits : List ℕ) (letter place : ℕ) (choice : Choice) (count : Count) → is_number digits ≡ true → unit_of letter ≡ None → is_ascii_digit letter ≡ false → IsSwitch rows letter choice
-    → counted (sized Plain (value_of digits)) ≡ Ok count → with_letters rows place (digits ++ letter ∷ []) ≡ Ok (joined (one_option (Amount Lines count) place) (bare choice place))
-option_asks rows digits letter place choice count number is other switch many = grind (arith, common_steps, one_letter, not_empty, switched_so)
+pub option_asks : (rows : List OptionRow) (sign : Sign) (digits : List ℕ) (letter place : ℕ) (choice : Choice) (count : Count) → is_number digits ≡ true → unit_of letter ≡ None → is_ascii_digit letter ≡ false → IsSwitch rows letter choice
+    → counted (sized sign (value_of digits)) ≡ Ok count → with_letters rows sign place (digits ++ letter ∷ []) ≡ Ok (joined (one_option (Amount Lines count) place) (bare choice place))
+option_asks rows sign digits letter place choice count number is other switch many = grind (arith, common_steps, one_letter, not_empty, switched_so)

@@ -1,15 +1,22 @@
 -- The words of the laws: which options ask for what, and the operands among words.
-use Rattle.std.specs.Prelude.{◌≡◌, ◌≢◌, ℕ, ◌+◌, ◌<◌, ◌==◌, not, Bool, true, false, List, [], ◌∷◌, ◌++◌, length, codes, Some, Result, Ok, Err, ◌⊎◌}
+use Rattle.std.specs.Prelude.{◌≡◌, ◌≢◌, ℕ, ◌+◌, ◌<◌, ◌==◌, not, ◌&&◌, Bool, true, false, List, [], ◌∷◌, ◌++◌, length, codes, Some, Result, Ok, Err, ◌⊎◌}
 use Rattle.std.specs.List.{list_any}
 use Rattle.seg_core.specs.declared.count.Count.{Count}
+use Rattle.seg_core.specs.declared.count.Sign.TheVariants.{Plus}
 use Rattle.seg_core.specs.declared.unit.Unit.{Unit as Measured}
+use Rattle.ports_core.specs.declared.calling.Calling.{Calling}
+use Rattle.ports_core.specs.declared.calling.Calling.TheVariants.{Cutters, OwnName}
 use Rattle.ports_core.specs.declared.fault.Fault.{Fault}
+use Rattle.ports_core.specs.declared.tool.Tool.{Tool}
+use Rattle.ports_core.specs.declared.on_broken.OnBroken.{OnBroken}
 use Rattle.operand_core.specs.Style.{Style}
 use Rattle.words_core.specs.declared.choice.Choice.{Choice}
 use Rattle.words_core.specs.declared.choice.Choice.TheVariants as choice
 use Rattle.words_core.specs.declared.choice.Kind.{Kind}
-use Rattle.words_core.specs.declared.settings.Settings.TheVariants.{Head, Tail, Split, Csplit, Tee}
+use Rattle.words_core.specs.declared.settings.Settings.TheVariants.{Head, Tail, Split, Csplit, Tee, About}
 use Rattle.words_core.specs.declared.settings.Topic.{Topic}
+use Rattle.words_core.specs.declared.settings.Topic.TheVariants.{Help, Version}
+use Rattle.words_core.specs.declared.table.Letters.TheVariants.{OfTail}
 use Rattle.words_core.specs.declared.spelled.Chosen.{Chosen}
 use Rattle.words_core.specs.declared.table.Takes.{Takes}
 use Rattle.words_core.specs.declared.table.Takes.TheVariants as takes
@@ -21,8 +28,9 @@ use Rattle.words_core.specs.EndsWords.{EndsAsked, ten_lines}
 use Rattle.words_core.specs.SplitWords.{SplitAsked, no_options}
 use Rattle.words_core.specs.declared.tail_words.TailSettings.{TailSettings}
 use Rattle.words_core.specs.Given.{Given, GivenOperand, one_option}
+use Rattle.words_core.specs.Lettered.{is_start}
 use Rattle.words_core.specs.Spelling.{given_before, is_equals, spelled}
-use Rattle.words_core.specs.Table.{OptionRow, alone, option_named}
+use Rattle.words_core.specs.Table.{OptionRow, alone, option_named, tail_table, tee_table}
 use Rattle.words_core.specs.TailWords.{unfollowed}
 use Rattle.words_core.specs.TeeWords.{TeeAsked, fresh}
 use Rattle.words_core.specs.Words.{settings_of}
@@ -201,21 +209,61 @@ is_plain [] = true
 is_plain (byte ∷ []) = true
 is_plain (byte ∷ next ∷ rest) = not (byte == 45)
 
--- What options ask for, given alone: of `head` and `tail` alike, of `split`, and of `csplit` with the operand `1`, for
--- standard input; of `tail` that follows the file `f`, and of `tee` for it.
+-- What changes with how the program is called.
+
+abbrev pub MeanTheSame : List (List ℕ) → Type 0
+MeanTheSame words = settings_of OwnName words ≡ settings_of Cutters words
+
+-- the first of these words of `tail` says where it begins (43 is a `+`)
+abbrev pub begin_with_start : List (List ℕ) → Bool
+begin_with_start ((byte ∷ text) ∷ words) = byte == 43 && is_start OwnName tail_table OfTail text
+begin_with_start words = false
+
+-- these words of `tee` don't say what is done once an output is broken
+abbrev pub say_nothing : Result Given Fault → Bool
+say_nothing (Ok given) = not (has says_on_broken given.options)
+say_nothing (Err fault) = false
+
+abbrev pub leave_open : List (List ℕ) → Bool
+leave_open words = say_nothing (spelled tee_table words 1 Reading)
+
+-- What options ask for, given alone, however the program is called: of `head` and `tail` alike, of `split`, and of
+-- `csplit` with the operand `1`, for standard input; of `tail` that follows the file `f`, and of `tee` for it.
+
+-- of a tool of this name help and the version
+abbrev pub IsTold : List ℕ → Tool → Type 0
+IsTold name tool = (calling : Calling) (words : List (List ℕ))
+    → (settings_of calling (name ∷ codes "--help" ∷ words) ≡ Ok (About tool Help))
+    × (settings_of calling (name ∷ codes "--version" ∷ words) ≡ Ok (About tool Version))
 
 abbrev pub ten_of_input : EndsAsked
 ten_of_input = ten_lines (codes "-" ∷ [])
 
 abbrev pub EndsAsk : List (List ℕ) → EndsAsked → Type 0
-EndsAsk words asked = (settings_of (codes "head" ∷ words) ≡ Ok (Head asked))
-    × (settings_of (codes "tail" ∷ words) ≡ Ok (Tail (unfollowed asked)))
+EndsAsk words asked = (calling : Calling) → (settings_of calling (codes "head" ∷ words) ≡ Ok (Head asked))
+    × (settings_of calling (codes "tail" ∷ words) ≡ Ok (Tail (unfollowed asked)))
 
 abbrev pub following : TailSettings
 following = record (unfollowed (ten_lines (codes "f" ∷ []))) { followed = Some Descriptor }
 
 abbrev pub FollowAsks : List (List ℕ) → TailSettings → Type 0
-FollowAsks words asked = settings_of (codes "tail" ∷ words ++ codes "f" ∷ []) ≡ Ok (Tail asked)
+FollowAsks words asked = (calling : Calling)
+    → settings_of calling (codes "tail" ∷ words ++ codes "f" ∷ []) ≡ Ok (Tail asked)
+
+-- of `tail`, called by its own name, all of the file `f` from this line or byte on
+
+abbrev pub from_on : Measured → ℕ → TailSettings
+from_on unit amount = unfollowed (record (ten_lines (codes "f" ∷ [])) {
+  unit = unit;
+  count = record { sign = Plus; amount = amount };
+})
+
+abbrev pub StartAsks : List ℕ → TailSettings → Type 0
+StartAsks word asked = settings_of OwnName (codes "tail" ∷ word ∷ codes "f" ∷ []) ≡ Ok (Tail asked)
+
+-- and ten lines of these files
+abbrev pub AreNames : List (List ℕ) → List (List ℕ) → Type 0
+AreNames words names = settings_of OwnName (codes "tail" ∷ words) ≡ Ok (Tail (unfollowed (ten_lines names)))
 
 -- files of 1,000 lines, with names that widen from two letters on
 abbrev pub thousands : SplitAsked
@@ -226,11 +274,11 @@ abbrev pub as_wide : ℕ → SplitAsked
 as_wide width = record no_options { width = width }
 
 abbrev pub SplitAsks : List (List ℕ) → SplitAsked → Type 0
-SplitAsks words asked = settings_of (codes "split" ∷ words) ≡ Ok (Split asked)
+SplitAsks words asked = (calling : Calling) → settings_of calling (codes "split" ∷ words) ≡ Ok (Split asked)
 
 abbrev pub CsplitAsks : List (List ℕ) → Style → Type 0
-CsplitAsks words style = settings_of (codes "csplit" ∷ words ++ codes "-" ∷ codes "1" ∷ [])
-    ≡ Ok (Csplit (record {
+CsplitAsks words style = (calling : Calling)
+    → settings_of calling (codes "csplit" ∷ words ++ codes "-" ∷ codes "1" ∷ []) ≡ Ok (Csplit (record {
       style = style;
       input = codes "-";
       operands = codes "1" ∷ [];
@@ -238,11 +286,16 @@ CsplitAsks words style = settings_of (codes "csplit" ∷ words ++ codes "-" ∷ 
     }))
 
 -- the file `f`, which begins empty
-abbrev pub fresh_file : TeeAsked
-fresh_file = fresh (codes "f" ∷ [])
+abbrev pub fresh_file : Calling → TeeAsked
+fresh_file calling = fresh calling (codes "f" ∷ [])
 
-abbrev pub TeeAsks : List (List ℕ) → TeeAsked → Type 0
-TeeAsks words asked = settings_of (codes "tee" ∷ words ++ codes "f" ∷ []) ≡ Ok (Tee asked)
+abbrev pub TeeAsks : Calling → List (List ℕ) → TeeAsked → Type 0
+TeeAsks calling words asked = settings_of calling (codes "tee" ∷ words ++ codes "f" ∷ []) ≡ Ok (Tee asked)
+
+-- with an option that says what is done once an output is broken
+abbrev pub OnBrokenAsks : List (List ℕ) → OnBroken → Type 0
+OnBrokenAsks words on_broken = (calling : Calling)
+    → TeeAsks calling words (record (fresh_file calling) { on_broken = on_broken })
 
 -- files as they are made without options
 abbrev pub plain_style : Style

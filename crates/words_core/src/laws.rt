@@ -2,7 +2,7 @@
 ghost use Rattle.std.specs.Prelude.{◌≡◌, ◌≢◌, ◌↔◌, ◌+◌, ◌-◌, ◌*◌, ◌^◌, ◌≤◌, ◌<◌, ◌++◌, ℕ, List, [], ◌∷◌, All, Option, Some, None, Result, Ok, Err, IsOk, true, false, length, filter, codes, if◌then◌else◌};
 ghost use Rattle.std.specs.List.{list_any};
 ghost use Rattle.ports_core.specs.declared.fault.UsageKind.{UsageKind};
-ghost use Rattle.ports_core.specs.declared.fault.UsageKind.TheVariants.{AmbiguousOption, MissingValue, SuffixTooShort, TwoWays, UnknownOption};
+ghost use Rattle.ports_core.specs.declared.fault.UsageKind.TheVariants.{AmbiguousOption, MissingValue, NumberTooLarge, SuffixTooShort, TwoWays, UnknownOption};
 ghost use Rattle.words_core.specs.declared.spelling.State.TheVariants.{Reading};
 ghost use Rattle.seg_core.specs.declared.unit.Unit.{Unit as Measured};
 ghost use Rattle.seg_core.specs.Count.{count_of, digits_of, is_number, sized, value_of};
@@ -13,17 +13,17 @@ ghost use Rattle.words_core.specs.Choice.{choice_in};
 ghost use Rattle.words_core.specs.CsplitWords.{chosen_by, decimal_form, style_of};
 ghost use Rattle.words_core.specs.declared.format.Format.{Format as Written};
 ghost use Rattle.words_core.specs.Format.{Format, format_in};
-ghost use Rattle.words_core.specs.Laws.{AreAmong, CsplitAsks, EndsAsk, FollowAsks, Gives, IsLast, IsLetter, IsName, IsSwitch, LastDecides, LeaveTheRest, SplitAsks, TeeAsks, amount_of, appends, as_operands, as_wide, counts, counts_looks, counts_pause, drops_sizes, elides_files, ends_with_zero, following, fresh_file, gives_ending, gives_format, has, heads, is_plain, keeps_files, leaves_lines_out, names_prefix, names_process, plain_style, retries, says_followed, says_on_broken, separates, spells, tells_of_files, ten_of_input, thousands, widens};
-ghost use Rattle.words_core.specs.EndsWords.{ends_of};
-ghost use Rattle.words_core.specs.Lettered.{is_lettered, unit_of, with_letters};
+ghost use Rattle.words_core.specs.Laws.{AreAmong, AreNames, CsplitAsks, EndsAsk, FollowAsks, Gives, IsLast, IsLetter, IsName, IsSwitch, IsTold, LastDecides, LeaveTheRest, MeanTheSame, OnBrokenAsks, SplitAsks, StartAsks, TeeAsks, amount_of, appends, as_operands, as_wide, begin_with_start, counts, counts_looks, counts_pause, drops_sizes, elides_files, ends_with_zero, following, fresh_file, from_on, gives_ending, gives_format, has, heads, is_plain, keeps_files, leave_open, leaves_lines_out, names_prefix, names_process, plain_style, retries, says_followed, says_on_broken, separates, spells, tells_of_files, ten_of_input, thousands, widens};
+ghost use Rattle.words_core.specs.EndsWords.{ends_of, ten_lines};
+ghost use Rattle.words_core.specs.Lettered.{is_lettered, is_start, unit_of, with_letters};
 ghost use Rattle.words_core.specs.SplitWords.{SplitAsked, is_way, least_width, split_asked, split_of, way_in, way_of, separator_in};
 ghost use Rattle.words_core.specs.Spelling.{given_before, mixed, spelled};
 ghost use Rattle.words_core.specs.Table.{OptionRow, beginning, head_table, option_called, option_named, tail_table};
 ghost use Rattle.words_core.specs.declared.table.Letters.TheVariants.{OfHead, OfTail};
-ghost use Rattle.words_core.specs.TailWords.{retry_by, tail_of};
+ghost use Rattle.words_core.specs.TailWords.{retry_by, tail_of, unfollowed};
 ghost use Rattle.words_core.specs.TeeWords.{tee_asked, tee_of};
-ghost use Rattle.words_core.specs.Value.{counted, hex_in, size_in, up_to};
-ghost use Rattle.words_core.specs.Words.{settings_for, settings_of};
+ghost use Rattle.words_core.specs.Value.{byte_in, counted, ending_in, hex_in, size_in, up_to};
+ghost use Rattle.words_core.specs.Words.{settings_for, settings_of, tool_named};
 
 use crate::choice::{Choice, Kind};
 use crate::division::Division;
@@ -32,7 +32,7 @@ use crate::spelled::Chosen;
 use crate::spelling::State;
 use crate::table::{Letters, Takes};
 use crate::value::Followed;
-use ports_core::{Alphabet, Base, Fault, Filling, Mode, OnBroken, Tool};
+use ports_core::{Alphabet, Base, Calling, Fault, Filling, Mode, OnBroken, Tool};
 use seg_core::count::{Count, Sign};
 use seg_core::cut::{Cut, Limit, Way};
 use seg_core::unit::Unit;
@@ -90,21 +90,24 @@ pub fn last_of_csplit_decides()
 {}
 
 /// Of several options of `tee` that say what is done once an output is broken the last decides, as if it stood alone, whatever
-/// options stand before it. Without one it goes on with those that are left.
+/// options stand before it. Without one it goes on with those that are left; called by its own name it ends with the first whose
+/// reader is gone.
 pub fn last_of_tee_decides()
     ensures on_broken { (names : List (List ℕ))
-        → LastDecides says_on_broken (λ options. (tee_of names options).on_broken) OnBroken.GoOn }
+        → LastDecides says_on_broken (λ options. (tee_of Calling.Cutters names options).on_broken) OnBroken.Warn }
+    ensures own_name { (names : List (List ℕ))
+        → LastDecides says_on_broken (λ options. (tee_of Calling.OwnName names options).on_broken) OnBroken.Signal }
 {}
 
 /// An option that is taken without effect, with or without a value, changes nothing: the others ask for what they ask for without
 /// it. So it is with `-u` of `split` and `--max-unchanged-stats` of `tail`.
 pub fn some_have_no_effect()
-    ensures { (tool : Tool) (before after : List Chosen) (word : ℕ) (operands : List GivenOperand)
-        → settings_for tool
+    ensures { (calling : Calling) (tool : Tool) (before after : List Chosen) (word : ℕ) (operands : List GivenOperand)
+        → settings_for calling tool
         (record {
           options = before ++ record { choice = Choice.NoEffect; word = word } ∷ after;
           operands = operands;
-        }) ≡ settings_for tool (record { options = before ++ after; operands = operands }) }
+        }) ≡ settings_for calling tool (record { options = before ++ after; operands = operands }) }
 {}
 
 /// What an option without a value asks is asked for exactly where the option is given, wherever it stands and however
@@ -119,7 +122,8 @@ pub fn options_stand_anywhere()
     ensures tell { (options : List Chosen) → (split_of options).verbose ≡ has tells_of_files options }
     ensures zero { (names : List (List ℕ)) (options : List Chosen)
         → (ends_of names options).delim ≡ (if has ends_with_zero options then 0 else 10) }
-    ensures append { (given : Given) → ((tee_asked given).mode ≡ Mode.Append) ↔ (has appends given.options ≡ true) }
+    ensures append { (calling : Calling) (given : Given)
+        → ((tee_asked calling given).mode ≡ Mode.Append) ↔ (has appends given.options ≡ true) }
 {}
 
 /// Options for `split` are accepted exactly where at most one of them is a way to split; files are cut in that way. A
@@ -222,18 +226,14 @@ pub fn reading_ends()
     ensures last { (rows : List OptionRow) (name : List ℕ) (topic : Topic) (words : List (List ℕ)) (place : ℕ)
         → IsLast rows name topic
         → spelled rows ((codes "--" ++ name) ∷ words) place Reading ≡ Ok (one_option (Choice.About topic) place) }
-    ensures head { (words : List (List ℕ))
-        → settings_of (codes "head" ∷ codes "--help" ∷ words) ≡ Ok (Settings.About Tool.Head Topic.Help) }
-    ensures tail { (words : List (List ℕ))
-        → settings_of (codes "tail" ∷ codes "--help" ∷ words) ≡ Ok (Settings.About Tool.Tail Topic.Help) }
-    ensures split { (words : List (List ℕ))
-        → settings_of (codes "split" ∷ codes "--version" ∷ words) ≡ Ok (Settings.About Tool.Split Topic.Version) }
-    ensures csplit { (words : List (List ℕ))
-        → settings_of (codes "csplit" ∷ codes "--help" ∷ words) ≡ Ok (Settings.About Tool.Csplit Topic.Help) }
-    ensures tee { (words : List (List ℕ))
-        → settings_of (codes "tee" ∷ codes "--version" ∷ words) ≡ Ok (Settings.About Tool.Tee Topic.Version) }
-    ensures program { (words : List (List ℕ))
-        → settings_of (codes "--version" ∷ words) ≡ Ok (Settings.About Tool.Cutters Topic.Version) }
+    ensures head { IsTold (codes "head") Tool.Head }
+    ensures tail { IsTold (codes "tail") Tool.Tail }
+    ensures split { IsTold (codes "split") Tool.Split }
+    ensures csplit { IsTold (codes "csplit") Tool.Csplit }
+    ensures tee { IsTold (codes "tee") Tool.Tee }
+    ensures program { (calling : Calling) (words : List (List ℕ))
+        → (settings_of calling (codes "--help" ∷ words) ≡ Ok (Settings.About Tool.Cutters Topic.Help))
+        × (settings_of calling (codes "--version" ∷ words) ≡ Ok (Settings.About Tool.Cutters Topic.Version)) }
 {}
 
 /// The operands are some of the words, in their order, each with its place.
@@ -242,34 +242,103 @@ pub fn operands_keep_their_order()
         → spelled rows words place state ≡ Ok given → AreAmong given.operands place words }
 {}
 
-/// A first word that isn't a hyphen and digits, and letters where its tool takes some, is read as any other word. One of
-/// digits alone gives the option that its tool has for it, with these digits as the value.
+/// A first word that isn't a hyphen and digits, and letters where its tool takes some, nor a `+` and what its tool takes after
+/// that, is read as any other word. One of digits alone gives the option that its tool has for it, with these digits as the
+/// value.
 #[tactic(auto, unfolding(crate::specs::Spelling::foremost))]
 pub fn number_comes_first()
-    ensures other { (rows : List OptionRow) (kind : Kind) (letters : Letters) (byte : ℕ)
+    ensures other { (calling : Calling) (rows : List OptionRow) (kind : Kind) (letters : Letters) (byte : ℕ)
         (rest : List ℕ) (words : List (List ℕ)) (place : ℕ) → is_number rest ≡ false
-        → is_lettered rows letters rest ≡ false
-        → spelled rows ((byte ∷ rest) ∷ words) place (State.First kind letters)
+        → is_lettered rows letters rest ≡ false → (byte ≡ 43 → is_start calling rows letters rest ≡ false)
+        → spelled rows ((byte ∷ rest) ∷ words) place (State.First calling kind letters)
         ≡ spelled rows ((byte ∷ rest) ∷ words) place Reading }
-    ensures number { (rows : List OptionRow) (kind : Kind) (letters : Letters) (digits : List ℕ)
+    ensures number { (calling : Calling) (rows : List OptionRow) (kind : Kind) (letters : Letters) (digits : List ℕ)
         (choice : Choice) (words : List (List ℕ)) (place : ℕ) → is_number digits ≡ true
         → choice_in kind digits ≡ Ok choice
-        → spelled rows ((codes "-" ++ digits) ∷ words) place (State.First kind letters)
+        → spelled rows ((codes "-" ++ digits) ∷ words) place (State.First calling kind letters)
         ≡ given_before (one_option choice place) (spelled rows words (place + 1) Reading) }
 {}
 
-/// What a letter after the digits of a first word asks: one that says what is counted, as many of that as the digits write;
-/// one of an option, as many lines and that option.
+/// What a letter after the digits of a first word asks, also where these follow a `+`: one that says what is counted, as many
+/// of that as the digits write; one of an option, as many lines and that option. Several letters ask for all of that, and
+/// without digits there are ten.
+#[tactic(auto, unfolding(crate::specs::Spelling::foremost, crate::specs::Table::tools))]
 pub fn letters_ask()
-    ensures unit { (rows : List OptionRow) (digits : List ℕ) (letter place : ℕ) (unit : Measured × ℕ) (count : Count)
-        → is_number digits ≡ true → unit_of letter ≡ Some unit
-        → counted (sized Sign.Plain (value_of digits * unit.1)) ≡ Ok count
-        → with_letters rows place (digits ++ letter ∷ []) ≡ Ok (one_option (Choice.Amount unit.0 count) place) }
-    ensures option { (rows : List OptionRow) (digits : List ℕ) (letter place : ℕ) (choice : Choice)
+    ensures unit { (rows : List OptionRow) (sign : Sign) (digits : List ℕ) (letter place : ℕ) (unit : Measured × ℕ)
+        (count : Count) → is_number digits ≡ true → unit_of letter ≡ Some unit
+        → counted (sized sign (value_of digits * unit.1)) ≡ Ok count
+        → with_letters rows sign place (digits ++ letter ∷ []) ≡ Ok (one_option (Choice.Amount unit.0 count) place) }
+    ensures option { (rows : List OptionRow) (sign : Sign) (digits : List ℕ) (letter place : ℕ) (choice : Choice)
         (count : Count) → is_number digits ≡ true → unit_of letter ≡ None → is_ascii_digit letter ≡ false
-        → IsSwitch rows letter choice → counted (sized Sign.Plain (value_of digits)) ≡ Ok count
-        → with_letters rows place (digits ++ letter ∷ [])
+        → IsSwitch rows letter choice → counted (sized sign (value_of digits)) ≡ Ok count
+        → with_letters rows sign place (digits ++ letter ∷ [])
         ≡ Ok (joined (one_option (Choice.Amount Unit.Lines count) place) (bare choice place)) }
+    ensures several { (calling : Calling) → settings_of calling (codes "head" ∷ codes "-5cq" ∷ [])
+        ≡ Ok (Settings.Head (record ten_of_input {
+          unit = Unit.Bytes;
+          count = record { sign = Sign.Plain; amount = 5 };
+          headers = Headers.Never;
+        })) }
+    ensures followed { (calling : Calling) → settings_of calling (codes "tail" ∷ codes "-20bf" ∷ codes "f" ∷ [])
+        ≡ Ok (Settings.Tail (record following {
+          ends = record following.ends {
+            unit = Unit.Bytes;
+            count = record { sign = Sign.Plain; amount = 10240 };
+          };
+        })) }
+    ensures blocks { (calling : Calling) → settings_of calling (codes "tail" ∷ codes "-b" ∷ [])
+        ≡ Ok (Settings.Tail (unfollowed (record ten_of_input {
+          unit = Unit.Bytes;
+          count = record { sign = Sign.Plain; amount = 5120 };
+        }))) }
+{}
+
+/// What words mean doesn't depend on how the program is called, but for two things: a first word of `tail` that is a `+` and
+/// what may follow it, and what `tee` does once an output is broken where no option says it.
+#[tactic(auto, unfolding(crate::specs::Spelling::foremost, crate::specs::Table::tools))]
+pub fn callings_mean_the_same()
+    ensures none { MeanTheSame [] }
+    ensures unknown { (name : List ℕ) (words : List (List ℕ)) → tool_named name ≡ None → MeanTheSame (name ∷ words) }
+    ensures head { (words : List (List ℕ)) → MeanTheSame (codes "head" ∷ words) }
+    ensures tail { (words : List (List ℕ)) → begin_with_start words ≡ false → MeanTheSame (codes "tail" ∷ words) }
+    ensures split { (words : List (List ℕ)) → MeanTheSame (codes "split" ∷ words) }
+    ensures csplit { (words : List (List ℕ)) → MeanTheSame (codes "csplit" ∷ words) }
+    ensures tee { (words : List (List ℕ)) → leave_open words ≡ false → MeanTheSame (codes "tee" ∷ words) }
+    ensures left_open { (given : Given) → has says_on_broken given.options ≡ false
+        → tee_asked Calling.OwnName given
+        ≡ record (tee_asked Calling.Cutters given) { on_broken = OnBroken.Signal } }
+{}
+
+/// What a first word of a `+` asks of `tail`, called by its own name: all from a line or a byte on, as `-n` and `-c` with
+/// a `+`, in blocks of 512 bytes too; with `f` it follows. Any other word of a `+` is a name, and so is this one where it
+/// isn't the first, or the program is called by its own.
+#[tactic(auto, unfolding(crate::specs::Spelling::foremost, crate::specs::Table::tools))]
+pub fn starts_ask()
+    ensures number { (digits : List ℕ) → is_number digits ≡ true → value_of digits ≤ 2 ^ 63 - 1
+        → StartAsks (codes "+" ++ digits) (from_on Unit.Lines (value_of digits)) }
+    ensures bytes { (digits : List ℕ) → is_number digits ≡ true → value_of digits ≤ 2 ^ 63 - 1
+        → StartAsks (codes "+" ++ (digits ++ codes "c")) (from_on Unit.Bytes (value_of digits)) }
+    ensures blocks { (digits : List ℕ) → is_number digits ≡ true → value_of digits * 512 ≤ 2 ^ 63 - 1
+        → StartAsks (codes "+" ++ (digits ++ codes "b")) (from_on Unit.Bytes (value_of digits * 512)) }
+    ensures lines { (digits : List ℕ) → is_number digits ≡ true → value_of digits ≤ 2 ^ 63 - 1
+        → StartAsks (codes "+" ++ (digits ++ codes "l")) (from_on Unit.Lines (value_of digits)) }
+    ensures too_large { (digits : List ℕ) (words : List (List ℕ)) → is_number digits ≡ true
+        → 2 ^ 63 - 1 < value_of digits → settings_of Calling.OwnName (codes "tail" ∷ (codes "+" ++ digits) ∷ words)
+        ≡ Err (Fault.Usage NumberTooLarge 1) }
+    ensures five_blocks { StartAsks (codes "+5b") (from_on Unit.Bytes 2560) }
+    ensures ten_bytes { StartAsks (codes "+c") (from_on Unit.Bytes 10) }
+    ensures ten_blocks { StartAsks (codes "+b") (from_on Unit.Bytes 5120) }
+    ensures ten_lines { StartAsks (codes "+l") (from_on Unit.Lines 10) }
+    ensures followed { StartAsks (codes "+3f") (record (from_on Unit.Lines 3) { followed = Some Followed.Descriptor }) }
+    ensures followed_bytes { StartAsks (codes "+10cf")
+        (record (from_on Unit.Bytes 10) { followed = Some Followed.Descriptor }) }
+    ensures path { AreNames (codes "./+2" ∷ []) (codes "./+2" ∷ []) }
+    ensures operand { AreNames (codes "--" ∷ codes "+2" ∷ []) (codes "+2" ∷ []) }
+    ensures second { AreNames (codes "f" ∷ codes "+2" ∷ []) (codes "f" ∷ codes "+2" ∷ []) }
+    ensures plus { AreNames (codes "+" ∷ []) (codes "+" ∷ []) }
+    ensures plus_f { AreNames (codes "+f" ∷ []) (codes "+f" ∷ []) }
+    ensures cutters { (text : List ℕ) → settings_of Calling.Cutters (codes "tail" ∷ (codes "+" ++ text) ∷ [])
+        ≡ Ok (Settings.Tail (unfollowed (ten_lines ((codes "+" ++ text) ∷ [])))) }
 {}
 
 /// A first word that is read as a hyphen, digits and letters means nothing else: read as any other word it is an unknown
@@ -297,6 +366,7 @@ pub fn ends_options_ask()
         → EndsAsk (codes "-c" ∷ value ∷ []) (record ten_of_input { unit = Unit.Bytes; count = count }) }
     ensures quiet { EndsAsk (codes "-q" ∷ []) (record ten_of_input { headers = Headers.Never }) }
     ensures verbose { EndsAsk (codes "-v" ∷ []) (record ten_of_input { headers = Headers.Always }) }
+    ensures zero { EndsAsk (codes "-z" ∷ []) (record ten_of_input { delim = 0 }) }
 {}
 
 /// What the options of `tail` for following ask for, and what is asked for without any: files that are opened once, or names;
@@ -304,7 +374,7 @@ pub fn ends_options_ask()
 /// GNU coreutils manual).
 #[tactic(auto, unfolding(crate::specs::Spelling::foremost, crate::specs::Table::tools, seg_core::specs::Count::digits_of))]
 pub fn tail_options_ask()
-    ensures nothing { settings_of (codes "tail" ∷ []) ≡ Ok (Settings.Tail (record {
+    ensures nothing { (calling : Calling) → settings_of calling (codes "tail" ∷ []) ≡ Ok (Settings.Tail (record {
       ends = ten_of_input;
       followed = None;
       looks = 2 ^ 63 - 1;
@@ -320,6 +390,7 @@ pub fn tail_options_ask()
     ensures looks { FollowAsks (codes "-f" ∷ codes "--looks=3" ∷ []) (record following { looks = 3 }) }
     ensures pause { FollowAsks (codes "-f" ∷ codes "-s" ∷ codes "2.5" ∷ []) (record following { pause = 2500 }) }
     ensures process { FollowAsks (codes "-f" ∷ codes "--pid=7" ∷ []) (record following { process = Some 7 }) }
+    ensures unchanged { FollowAsks (codes "-f" ∷ codes "--max-unchanged-stats=5" ∷ []) following }
     ensures short_pause { FollowAsks (codes "-f" ∷ codes "--sleep-interval=.0501" ∷ [])
         (record following { pause = 51 }) }
 {}
@@ -361,11 +432,17 @@ pub fn split_options_ask()
         → SplitAsks ((codes "--hex-suffixes=" ++ value) ∷ [])
         (record (as_wide 2) { alphabet = Alphabet.Hex; from = Some from }) }
     ensures too_short { (value : List ℕ) (from : ℕ) → up_to (2 ^ 63 - 1) (digits_of value) ≡ Ok from → 100 ≤ from
-        → settings_of (codes "split" ∷ (codes "--numeric-suffixes=" ++ value) ∷ [])
+        → (calling : Calling) → settings_of calling (codes "split" ∷ (codes "--numeric-suffixes=" ++ value) ∷ [])
         ≡ Err (Fault.Usage SuffixTooShort 0) }
     ensures split_verbose { SplitAsks (codes "--verbose" ∷ []) (record thousands { verbose = true }) }
     ensures elide { SplitAsks (codes "-e" ∷ []) (record thousands { elide = true }) }
     ensures width { SplitAsks (codes "-a3" ∷ []) (as_wide 3) }
+    ensures separator { (value : List ℕ) (byte : ℕ) → byte_in value ≡ Ok byte
+        → SplitAsks (codes "-t" ∷ value ∷ [])
+        (record thousands { way = Way.Cut (Cut.Parts (Limit.Lines 1000 byte)) }) }
+    ensures ending { (value ending : List ℕ) → ending_in value ≡ Ok ending
+        → SplitAsks (codes "--additional-suffix" ∷ value ∷ []) (record thousands { ending = ending }) }
+    ensures unbuffered { SplitAsks (codes "-u" ∷ []) thousands }
 {}
 
 /// What the options of `csplit` ask for, each alone, and what is asked for without any (POSIX.1-2017, XCU csplit; GNU
@@ -402,29 +479,34 @@ pub fn csplit_options_ask()
     ensures suppress { CsplitAsks (codes "--suppress-matched" ∷ []) (record plain_style { suppress = true }) }
 {}
 
-/// What `tee` is asked for without options, with `-a`, and with an option that says what is done once an output is broken
-/// (POSIX.1-2017, XCU tee; GNU coreutils manual).
+/// What `tee` is asked for without options, by both ways to call the program, with `-a`, and with an option that says what is
+/// done once an output is broken (POSIX.1-2017, XCU tee; GNU coreutils manual).
 #[tactic(auto, unfolding(crate::specs::Table::tools))]
 pub fn tee_options_ask()
-    ensures nothing { TeeAsks []
-        (record { mode = Mode.Fresh; on_broken = OnBroken.GoOn; names = codes "f" ∷ [] }) }
-    ensures append { TeeAsks (codes "-a" ∷ []) (record fresh_file { mode = Mode.Append }) }
-    ensures warn { TeeAsks (codes "-p" ∷ []) fresh_file }
-    ensures stop { TeeAsks (codes "--output-error=exit" ∷ []) (record fresh_file { on_broken = OnBroken.Stop }) }
-    ensures stop_at_no_pipe { TeeAsks (codes "--output-error=exit-nopipe" ∷ [])
-        (record fresh_file { on_broken = OnBroken.Stop }) }
+    ensures nothing { TeeAsks Calling.Cutters []
+        (record { mode = Mode.Fresh; on_broken = OnBroken.Warn; names = codes "f" ∷ [] }) }
+    ensures own_name { TeeAsks Calling.OwnName []
+        (record { mode = Mode.Fresh; on_broken = OnBroken.Signal; names = codes "f" ∷ [] }) }
+    ensures append { (calling : Calling)
+        → TeeAsks calling (codes "-a" ∷ []) (record (fresh_file calling) { mode = Mode.Append }) }
+    ensures p { OnBrokenAsks (codes "-p" ∷ []) OnBroken.WarnNoPipe }
+    ensures output_error { OnBrokenAsks (codes "--output-error" ∷ []) OnBroken.WarnNoPipe }
+    ensures warn_nopipe { OnBrokenAsks (codes "--output-error=warn-nopipe" ∷ []) OnBroken.WarnNoPipe }
+    ensures warn { OnBrokenAsks (codes "--output-error=warn" ∷ []) OnBroken.Warn }
+    ensures exit { OnBrokenAsks (codes "--output-error=exit" ∷ []) OnBroken.Exit }
+    ensures exit_nopipe { OnBrokenAsks (codes "--output-error=exit-nopipe" ∷ []) OnBroken.ExitNoPipe }
 {}
 
 /// A hyphen and digits as the only word mean what `-n` means with these digits for `head` and `tail`, and what `-l` means for
 /// `split` (GNU coreutils manual).
 pub fn numbers_ask()
-    ensures head { (digits : List ℕ) (count : Count) → is_number digits ≡ true → count_of digits ≡ Ok count
-        → settings_of (codes "head" ∷ (codes "-" ++ digits) ∷ [])
-        ≡ settings_of (codes "head" ∷ codes "-n" ∷ digits ∷ []) }
-    ensures tail { (digits : List ℕ) (count : Count) → is_number digits ≡ true → count_of digits ≡ Ok count
-        → settings_of (codes "tail" ∷ (codes "-" ++ digits) ∷ [])
-        ≡ settings_of (codes "tail" ∷ codes "-n" ∷ digits ∷ []) }
-    ensures split { (digits : List ℕ) (size : ℕ) → is_number digits ≡ true → size_in digits ≡ Ok size
-        → settings_of (codes "split" ∷ (codes "-" ++ digits) ∷ [])
-        ≡ settings_of (codes "split" ∷ codes "-l" ∷ digits ∷ []) }
+    ensures head { (calling : Calling) (digits : List ℕ) (count : Count) → is_number digits ≡ true
+        → count_of digits ≡ Ok count → settings_of calling (codes "head" ∷ (codes "-" ++ digits) ∷ [])
+        ≡ settings_of calling (codes "head" ∷ codes "-n" ∷ digits ∷ []) }
+    ensures tail { (calling : Calling) (digits : List ℕ) (count : Count) → is_number digits ≡ true
+        → count_of digits ≡ Ok count → settings_of calling (codes "tail" ∷ (codes "-" ++ digits) ∷ [])
+        ≡ settings_of calling (codes "tail" ∷ codes "-n" ∷ digits ∷ []) }
+    ensures split { (calling : Calling) (digits : List ℕ) (size : ℕ) → is_number digits ≡ true
+        → size_in digits ≡ Ok size → settings_of calling (codes "split" ∷ (codes "-" ++ digits) ∷ [])
+        ≡ settings_of calling (codes "split" ∷ codes "-l" ∷ digits ∷ []) }
 {}

@@ -1,6 +1,6 @@
 //! What the words after `csplit` ask for: rows that no clause shows to be read, since there may be no memory for them.
-use crate::refused::{Refused, refuse};
-use ports_core::{Base, Filling, Form, UsageKind};
+use crate::refused::{CALLINGS, Refused, refuse};
+use ports_core::{Base, Calling, Filling, Form, UsageKind};
 use std::alloc::Global;
 use std::process::Abort;
 use words_core::{CsplitSettings, Settings, read_words};
@@ -46,8 +46,21 @@ fn has_words(found: &CsplitSettings<'_>, words: &[&str]) -> bool {
     true
 }
 
+/// Checks that this is asked for, however the program is called.
 fn check(rt: &impl Abort, alloc: Global, words: &[&str], wanted: Wanted<'_>) {
-    match read_words(alloc, words) {
+    for calling in CALLINGS {
+        check_called(rt, alloc, *calling, words, wanted);
+    }
+}
+
+fn check_called(
+    rt: &impl Abort,
+    alloc: Global,
+    calling: Calling,
+    words: &[&str],
+    wanted: Wanted<'_>,
+) {
+    match read_words(alloc, calling, words) {
         Ok(settings) => check_settings(rt, words, &settings, wanted),
         Err(fault) => assert!(rt; false, "{fault:?} at {words:?}"),
     }

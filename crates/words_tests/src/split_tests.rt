@@ -1,7 +1,7 @@
 //! What the words after `split` ask for: rows that no clause shows to be read, since there may be
 //! no memory for them.
-use crate::refused::{Refused, refuse};
-use ports_core::{Alphabet, UsageKind};
+use crate::refused::{CALLINGS, Refused, refuse};
+use ports_core::{Alphabet, Calling, UsageKind};
 use seg_core::cut::{Chunks, Cut, Limit, Way};
 use seg_core::unit::Unit;
 use std::alloc::Global;
@@ -57,8 +57,21 @@ fn delim_of(way: Way) -> Option<u8> {
     }
 }
 
+/// Checks that this is asked for, however the program is called.
 fn check(rt: &impl Abort, alloc: Global, words: &[&str], wanted: Wanted<'_>) {
-    match read_words(alloc, words) {
+    for calling in CALLINGS {
+        check_called(rt, alloc, *calling, words, wanted);
+    }
+}
+
+fn check_called(
+    rt: &impl Abort,
+    alloc: Global,
+    calling: Calling,
+    words: &[&str],
+    wanted: Wanted<'_>,
+) {
+    match read_words(alloc, calling, words) {
         Ok(settings) => check_settings(rt, words, &settings, wanted),
         Err(fault) => assert!(rt; false, "{fault:?} at {words:?}"),
     }

@@ -1,6 +1,6 @@
 //! What the words after `tail` ask for, where files are followed.
-use crate::refused::{Refused, refuse};
-use ports_core::UsageKind;
+use crate::refused::{CALLINGS, Refused, refuse};
+use ports_core::{Calling, UsageKind};
 use std::alloc::Global;
 use std::process::Abort;
 use words_core::{Followed, MOST_LOOKS, Settings, TailSettings, read_words};
@@ -24,8 +24,15 @@ fn has(found: &TailSettings<'_>, wanted: Wanted) -> bool {
     }
 }
 
+/// Checks that this is asked for, however the program is called.
 fn check(rt: &impl Abort, alloc: Global, words: &[&str], wanted: Wanted) {
-    match read_words(alloc, words) {
+    for calling in CALLINGS {
+        check_called(rt, alloc, *calling, words, wanted);
+    }
+}
+
+fn check_called(rt: &impl Abort, alloc: Global, calling: Calling, words: &[&str], wanted: Wanted) {
+    match read_words(alloc, calling, words) {
         Ok(settings) => check_settings(rt, words, &settings, wanted),
         Err(fault) => assert!(rt; false, "{fault:?} at {words:?}"),
     }

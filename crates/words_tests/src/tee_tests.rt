@@ -1,6 +1,6 @@
 //! What the words after `tee` ask for.
-use crate::refused::{Refused, refuse};
-use ports_core::{Mode, OnBroken, UsageKind};
+use crate::refused::{CALLINGS, Refused, refuse};
+use ports_core::{Calling, Mode, OnBroken, UsageKind};
 use std::alloc::Global;
 use std::process::Abort;
 use words_core::{Settings, TeeSettings, read_words};
@@ -36,8 +36,21 @@ fn name_at<'a>(found: &TeeSettings<'a>, place: usize) -> &'a str {
     found.names.get(place).copied().unwrap_or("")
 }
 
+/// Checks that this is asked for, however the program is called.
 fn check(rt: &impl Abort, alloc: Global, words: &[&str], wanted: Wanted<'_>) {
-    match read_words(alloc, words) {
+    for calling in CALLINGS {
+        check_called(rt, alloc, *calling, words, wanted);
+    }
+}
+
+fn check_called(
+    rt: &impl Abort,
+    alloc: Global,
+    calling: Calling,
+    words: &[&str],
+    wanted: Wanted<'_>,
+) {
+    match read_words(alloc, calling, words) {
         Ok(settings) => check_settings(rt, words, &settings, wanted),
         Err(fault) => assert!(rt; false, "{fault:?} at {words:?}"),
     }
@@ -87,23 +100,53 @@ fn reads_what_is_done_once_an_output_is_broken(rt: HostRuntime) {
 }
 
 const BREAKS: &[(&[&str], OnBroken)] = &[
-    (&["tee", "f"], OnBroken::GoOn),
-    (&["tee", "-p", "f"], OnBroken::GoOn),
-    (&["tee", "-pa", "f"], OnBroken::GoOn),
-    (&["tee", "--output-error", "f"], OnBroken::GoOn),
-    (&["tee", "--output-error", "exit"], OnBroken::GoOn),
-    (&["tee", "--output-error=warn"], OnBroken::GoOn),
-    (&["tee", "--output-error=warn-nopipe"], OnBroken::GoOn),
-    (&["tee", "--output-error=exit"], OnBroken::Stop),
-    (&["tee", "f", "--output-error=exit-nopipe"], OnBroken::Stop),
-    (&["tee", "--out=exit"], OnBroken::Stop),
-    (&["tee", "-p", "--output-error=exit", "f"], OnBroken::Stop),
-    (&["tee", "--output-error=exit", "-ap", "f"], OnBroken::GoOn),
+    (&["tee", "-p", "f"], OnBroken::WarnNoPipe),
+    (&["tee", "-pa", "f"], OnBroken::WarnNoPipe),
+    (&["tee", "--output-error", "f"], OnBroken::WarnNoPipe),
+    (&["tee", "--output-error", "exit"], OnBroken::WarnNoPipe),
+    (&["tee", "--output-error=warn"], OnBroken::Warn),
+    (&["tee", "--output-error=warn-nopipe"], OnBroken::WarnNoPipe),
+    (&["tee", "--output-error=exit"], OnBroken::Exit),
+    (
+        &["tee", "f", "--output-error=exit-nopipe"],
+        OnBroken::ExitNoPipe,
+    ),
+    (&["tee", "--out=exit"], OnBroken::Exit),
+    (&["tee", "-p", "--output-error=exit", "f"], OnBroken::Exit),
+    (&["tee", "-p", "--output-error=warn", "f"], OnBroken::Warn),
+    (
+        &["tee", "--output-error=exit", "-ap", "f"],
+        OnBroken::WarnNoPipe,
+    ),
     (
         &["tee", "--output-error=exit", "--output-error"],
-        OnBroken::GoOn,
+        OnBroken::WarnNoPipe,
     ),
-    (&["tee", "--", "--output-error=exit"], OnBroken::GoOn),
+];
+
+#[test]
+fn cutters_goes_on_unless_an_option_says_otherwise(rt: HostRuntime) {
+    leave_open(&rt, rt.alloc(), Calling::Cutters, OnBroken::Warn);
+}
+
+#[test]
+fn own_name_ends_unless_an_option_says_otherwise(rt: HostRuntime) {
+    leave_open(&rt, rt.alloc(), Calling::OwnName, OnBroken::Signal);
+}
+
+/// Checks that this is done once an output is broken where the words don't say it.
+fn leave_open(rt: &impl Abort, alloc: Global, calling: Calling, on_broken: OnBroken) {
+    for words in OPEN {
+        check_called(rt, alloc, calling, words, Wanted::OnBroken(on_broken));
+    }
+}
+
+const OPEN: &[&[&str]] = &[
+    &["tee"],
+    &["tee", "f"],
+    &["tee", "-a", "f"],
+    &["tee", "--", "-p"],
+    &["tee", "--", "--output-error=exit"],
 ];
 
 #[test]

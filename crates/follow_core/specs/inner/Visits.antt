@@ -6,7 +6,8 @@ use Rattle.follow_core.specs.Standing.{NameState, NoneGoesOn, AllStand, CanVisit
 use Rattle.ports_core.specs.Slot.{Slot, changed_at}
 use Rattle.ports_core.specs.Message.{SaysOn}
 use Rattle.ports_core.specs.Text.{message_of}
-use Rattle.ports_core.specs.declared.tool.Tool.TheVariants.{Tail}
+use Rattle.ports_core.specs.declared.reason.Reason.TheVariants.{Other}
+use Rattle.follow_core.specs.Telling.{plain}
 use Rattle.ports_core.specs.declared.fault.Fault.{Fault}
 use Rattle.watch_core.specs.Snapshot.{Snapshot}
 use Rattle.watch_core.specs.Watched.{Watched, opens, watched_at, added}
@@ -48,7 +49,7 @@ pub record Stopped (told_in told : Bool) (ways : Ways) (before : List Look) (sna
 -- A call on the name failed, which was told, so that it is dropped; or following ends, and nothing more was told.
 abbrev pub TellsStop : Bool → List ℕ → List Slot → Standing → List Slot → Stop → Result Bool Fault → Type 0
 TellsStop told name old standing new (Broke why) result = (result ≡ Ok true) × (standing ≡ Left)
-    × SaysOn told Tail (message_of Tail why name) old new
+    × SaysOn told plain Other (message_of why name) old new
 TellsStop told name old standing new (Over why) result = (result ≡ Err why) × (new ≡ old)
 
 -- another file of the name at this place may be open, and no name broke

@@ -23,11 +23,12 @@ returns g c =
     let ways = ways_of 0 c.args.by_name c.args.start in
     let slots = g.O.Outs.slots c.args.outs.now in
     let (most, are, stops) = c.in-Err-make_looks.ensures.stopped in
-    ends_by c.args.limits.process most are (stopped (g.O.Outs.slots c.make_looks.new.outs) c.in-Err-make_looks.fault
-    (stops ways c.args.headers names slots (open_holds c.in-Ok.ensures.ok c.requires.unwatched))
-    c.tell-in-Err-make_looks.ensures refl)
+    let (why, is_why, tells, is) = c.tell-in-Err-make_looks.ensures in
+    ends_by c.args.limits.process most are (stopped (g.O.Outs.slots c.make_looks.new.outs) c.in-Err-make_looks.fault why
+    (stops ways c.args.headers names slots (open_holds c.in-Ok.ensures.ok c.requires.unwatched)) tells is)
 
 pub returns-in-Err : goal.returns-in-Err
 returns-in-Err g c =
     let (most, are, above) = most_made g.W.Watch.told c.args.limits.process (g.W.Watch.shows c.args.watch.now) c.args.limits.looks 0 (omega arith) (λ t. omega arith) in
-    ends_by c.args.limits.process most are (no_room c.requires.unseen c.requires.unwatched (rw c.in-Err.ensures.err at c.tell.ensures) refl)
+    let (why, is_why, tells, is) = rw c.in-Err.ensures.err at c.tell.ensures in
+    ends_by c.args.limits.process most are (no_room why c.requires.unseen c.requires.unwatched tells is)

@@ -56,10 +56,10 @@ unfolding tools foremost program_table
 returns c = record {
   left = leave_the_rest;
   last = last_ends;
-  head = λ words. rw (nothing_more head_table words 2);
-  tail = λ words. rw (nothing_more tail_table words 2);
-  split = λ words. rw (nothing_more split_table words 2);
-  csplit = λ words. rw (nothing_more csplit_table words 2);
-  tee = λ words. rw (nothing_more tee_table words 2);
-  program = λ words. refl;
+  head = λ calling words. (rw (nothing_more head_table words 2), rw (nothing_more head_table words 2));
+  tail = λ calling words. (rw (nothing_more tail_table words 2), rw (nothing_more tail_table words 2));
+  split = λ calling words. (rw (nothing_more split_table words 2), rw (nothing_more split_table words 2));
+  csplit = λ calling words. (rw (nothing_more csplit_table words 2), rw (nothing_more csplit_table words 2));
+  tee = λ calling words. (rw (nothing_more tee_table words 2), rw (nothing_more tee_table words 2));
+  program = λ calling words. (refl, refl);
 }

@@ -17,7 +17,7 @@ returns-in-Ok-false-clause-visits g c first =
       | then-by_name w ↦ rw (w.standing-is, w.if-by_name.true)
       | else-by_name w ↦ rw (w.standing-is, w.if-by_name.false)
     ] in
-    rw now (first_missing c.in-Ok-false.ensures.ok c.in-Ok-false.field-0-test c.requires.name c.requires.watchable c.say.ensures)
+    rw now (first_missing c.in-Ok-false.ensures.ok c.in-Ok-false.field-0-test c.requires.name c.requires.watchable c.say_failure.ensures)
 
 pub returns-in-Err-clause-visits : goal.returns-in-Err-clause-visits
 returns-in-Err-clause-visits g c first = first_unopened c.requires.name c.requires.watchable c.in-Err.ensures.err.0 c.in-Err.ensures.err.1 c.stop.ensures.tells
