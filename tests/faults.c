@@ -4,8 +4,9 @@
    ("close": input error) or a removal ("remove": not permitted); a read or write is interrupted ("once"), or a write moves at
    most 7 bytes ("cut"), or a file doesn't get another length ("length": input error). Then the file FAULT_MET is made.
    Reads from a place, seeks and questions about a file: the first are interrupted and cut short as reads are; one of them all
-   fails ("look"), and before one of these or of the reads the file FAULT_FILE gets the length FAULT_LENGTH ("resize"). Of the
-   questions that find no file one is told so, and by then the file FAULT_FILE is there, with the line "made" ("make"). */
+   fails ("look"), and before one of these or of the reads the file FAULT_FILE gets the length FAULT_LENGTH ("resize"), or before
+   one of the first alone ("shrink"). Of the questions that find no file one is told so, and by then the file FAULT_FILE is there,
+   with the line "made" ("make"). */
 #define _GNU_SOURCE
 #include <dlfcn.h>
 #include <errno.h>
@@ -67,12 +68,17 @@ static int interrupted_once(void)
     return fails("once", &calls, EINTR);
 }
 
+static void resizes_at(const char *kind, int *calls)
+{
+    const char *file = getenv("FAULT_FILE"), *length = getenv("FAULT_LENGTH");
+    if (file && length && fails(kind, calls, 0))
+        syscall(SYS_truncate, file, atol(length));
+}
+
 static void resizes(void)
 {
     static int calls;
-    const char *file = getenv("FAULT_FILE"), *length = getenv("FAULT_LENGTH");
-    if (file && length && fails("resize", &calls, 0))
-        syscall(SYS_truncate, file, atol(length));
+    resizes_at("resize", &calls);
 }
 
 /* Whether a look at a file fails: a read from a place, a seek, or a question about it. */
@@ -85,6 +91,8 @@ static int looks_in_vain(void)
 
 ssize_t pread(int fd, void *buffer, size_t size, off_t place)
 {
+    static int calls;
+    resizes_at("shrink", &calls);
     if (interrupts() || interrupted_once() || looks_in_vain())
         return -1;
     return syscall(SYS_pread64, fd, buffer, fault_is("short") && size > 7 ? 7 : size, place);

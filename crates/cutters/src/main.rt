@@ -1,18 +1,21 @@
 //! `cutters`: the tools that cut files, in one program.
 #![tactic(auto)]
 
-ghost use Rattle.std.specs.Prelude.{◌≡◌};
+ghost use Rattle.std.specs.Prelude.{◌≡◌, IfOk, map, string_bytes};
 ghost use Rattle.ports_core.specs.Slot.{streams};
 ghost use Rattle.ports_core.specs.Source.{IsFresh};
+ghost use Rattle.tools_core.specs.Program.{FailsAtOnce, RanAs};
 
-use ports_core::{DirIn, DirOut, Fault, InputFiles, Tool, say, write_whole};
+use ports_core::{
+    Calling, DirIn, DirOut, Fault, InputFiles, Reason, Speaker, Tool, say, write_whole,
+};
 use std::alloc::{AllocError, Global};
 use std::fs::{self, File};
 use std::os::fd::{AsRawFd, RawFd};
 use std::process::ExitCode;
 use tools_core::run_words;
 use watch_core::DirWatch;
-use words_core::{ArgsFault, read_args};
+use words_core::{Args, ArgsFault, read_args};
 
 /// The output for messages.
 const STANDARD_ERROR: usize = 1;
@@ -51,39 +54,48 @@ fn stand_in(rt: HostRuntime) -> Option<File> {
     }
 }
 
+/// Runs what the words ask for, over the real files that they name, and returns the status.
 fn run_args(
     rt: HostRuntime,
     alloc: Global,
-    args: &Vec<String>,
+    args: &Args,
     inputs: &mut DirIn<'_, HostRuntime>,
     outs: &mut DirOut<'_, HostRuntime>,
 ) -> u8
     requires inputs { IsFresh inputs.old }
     requires outputs { outs.old ≡ streams }
+    ensures { RanAs args.now.calling (map string_bytes args.now.words.items) inputs.old inputs.new outs.new result }
 {
-    match words_of(alloc, args) {
+    match words_of(alloc, &args.words) {
         Ok(words) => {
             let mut watch = DirWatch::new(rt, alloc);
-            run_words(alloc, &words, inputs, &mut watch, outs)
+            run_words(alloc, args.calling, &words, inputs, &mut watch, outs)
         }
         Err(AllocError) => refuse(alloc, outs),
     }
 }
 
 /// The words as texts. Room for all is asked for once: collecting them would ask for less where that is refused.
-fn words_of<'a>(alloc: Global, args: &'a [String]) -> Result<Vec<&'a str>, AllocError> {
-    let mut words = Vec::with_capacity(alloc, args.len())?;
+fn words_of<'a>(alloc: Global, args: &'a [String]) -> Result<Vec<&'a str>, AllocError>
+    ensures { IfOk result (λ texts. map (λ text. text.now) texts.items ≡ map string_bytes args.now) }
+{
+    let mut texts = Vec::with_capacity(alloc, args.len())?;
     for arg in args {
-        words.push(arg.as_str())?;
+        texts.push(arg.as_str())?;
     }
-    Ok(words)
+    Ok(texts)
 }
 
 /// Says that there is no memory for the words, and returns the status.
 fn refuse(alloc: Global, outs: &mut DirOut<'_, HostRuntime>) -> u8
     requires { outs.old ≡ streams }
+    ensures { FailsAtOnce outs.new result }
 {
-    say(alloc, Tool::Cutters, &Fault::Memory, "", outs);
+    let speaker = Speaker {
+        calling: Calling::Cutters,
+        tool: Tool::Cutters,
+    };
+    say(alloc, speaker, Reason::Other, &Fault::Memory, "", outs);
     1
 }
 

@@ -1,7 +1,8 @@
 //! Following: looks at files beside names that others watch; and examples of the definitions alone, where each contract says what
 //! they make of some edits with a look after each list.
-ghost use Rattle.std.specs.Prelude.{◌≡◌, [], ◌∷◌, Some, drop, codes, true, false};
+ghost use Rattle.std.specs.Prelude.{◌≡◌, [], ◌∷◌, Some, drop, codes, true, false, IfOk};
 ghost use Rattle.watch_core.specs.Edits.{append, truncate, replace, remove, edited_by, empty_world, seen_in};
+ghost use Rattle.mem_core.specs.MemWatchState.{seen};
 ghost use Rattle.follow_core.specs.Followed.{followed};
 ghost use Rattle.ends_core.specs.Ends.{tail_of};
 ghost use Rattle.follow_core.specs.Look.{unopened, unread};
@@ -10,7 +11,7 @@ ghost use Rattle.follow_core.specs.inner.Placing.{looks_after};
 use ends_core::Unit;
 use follow_core::{Follow, Limits, Start, follow_files};
 use mem_core::{Edit, MemOut, MemWatch};
-use ports_core::Fault;
+use ports_core::{Calling, Fault, Reason};
 use std::alloc::Global;
 use std::process::Abort;
 use std::test::Fail;
@@ -130,7 +131,14 @@ fn look_twice(rt: &impl Abort, alloc: Global, row: &Row<'_>) -> Result<(), Fault
     let mut watch = watch_of_others(alloc)?;
     let opened = watch.open_id(0);
     let mut outs = MemOut::new(alloc)?;
-    let mut follow = Follow::open(alloc, row.0, LAST_LINE, row.1, 1 < row.0.len())?;
+    let mut follow = Follow::open(
+        alloc,
+        Calling::Cutters,
+        row.0,
+        LAST_LINE,
+        row.1,
+        1 < row.0.len(),
+    )?;
     follow.look(&mut watch, &mut outs)?;
     follow.look(&mut watch, &mut outs)?;
     assert_eq!(rt; (outs.bytes(0), outs.bytes(1)), (row.2, row.3));
@@ -171,6 +179,7 @@ fn wait_for(rt: &impl Abort, alloc: Global, row: &Waited) -> Result<(), Fault> {
     };
     let status = follow_files(
         alloc,
+        Calling::Cutters,
         &["f"],
         LAST_LINE,
         true,
@@ -181,6 +190,213 @@ fn wait_for(rt: &impl Abort, alloc: Global, row: &Waited) -> Result<(), Fault> {
     );
     assert_eq!(rt; (status, outs.bytes(0)), (0, row.2));
     Ok(())
+}
+
+/// How `tail -F f` was called, the edits before each look, and what a run leaves: its status, and what it writes and says.
+struct Barred<'a> {
+    calling: Calling,
+    looks: &'a [&'a [Edit<'a>]],
+    status: u8,
+    output: &'a [u8],
+    messages: &'a [u8],
+}
+
+/// A file that can't be opened at the first look and later can.
+const BARRED_AT_FIRST: &[&[Edit<'static>]] = &[
+    &[Edit::Replace("f", b"a\nb\n"), Edit::Bar("f", true)],
+    &[Edit::Append("f", b"c\n")],
+    &[Edit::Bar("f", false)],
+    &[Edit::Append("f", b"d\n")],
+];
+
+/// One that can't be opened any more, then leads to another file, and then can be opened.
+const BARRED_LATER: &[&[Edit<'static>]] = &[
+    &[Edit::Replace("f", b"a\nb\n")],
+    &[Edit::Append("f", b"c\n"), Edit::Bar("f", true)],
+    &[Edit::Replace("f", b"x\n")],
+    &[Edit::Bar("f", false)],
+    &[Edit::Append("f", b"y\n")],
+];
+
+const BARRED: &[Barred<'static>] = &[
+    Barred {
+        calling: Calling::OwnName,
+        looks: BARRED_AT_FIRST,
+        status: 1,
+        output: b"a\nb\nc\nd\n",
+        messages: b"tail: cannot open 'f': Permission denied\ntail: 'f': file appeared\n",
+    },
+    Barred {
+        calling: Calling::Cutters,
+        looks: BARRED_AT_FIRST,
+        status: 1,
+        output: b"",
+        messages: b"tail: cannot open 'f'\n",
+    },
+    Barred {
+        calling: Calling::OwnName,
+        looks: BARRED_LATER,
+        status: 0,
+        output: b"b\nc\nx\ny\n",
+        messages: b"tail: 'f': file inaccessible\ntail: 'f': file appeared\n",
+    },
+    Barred {
+        calling: Calling::Cutters,
+        looks: BARRED_LATER,
+        status: 1,
+        output: b"b\nc\n",
+        messages: b"tail: cannot open 'f'\n",
+    },
+    // There is none at first.
+    Barred {
+        calling: Calling::OwnName,
+        looks: &[&[], &[Edit::Replace("f", b"a\n")]],
+        status: 1,
+        output: b"a\n",
+        messages: b"tail: cannot open 'f': No such file or directory\ntail: 'f': file appeared\n",
+    },
+];
+
+#[test]
+fn forgives_by_its_own_name_alone(rt: HostRuntime) -> Result<(), Fail> {
+    for row in BARRED {
+        let watch = watch_of(rt.alloc(), row.looks)?;
+        follows_barred(&rt, rt.alloc(), row, watch)?;
+    }
+    Ok(())
+}
+
+/// By its own name no call fails, whichever is planned to.
+#[test]
+fn forgives_each_call(rt: HostRuntime) -> Result<(), Fail> {
+    for row in BARRED {
+        if row.calling == Calling::OwnName {
+            forgives_any(&rt, rt.alloc(), row)?;
+        }
+    }
+    Ok(())
+}
+
+fn forgives_any(rt: &impl Abort, alloc: Global, row: &Barred<'_>) -> Result<(), Fault> {
+    for call in 1..20u64 {
+        let mut watch = watch_of(alloc, row.looks)?;
+        watch.fail_at(call);
+        follows_barred(rt, alloc, row, watch)?;
+    }
+    Ok(())
+}
+
+/// How `tail -f f g` was called, the number of the call that fails, and what it says: by its own name it tells why, and drops the name too.
+type Failing = (Calling, u64, &'static [u8]);
+
+const FAILING: &[Failing] = &[
+    (
+        Calling::OwnName,
+        1,
+        b"tail: cannot open 'f': Permission denied\ntail: cannot open 'g': No such file or directory\n",
+    ),
+    (
+        Calling::OwnName,
+        2,
+        b"tail: cannot read 'f': Permission denied\ntail: cannot open 'g': No such file or directory\n",
+    ),
+    (
+        Calling::OwnName,
+        3,
+        b"tail: cannot read 'f': Permission denied\ntail: cannot open 'g': No such file or directory\n",
+    ),
+    (
+        Calling::Cutters,
+        1,
+        b"tail: cannot open 'f'\ntail: cannot open 'g'\n",
+    ),
+    (
+        Calling::Cutters,
+        2,
+        b"tail: cannot read 'f'\ntail: cannot open 'g'\n",
+    ),
+];
+
+#[test]
+fn tells_why_by_its_own_name_alone(rt: HostRuntime) -> Result<(), Fail> {
+    for row in FAILING {
+        let watch = watch_of(rt.alloc(), &[&[Edit::Replace("f", b"a\n")]])?;
+        tells_why(&rt, rt.alloc(), row, watch)?;
+    }
+    Ok(())
+}
+
+fn tells_why(
+    rt: &impl Abort,
+    alloc: Global,
+    row: &Failing,
+    mut watch: MemWatch,
+) -> Result<(), Fault>
+    requires unseen { seen watch ≡ [] }
+    requires unwatched { watch.watched ≡ [] }
+{
+    watch.fail_at(row.1);
+    watch.fail_for(Reason::Denied);
+    let mut outs = MemOut::new(alloc)?;
+    let limits = Limits {
+        looks: 2,
+        process: None,
+    };
+    let names = ["f", "g"];
+    let status = follow_files(
+        alloc, row.0, &names, LAST_LINE, false, false, limits, &mut watch, &mut outs,
+    );
+    assert_eq!(rt; (status, outs.bytes(1)), (1, row.2));
+    Ok(())
+}
+
+/// A run leaves what the row says.
+fn follows_barred(
+    rt: &impl Abort,
+    alloc: Global,
+    row: &Barred<'_>,
+    mut watch: MemWatch,
+) -> Result<(), Fault>
+    requires unseen { seen watch ≡ [] }
+    requires unwatched { watch.watched ≡ [] }
+{
+    watch.fail_for(Reason::Denied);
+    let mut outs = MemOut::new(alloc)?;
+    let limits = Limits {
+        looks: row.looks.len() as u64,
+        process: None,
+    };
+    let names = ["f"];
+    let status = follow_files(
+        alloc,
+        row.calling,
+        &names,
+        LAST_LINE,
+        true,
+        false,
+        limits,
+        &mut watch,
+        &mut outs,
+    );
+    assert_eq!(rt;
+        (status, outs.bytes(0), outs.bytes(1)),
+        (row.status, row.output, row.messages)
+    );
+    Ok(())
+}
+
+/// Files in memory with a look after each of these lists of edits.
+fn watch_of(alloc: Global, looks: &[&[Edit<'_>]]) -> Result<MemWatch, Fault>
+    ensures unseen { IfOk result (λ watch. seen watch ≡ []) }
+    ensures unwatched { IfOk result (λ watch. watch.watched ≡ []) }
+{
+    let mut watch = MemWatch::new(alloc)?;
+    let mut left = looks;
+    while let [edits, rest @ ..] = left {
+        watch.then(edits)?;
+        left = rest;
+    }
+    Ok(watch)
 }
 
 /// A watch over a name of others, who made a look and opened a file that is replaced at the next one.

@@ -17,7 +17,7 @@ use csplit_core::{OperandFaultKind, read_operands};
 use ends_core::{Ends, Unit};
 use follow_core::{Follow, Notice, Start, notice_line};
 use mem_core::{Edit, MemOut, MemWatch};
-use ports_core::{Alphabet, Fault, Guarded, Mode, Naming, Numbering, Outs, Stage, Tells};
+use ports_core::{Alphabet, Calling, Fault, Guarded, Mode, Naming, Numbering, Outs, Stage, Tells};
 use split_core::{Chunks, Cut, Limit, Splitter, Way};
 use std::alloc::Global;
 use std::process::Abort;
@@ -355,7 +355,9 @@ fn makes(rt: &impl Abort, alloc: Global, call: Call) -> Result<(), Fault> {
         Call::Operands => read(rt, alloc),
         Call::Notice => notice_line(alloc, Notice::Replaced, "f").map(|_| ()),
         Call::Tee => tee(alloc),
-        Call::Follow => Follow::open(alloc, &["f", "g"], START, true, true).map(|_| ()),
+        Call::Follow => Follow::open(alloc, Calling::Cutters, &["f", "g"], START, true, true).map(
+            |_| (),
+        ),
         Call::Look => looks(rt, alloc),
     }
 }
@@ -395,7 +397,7 @@ fn looks(rt: &impl Abort, alloc: Global) -> Result<(), Fault> {
     watch.then(&[Edit::Replace("f", b"a\n")])?;
     watch.then(&[Edit::Replace("f", b"b\n")])?;
     let mut outs = MemOut::new(alloc)?;
-    let mut follow = Follow::open(alloc, &["f"], START, true, true)?;
+    let mut follow = Follow::open(alloc, Calling::Cutters, &["f"], START, true, true)?;
     look(rt, &mut follow, &mut watch, &mut outs, b"==> f <==\na\n")?;
     look(rt, &mut follow, &mut watch, &mut outs, b"==> f <==\na\nb\n")?;
     is_told(&outs)

@@ -6,7 +6,7 @@ ghost use Rattle.tee_core.specs.Outputs.{IsReady};
 
 use crate::play::has_files;
 use mem_core::{MemIn, MemOut};
-use ports_core::{Fault, Inputs, Mode, OnBroken, Outs};
+use ports_core::{Calling, Fault, Inputs, Mode, OnBroken, Outs, Reason};
 use std::alloc::Global;
 use std::process::Abort;
 use std::test::Fail;
@@ -17,11 +17,11 @@ const INPUT: &[u8] = b"abcdef";
 
 /// What a run leaves.
 #[derive(Clone, Copy)]
-struct Left<'a> {
-    output: &'a [u8],
-    files: &'a [&'a [u8]],
-    messages: &'a [u8],
-    status: u8,
+pub(crate) struct Left<'a> {
+    pub(crate) output: &'a [u8],
+    pub(crate) files: &'a [&'a [u8]],
+    pub(crate) messages: &'a [u8],
+    pub(crate) status: u8,
 }
 
 /// A standard input with these bytes, read by pieces of at most `piece`.
@@ -48,32 +48,41 @@ fn outs_of(alloc: Global, limits: &[(usize, usize)]) -> Result<MemOut, Fault>
 
 /// A run of `tee`: what it is given, and what it is to leave.
 #[derive(Clone, Copy)]
-struct Case<'a> {
+pub(crate) struct Case<'a> {
+    /// How the program is called.
+    pub(crate) calling: Calling,
     /// The names of the files.
-    names: &'a [&'a str],
+    pub(crate) names: &'a [&'a str],
     /// The bytes of standard input.
-    input: &'a [u8],
+    pub(crate) input: &'a [u8],
     /// How long the pieces are that it comes in, at the most.
-    piece: usize,
+    pub(crate) piece: usize,
     /// After how many bytes it breaks off; none where it ends.
-    breaks_at: Option<usize>,
+    pub(crate) breaks_at: Option<usize>,
+    /// Why it does.
+    pub(crate) breaks_as: Reason,
     /// Outputs, and how many bytes each takes.
-    limits: &'a [(usize, usize)],
+    pub(crate) limits: &'a [(usize, usize)],
     /// Which of the calls for outputs is refused; 0 where none is.
-    refused: u64,
+    pub(crate) refused: u64,
+    /// Outputs, and why each breaks, if it does.
+    pub(crate) causes: &'a [(usize, Reason)],
     /// What is done once an output is broken.
-    on_broken: OnBroken,
-    left: Left<'a>,
+    pub(crate) on_broken: OnBroken,
+    pub(crate) left: Left<'a>,
 }
 
 /// Runs `tee` as the case says.
-fn check(rt: &impl Abort, alloc: Global, case: &Case<'_>) -> Result<(), Fault> {
+pub(crate) fn check(rt: &impl Abort, alloc: Global, case: &Case<'_>) -> Result<(), Fault> {
     let mut inputs = inputs_of(alloc, case.input, case.piece.max(1))?;
     plan_break(&mut inputs, case.breaks_at)?;
+    inputs.breaks_as(0, case.breaks_as)?;
     let mut outs = outs_of(alloc, case.limits)?;
+    plan_causes(&mut outs, case.causes)?;
     plan_refusal(&mut outs, case.refused);
     let status = run_tee(
         alloc,
+        case.calling,
         case.names,
         Mode::Fresh,
         case.on_broken,
@@ -89,7 +98,15 @@ fn run(alloc: Global, names: &[&str], mode: Mode, inputs: &mut MemIn, outs: &mut
     requires inputs { IsFresh inputs.old.sources }
     requires outputs { outs.old ≡ streams }
 {
-    run_tee(alloc, names, mode, OnBroken::GoOn, inputs, outs)
+    run_tee(
+        alloc,
+        Calling::Cutters,
+        names,
+        mode,
+        OnBroken::Warn,
+        inputs,
+        outs,
+    )
 }
 
 /// Has standard input break off there, if it is to.
@@ -101,6 +118,17 @@ fn plan_break(inputs: &mut MemIn, at: Option<usize>) -> Result<(), Fault>
         Some(at) => inputs.break_at(0, at),
         None => Ok(()),
     }
+}
+
+/// Has outputs break for these reasons, where they break.
+fn plan_causes(outs: &mut MemOut, causes: &[(usize, Reason)]) -> Result<(), Fault>
+    requires { outs.old ≡ streams }
+    ensures { OnOk result (outs.new ≡ streams) }
+{
+    for cause in causes {
+        outs.breaks_as(cause.0, cause.1)?;
+    }
+    Ok(())
 }
 
 /// Has the call for outputs with this number fail; 0 where none is to.
@@ -134,14 +162,17 @@ const ALL: Left<'static> = Left {
 };
 
 /// `tee s t` where nothing breaks, in one piece.
-const SOUND: Case<'static> = Case {
+pub(crate) const SOUND: Case<'static> = Case {
+    calling: Calling::Cutters,
     names: &["s", "t"],
     input: INPUT,
     piece: 65_536,
     breaks_at: None,
+    breaks_as: Reason::Other,
     limits: &[],
     refused: 0,
-    on_broken: OnBroken::GoOn,
+    causes: &[],
+    on_broken: OnBroken::Warn,
     left: ALL,
 };
 
@@ -318,16 +349,16 @@ const VAIN: &[Case<'static>] = &[
     },
 ];
 
-/// Where it stops, the run ends after the piece in which the first output broke, and the others have what was read.
+/// Where it exits, the run ends after the piece in which the first output broke, and the others have what was read.
 #[test]
 fn stops_where_an_output_broke(rt: HostRuntime) -> Result<(), Fail> {
     check_each(&rt, rt.alloc(), STOPPED)
 }
 
-/// The same as `SOUND`, in pieces of two bytes, and it stops.
+/// The same as `SOUND`, in pieces of two bytes, and it exits.
 const STOPS: Case<'static> = Case {
     piece: 2,
-    on_broken: OnBroken::Stop,
+    on_broken: OnBroken::Exit,
     ..SOUND
 };
 

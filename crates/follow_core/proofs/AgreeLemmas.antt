@@ -12,7 +12,7 @@ use Rattle.std.proofs.lemmas.Slice.Eq.{bytes_eq-Decides}
 use Rattle.ports_core.proofs.InputsLemmas.{changed_elsewhere}
 use Rattle.ports_core.proofs.SlotLemmas.{length-changed_at}
 use Rattle.ports_core.proofs.PartLemmas.{begins_itself, begins_trans}
-use Rattle.watch_core.specs.Edits.{Edit, append, truncate, replace, remove, end, World, led_to, with_file, edited, edited_by, seen_in, snapshots_from, snapshots_of}
+use Rattle.watch_core.specs.Edits.{Edit, append, truncate, replace, remove, end, bar, World, led_to, with_file, edited, edited_by, seen_in, snapshots_from, snapshots_of}
 use Rattle.follow_core.specs.Run.{AreKept, name_text}
 use Rattle.follow_core.specs.Placing.{all_edits, IsUncut, AreSeen, AllSeen}
 use Rattle.follow_core.proofs.RunLemmas.{text_is_gains}
@@ -94,6 +94,7 @@ sound_edited {world} (truncate name n) sound = sound_changes (led_to world.links
 sound_edited (replace name bytes) sound = sound_replace bytes sound
 sound_edited (remove name) sound = sound_remove sound
 sound_edited (end process) sound = record { known = sound.known; one = sound.one }
+sound_edited (bar name is) sound = record { known = sound.known; one = sound.one }
 
 sound_all : (world : World) (edits : List Edit) → Sound world → Sound (edited_by edits world)
 sound_all world [] sound = sound
@@ -114,6 +115,9 @@ uncut world name file (remove other ∷ []) sound leads no_cut seen = begins_its
 uncut world name file (end process ∷ []) sound leads no_cut seen = begins_itself _
 uncut world name file (end process ∷ next ∷ edits) sound leads no_cut seen =
     uncut (edited (end process) world) name file (next ∷ edits) (sound_edited {world = world} (end process) sound) leads no_cut seen
+uncut world name file (bar other is ∷ []) sound leads no_cut seen = begins_itself _
+uncut world name file (bar other is ∷ next ∷ edits) sound leads no_cut seen =
+    uncut (edited (bar other is) world) name file (next ∷ edits) (sound_edited {world = world} (bar other is) sound) leads no_cut seen
 uncut world name file (append other bytes ∷ []) sound leads no_cut seen = one_append world other bytes file
 uncut world name file (append other bytes ∷ next ∷ edits) sound leads no_cut seen =
     begins_trans _ _ _ (one_append world other bytes file) (uncut (edited (append other bytes) world) name file (next ∷ edits) (sound_edited {world = world} (append other bytes) sound) (append_leads world other bytes name ∙ leads) no_cut seen.1)
@@ -192,6 +196,13 @@ one_group {by_name} {name} (end process ∷ next ∷ edits) groups seen rest wor
     one_group (next ∷ edits) groups seen rest (edited (end process) world) last still
     ∙ sym (idle_look by_name last (snapshots_from (edited (end process) world) (singles (all_edits ((next ∷ edits) ∷ groups)))) still) where
       same_matches : (last : Entry) → Matches (seen_in world) last → Matches (seen_in (edited (end process) world)) last
+      same_matches gap matches = tt
+      same_matches (version v) matches = matches
+one_group {by_name} {name} (bar other is ∷ next ∷ edits) groups seen rest world last stays =
+    let still : Stays by_name name (edited (bar other is) world) last = record { sound = sound_edited (bar other is) stays.sound; leads = stays.leads; matches = same_matches last stays.matches } in
+    one_group (next ∷ edits) groups seen rest (edited (bar other is) world) last still
+    ∙ sym (idle_look by_name last (snapshots_from (edited (bar other is) world) (singles (all_edits ((next ∷ edits) ∷ groups)))) still) where
+      same_matches : (last : Entry) → Matches (seen_in world) last → Matches (seen_in (edited (bar other is) world)) last
       same_matches gap matches = tt
       same_matches (version v) matches = matches
 

@@ -2,11 +2,13 @@
 use Rattle.std.proofs.lemmas.Grind.{common_steps}
 use Rattle.std.proofs.Common.{subst₂, ◌≡◌, ℕ, Bool, List, [], ◌∷◌, ◌++◌, ◌⊎◌, inl, inr, ◌∙◌, ap, subst, ◌+◌, ◌<◌, length, take, true, false, not, if◌then◌else◌, Some, None, Option, refl, sym, arith, append_assoc, length-append, ◌-◌, ◌≤◌, drop, bytes_eq, nat_lt, is_none, option_map, suc, zero, IsTrue, is_some, rules}
 use Rattle.ports_core.specs.Slot.{Slot, with_written, with_broken, told_of, is_open, changed_at}
-use Rattle.ports_core.specs.Message.{Says, PrintsOn}
-use Rattle.ports_core.specs.declared.tool.Tool.TheVariants.{Tail}
+use Rattle.ports_core.specs.Message.{OnError, SaysFor, SaysOn, PrintsOn}
+use Rattle.ports_core.specs.Text.{message_of}
+use Rattle.ports_core.specs.declared.calling.Calling.{Calling}
+use Rattle.ports_core.specs.declared.reason.Reason.{Reason}
 use Rattle.ports_core.proofs.MessageLemmas.{printed_open}
 use Rattle.follow_core.specs.Sharing.{CameTo, WroteBy, CanPrint}
-use Rattle.follow_core.specs.Telling.{IsFailure, Tells, TellsAll}
+use Rattle.follow_core.specs.Telling.{IsFailure, Tells, TellsAll, failure_text, tail_by}
 use Rattle.std.proofs.lemmas.List.{append-nil, take-append-le, take-append-drop, take_all, length-drop, length-take-le, drop-drop as drop_drop}
 use Rattle.std.proofs.Math.Seq.{take-append-add, take-add}
 use Rattle.std.proofs.Math.Bool.{and-false}
@@ -44,16 +46,30 @@ use Rattle.ports_core.specs.declared.fault.Fault.TheVariants as fault
 -- lines that following says, one after another
 
 -- the message of a failure that was said
-pub failure_said : {told : Bool} {line : List ℕ} {old new : Slot} → IsFailure line → Says told Tail line old new → Tells told line old new
-failure_said failure says = record { said = says.said; is = elim says.is [ inl same ↦ inl same | inr memory ↦ inr (failure, memory) ]; printed = says.printed }
 
-pub tells_state : (told : Bool) (lines : List (List ℕ)) (old new : Slot) → TellsAll told lines old new → new.state ≡ old.state
-tells_state told [] old new is = cc
-tells_state told (line ∷ lines) old new tells = tells_state told lines tells.0 new tells.2 ∙ printed_open told tells.1.said old tells.0 tells.1.printed
+opening_said : {told : Bool} {calling : Calling} {why : Reason} (place : ℕ) (name : List ℕ) {old new : Slot} → SaysFor told (tail_by calling) why (message_of (fault.Open place) name) old new → Tells told calling (failure_text (fault.Open place) name) old new
+opening_said {why} place name says = record { said = says.said; is = inr (name, inl (refl, elim says.is [ inl same ↦ inl (why, same) | inr memory ↦ inr memory ])); printed = says.printed }
 
-pub tells_after : (told : Bool) (lines more : List (List ℕ)) (old mid new : Slot) → TellsAll told lines old mid → TellsAll told more mid new → TellsAll told (lines ++ more) old new
-tells_after told [] more old mid new so_far tells = grind (arith, common_steps)
-tells_after told (first ∷ lines) more old mid new so_far tells = (so_far.0, so_far.1, tells_after told lines more so_far.0 mid new so_far.2 tells)
+reading_said : {told : Bool} {calling : Calling} {why : Reason} (place : ℕ) (name : List ℕ) {old new : Slot} → SaysFor told (tail_by calling) why (message_of (fault.Read place) name) old new → Tells told calling (failure_text (fault.Read place) name) old new
+reading_said {why} place name says = record { said = says.said; is = inr (name, inr (refl, elim says.is [ inl same ↦ inl (why, same) | inr memory ↦ inr memory ])); printed = says.printed }
+
+-- of a name that can't be read, or opened
+pub failure_said : {told : Bool} {calling : Calling} {why : Reason} (read : Bool) (place : ℕ) (name : List ℕ) {old new : List Slot} → SaysOn told (tail_by calling) why (message_of (if read then fault.Read place else fault.Open place) name) old new
+    → OnError (Tells told calling (failure_text (if read then fault.Read place else fault.Open place) name)) old new
+failure_said true place name says = λ output error others are. let said = says output error others are in (said.0, reading_said place name said.1, said.2)
+failure_said false place name says = λ output error others are. let said = says output error others are in (said.0, opening_said place name said.1, said.2)
+
+-- no notice is such a message
+no_failure : (notice : Notice) (name : List ℕ) → IsFailure (notice_of notice name) → ⊥
+no_failure notice name failure = grind (arith, common_steps)
+
+pub tells_state : (told : Bool) (calling : Calling) (lines : List (List ℕ)) (old new : Slot) → TellsAll told calling lines old new → new.state ≡ old.state
+tells_state told calling [] old new is = cc
+tells_state told calling (line ∷ lines) old new tells = tells_state told calling lines tells.0 new tells.2 ∙ printed_open told tells.1.said old tells.0 tells.1.printed
+
+pub tells_after : (told : Bool) (calling : Calling) (lines more : List (List ℕ)) (old mid new : Slot) → TellsAll told calling lines old mid → TellsAll told calling more mid new → TellsAll told calling (lines ++ more) old new
+tells_after told calling [] more old mid new so_far tells = grind (arith, common_steps)
+tells_after told calling (first ∷ lines) more old mid new so_far tells = (so_far.0, so_far.1, tells_after told calling lines more so_far.0 mid new so_far.2 tells)
 
 -- what is printed under headers
 
@@ -79,7 +95,7 @@ in_two : (printer : PrinterState) (opened : Bool) (name first second : List ℕ)
     × (printer_under (printer_under printer opened name first) false name second ≡ printer_under printer opened name (first ++ second))
 in_two printer opened name first second = by printer.headers opened first (is_last name printer.last) refl where
   by : (headers opened : Bool) (first : List ℕ) (last : Bool) → is_last name printer.last ≡ last
-      → let before : PrinterState = record { headers = headers; last = printer.last } in
+      → let before : PrinterState = record { calling = printer.calling; headers = headers; last = printer.last } in
       (text_under before opened name first ++ text_under (printer_under before opened name first) false name second ≡ text_under before opened name (first ++ second))
       × (printer_under (printer_under before opened name first) false name second ≡ printer_under before opened name (first ++ second))
   by false opened first last is = (refl, refl)
@@ -102,20 +118,24 @@ text_after told first second old new (Some why) one short = short_after first on
 
 -- what standard output and standard error get
 
-pub wrote_none : (told : Bool) {slots : List Slot} → WroteBy told [] [] slots slots None
-wrote_none told = search rules
+pub wrote_none : (told : Bool) (calling : Calling) {slots : List Slot} → WroteBy told calling [] [] slots slots None
+wrote_none told calling = search rules
 
-wrote_text : (told : Bool) (text : List ℕ) {old : List Slot} (new : List Slot) (over : Option Fault) → CameTo told text old new over → WroteBy told text [] old new over
-wrote_text told text new over came = grind (arith, common_steps)
+wrote_text : (told : Bool) (calling : Calling) (text : List ℕ) {old : List Slot} (new : List Slot) (over : Option Fault) → CameTo told text old new over → WroteBy told calling text [] old new over
+wrote_text told calling text new over came = grind (arith, common_steps)
 
-pub wrote_line : {told : Bool} {line : List ℕ} {old new : List Slot} → ((output error : Slot) (others : List Slot) → old ≡ output ∷ error ∷ others → (after : Slot) × Tells told line error after × (new ≡ output ∷ after ∷ others)) → WroteBy told [] (line ∷ []) old new None
-wrote_line {told} tells = search rules
+pub wrote_line : {told : Bool} {calling : Calling} {line : List ℕ} {old new : List Slot} → OnError (Tells told calling line) old new → WroteBy told calling [] (line ∷ []) old new None
+wrote_line {told} {calling} tells = search rules
+
+-- by the same printer
+pub wrote_by : (told : Bool) {one other : Calling} (text : List ℕ) (lines : List (List ℕ)) (old new : List Slot) (over : Option Fault) → one ≡ other → WroteBy told one text lines old new over → WroteBy told other text lines old new over
+wrote_by told text lines old new over is wrote = subst (λ calling. WroteBy told calling text lines old new over) is wrote
 
 -- a text and lines after others, or a beginning of them, as one text and its lines
-pub wrote_after : (told : Bool) (text more : List ℕ) {both : List ℕ} (lines further : List (List ℕ)) {all : List (List ℕ)} {old mid : List Slot} (new : List Slot)
-    (over : Option Fault) → text ++ more ≡ both → lines ++ further ≡ all → WroteBy told text lines old mid None → WroteBy told more further mid new over
-    → WroteBy told both all old new over
-wrote_after told text more lines further {old} new over same also first second = grind (arith, common_steps, tells_after, text_after)
+pub wrote_after : (told : Bool) (calling : Calling) (text more : List ℕ) {both : List ℕ} (lines further : List (List ℕ)) {all : List (List ℕ)} {old mid : List Slot} (new : List Slot)
+    (over : Option Fault) → text ++ more ≡ both → lines ++ further ≡ all → WroteBy told calling text lines old mid None → WroteBy told calling more further mid new over
+    → WroteBy told calling both all old new over
+wrote_after told calling text more lines further {old} new over same also first second = grind (arith, common_steps, tells_after, text_after)
 
 -- what is given in two steps
 
@@ -128,8 +148,8 @@ came_after : {told opened : Bool} {printer mid after : PrinterState} {name first
 came_after {opened} {printer} {name} {first} {second} {over} one two =
     let (text, last) = in_two printer opened name first second in record {
       printer_is = λ none. two.printer_is none ∙ ap (λ (p : PrinterState). printer_under p false name second) (one.printer_is refl) ∙ last;
-      slots = wrote_after _ _ _ _ _ _ over (ap (λ (p : PrinterState). text_under printer opened name first ++ text_under p false name second) (one.printer_is refl) ∙ text)
-          refl one.slots two.slots;
+      slots = wrote_after _ _ _ _ _ _ _ over (ap (λ (p : PrinterState). text_under printer opened name first ++ text_under p false name second) (one.printer_is refl) ∙ text)
+          refl one.slots (wrote_by _ _ _ _ _ _ (ap (λ (p : PrinterState). p.calling) (one.printer_is refl)) two.slots);
     }
 
 -- bytes that are put
@@ -163,7 +183,7 @@ puts {told} {opened} {printer} {after} {name} {bytes} {old} {new} over is header
   are = whole over;
   came = record {
     printer_is = λ none. rw is at shown;
-    slots = wrote_text told _ new over (text_after told _ bytes old new over (rw is at header) came);
+    slots = wrote_text told printer.calling _ new over (text_after told _ bytes old new over (rw is at header) came);
   };
 } where
   whole : (over : Option Fault) → ArePut over bytes bytes
@@ -175,10 +195,10 @@ pub puts_none : {told opened : Bool} {printer after : PrinterState} {name bytes 
     → due ≡ has_header printer.headers printer.last opened name bytes
     → Short told (if due then header_of name (is_none printer.last) else []) old new why
     → Puts told opened printer name bytes old after new (Some why)
-puts_none {told} {bytes} {new} {why} is short = record {
+puts_none {told} {printer} {bytes} {new} {why} is short = record {
   bytes = bytes;
   are = front_same refl;
-  came = record { printer_is = λ none. absurd (cc); slots = wrote_text told _ new (Some why) (short_more bytes (rw is at short)) };
+  came = record { printer_is = λ none. absurd (cc); slots = wrote_text told printer.calling _ new (Some why) (short_more bytes (rw is at short)) };
 }
 
 -- events that are given
@@ -254,7 +274,7 @@ over_first {told} {printer} {slots} found = record {
   events = [];
   are = λ t. begins_none;
   found = found;
-  came = record { printer_is = λ none. absurd (cc); slots = wrote_text told _ slots (Some fault.Memory) no_memory };
+  came = record { printer_is = λ none. absurd (cc); slots = wrote_text told printer.calling _ slots (Some fault.Memory) no_memory };
 }
 
 -- what is so of what was given may be said in another way
@@ -314,19 +334,18 @@ pub found_from : {Tells Told : Notice → Type 0} {One Other : Option ℕ → �
     → ((notice : Notice) → Tells notice → Told notice) → ((file : Option ℕ) (from : ℕ) → One file from → Other file from)
     → (events : List Event) → WereFound Tells One snapshot name fate stop events → WereFound Told Other snapshot name fate stop events
 found_from snapshot name fate None told so events found = all_give events told (λ bytes. whole_from so) found
-found_from snapshot name fate (Some (Broke why)) told so events found = all_give events told (λ bytes. whole_from so) found
+found_from snapshot name fate (Some (Broke why)) told so events (can, found) = (can, all_give events told (λ bytes. whole_from so) found)
 found_from snapshot name fate (Some (Over why)) told so events (all, begins, found) = (all, begins, all_give all told (λ bytes. read_from so) found)
 
-pub noted_found : (Tells : Notice → Type 0) (Begin : Option ℕ → ℕ → Type 0) (snapshot : Snapshot) (name : List ℕ) (fate : Fate) (stop : Option Stop) (events : List Event) → Noted Tells events → WereFound Tells Begin snapshot name fate stop events
+pub noted_found : (Tells : Notice → Type 0) (Begin : Option ℕ → ℕ → Type 0) (snapshot : Snapshot) (name : List ℕ) (fate : Fate) (over : Option Fault) (events : List Event) → Noted Tells events → WereFound Tells Begin snapshot name fate (option_map Over over) events
 noted_found Tells Begin snapshot name fate None events noted = noted_gives Tells (IsWhole Begin snapshot name sound) events noted
-noted_found Tells Begin snapshot name fate (Some (Broke why)) events noted = noted_gives Tells (IsWhole Begin snapshot name fate) events noted
-noted_found Tells Begin snapshot name fate (Some (Over why)) events noted = (events, begins_all events, noted_gives Tells (IsRead Begin snapshot name) events noted)
+noted_found Tells Begin snapshot name fate (Some why) events noted = (events, begins_all events, noted_gives Tells (IsRead Begin snapshot name) events noted)
 
 -- two steps, of which the first was done
 pub found_both : (Tells : Notice → Type 0) (Begin : Option ℕ → ℕ → Type 0) (snapshot : Snapshot) (name : List ℕ) (one fate : Fate) (stop : Option Stop) (events more : List Event)
     → WereFound Tells Begin snapshot name one None events → WereFound Tells Begin snapshot name fate stop more → WereFound Tells Begin snapshot name fate stop (events ++ more)
 found_both Tells Begin snapshot name one fate None events more first second = give_both Tells (IsWhole Begin snapshot name sound) events more first second
-found_both Tells Begin snapshot name one fate (Some (Broke why)) events more first second = give_both Tells (IsWhole Begin snapshot name fate) events more (all_give events (λ notice tells. tells) (λ bytes. sound_whole fate) first) second
+found_both Tells Begin snapshot name one fate (Some (Broke why)) events more first (can, second) = (can, give_both Tells (IsWhole Begin snapshot name fate) events more (all_give events (λ notice tells. tells) (λ bytes. sound_whole fate) first) second)
 found_both Tells Begin snapshot name one fate (Some (Over why)) events more first (all, begins, second) =
     (events ++ all, begins_after events begins, give_both Tells (IsRead Begin snapshot name) events all (all_give events (λ notice tells. tells) (λ bytes whole. whole.is) first) second)
 
@@ -411,7 +430,7 @@ came_can {old = []} stop came can = search rules
 came_can {old = output ∷ []} stop came can = search rules
 came_can {told} {lines} {old = output ∷ error ∷ others} stop came can =
     let (last, said, text) = came.slots output error others refl in
-    use_after told _ _ _ _ _ stop text (can.0, ap is_open (tells_state told lines error last said) ∙ can.1)
+    use_after told _ _ _ _ _ stop text (can.0, ap is_open (tells_state told _ lines error last said) ∙ can.1)
 
 pub ends_can : {told_in told opened : Bool} {Is : List Event → Type 0} {printer after : PrinterState} {name : List ℕ} {due before : List Event} {old new : List Slot}
     {stop : Option Stop} → Ends told_in Is told opened printer name due before old after new stop → CanPrint old → CanGoOn stop new
@@ -427,7 +446,7 @@ tells {printer} {found} is prints = record {
   came = record {
     printer_is = λ none. rw (and-false printer.headers) refl;
     slots = rw (and-false printer.headers) (wrote_line (λ output error others are. let said = prints output error others are in
-        (said.0, record { said = _; is = inl is; printed = said.1 }, said.2)));
+        (said.0, record { said = _; is = inl (no_failure found _, is); printed = said.1 }, said.2)));
   };
 }
 
@@ -506,6 +525,10 @@ pub follows_stop : (told : Bool) (led file : Option ℕ) (place : ℕ) (old : Li
 follows_stop told led file place old new fate (Broke why) opened keeps = broke_opened file opened keeps.0
 follows_stop told led file place old new fate (Over why) opened keeps = (file, keeps ∙ opened)
 
+-- a look at which a call can fail is the same while the call goes on
+pub breaks_at : {seen seen_old : List Snapshot} → seen ≡ seen_old → (latest seen).breaks ≡ true → (latest seen_old).breaks ≡ true
+breaks_at saw can = ap (λ those. (latest those).breaks) (sym saw) ∙ can
+
 -- what was found is what the files were found to be when the call began
 pub found_at : {seen seen_old : List Snapshot} {now old : List Watched} (place from : ℕ) (bytes : List ℕ) → seen ≡ seen_old → now ≡ old
     → Found (latest seen) (watched_at now place).name (reads_as (watched_at now place).opened from bytes) → Found (latest seen_old) (watched_at old place).name (reads_as (watched_at old place).opened from bytes)
@@ -573,19 +596,22 @@ module _ {told_in told : Bool} {snapshot : Snapshot} {name : List ℕ} {from pla
   pub copies_part : (at : ℕ) {len : ℕ} {now watched_new : List Watched} {after : PrinterState} {slots_new : List Slot} {why : Fault} → from ≤ at → at < len
       → (told_in ≡ true → len ≡ length (open_contents snapshot (watched_at watched place)))
       → Copied told_in told snapshot (open_contents snapshot (watched_at watched place)) (watched_at watched place).opened (watched_at watched place).name from name printer slots after slots_new at None
-      → now ≡ watched → why ≡ fault.Read place → watched_new ≡ changed_at place (breaks (λ file. Read file at)) now
+      → now ≡ watched → why ≡ fault.Read place → watched_new ≡ changed_at place (breaks (λ file. Read file at)) now → snapshot.breaks ≡ true
       → Copies told_in told snapshot from place name watched printer slots watched_new after slots_new (Some (Broke why))
-  copies_part at past below size copied same fault broken = record {
+  copies_part at past below size copied same fault broken can = record {
     at = at;
     ends = record {
       events = gives copied.puts.bytes ∷ [];
       are = λ t. ap (λ bytes. gives bytes ∷ []) (copied.puts.are ∙ copied.are t) ∙ (let long = size t in taken_before _ past (omega (arith, below, long)));
       found = (
-        record {
-          is = record { file = (watched_at watched place).opened; from = from; end = at; begins = (refl, refl); read = rw copied.puts.are copied.read };
-          ends = inr (inr refl);
-        },
-        tt,
+        can,
+        (
+          record {
+            is = record { file = (watched_at watched place).opened; from = from; end = at; begins = (refl, refl); read = rw copied.puts.are copied.read };
+            ends = inr (inr refl);
+          },
+          tt,
+        ),
       );
       came = one_event copied.puts.came;
     };
@@ -612,20 +638,20 @@ module _ {told_in told : Bool} {snapshot : Snapshot} {name : List ℕ} {from pla
 -- ways out of the start part
 
 module _ {told_in told seeks : Bool} {snapshot : Snapshot} {start : List ℕ → List ℕ} {place : ℕ} {name : List ℕ} {watched : List Watched} {printer : PrinterState} {slots : List Slot} where
-  pub starts_unmeasured : {watched_new : List Watched} {why : Fault} → why ≡ fault.Read place → watched_new ≡ changed_at place (breaks (λ file. Len file)) watched
+  pub starts_unmeasured : {watched_new : List Watched} {why : Fault} → why ≡ fault.Read place → watched_new ≡ changed_at place (breaks (λ file. Len file)) watched → snapshot.breaks ≡ true
       → Starts told_in told seeks snapshot start place name watched printer slots watched_new printer slots (Some (Broke why))
-  starts_unmeasured fault broken = record {
+  starts_unmeasured fault broken can = record {
     fate = unmeasured (watched_at watched place).opened;
-    ends = broke_first tt;
+    ends = broke_first (can, tt);
     keeps = (broke_at (λ file. Len file) refl refl fault broken, refl);
     met = λ by_name. refl;
   }
 
-  pub starts_unsought : {now watched_new : List Watched} {inside : PrinterState} {why : Fault} → inside ≡ printer → now ≡ watched → why ≡ fault.Read place → FailsToRead place now watched_new → seeks ≡ true
+  pub starts_unsought : {now watched_new : List Watched} {inside : PrinterState} {why : Fault} → inside ≡ printer → now ≡ watched → why ≡ fault.Read place → FailsToRead place now watched_new → seeks ≡ true → snapshot.breaks ≡ true
       → Starts told_in told seeks snapshot start place name watched printer slots watched_new inside slots (Some (Broke why))
-  starts_unsought viewed same fault (from, broken) sought = rw viewed (record {
+  starts_unsought viewed same fault (from, broken) sought can = rw viewed (record {
     fate = unsought (watched_at watched place).opened from;
-    ends = broke_first tt;
+    ends = broke_first (can, tt);
     keeps = (broke_at (λ file. Read file from) refl same fault broken, refl);
     met = λ by_name. sought;
   })

@@ -81,10 +81,10 @@ module _ {told_in told : Bool} {snapshot : Snapshot} {place : ℕ} {name : List 
   }
 
   pub adds_unmeasured : {file : ℕ} {watched_new : List Watched} {why : Fault} → (watched_at watched place).opened ≡ Some file → why ≡ fault.Read place
-      → watched_new ≡ changed_at place (breaks (λ file. Len file)) watched → Adds told_in told snapshot place name position watched printer slots watched_new printer slots (Err (Broke why))
-  adds_unmeasured is fault broken = record {
+      → watched_new ≡ changed_at place (breaks (λ file. Len file)) watched → snapshot.breaks ≡ true → Adds told_in told snapshot place name position watched printer slots watched_new printer slots (Err (Broke why))
+  adds_unmeasured is fault broken can = record {
     fate = unmeasured (watched_at watched place).opened;
-    ends = λ last stands. broke_first tt;
+    ends = λ last stands. broke_first (can, tt);
     stands = tt;
     long = tt;
     keeps = (broke_at (λ file. Len file) refl refl fault broken, refl);
@@ -98,7 +98,7 @@ module _ {told_in told : Bool} {snapshot : Snapshot} {place : ℕ} {name : List 
       → Adds told_in told snapshot place name position watched printer slots watched_new after slots_new (Err (Over why))
   adds_untold {file} {len} {why} is long found line same = record {
     fate = sound;
-    ends = λ last stands. due_by (λ t. (caught_open snapshot last is (stands t) (long t), tt)) (stops_early (gives _ ∷ []) (found_as (λ events noted. noted_found _ (FromEither (watched_at watched place).opened position) snapshot (watched_at watched place).name sound (Some (Over why)) events
+    ends = λ last stands. due_by (λ t. (caught_open snapshot last is (stands t) (long t), tt)) (stops_early (gives _ ∷ []) (found_as (λ events noted. noted_found _ (FromEither (watched_at watched place).opened position) snapshot (watched_at watched place).name sound (Some why) events
         (noted_as events (told_short snapshot (watched_at watched place).name (watched_at watched place).opened position len (ap is_some is) found) noted)) line));
     stands = tt;
     long = tt;
@@ -264,11 +264,11 @@ long_by snapshot name held by_name (Some file) lost long = long
 module _ {told_in told by_name : Bool} {snapshot : Snapshot} {led : Option ℕ} {place : ℕ} {name : List ℕ} {position : ℕ} {watched : List Watched} {printer : PrinterState} {slots : List Slot} where
   -- ways out of following a name
 
-  pub leads_unled : {watched_new : List Watched} {why : Fault} → why ≡ fault.Open place → watched_new ≡ changed_at place (breaks (λ file. Look)) watched
+  pub leads_unled : {watched_new : List Watched} {why : Fault} → why ≡ fault.Open place → watched_new ≡ changed_at place (breaks (λ file. Look)) watched → snapshot.breaks ≡ true
       → Leads told_in told by_name snapshot led place name position watched printer slots watched_new printer slots (Err (Broke why))
-  leads_unled fault broken = record {
+  leads_unled fault broken can = record {
     fate = unled;
-    ends = λ last stands. broke_first tt;
+    ends = λ last stands. broke_first (can, tt);
     stands = tt;
     long = λ known. tt;
     follows = broke_at (λ file. Look) refl refl fault broken;
@@ -296,7 +296,7 @@ module _ {told_in told by_name : Bool} {snapshot : Snapshot} {led : Option ℕ} 
   leads_unsaid {why} changed seen line same = record {
     fate = sound;
     ends = λ last stands. due_by (λ t. (sym (change_led snapshot last led (stands t).file (changed t)).0, tt))
-        (stops_early (all_held snapshot led) (found_as (λ events noted. noted_found (ToldLed by_name snapshot (watched_at watched place).name (watched_at watched place).opened) FromFront snapshot (watched_at watched place).name sound (Some (Over why)) events (noted_as events (λ notice is. rw is seen) noted)) line));
+        (stops_early (all_held snapshot led) (found_as (λ events noted. noted_found (ToldLed by_name snapshot (watched_at watched place).name (watched_at watched place).opened) FromFront snapshot (watched_at watched place).name sound (Some why) events (noted_as events (λ notice is. rw is seen) noted)) line));
     stands = tt;
     long = λ known. tt;
     follows = ((watched_at watched place).opened, same ∙ sym (opens_same watched place));
@@ -308,14 +308,14 @@ module _ {told_in told by_name : Bool} {snapshot : Snapshot} {led : Option ℕ} 
   pub leads_unopened : {now watched_new : List Watched} {mid : List Slot} {before : List Event} {change : Notice} {why : Fault}
       → (told_in ≡ true → change_between (watched_at watched place).opened led ≡ Some change) → ToldLed by_name snapshot (watched_at watched place).name (watched_at watched place).opened change
       → Ends told_in (Noted (λ notice. notice ≡ change)) told false printer name (notes change ∷ []) before slots printer mid None → now ≡ watched → why ≡ fault.Open place
-      → watched_new ≡ changed_at place (breaks (λ file. Open)) now
+      → watched_new ≡ changed_at place (breaks (λ file. Open)) now → snapshot.breaks ≡ true
       → Leads told_in told by_name snapshot led place name position watched printer slots watched_new printer mid (Err (Broke why))
-  leads_unopened {change} {why} changed seen line same fault broken = record {
+  leads_unopened {change} {why} changed seen line same fault broken can = record {
     fate = unopened;
     ends = λ last stands. due_as (λ t. let due = (change_led snapshot last led (stands t).file (changed t)).0 in
         (sym due, sym (ap notes_in due ∙ held_notes snapshot led change)))
-        (goes_after (WereFound (ToldLed by_name snapshot known (watched_at watched place).opened) FromFront snapshot known unopened (Some (Broke why))) (λ events more noted none. found_both (ToldLed by_name snapshot (watched_at watched place).name (watched_at watched place).opened) FromFront snapshot known sound unopened (Some (Broke why)) events more
-        (noted_found (ToldLed by_name snapshot (watched_at watched place).name (watched_at watched place).opened) FromFront snapshot known sound None events (noted_as events (λ notice is. rw is seen) noted)) (noted_found (ToldLed by_name snapshot (watched_at watched place).name (watched_at watched place).opened) FromFront snapshot known unopened (Some (Broke why)) more none)) line (broke_first {due = all_held snapshot led} tt));
+        (goes_after (WereFound (ToldLed by_name snapshot known (watched_at watched place).opened) FromFront snapshot known unopened (Some (Broke why))) (λ events more noted gave. found_both (ToldLed by_name snapshot (watched_at watched place).name (watched_at watched place).opened) FromFront snapshot known sound unopened (Some (Broke why)) events more
+        (noted_found (ToldLed by_name snapshot (watched_at watched place).name (watched_at watched place).opened) FromFront snapshot known sound None events (noted_as events (λ notice is. rw is seen) noted)) gave) line (broke_first {due = all_held snapshot led} (can, tt)));
     stands = tt;
     long = λ those. tt;
     follows = broke_at (λ file. Open) refl same fault broken;

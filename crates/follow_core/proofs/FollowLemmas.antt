@@ -15,7 +15,7 @@ use Rattle.follow_core.specs.Reading.{AreAtLook, IsGiven, looks_more, names_more
 use Rattle.follow_core.specs.Sharing.{AllShared, AllShort, Wrote, CanPrint}
 use Rattle.follow_core.specs.inner.Giving.{IsFront, Shared, HasStopped}
 use Rattle.follow_core.specs.Standing.{AllStand, CanVisit, NoneGoesOn, NameState, Stands, StandsAmong, no_state, state_at, texts, AreWatched, IsFollowed, IsWatched}
-use Rattle.follow_core.proofs.CallLemmas.{none_of, wrote_after, wrote_none, no_memory}
+use Rattle.follow_core.proofs.CallLemmas.{none_of, wrote_after, wrote_by, wrote_none, no_memory}
 use Rattle.ports_core.specs.declared.fault.Fault.{Fault}
 use Rattle.watch_core.specs.Snapshot.{Snapshot, latest}
 use Rattle.watch_core.specs.Watched.{Watched, opens, watched_at, added, no_name}
@@ -28,13 +28,15 @@ use Rattle.follow_core.specs.declared.follow.Stage.TheVariants.{Fresh, Looking, 
 use Rattle.follow_core.specs.Version.{open_after}
 use Rattle.watch_core.proofs.NameLemmas.{latest-last}
 use Rattle.follow_core.specs.declared.start.Start.{Start}
+use Rattle.ports_core.specs.declared.calling.Calling.{Calling}
 use Rattle.follow_core.specs.Ending.{AreMost, FollowEndsAs, FollowEndsBy, is_over, until_over, Made, StoppedIn, seen_first}
 use Rattle.ports_core.specs.declared.fault.Fault.TheVariants as fault
+use Rattle.ports_core.specs.declared.reason.Reason.{Reason}
 
 -- A look at one name after another.
 
 pub nothing_shared : {told : Bool} {printer : PrinterState} {slots : List Slot} → AllShared told printer [] slots printer slots
-nothing_shared {told} {slots} = record { printer_is = refl; slots = wrote_none told }
+nothing_shared {told} {printer} {slots} = record { printer_is = refl; slots = wrote_none told printer.calling }
 
 -- further shares
 
@@ -44,20 +46,20 @@ text_all printer shares more is = search (rules, text-append)
 
 pub all_both : {told : Bool} {printer mid after : PrinterState} {shares more : List Share} {old now new : List Slot} → AllShared told printer shares old mid now
     → AllShared told mid more now after new → AllShared told printer (shares ++ more) old after new
-all_both {printer} {shares} {more} all rest = record {
+all_both {told} {printer} {mid} {shares} {more} {now} {new} all rest = record {
   printer_is = rest.printer_is ∙ ap (λ (p : PrinterState). record p { last = last_header_from p.headers p.last more }) all.printer_is
       ∙ ap (λ last. record printer { last = last }) (sym (last-append printer.headers printer.last shares more));
-  slots = wrote_after _ _ _ _ _ _ None (text_all printer shares more all.printer_is) (sym (messages-append shares more)) all.slots rest.slots;
+  slots = wrote_after _ _ _ _ _ _ _ None (text_all printer shares more all.printer_is) (sym (messages-append shares more)) all.slots (wrote_by told (text_from mid.headers mid.last more) (messages_of more) now new None (ap (λ (p : PrinterState). p.calling) all.printer_is) rest.slots);
 }
 
 -- one share more, or a beginning of it
 
 pub shared_short : {told : Bool} {printer mid after : PrinterState} {shares : List Share} (share : Share) {old now new : List Slot} {why : Fault}
     → AllShared told printer shares old mid now → Shared told mid share now after new (Some why) → AllShort told printer (shares ++ share ∷ []) old new why
-shared_short {printer} {mid} {shares} share {new} {why} all one = record {
-  slots = wrote_after _ _ _ _ _ new (Some why) (ap (λ rest. text_from printer.headers printer.last shares ++ rest) (sym (append-nil (share_text mid.headers mid.last share)))
+shared_short {told} {printer} {mid} {shares} share {now} {new} {why} all one = record {
+  slots = wrote_after _ _ _ _ _ _ new (Some why) (ap (λ rest. text_from printer.headers printer.last shares ++ rest) (sym (append-nil (share_text mid.headers mid.last share)))
       ∙ text_all printer shares (share ∷ []) all.printer_is)
-      (ap (λ rest. messages_of shares ++ rest) (sym (append-nil (lines_of share))) ∙ sym (messages-append shares (share ∷ []))) all.slots one.slots;
+      (ap (λ rest. messages_of shares ++ rest) (sym (append-nil (lines_of share))) ∙ sym (messages-append shares (share ∷ []))) all.slots (wrote_by told (share_text mid.headers mid.last share) (lines_of share) now new (Some why) (ap (λ (p : PrinterState). p.calling) all.printer_is) one.slots);
 }
 
 -- names that were not looked at yet
@@ -152,7 +154,7 @@ visited_more {told_in} {told} {ways} {looks} {snapshot} {names} {now} {one} {pla
       ∙ ap (λ last. before || (last || false)) visited.is_failed ∙ ap (λ last. before || last) (or-false failed);
   shared = all_both sofar.shared (record {
     printer_is = visited.shared.printer_is refl;
-    slots = subst₂ (λ text lines. Wrote told text lines slots new) (sym (append-nil _)) (sym (append-nil _)) visited.shared.slots;
+    slots = subst₂ (λ text lines. Wrote told mid.calling text lines slots new) (sym (append-nil _)) (sym (append-nil _)) visited.shared.slots;
   });
   same = texts_set now no_state one within same ∙ sofar.same;
   done = λ all front other below. there all front other below (cases_eq other place);
@@ -273,8 +275,8 @@ length_names : (follow : FollowState) {names : List (List ℕ)} → texts follow
 length_names follow same = sym (length-map follow.names (λ (n : NameState). n.text)) ∙ ap length same
 
 -- they stand as the looks before left them
-stand_from : {told_in told : Bool} {ways : Ways} {headers : Bool} {names : List (List ℕ)} {looks : List Look} {first : List Slot} {follow : FollowState}
-    {watched : List Watched} {slots : List Slot} → follow.stage ≡ Looking → Holds told_in told ways headers names looks first follow watched slots
+stand_from : {told_in told : Bool} {calling : Calling} {ways : Ways} {headers : Bool} {names : List (List ℕ)} {looks : List Look} {first : List Slot} {follow : FollowState}
+    {watched : List Watched} {slots : List Slot} → follow.stage ≡ Looking → Holds told_in told calling ways headers names looks first follow watched slots
     → StandFrom told_in (ways_of ways.first follow.by_name follow.start) looks follow.first follow.names watched
 stand_from {told_in} {ways} {looks} {follow} {watched} looking holds =
     let (stand, many) = subst (StandsIn told_in ways looks follow.names watched) looking holds.stand in
@@ -285,7 +287,7 @@ look_made : {told_in told : Bool} {snapshot : Snapshot} {old : FollowState} {nam
     {slots slots_new : List Slot} {failed : Bool} → old.stage ≡ Looking
     → VisitsAll told_in told snapshot old.by_name old.start old.first old.names watched old.printer slots names watched_new printer slots_new (Ok failed)
     → LooksOn told_in told snapshot old watched slots (record old { names = names; printer = printer; has_failed = old.has_failed || failed }) watched_new slots_new
-look_made {told_in} {told} {snapshot} {old} {names} {watched} {watched_new} {printer} {slots} {slots_new} {failed} looking visits ways headers asked looks first holds = (
+look_made {told_in} {told} {snapshot} {old} {names} {watched} {watched_new} {printer} {slots} {slots_new} {failed} looking visits calling ways headers asked looks first holds = (
   visited.fates,
   record {
     asked = holds.asked;
@@ -328,7 +330,7 @@ look_stopped : {told_in told : Bool} {snapshot : Snapshot} {old : FollowState} {
     {printer : PrinterState} {slots slots_new : List Slot} {why : Fault} → old.stage ≡ Looking
     → VisitsAll told_in told snapshot old.by_name old.start old.first old.names watched old.printer slots names watched_new printer slots_new (Err why)
     → StopsOn told_in told snapshot old watched slots watched_new slots_new why
-look_stopped {told_in} {told} {snapshot} {old} {watched_new} {slots} {slots_new} {why} looking visits ways headers names looks first holds =
+look_stopped {told_in} {told} {snapshot} {old} {watched_new} {slots} {slots_new} {why} looking visits calling ways headers names looks first holds =
     let (more, begun, short) = visits.stopped ways.first looks (stand_from looking holds) in record {
       shares = holds.shares;
       are = holds.are;
@@ -343,8 +345,8 @@ look_stopped {told_in} {told} {snapshot} {old} {watched_new} {slots} {slots_new}
 
 -- whatever looks were made, the names broke just where they tell so
 abbrev pub Unbroken : (told_in told : Bool) → FollowState → List Watched → List Slot → List Watched → Type 0
-Unbroken told_in told old watched slots watched_new = (ways : Ways) (headers : Bool) (names : List (List ℕ)) (looks : List Look) (first : List Slot)
-    → Holds told_in told ways headers names looks first old watched slots → AreWatched ways looks names watched_new
+Unbroken told_in told old watched slots watched_new = (calling : Calling) (ways : Ways) (headers : Bool) (names : List (List ℕ)) (looks : List Look) (first : List Slot)
+    → Holds told_in told calling ways headers names looks first old watched slots → AreWatched ways looks names watched_new
 
 -- names that were added
 
@@ -376,10 +378,10 @@ pub record IsAdded (old mid : FollowState) (watched watched_mid : List Watched) 
   pub watched_is : watched_mid ≡ watched ++ map added (texts old.names)
   pub first_is : 0 < length old.names → mid.first ≡ length watched
 
-held_added : {told_in told : Bool} {ways : Ways} {headers : Bool} {names : List (List ℕ)} {looks : List Look} {first : List Slot} {old mid : FollowState} {watched watched_mid : List Watched} {slots : List Slot} → IsAdded old mid watched watched_mid
-    → Holds told_in told ways headers names looks first old watched slots → Holds told_in told ways headers names looks first mid watched_mid slots
-held_added {told_in} {told} {ways} {headers} {names} {looks} {first} {old} {watched} {watched_mid} {slots} is holds =
-    subst (λ (f : FollowState). Holds told_in told ways headers names looks first f watched_mid slots) (sym is.mid_is) (record {
+held_added : {told_in told : Bool} {calling : Calling} {ways : Ways} {headers : Bool} {names : List (List ℕ)} {looks : List Look} {first : List Slot} {old mid : FollowState} {watched watched_mid : List Watched} {slots : List Slot} → IsAdded old mid watched watched_mid
+    → Holds told_in told calling ways headers names looks first old watched slots → Holds told_in told calling ways headers names looks first mid watched_mid slots
+held_added {told_in} {told} {calling} {ways} {headers} {names} {looks} {first} {old} {watched} {watched_mid} {slots} is holds =
+    subst (λ (f : FollowState). Holds told_in told calling ways headers names looks first f watched_mid slots) (sym is.mid_is) (record {
       asked = holds.asked;
       same = holds.same;
       numbered = λ looking some. is.first_is (subst (λ n. 0 < n) (sym (length_names old holds.same)) some) ∙ new.2;
@@ -407,7 +409,7 @@ added_begins {old} {mid} {watched} {watched_mid} is = record {
   stage = ap (λ (f : FollowState). f.stage) is.mid_is;
   ready = subst (λ (f : FollowState). AllReady f.names f.first watched_mid) (sym is.mid_is) (subst (AllReady old.names mid.first) (sym is.watched_is) (added_ready old.names watched is.first_is));
   others = other_added is;
-  holds = λ told ways headers names looks first slots holds. held_added is holds;
+  holds = λ told calling ways headers names looks first slots holds. held_added is holds;
 }
 
 -- whether a further look can give something
@@ -439,7 +441,7 @@ new_there {names} {place} within new =
 fresh_alive : (ways : Ways) {looks : List Look} {names : List NameState} → looks ≡ [] → names ≡ map new_state (texts names) → (place : ℕ) → place < length names → goes_on_as ways.by_name (state_at names place).standing ≡ goes_on_at ways looks (ways.first + place) (state_at names place).text
 fresh_alive ways {names} none new place within = search (rules, new_there, or_none)
 
-pub alive_is : {told : Bool} {ways : Ways} {headers : Bool} {names : List (List ℕ)} {looks : List Look} {first slots : List Slot} {follow : FollowState} {watched : List Watched} → Holds true told ways headers names looks first follow watched slots → any_goes_on follow.by_name follow.names ≡ is_alive ways names looks
+pub alive_is : {told : Bool} {calling : Calling} {ways : Ways} {headers : Bool} {names : List (List ℕ)} {looks : List Look} {first slots : List Slot} {follow : FollowState} {watched : List Watched} → Holds true told calling ways headers names looks first follow watched slots → any_goes_on follow.by_name follow.names ≡ is_alive ways names looks
 alive_is {ways} {looks} {follow} {watched} holds = search (rules, alive_from, fresh_alive, goes_on_there)
 
 -- none of the names goes on
@@ -458,8 +460,8 @@ no_more_of told ways looks place name watched Left stands some none = elim stand
   | inr missed ↦ inr (missed.way, missed.closed)
 ]
 
-pub none_going : {told_in told : Bool} {ways : Ways} {headers : Bool} {names : List (List ℕ)} {looks : List Look} {first slots : List Slot} {follow : FollowState} {watched : List Watched}
-    → Holds told_in told ways headers names looks first follow watched slots → 0 < length looks → any_goes_on follow.by_name follow.names ≡ false → NoneGoesOn ways watched
+pub none_going : {told_in told : Bool} {calling : Calling} {ways : Ways} {headers : Bool} {names : List (List ℕ)} {looks : List Look} {first slots : List Slot} {follow : FollowState} {watched : List Watched}
+    → Holds told_in told calling ways headers names looks first follow watched slots → 0 < length looks → any_goes_on follow.by_name follow.names ≡ false → NoneGoesOn ways watched
 none_going {told_in} {ways} {looks} {follow} {watched} holds some none = stage follow.stage holds.stand where
   way : ways.by_name ≡ follow.by_name
   way = ap (λ (those : Ways). those.by_name) holds.asked
@@ -506,7 +508,7 @@ none_broken {ways} names before watched none first_is (rest, are) = subst (λ (t
   sizes : length before + length names ≡ length watched + length rest
   sizes = ap (λ n. length before + n) (sym (length-map names added)) ∙ sym (length-append before (map added names)) ∙ ap length are ∙ length-append watched rest
 
-pub watched_are : {told_in told : Bool} {ways : Ways} {headers : Bool} {names : List (List ℕ)} {looks : List Look} {first slots : List Slot} {follow : FollowState} {watched : List Watched} → Holds told_in told ways headers names looks first follow watched slots → AreWatched ways looks names watched
+pub watched_are : {told_in told : Bool} {calling : Calling} {ways : Ways} {headers : Bool} {names : List (List ℕ)} {looks : List Look} {first slots : List Slot} {follow : FollowState} {watched : List Watched} → Holds told_in told calling ways headers names looks first follow watched slots → AreWatched ways looks names watched
 watched_are {told_in} {ways} {names} {looks} {follow} {watched} holds = stage follow.stage holds.stand where
   count : length follow.names ≡ length names
   count = length_names follow holds.same
@@ -534,7 +536,7 @@ pub makes_none : {told_in told : Bool} {snapshot : Snapshot} {seen seen_new : Li
     → MakesLook told_in told snapshot seen old watched slots seen_new new watched_new slots (Err why)
 makes_none {told} {old} {watched} {slots} unbroken others live can is same = record {
   looked = tt;
-  stopped = λ ways headers names looks first holds. record {
+  stopped = λ calling ways headers names looks first holds. record {
     shares = holds.shares;
     are = holds.are;
     found = holds.found;
@@ -542,7 +544,7 @@ makes_none {told} {old} {watched} {slots} unbroken others live can is same = rec
     reached = slots;
     shared = holds.shared;
     more = [];
-    begun = nothing (unbroken ways headers names looks first holds);
+    begun = nothing (unbroken calling ways headers names looks first holds);
     short = rw is (record { slots = λ output error others at. (error, refl, subst (λ those. Short told [] those slots fault.Memory) at no_memory) });
   };
   seen_is = tt;
@@ -560,7 +562,7 @@ pub makes_few : {told_in told : Bool} {snapshot : Snapshot} {seen seen_new : Lis
     → (old.stage ≡ Over → ⊥) → CanLook old watched slots → why ≡ fault.Memory → seen_new ≡ seen
     → MakesLook told_in told snapshot seen old watched slots seen_new new watched_new slots (Err why)
 makes_few {told_in} {old} {watched} {watched_new} fresh adds = makes_none
-    (λ ways headers names looks first holds.
+    (λ calling ways headers names looks first holds.
     let stand = subst (StandsIn told_in ways looks old.names watched) fresh holds.stand in
     none_broken names watched watched_new stand.0 stand.2 (subst (λ those. IsFront watched_new (watched ++ map added those)) holds.same adds.front))
     (λ number other. ap (λ those. watched_at those number) adds.kept.1
@@ -571,7 +573,7 @@ pub makes_all : {told_in told : Bool} {snapshot : Snapshot} {seen seen_new : Lis
     → (old.stage ≡ Over → ⊥) → CanLook old watched slots → why ≡ fault.Memory → seen_new ≡ seen
     → MakesLook told_in told snapshot seen old watched slots seen_new new watched_new slots (Err why)
 makes_all {told} {slots} begins same = makes_none
-    (λ ways headers names looks first holds. subst (AreWatched ways looks names) (sym same) (watched_are (begins.holds told ways headers names looks first slots holds)))
+    (λ calling ways headers names looks first holds. subst (AreWatched ways looks names) (sym same) (watched_are (begins.holds told calling ways headers names looks first slots holds)))
     (λ number other. ap (λ those. watched_at those number) same ∙ (begins.others number other).1)
 
 -- the names were looked at, once they were watched and the watch saw what the files hold
@@ -611,7 +613,7 @@ makes_look {told_in} {told} {shows} {shows_mid} {seen} {seen_mid} {seen_turned} 
       by : (result : Result Bool Fault) → Seen result → MakesLook told_in told snapshot seen old watched slots seen_new
           (record inside { names = names_new; printer = printer }) watched_new slots_new result
       by (Ok failed) visits = record {
-        looked = λ ways headers names looks first holds. look_made begins.stage visits ways headers names looks first (begins.holds told ways headers names looks first slots holds);
+        looked = λ calling ways headers names looks first holds. look_made begins.stage visits calling ways headers names looks first (begins.holds told calling ways headers names looks first slots holds);
         stopped = tt;
         seen_is = saw;
         saw = tt;
@@ -624,7 +626,7 @@ makes_look {told_in} {told} {shows} {shows_mid} {seen} {seen_mid} {seen_turned} 
       }
       by (Err why) visits = record {
         looked = tt;
-        stopped = λ ways headers names looks first holds. look_stopped begins.stage visits ways headers names looks first (begins.holds told ways headers names looks first slots holds);
+        stopped = λ calling ways headers names looks first holds. look_stopped begins.stage visits calling ways headers names looks first (begins.holds told calling ways headers names looks first slots holds);
         seen_is = tt;
         saw = inr saw;
         stage = tt;
@@ -636,7 +638,7 @@ makes_look {told_in} {told} {shows} {shows_mid} {seen} {seen_mid} {seen_turned} 
       }
 
 -- as many looks were made, and then a further one can give something, or not
-pub record Progress (told_in told : Bool) (ways : Ways) (headers : Bool) (names : List (List ℕ)) (shows : ℕ → Snapshot) (first : List Slot) (made : ℕ)
+pub record Progress (told_in told : Bool) (calling : Calling) (ways : Ways) (headers : Bool) (names : List (List ℕ)) (shows : ℕ → Snapshot) (first : List Slot) (made : ℕ)
     (going : Bool) (follow : FollowState) (seen : List Snapshot) (watched : List Watched) (slots : List Slot) : Type 0 where
   pub looks : List Look
   pub count : length looks ≡ made
@@ -644,7 +646,7 @@ pub record Progress (told_in told : Bool) (ways : Ways) (headers : Bool) (names 
   pub is_made : Made told_in ways names shows looks
   pub alive : told_in ≡ true → 0 < length looks → is_alive ways names looks ≡ going
   pub ends : going ≡ false → NoneGoesOn ways watched
-  pub holds : Holds told_in told ways headers names looks first follow watched slots
+  pub holds : Holds told_in told calling ways headers names looks first follow watched slots
 
 made_more : {told_in : Bool} {ways : Ways} {names : List (List ℕ)} {shows : ℕ → Snapshot} {looks : List Look} (look : Look) → look.snapshot ≡ shows (length looks)
     → Made told_in ways names shows looks → (told_in ≡ true → 0 < length looks → is_alive ways names looks ≡ true)
@@ -662,51 +664,51 @@ made_more {told_in} {ways} {names} {shows} {looks} look is before alive = record
       let at : n ≡ length looks = omega (arith, past, inside) in
       ap (λ m. is_alive ways names (take m (looks ++ look ∷ []))) at ∙ ap (is_alive ways names) (take-append_seam looks (look ∷ [])) ∙ alive t (subst (λ m. 0 < m) at above)
 
-module _ {told_in told : Bool} {ways : Ways} {headers : Bool} {names : List (List ℕ)} {shows : ℕ → Snapshot} {first : List Slot} where
+module _ {told_in told : Bool} {calling : Calling} {ways : Ways} {headers : Bool} {names : List (List ℕ)} {shows : ℕ → Snapshot} {first : List Slot} where
   -- the next look sees what the watch shows then
   next_is : {made : ℕ} {now : ℕ → Snapshot} {going : Bool} {follow : FollowState} {seen : List Snapshot} {watched : List Watched} {slots : List Slot} → now ≡ shows
-      → (p : Progress told_in told ways headers names shows first made going follow seen watched slots) → now (length seen) ≡ shows (length p.looks)
+      → (p : Progress told_in told calling ways headers names shows first made going follow seen watched slots) → now (length seen) ≡ shows (length p.looks)
   next_is {seen} same p = ap (λ (f : ℕ → Snapshot). f (length seen)) same ∙ ap shows (ap length p.observed ∙ length-map p.looks (λ (l : Look). l.snapshot))
 
   pub one_more : {made : ℕ} {now : ℕ → Snapshot} {old new : FollowState} {seen seen_new : List Snapshot} {watched watched_new : List Watched} {slots slots_new : List Slot}
-      {going : Bool} {next : ℕ} → now ≡ shows → Progress told_in told ways headers names shows first made true old seen watched slots
+      {going : Bool} {next : ℕ} → now ≡ shows → Progress told_in told calling ways headers names shows first made true old seen watched slots
       → LooksOn told_in told (now (length seen)) old watched slots new watched_new slots_new → seen_new ≡ seen ++ now (length seen) ∷ []
-      → ((told : Bool) (ways : Ways) (headers : Bool) (names : List (List ℕ)) (looks : List Look) (first slots : List Slot) (watched : List Watched)
-      → Holds true told ways headers names looks first new watched slots → going ≡ is_alive ways names looks)
-      → ((told_in told : Bool) (ways : Ways) (headers : Bool) (names : List (List ℕ)) (looks : List Look) (first slots : List Slot) (watched : List Watched)
-      → Holds told_in told ways headers names looks first new watched slots → 0 < length looks → going ≡ false → NoneGoesOn ways watched)
-      → suc made ≡ next → Progress told_in told ways headers names shows first next going new seen_new watched_new slots_new
+      → ((told : Bool) (calling : Calling) (ways : Ways) (headers : Bool) (names : List (List ℕ)) (looks : List Look) (first slots : List Slot) (watched : List Watched)
+      → Holds true told calling ways headers names looks first new watched slots → going ≡ is_alive ways names looks)
+      → ((told_in told : Bool) (calling : Calling) (ways : Ways) (headers : Bool) (names : List (List ℕ)) (looks : List Look) (first slots : List Slot) (watched : List Watched)
+      → Holds told_in told calling ways headers names looks first new watched slots → 0 < length looks → going ≡ false → NoneGoesOn ways watched)
+      → suc made ≡ next → Progress told_in told calling ways headers names shows first next going new seen_new watched_new slots_new
   one_more {now} {new} {seen} {watched_new} {slots_new} same p looks_on more alive none is =
-      let (fates, holds) = looks_on ways headers names p.looks first p.holds in
+      let (fates, holds) = looks_on calling ways headers names p.looks first p.holds in
       let look : Look = record { snapshot = now (length seen); fates = fates } in record {
         looks = p.looks ++ look ∷ [];
         count = length-append p.looks (look ∷ []) ∙ ap (λ n. n + 1) p.count ∙ omega (arith, is);
         observed = more ∙ ap (λ front. front ++ look.snapshot ∷ []) p.observed ∙ sym (map-append (λ (l : Look). l.snapshot) p.looks (look ∷ []));
         is_made = made_more look (next_is same p) p.is_made p.alive;
-        alive = λ t above. sym (alive told ways headers names (p.looks ++ look ∷ []) first slots_new watched_new
-            (subst (λ known. Holds known told ways headers names (p.looks ++ look ∷ []) first new watched_new slots_new) t holds));
-        ends = none told_in told ways headers names (p.looks ++ look ∷ []) first slots_new watched_new holds (let long = length-append p.looks (look ∷ []) in omega (arith, long));
+        alive = λ t above. sym (alive told calling ways headers names (p.looks ++ look ∷ []) first slots_new watched_new
+            (subst (λ known. Holds known told calling ways headers names (p.looks ++ look ∷ []) first new watched_new slots_new) t holds));
+        ends = none told_in told calling ways headers names (p.looks ++ look ∷ []) first slots_new watched_new holds (let long = length-append p.looks (look ∷ []) in omega (arith, long));
         holds = holds;
       }
 
   pub one_stopped : {made : ℕ} {now : ℕ → Snapshot} {count : ℕ} {old : FollowState} {seen seen_new : List Snapshot} {watched watched_new : List Watched}
-      {slots slots_new : List Slot} {why : Fault} → now ≡ shows → Progress told_in told ways headers names shows first made true old seen watched slots
+      {slots slots_new : List Slot} {why : Fault} → now ≡ shows → Progress told_in told calling ways headers names shows first made true old seen watched slots
       → SawOrNot seen (now (length seen)) seen_new → made < count → StopsOn told_in told (now (length seen)) old watched slots watched_new slots_new why
-      → StoppedIn told_in told ways headers names count shows first seen_new watched_new slots_new why
+      → StoppedIn told_in told calling ways headers names count shows first seen_new watched_new slots_new why
   one_stopped {count} {seen_new} {watched_new} {slots_new} {why} same p saw below stops = record {
     looks = p.looks;
     saw = subst₂ (λ those s. SawOrNot those s seen_new) p.observed (next_is same p) saw;
     made = p.is_made;
     within = subst (λ n. n < count) (sym p.count) below;
     alive = p.alive;
-    halted = subst (λ s. Halted told_in told ways headers names p.looks s first watched_new slots_new why) (next_is same p)
-        (stops ways headers names p.looks first p.holds);
+    halted = subst (λ s. Halted told_in told calling ways headers names p.looks s first watched_new slots_new why) (next_is same p)
+        (stops calling ways headers names p.looks first p.holds);
   }
 
   -- no further look was made: as many were asked for, or it could give nothing
   pub ended : {made count : ℕ} {going : Bool} {follow : FollowState} {seen : List Snapshot} {watched : List Watched} {slots : List Slot} → made ≤ count
-      → (made < count → (0 < made) × (going ≡ false)) → Progress told_in told ways headers names shows first made going follow seen watched slots
-      → LookedAll told_in told ways headers names count shows first follow seen watched slots
+      → (made < count → (0 < made) × (going ≡ false)) → Progress told_in told calling ways headers names shows first made going follow seen watched slots
+      → LookedAll told_in told calling ways headers names count shows first follow seen watched slots
   ended within over p = let count = p.count in record {
     looks = p.looks;
     observed = p.observed;
@@ -717,15 +719,15 @@ module _ {told_in told : Bool} {ways : Ways} {headers : Bool} {names : List (Lis
   }
 
 -- as long as no look begins
-pub still_made : {told_in told : Bool} {ways : Ways} {headers : Bool} {names : List (List ℕ)} {shows : ℕ → Snapshot} {first : List Slot} {made : ℕ} {going : Bool} {follow : FollowState} {seen now : List Snapshot}
-    {watched watched_now : List Watched} {slots : List Slot} → watched_now ≡ watched → now ≡ seen → Progress told_in told ways headers names shows first made going follow seen watched slots
-    → Progress told_in told ways headers names shows first made going follow now watched_now slots
-still_made {told_in} {told} {ways} {headers} {names} {shows} {first} {made} {going} {follow} {slots} same saw so_far =
-    subst₂ (λ those names_now. Progress told_in told ways headers names shows first made going follow those names_now slots) (sym saw) (sym same) so_far
+pub still_made : {told_in told : Bool} {calling : Calling} {ways : Ways} {headers : Bool} {names : List (List ℕ)} {shows : ℕ → Snapshot} {first : List Slot} {made : ℕ} {going : Bool} {follow : FollowState} {seen now : List Snapshot}
+    {watched watched_now : List Watched} {slots : List Slot} → watched_now ≡ watched → now ≡ seen → Progress told_in told calling ways headers names shows first made going follow seen watched slots
+    → Progress told_in told calling ways headers names shows first made going follow now watched_now slots
+still_made {told_in} {told} {calling} {ways} {headers} {names} {shows} {first} {made} {going} {follow} {slots} same saw so_far =
+    subst₂ (λ those names_now. Progress told_in told calling ways headers names shows first made going follow those names_now slots) (sym saw) (sym same) so_far
 
 -- before the first look none was made
-pub none_made : {told_in told : Bool} {ways : Ways} {headers : Bool} {names : List (List ℕ)} {shows : ℕ → Snapshot} {first : List Slot} {follow : FollowState} {seen : List Snapshot} {watched : List Watched}
-    {slots : List Slot} → seen ≡ [] → Holds told_in told ways headers names [] first follow watched slots → Progress told_in told ways headers names shows first 0 true follow seen watched slots
+pub none_made : {told_in told : Bool} {calling : Calling} {ways : Ways} {headers : Bool} {names : List (List ℕ)} {shows : ℕ → Snapshot} {first : List Slot} {follow : FollowState} {seen : List Snapshot} {watched : List Watched}
+    {slots : List Slot} → seen ≡ [] → Holds told_in told calling ways headers names [] first follow watched slots → Progress told_in told calling ways headers names shows first 0 true follow seen watched slots
 none_made unseen holds = record {
   looks = [];
   count = refl;
@@ -800,12 +802,12 @@ until_last {process} {shows} {now} {made} {count} {seen} is below found gone sam
 
 -- a whole run
 
-pub ends_by : {told_in told : Bool} {ways : Ways} {headers : Bool} {names : List (List ℕ)} {count : ℕ} {shows : ℕ → Snapshot} {first : List Slot} {seen : List Snapshot} {watched : List Watched} {new : List Slot} {status : ℕ}
-    (process : Option ℕ) (most : ℕ) → AreMost told_in process shows count most → FollowEndsAs told_in told ways headers names most shows first seen watched new status
-    → FollowEndsBy process told_in told ways headers names count shows first seen watched new status
+pub ends_by : {told_in told : Bool} {breaks_for : ℕ → Reason → Bool} {calling : Calling} {ways : Ways} {headers : Bool} {names : List (List ℕ)} {count : ℕ} {shows : ℕ → Snapshot} {first : List Slot} {seen : List Snapshot} {watched : List Watched} {new : List Slot} {status : ℕ}
+    (process : Option ℕ) (most : ℕ) → AreMost told_in process shows count most → FollowEndsAs told_in told breaks_for calling ways headers names most shows first seen watched new status
+    → FollowEndsBy process told_in told breaks_for calling ways headers names count shows first seen watched new status
 ends_by (Some process) most are ends = (most, are, ends)
-ends_by {told_in} {told} {ways} {headers} {names} {count} {shows} {first} {seen} {watched} {new} {status} None most are ends =
-    subst (λ n. FollowEndsAs told_in told ways headers names n shows first seen watched new status) (no_fewer (cases_lt most count)) ends where
+ends_by {told_in} {told} {breaks_for} {calling} {ways} {headers} {names} {count} {shows} {first} {seen} {watched} {new} {status} None most are ends =
+    subst (λ n. FollowEndsAs told_in told breaks_for calling ways headers names n shows first seen watched new status) (no_fewer (cases_lt most count)) ends where
       no_fewer : (most < count) ⊎ (count ≤ most) → most ≡ count
       no_fewer (inl fewer) = absurd (false≢true (are.found fewer).2)
       no_fewer (inr all) = let within = are.within in omega (arith, all, within)
@@ -814,8 +816,8 @@ texts_of_new : (names : List (List ℕ)) → texts (map new_state names) ≡ nam
 texts_of_new [] = refl
 texts_of_new (name ∷ names) = ap (λ rest. name ∷ rest) (texts_of_new names)
 
-pub open_holds : {told_in told by_name : Bool} {start : Start} {headers : Bool} {names : List (List ℕ)} {follow : FollowState} {watched : List Watched} {slots : List Slot} → follow ≡ opened_follow by_name start headers names → watched ≡ [] → Holds told_in told (ways_of 0 by_name start) headers names [] slots follow watched slots
-open_holds {told_in} {told} {by_name} {start} {headers} {names} {watched} {slots} is unwatched = subst (λ (f : FollowState). Holds told_in told (ways_of 0 by_name start) headers names [] slots f watched slots) (sym is) (record {
+pub open_holds : {told_in told by_name : Bool} {calling : Calling} {start : Start} {headers : Bool} {names : List (List ℕ)} {follow : FollowState} {watched : List Watched} {slots : List Slot} → follow ≡ opened_follow calling by_name start headers names → watched ≡ [] → Holds told_in told calling (ways_of 0 by_name start) headers names [] slots follow watched slots
+open_holds {told_in} {told} {by_name} {calling} {start} {headers} {names} {watched} {slots} is unwatched = subst (λ (f : FollowState). Holds told_in told calling (ways_of 0 by_name start) headers names [] slots f watched slots) (sym is) (record {
   asked = refl;
   same = texts_of_new names;
   numbered = λ looking some. refl;

@@ -3,12 +3,12 @@ use Rattle.follow_core.specs.Standing.{BrokeIn, StandsAt, CanVisit, IsFollowed, 
 use Rattle.follow_core.proofs.CallLemmas.{broke_at, came_none, contents_open, failure_said, found_as, found_both, found_from, goes_after, held_many, if_broke, keeps_others, none_of, nothing_due, opened_led, opened_there, some_of, wrote_after, wrote_line}
 use Rattle.follow_core.proofs.CatchLemmas.{FromFrontOr, LooksAgain, long_by, ToldAgain, at_look}
 use Rattle.follow_core.proofs.EventLemmas.{bytes_later, events-append}
-use Rattle.std.proofs.Common.{◌⊎◌, ◌≡◌, ℕ, ◌==◌, Bool, true, false, not, List, [], ◌∷◌, ◌++◌, length, Option, Some, None, refl, sym, ◌∙◌, ap, if◌then◌else◌, subst, inl, inr, append_assoc, ◌&&◌, eqb-true, Result, Ok, Err, IsTrue, IfOk, subst₂, is_none, is_some, rules}
+use Rattle.std.proofs.Common.{◌⊎◌, ◌≡◌, ◌<◌, ◌+◌, arith, zero, suc, ℕ, ◌==◌, Bool, true, false, not, List, [], ◌∷◌, ◌++◌, length, Option, Some, None, refl, sym, ◌∙◌, ap, if◌then◌else◌, subst, inl, inr, append_assoc, ◌&&◌, eqb-true, Result, Ok, Err, IsTrue, IfOk, subst₂, is_none, is_some, rules}
 use Rattle.std.proofs.lemmas.List.{append-nil, map-append}
 use Rattle.std.proofs.Math.Bool.{and-false, and-true}
 use Rattle.watch_core.specs.Snapshot.{Snapshot, Found, latest, opens_as}
 use Rattle.follow_core.specs.declared.notice.Notice.{Notice}
-use Rattle.follow_core.specs.Reading.{IsFound, IsMissing, IsTold, LeftOpen, StartsIn}
+use Rattle.follow_core.specs.Reading.{AreAtLook, AreFound, IsFound, IsGiven, IsMissing, IsTold, LeftOpen, NoneBreaks, StartsIn, looks_more, names_more, no_looks}
 use Rattle.watch_core.specs.declared.watch.Broken.{Broken}
 use Rattle.watch_core.specs.declared.watch.Broken.TheVariants as broken
 use Rattle.follow_core.specs.Event.{Event, bytes_in, events_later, gives, lines_in}
@@ -22,14 +22,14 @@ use Rattle.follow_core.specs.Share.{BeginsShare, Due, Share, due_at, due_later, 
 use Rattle.follow_core.proofs.RunLemmas.{gains-append, last_from-append, text_goes_on, text_is_gains, entries-append}
 use Rattle.ports_core.specs.Slot.{Slot, changed_at}
 use Rattle.ports_core.specs.Text.{message_of}
-use Rattle.ports_core.specs.Message.{SaysOn}
-use Rattle.ports_core.specs.declared.tool.Tool.TheVariants.{Tail}
+use Rattle.ports_core.specs.Message.{OnError, SaysOn}
+use Rattle.ports_core.specs.declared.reason.Reason.{Reason}
 use Rattle.ports_core.specs.declared.fault.Fault.{Fault}
-use Rattle.ports_core.specs.declared.fault.Fault.TheVariants.{Open, Read}
+use Rattle.ports_core.specs.declared.fault.Fault.TheVariants.{Open}
 use Rattle.follow_core.specs.declared.visitor.Stop.TheVariants.{Broke, Over}
 use Rattle.follow_core.specs.inner.Visits.{Visits, TellsStop, Visited}
 use Rattle.follow_core.specs.Printing.{PrinterState}
-use Rattle.follow_core.specs.Telling.{IsFailure}
+use Rattle.follow_core.specs.Telling.{Tells, failure_text, tail_by}
 use Rattle.follow_core.specs.declared.visitor.Stop.{Stop}
 use Rattle.std.proofs.lemmas.Bool.{and_parts, false≢true}
 use Rattle.watch_core.proofs.NameLemmas.{latest-last, watchable_within}
@@ -223,12 +223,11 @@ pub record Looked (told_in told : Bool) (ways : Ways) (before : List Look) (snap
 
 -- the message of a failure is told after what was given
 said_after : {told : Bool} {printer after : PrinterState} {opened : Bool} {name bytes : List ℕ} {lines : List (List ℕ)} {line : List ℕ} {old mid new : List Slot}
-    → Came told printer opened name bytes lines old after mid None → IsFailure line → SaysOn told Tail line mid new
+    → Came told printer opened name bytes lines old after mid None → OnError (Tells told printer.calling line) mid new
     → Came told printer opened name bytes (lines ++ line ∷ []) old after new None
-said_after {printer} {opened} {name} {bytes} came failure says = record {
+said_after {printer} {opened} {name} {bytes} came says = record {
   printer_is = came.printer_is;
-  slots = wrote_after _ _ _ _ _ _ None (append-nil (text_under printer opened name bytes)) refl came.slots
-      (wrote_line (λ output error others are. let said = says output error others are in (said.0, failure_said failure said.1, said.2)));
+  slots = wrote_after _ _ _ _ _ _ _ None (append-nil (text_under printer opened name bytes)) refl came.slots (wrote_line says);
 }
 
 -- no failure is told after it
@@ -236,15 +235,8 @@ all_came : {told : Bool} {printer after : PrinterState} {opened : Bool} {name by
     → Came told printer opened name bytes lines old after new over → Came told printer opened name bytes (lines ++ failure_line name None) old after new over
 all_came {told} {printer} {after} {opened} {name} {bytes} lines {old} {new} {over} came = subst (λ those. Came told printer opened name bytes those old after new over) (sym (append-nil lines)) came
 
--- what the message of a name that broke says
-is_failure : (place : ℕ) (name : List ℕ) (fate : Fate) → IsFailure (message_of Tail (fault_by place fate) name)
-is_failure place name fate = by (is_read fate) where
-  by : (read : Bool) → IsFailure (message_of Tail (if read then Read place else Open place) name)
-  by true = (name, inr refl)
-  by false = (name, inl refl)
-
 fault_line : (place : ℕ) (name : List ℕ) (fate : Fate) → is_some (failed_by fate None) ≡ true
-    → (message_of Tail (fault_by place fate) name ∷ [] ≡ failure_line name (failure_of fate)) × (is_some (failure_of fate) ≡ true)
+    → (failure_text (fault_by place fate) name ∷ [] ≡ failure_line name (failure_of fate)) × (is_some (failure_of fate) ≡ true)
 fault_line place name sound broke = absurd (false≢true broke)
 fault_line place name unled broke = (refl, refl)
 fault_line place name unopened broke = (refl, refl)
@@ -273,7 +265,7 @@ module _ {told_in told : Bool} {ways : Ways} {before : List Look} {snapshot : Sn
       → Looked told_in told ways before snapshot name printer old after mid false sound
   looked_whole ends there = record {
     share = shared_as (is_first before) name ends.events None;
-    found = inl (record { named = refl; opened = refl; failed = refl; events = ends.found; there = there });
+    found = inl (record { named = refl; opened = refl; failed = refl; events = ends.found; broke = inl refl; there = there });
     is_share = λ t fates. ap (λ events. shared_as (is_first before) name events None) (ends.are t) ∙ due_share dues t fates;
     failed = refl;
     shared = all_came (lines_in name ends.events) ends.came;
@@ -283,16 +275,16 @@ module _ {told_in told : Bool} {ways : Ways} {before : List Look} {snapshot : Sn
   pub looked_broke : (place : ℕ) {new : List Slot} {why : Fault} (fate : Fate) → is_some (failed_by fate None) ≡ true → why ≡ fault_by place fate
       → (not (is_unopened fate) && is_first before) ≡ is_first before
       → Ends told_in (WereFound (IsTold before snapshot name) (StartsIn before name) snapshot name fate (Some (Broke why))) told (is_first before) printer name (due.came ++ due.led) (given_by due snapshot opened fate) old after mid (Some (Broke why))
-      → (is_first before ≡ true → (file : ℕ) × Found snapshot name (opens_as (Some file))) → SaysOn told Tail (message_of Tail why name) mid new
+      → (is_first before ≡ true → (file : ℕ) × Found snapshot name (opens_as (Some file))) → ((reason : Reason) × SaysOn told (tail_by printer.calling) reason (message_of why name) mid new)
       → Looked told_in told ways before snapshot name printer old after new true fate
   looked_broke place {new} {why} fate broke fault openly ends there says =
       let line = fault_line place name fate broke in record {
         share = shared_as (is_first before) name ends.events (failure_of fate);
         is_share = λ t fates. share_is t fates line.1 ends.events (ends.are t);
-        found = inl (record { named = refl; opened = sym openly; failed = refl; events = ends.found; there = there });
+        found = inl (record { named = refl; opened = sym openly; failed = refl; events = ends.found.1; broke = inr ends.found.0; there = there });
         failed = line.1;
         shared = subst (λ last. Came told printer (is_first before) name (bytes_in ends.events) (lines_in name ends.events ++ last) old after new None) line.0
-            (said_after ends.came (is_failure place name fate) (subst (λ those. SaysOn told Tail (message_of Tail those name) mid new) fault says));
+            (said_after ends.came (failure_said (is_read fate) place name (subst (λ those. SaysOn told (tail_by printer.calling) says.0 (message_of those name) mid new) fault says.1)));
       } where
         share_is : told_in ≡ true → (fates : List Fate) → is_some (failure_of fate) ≡ true → (events : List Event) → events ≡ given_by due snapshot opened fate
             → shared_as (is_first before) name events (failure_of fate) ≡ share_by ways name before (seeing snapshot fates) fate
@@ -437,10 +429,10 @@ module _ {told_in told : Bool} {ways : Ways} {snapshot : Snapshot} {place : ℕ}
   pub gave_fails : {led : Option ℕ} {mid : List Slot} (fate : Fate) (stop : Stop) {now : Standing} {result : Result Bool Fault} → (watched_at old place).name ≡ name
       → IsTrue (is_watchable old place) → Follows told_in led place old new fate (Some stop)
       → ((looks : List Look) → Stands told_in ways looks place name (watched_at old place) standing
-      → Gave told_in told ways looks snapshot place name led printer slots after mid fate (Err stop)) → TellsStop told name mid now slots_new stop result
+      → Gave told_in told ways looks snapshot place name led printer slots after mid fate (Err stop)) → TellsStop told after.calling name mid now slots_new stop result
       → Visits told_in told ways snapshot place name standing old printer slots now new after slots_new result
-  gave_fails fate (Broke why) named can broke gave (tells, left, says) = rw (tells, left) (drops fate why named can broke (λ looks stands.
-      let made = gave looks stands in (made.kept, looked_broke made.is_due place fate broke.broke broke.fault_is made.openly made.ends made.there says, made.met)))
+  gave_fails {mid} fate (Broke why) named can broke gave (tells, left, says) = rw (tells, left) (drops fate why named can broke (λ looks stands.
+      let made = gave looks stands in (made.kept, looked_broke made.is_due place fate broke.broke broke.fault_is made.openly made.ends made.there (says.0, subst (λ (p : PrinterState). SaysOn told (tail_by p.calling) says.0 (message_of why name) mid slots_new) (made.ends.came.printer_is refl) says.1), made.met)))
   gave_fails fate (Over why) named can follows gave (tells, same) = rw (tells, same) (record {
     visited = tt;
     stopped = λ looks stands. let made = gave looks stands in (
@@ -462,8 +454,8 @@ module _ {told_in told : Bool} {ways : Ways} {snapshot : Snapshot} {place : ℕ}
 -- ways out of the first look
 
 pub first_missing : {told_in told : Bool} {ways : Ways} {snapshot : Snapshot} {place : ℕ} {name : List ℕ} {printer : PrinterState}
-    {slots slots_new : List Slot} {old new : List Watched} {is_there : Bool} → Reopens told_in snapshot old new place is_there → is_there ≡ false
-    → (watched_at old place).name ≡ name → IsTrue (is_watchable old place) → SaysOn told Tail (message_of Tail (Open place) name) slots slots_new
+    {slots slots_new : List Slot} {old new : List Watched} {is_there : Bool} {reason : Reason} → Reopens told_in snapshot old new place is_there → is_there ≡ false
+    → (watched_at old place).name ≡ name → IsTrue (is_watchable old place) → SaysOn told (tail_by printer.calling) reason (message_of (Open place) name) slots slots_new
     → Visits told_in told ways snapshot place name New old printer slots (if ways.by_name then Followed 0 else Left) new printer slots_new (Ok true)
 first_missing {told_in} {told} {ways} {snapshot} {place} {name} {printer} {slots} {slots_new} {old} {new} reopens gone named can says =
     visits_by _ (opens reopens.file) reopens.names (ready ways.by_name)
@@ -477,7 +469,7 @@ first_missing {told_in} {told} {ways} {snapshot} {place} {name} {printer} {slots
         is_share = λ is fates. sym (rw (ap is_missing (entries_first ways (seeing snapshot fates) (nowhere is))) refl);
         found = inr (record { first = refl; kept = refl; nowhere = rw (none_of reopens.file (reopens.found ∙ gone), named) at reopens.opens; is = refl });
         failed = refl;
-        shared = said_after came_none (name, inl refl) says;
+        shared = said_after came_none (failure_said false place name says);
       }
 
       lost : Found snapshot (watched_at new place).name (opens_as None)
@@ -501,18 +493,18 @@ first_missing {told_in} {told} {ways} {snapshot} {place} {name} {printer} {slots
 
 pub first_unopened : {told_in told : Bool} {ways : Ways} {snapshot : Snapshot} {place : ℕ} {name : List ℕ} {printer : PrinterState}
     {slots slots_new : List Slot} {old new : List Watched} {why : Fault} {now : Standing} {result : Result Bool Fault} → (watched_at old place).name ≡ name → IsTrue (is_watchable old place)
-    → why ≡ Open place → new ≡ changed_at place (breaks (λ file. broken.Open)) old → TellsStop told name slots now slots_new (Broke why) result
+    → why ≡ Open place → new ≡ changed_at place (breaks (λ file. broken.Open)) old → snapshot.breaks ≡ true → TellsStop told printer.calling name slots now slots_new (Broke why) result
     → Visits told_in told ways snapshot place name New old printer slots now new printer slots_new result
-first_unopened {place} {name} {old} {why} named can is broke (tells, left, says) =
+first_unopened {place} {name} {old} {why} named can is broke fails (tells, left, says) =
     rw (tells, left) (drops unopened why named can (broke_at (λ file. broken.Open) refl refl is broke)
     (λ looks fresh. rw fresh.0 (
       refl,
       record {
         share = missing_share name;
         is_share = λ is fates. refl;
-        found = inl (record { named = refl; opened = refl; failed = refl; events = tt; there = λ opened. absurd (false≢true opened) });
+        found = inl (record { named = refl; opened = refl; failed = refl; events = tt; broke = inr fails; there = λ opened. absurd (false≢true opened) });
         failed = refl;
-        shared = said_after came_none (name, inl refl) (rw is at says);
+        shared = said_after came_none (failure_said false place name (rw is at says.1));
       },
       refl,
     )))
@@ -702,3 +694,33 @@ left_visited {snapshot} {place} {name} looks left = elim left.why [
   }
   | inr missed ↦ looked_visited sound missed.kept (looked_whole (left_due looks left.begun missed) {none = []} (rw left.begun (nothing_due tt)) (λ first. absurd (false≢true (sym left.begun ∙ first)))) (λ fates at. still_left looks (seeing snapshot fates) at left)
 ]
+
+-- where no call can fail
+
+sound_at : {before : List Look} (look : Look) (place : ℕ) {name : List ℕ} {share : Share} → IsGiven before look place name share → failed_in place before ≡ None → look.snapshot.breaks ≡ false → fate_at place look ≡ sound
+sound_at look place (inl (dropped, is)) kept unbroken = absurd (false≢true (sym (ap is_some kept) ∙ dropped))
+sound_at look place (inr (none, inl found)) kept unbroken = elim found.broke [
+  | inl fine ↦ fine
+  | inr can ↦ absurd (false≢true (sym unbroken ∙ can))
+]
+sound_at look place (inr (none, inr missing)) kept unbroken = missing.kept
+
+sound_among : {before : List Look} {look : Look} (from : ℕ) (names : List (List ℕ)) {shares : List Share} → AreAtLook before look from names shares → look.snapshot.breaks ≡ false
+    → (place : ℕ) → place < length names → failed_in (from + place) before ≡ None → fate_at (from + place) look ≡ sound
+sound_among from [] given unbroken place within kept = absurd (omega (arith, within))
+sound_among {before} {look} from (name ∷ names) (names_more given rest) unbroken zero within kept =
+    let at : from ≡ from + 0 = omega arith in rw at at (sound_at look from given (rw (← at) at kept) unbroken)
+sound_among {before} {look} from (name ∷ names) (names_more given rest) unbroken (suc place) within kept =
+    let at : from + 1 + place ≡ from + suc place = omega arith in
+    rw at at (sound_among (from + 1) names rest unbroken place (omega (arith, within)) (rw (← at) at kept))
+
+none_breaks_before : (looks : List Look) (look : Look) → NoneBreaks (looks ++ look ∷ []) → NoneBreaks looks × (look.snapshot.breaks ≡ false)
+none_breaks_before [] look none = (tt, none.0)
+none_breaks_before (first ∷ looks) look none = let rest = none_breaks_before looks look none.1 in ((none.0, rest.0), rest.1)
+
+pub names_stay : (ways : Ways) (names : List (List ℕ)) (looks : List Look) (shares : List Share) → AreFound ways names looks shares → NoneBreaks looks → (place : ℕ) → place < length names → failed_in (ways.first + place) looks ≡ None
+names_stay ways names looks shares no_looks none place within = refl
+names_stay ways names looks shares (looks_more {looks = before} {look} {shares = given} found at_look) none place within =
+    let (so_far, unbroken) = none_breaks_before before look none in
+    let kept = names_stay ways names before given found so_far place within in
+    failed_sound (ways.first + place) before look (sound_among ways.first names at_look unbroken place within kept) ∙ kept

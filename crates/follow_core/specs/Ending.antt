@@ -1,12 +1,14 @@
 -- How a run of following ends, by what its looks saw.
 use Rattle.std.specs.Prelude.{◌≡◌, ◌<◌, ◌≤◌, ◌+◌, ◌++◌, ◌∷◌, ℕ, zero, suc, Bool, true, false, IsTrue, List, [], length, take, Option, Some, None, if◌then◌else◌}
-use Rattle.ports_core.specs.Message.{SaysOn, output_named}
+use Rattle.ports_core.specs.Message.{IsWhy, SaysOn, TellsOn, output_named}
 use Rattle.ports_core.specs.Slot.{Slot}
-use Rattle.ports_core.specs.Text.{message_of}
+use Rattle.ports_core.specs.Text.{message_of, status_after}
+use Rattle.ports_core.specs.declared.calling.Calling.{Calling}
+use Rattle.ports_core.specs.declared.calling.Calling.TheVariants.{OwnName}
+use Rattle.ports_core.specs.declared.reason.Reason.{Reason}
 use Rattle.ports_core.specs.declared.fault.Fault.{Fault}
 use Rattle.ports_core.specs.declared.fault.Fault.TheVariants.{Memory}
-use Rattle.ports_core.specs.declared.tool.Tool.TheVariants.{Tail}
-use Rattle.watch_core.specs.Snapshot.{Snapshot}
+use Rattle.watch_core.specs.Snapshot.{Snapshot, forgiving}
 use Rattle.watch_core.specs.Watched.{Watched}
 use Rattle.follow_core.specs.Followed.{Followed, made_of}
 use Rattle.follow_core.specs.FollowState.{Halted, SawOrNot, is_alive}
@@ -15,6 +17,13 @@ use Rattle.follow_core.specs.Reading.{AreFound}
 use Rattle.follow_core.specs.Share.{Share, shares_of}
 use Rattle.follow_core.specs.Sharing.{Wrote}
 use Rattle.follow_core.specs.Standing.{AreWatched, NoneGoesOn}
+use Rattle.follow_core.specs.Telling.{tail_by}
+
+-- What each look of a run shows. Where `tail` was called by its own name and follows names, a name that is there but
+-- can't be opened or read counts as missing, and no call on a name fails.
+abbrev pub shows_by : Calling → (by_name : Bool) → (ℕ → Snapshot) → ℕ → Snapshot
+shows_by OwnName true shows = λ n. forgiving (shows n)
+shows_by calling by_name shows = shows
 
 -- what the first n looks see
 abbrev pub seen_first : (ℕ → Snapshot) → ℕ → List Snapshot
@@ -28,19 +37,20 @@ pub record Made (told_in : Bool) (ways : Ways) (names : List (List ℕ)) (shows 
   pub alive : told_in ≡ true → (n : ℕ) → 0 < n → n < length looks → is_alive ways names (take n looks) ≡ true
 
 -- The look after these was stopped by a fault, and no other was made.
-pub record StoppedIn (told_in told : Bool) (ways : Ways) (headers : Bool) (names : List (List ℕ)) (count : ℕ)
-    (shows : ℕ → Snapshot) (first : List Slot) (seen : List Snapshot) (watched : List Watched) (slots : List Slot)
-    (why : Fault) : Type 0 where
+pub record StoppedIn (told_in told : Bool) (calling : Calling) (ways : Ways) (headers : Bool)
+    (names : List (List ℕ)) (count : ℕ) (shows : ℕ → Snapshot) (first : List Slot) (seen : List Snapshot)
+    (watched : List Watched) (slots : List Slot) (why : Fault) : Type 0 where
   pub looks : List Look
   pub saw : SawOrNot (snapshots looks) (shows (length looks)) seen
   pub made : Made told_in ways names shows looks
   pub within : length looks < count
   pub alive : told_in ≡ true → 0 < length looks → is_alive ways names looks ≡ true
-  pub halted : Halted told_in told ways headers names looks (shows (length looks)) first watched slots why
+  pub halted : Halted told_in told calling ways headers names looks (shows (length looks)) first watched slots why
 
 -- the outputs got all of this, and the status tells whether anything failed
-pub record Leaves (told : Bool) (followed : Followed) (first new : List Slot) (status : ℕ) : Type 0 where
-  pub wrote : Wrote told followed.out followed.messages first new
+pub record Leaves (told : Bool) (calling : Calling) (followed : Followed) (first new : List Slot)
+    (status : ℕ) : Type 0 where
+  pub wrote : Wrote told calling followed.out followed.messages first new
   pub status_is : status ≡ (if followed.has_failed then 1 else 0)
 
 -- before a look that sees this it is found that the process is gone, where one is waited for
@@ -64,29 +74,36 @@ pub record AreMost (told_in : Bool) (process : Option ℕ) (shows : ℕ → Snap
 
 -- A run ended so: these looks and no others were made, as many as were asked for, or those after which nothing more can
 -- come, and the outputs have exactly what they give; or a look was stopped, and the outputs have all of the looks
--- before it, a beginning of it, and the message; or there was no memory to begin, and no look was made.
-pub data FollowEndsAs (told_in told : Bool) (ways : Ways) (headers : Bool) (names : List (List ℕ)) (count : ℕ)
-    (shows : ℕ → Snapshot) (first : List Slot) (seen : List Snapshot) (watched : List Watched) (new : List Slot)
-    (status : ℕ) : Type 0 where
+-- before it, a beginning of it, and the message, but of a reader that is gone where none is due; or there was no memory
+-- to begin, and no look was made.
+pub data FollowEndsAs (told_in told : Bool) (breaks_for : ℕ → Reason → Bool) (calling : Calling) (ways : Ways)
+    (headers : Bool) (names : List (List ℕ)) (count : ℕ) (shows : ℕ → Snapshot) (first : List Slot)
+    (seen : List Snapshot)
+    (watched : List Watched) (new : List Slot) (status : ℕ) : Type 0 where
   looked : (looks : List Look) (shares : List Share) → seen ≡ snapshots looks → AreWatched ways looks names watched
       → Made told_in ways names shows looks → length looks ≤ count
       → (length looks < count → (0 < length looks) × (told_in ≡ true → is_alive ways names looks ≡ false)
       × NoneGoesOn ways watched)
       → (told_in ≡ true → shares ≡ shares_of ways names looks) → AreFound ways names looks shares
-      → Leaves told (made_of headers shares) first new status
-      → FollowEndsAs told_in told ways headers names count shows first seen watched new status
-  stopped : (mid : List Slot) (why : Fault)
-      → StoppedIn told_in told ways headers names count shows first seen watched mid why
-      → SaysOn told Tail (message_of Tail why (output_named mid why)) mid new → status ≡ 1
-      → FollowEndsAs told_in told ways headers names count shows first seen watched new status
-  no_room : seen ≡ [] → watched ≡ [] → SaysOn told Tail (message_of Tail Memory []) first new → status ≡ 1
-      → FollowEndsAs told_in told ways headers names count shows first seen watched new status
+      → Leaves told calling (made_of headers shares) first new status
+      → FollowEndsAs told_in told breaks_for calling ways headers names count shows first seen watched new status
+  stopped : (mid : List Slot) (fault : Fault) (why : Reason)
+      → StoppedIn told_in told calling ways headers names count shows first seen watched mid fault
+      → IsWhy breaks_for fault why → TellsOn told (tail_by calling) why fault (output_named mid fault) mid new
+      → status ≡ status_after fault calling why
+      → FollowEndsAs told_in told breaks_for calling ways headers names count shows first seen watched new status
+  no_room : (why : Reason) → seen ≡ [] → watched ≡ []
+      → SaysOn told (tail_by calling) why (message_of Memory []) first new
+      → status ≡ 1 → FollowEndsAs told_in told breaks_for calling ways headers names count shows first seen watched new
+      status
 
 -- a run that ends once this process is gone, where one is waited for
-abbrev pub FollowEndsBy : Option ℕ → (told_in told : Bool) → Ways → Bool → List (List ℕ) → (count : ℕ)
-    → (ℕ → Snapshot) → List Slot → List Snapshot → List Watched → List Slot → (status : ℕ) → Type 0
-FollowEndsBy None told_in told ways headers names count shows first seen watched new status =
-    FollowEndsAs told_in told ways headers names count shows first seen watched new status
-FollowEndsBy (Some process) told_in told ways headers names count shows first seen watched new status = (most : ℕ)
-    × AreMost told_in (Some process) shows count most
-    × FollowEndsAs told_in told ways headers names most shows first seen watched new status
+abbrev pub FollowEndsBy : Option ℕ → (told_in told : Bool) → (ℕ → Reason → Bool) → Calling → Ways → Bool
+    → List (List ℕ) → (count : ℕ) → (ℕ → Snapshot) → List Slot → List Snapshot → List Watched → List Slot
+    → (status : ℕ) → Type 0
+FollowEndsBy None told_in told breaks_for calling ways headers names count shows first seen watched new status =
+    FollowEndsAs told_in told breaks_for calling ways headers names count shows first seen watched new status
+FollowEndsBy (Some process) told_in told breaks_for calling ways headers names count shows first seen watched new
+    status =
+    (most : ℕ) × AreMost told_in (Some process) shows count most
+    × FollowEndsAs told_in told breaks_for calling ways headers names most shows first seen watched new status

@@ -1,6 +1,7 @@
 -- Following: its names and how they stand, from one look to the next.
 use Rattle.std.specs.Prelude.{◌≡◌, ◌⊎◌, ◌<◌, ◌∷◌, ◌++◌, ◌+◌, ℕ, Bool, true, false, not, ◌&&◌, ◌||◌, List, [], length, map, take, slice_index_or, is_some}
 use Rattle.ports_core.specs.Slot.{Slot, Rose}
+use Rattle.ports_core.specs.declared.calling.Calling.{Calling}
 use Rattle.ports_core.specs.declared.fault.Fault.{Fault}
 use Rattle.ports_core.specs.declared.fault.Fault.TheVariants.{Failed, Memory, Write}
 use Rattle.watch_core.specs.Snapshot.{Snapshot}
@@ -33,14 +34,14 @@ abbrev pub new_state : List ℕ → NameState
 new_state name = record { text = name; standing = New }
 
 -- these names are to be followed; no look was made yet
-abbrev pub opened_follow : Bool → Start → Bool → List (List ℕ) → FollowState
-opened_follow by_name start headers names =
+abbrev pub opened_follow : Calling → Bool → Start → Bool → List (List ℕ) → FollowState
+opened_follow calling by_name start headers names =
     record {
       by_name = by_name;
       start = start;
       names = map new_state names;
       first = 0;
-      printer = fresh_printer headers;
+      printer = fresh_printer calling headers;
       stage = Fresh;
       has_failed = false;
     }
@@ -77,7 +78,8 @@ StandsIn told ways looks names watched Over = ⊥
 
 -- These looks at these names were made, from the outputs as they were at first: they have exactly what the looks give.
 -- Whatever is watched, it is what their calls found.
-pub record Holds (told_in told : Bool) (ways : Ways) (headers : Bool) (names : List (List ℕ)) (looks : List Look)
+pub record Holds (told_in told : Bool) (calling : Calling) (ways : Ways) (headers : Bool) (names : List (List ℕ))
+    (looks : List Look)
     (first : List Slot) (follow : FollowState) (watched : List Watched) (slots : List Slot) : Type 0 where
   pub asked : ways ≡ ways_of ways.first follow.by_name follow.start
   pub same : texts follow.names ≡ names
@@ -86,7 +88,7 @@ pub record Holds (told_in told : Bool) (ways : Ways) (headers : Bool) (names : L
   pub shares : List Share
   pub are : told_in ≡ true → shares ≡ shares_of ways names looks
   pub found : AreFound ways names looks shares
-  pub shared : AllShared told (fresh_printer headers) shares first follow.printer slots
+  pub shared : AllShared told (fresh_printer calling headers) shares first follow.printer slots
   pub failed : any_failed shares ≡ follow.has_failed
 
 -- What a look that was stopped gave: nothing; or it came to the name at a place. How each name before that came through
@@ -110,7 +112,8 @@ pub data Begun (told_in : Bool) (ways : Ways) (names : List (List ℕ)) (looks :
 
 -- Following ended in the look after these: the outputs had all that these give, and got a beginning of what that one
 -- gives.
-pub record Halted (told_in told : Bool) (ways : Ways) (headers : Bool) (names : List (List ℕ)) (looks : List Look)
+pub record Halted (told_in told : Bool) (calling : Calling) (ways : Ways) (headers : Bool) (names : List (List ℕ))
+    (looks : List Look)
     (snapshot : Snapshot) (first : List Slot) (watched : List Watched) (slots : List Slot)
     (why : Fault) : Type 0 where
   pub shares : List Share
@@ -118,7 +121,7 @@ pub record Halted (told_in told : Bool) (ways : Ways) (headers : Bool) (names : 
   pub found : AreFound ways names looks shares
   pub printer : PrinterState
   pub reached : List Slot
-  pub shared : AllShared told (fresh_printer headers) shares first printer reached
+  pub shared : AllShared told (fresh_printer calling headers) shares first printer reached
   pub more : List Share
   pub begun : Begun told_in ways names looks snapshot watched more
   pub short : AllShort told printer more reached slots why
@@ -137,18 +140,18 @@ SawOrNot seen snapshot seen_new = (seen_new ≡ seen) ⊎ (seen_new ≡ seen ++ 
 abbrev pub LooksOn : (told_in told : Bool) → Snapshot → FollowState → List Watched → List Slot → FollowState
     → List Watched → List Slot → Type 0
 LooksOn told_in told snapshot old watched slots new watched_new slots_new =
-    (ways : Ways) (headers : Bool) (names : List (List ℕ)) (looks : List Look) (first : List Slot)
-    → Holds told_in told ways headers names looks first old watched slots
-    → (fates : List Fate) × Holds told_in told ways headers names
+    (calling : Calling) (ways : Ways) (headers : Bool) (names : List (List ℕ)) (looks : List Look) (first : List Slot)
+    → Holds told_in told calling ways headers names looks first old watched slots
+    → (fates : List Fate) × Holds told_in told calling ways headers names
     (looks ++ record { snapshot = snapshot; fates = fates } ∷ []) first new watched_new slots_new
 
 -- whatever looks were made before, the next one was stopped
 abbrev pub StopsOn : (told_in told : Bool) → Snapshot → FollowState → List Watched → List Slot → List Watched
     → List Slot → Fault → Type 0
 StopsOn told_in told snapshot old watched slots watched_new slots_new why =
-    (ways : Ways) (headers : Bool) (names : List (List ℕ)) (looks : List Look) (first : List Slot)
-    → Holds told_in told ways headers names looks first old watched slots
-    → Halted told_in told ways headers names looks snapshot first watched_new slots_new why
+    (calling : Calling) (ways : Ways) (headers : Bool) (names : List (List ℕ)) (looks : List Look) (first : List Slot)
+    → Holds told_in told calling ways headers names looks first old watched slots
+    → Halted told_in told calling ways headers names looks snapshot first watched_new slots_new why
 
 -- the name of this number goes on: it wasn't dropped, and it is followed by name or a file of it is open
 abbrev pub goes_on_at : Ways → List Look → ℕ → List ℕ → Bool

@@ -1,6 +1,6 @@
 -- Looks that are placed among edits.
 use Rattle.std.specs.Prelude.{◌≡◌, ℕ, Bool, false, List, [], ◌∷◌, ◌++◌, bytes_eq}
-use Rattle.watch_core.specs.Edits.{Edit, append, truncate, replace, remove, end, snapshots_of}
+use Rattle.watch_core.specs.Edits.{Edit, append, truncate, replace, remove, end, bar, snapshots_of}
 use Rattle.follow_core.specs.Version.{Entry, entries_of}
 use Rattle.follow_core.specs.Run.{name_text, AreKept}
 
@@ -17,6 +17,7 @@ IsUncut name (truncate other n ∷ edits) = (bytes_eq name other ≡ false) × I
 IsUncut name (replace other bytes ∷ edits) = IsUncut name edits
 IsUncut name (remove other ∷ edits) = IsUncut name edits
 IsUncut name (end process ∷ edits) = IsUncut name edits
+IsUncut name (bar other is ∷ edits) = IsUncut name edits
 
 -- One look after these edits sees all that they do: a truncation, a replacement or a removal is the last of them, and
 -- no file is truncated that was appended to among them.
@@ -28,6 +29,7 @@ AreSeen (truncate name n ∷ next ∷ edits) = ⊥
 AreSeen (replace name bytes ∷ next ∷ edits) = ⊥
 AreSeen (remove name ∷ next ∷ edits) = ⊥
 AreSeen (end process ∷ next ∷ edits) = AreSeen (next ∷ edits)
+AreSeen (bar name is ∷ next ∷ edits) = AreSeen (next ∷ edits)
 
 abbrev pub AllSeen : List (List Edit) → Type 0
 AllSeen [] = Unit {0}

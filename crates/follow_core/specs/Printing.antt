@@ -1,18 +1,21 @@
--- How bytes of a name come to standard output, under headers.
+-- How bytes of a name come to standard output, under headers; and how messages are told.
 use Rattle.std.specs.Prelude.{◌≡◌, ℕ, ◌≤◌, Bool, List, Option, None, length, take}
 use Rattle.ports_core.specs.Slot.{Slot, with_written, told_of}
 use Rattle.ports_core.specs.Write.{BrokeAfter}
+use Rattle.ports_core.specs.declared.calling.Calling.{Calling}
 use Rattle.ports_core.specs.declared.fault.Fault.{Fault}
 use Rattle.ports_core.specs.declared.fault.Fault.TheVariants as fault
 
 pub record PrinterState : Type 0 where
+  -- how `tail` was called, by which messages of failures tell a reason or none
+  pub calling : Calling
   pub headers : Bool
   -- the name that the last header was of
   pub last : Option (List ℕ)
 
 -- before anything was written
-abbrev pub fresh_printer : Bool → PrinterState
-fresh_printer headers = record { headers = headers; last = None }
+abbrev pub fresh_printer : Calling → Bool → PrinterState
+fresh_printer calling headers = record { calling = calling; headers = headers; last = None }
 
 -- a beginning of the text was written before standard output broke, or before memory was wanting
 pub data Short (told : Bool) (text : List ℕ) (old new : List Slot) : Fault → Type 0 where

@@ -6,6 +6,7 @@ use Rattle.follow_core.specs.Telling.{TellsAll}
 use Rattle.follow_core.specs.Followed.{last_header_from, messages_of, text_from}
 use Rattle.follow_core.specs.Printing.{PrinterState, Short}
 use Rattle.follow_core.specs.Share.{Share}
+use Rattle.ports_core.specs.declared.calling.Calling.{Calling}
 use Rattle.ports_core.specs.declared.fault.Fault.{Fault}
 
 -- the text came to standard output, or a beginning of it before this fault
@@ -14,25 +15,26 @@ CameTo told text old new None = new ≡ with_written 0 (told_of told text) old
 CameTo told text old new (Some fault) = Short told text old new fault
 
 -- so did this text, and these lines came to standard error; no other output changed
-abbrev pub WroteBy : Bool → List ℕ → List (List ℕ) → List Slot → List Slot → Option Fault → Type 0
-WroteBy told text lines old new fault = (output error : Slot) (others : List Slot) → old ≡ output ∷ error ∷ others
-    → (error_after : Slot) × TellsAll told lines error error_after
+abbrev pub WroteBy : Bool → Calling → List ℕ → List (List ℕ) → List Slot → List Slot → Option Fault → Type 0
+WroteBy told calling text lines old new fault = (output error : Slot) (others : List Slot)
+    → old ≡ output ∷ error ∷ others → (error_after : Slot) × TellsAll told calling lines error error_after
     × CameTo told text (output ∷ error_after ∷ others) new fault
 
 -- the text and the lines
-abbrev pub Wrote : Bool → List ℕ → List (List ℕ) → List Slot → List Slot → Type 0
-Wrote told text lines old new = WroteBy told text lines old new None
+abbrev pub Wrote : Bool → Calling → List ℕ → List (List ℕ) → List Slot → List Slot → Type 0
+Wrote told calling text lines old new = WroteBy told calling text lines old new None
 
 -- all shares came there, one after another
 pub record AllShared (told : Bool) (printer : PrinterState) (shares : List Share) (old : List Slot)
     (after : PrinterState) (new : List Slot) : Type 0 where
   pub printer_is : after ≡ record printer { last = last_header_from printer.headers printer.last shares }
-  pub slots : Wrote told (text_from printer.headers printer.last shares) (messages_of shares) old new
+  pub slots : Wrote told printer.calling (text_from printer.headers printer.last shares) (messages_of shares) old new
 
 -- a beginning of them did, before standard output broke or memory was wanting
 pub record AllShort (told : Bool) (printer : PrinterState) (shares : List Share) (old new : List Slot)
     (fault : Fault) : Type 0 where
-  pub slots : WroteBy told (text_from printer.headers printer.last shares) (messages_of shares) old new (Some fault)
+  pub slots : WroteBy told printer.calling (text_from printer.headers printer.last shares) (messages_of shares) old
+      new (Some fault)
 
 -- standard error is open, broken or not
 abbrev pub HasError : List Slot → Type 0

@@ -1,23 +1,48 @@
 -- What following says on standard error: notices, and the messages of calls that failed.
 use Rattle.std.specs.Prelude.{◌≡◌, ◌⊎◌, ℕ, Bool, List, [], ◌∷◌}
 use Rattle.ports_core.specs.Slot.{Slot}
-use Rattle.ports_core.specs.Text.{message_of}
+use Rattle.ports_core.specs.Text.{line_of, message_of}
+use Rattle.ports_core.specs.declared.calling.Calling.{Calling}
+use Rattle.ports_core.specs.declared.calling.Calling.TheVariants.{Cutters}
+use Rattle.ports_core.specs.declared.calling.Speaker.{Speaker}
+use Rattle.ports_core.specs.declared.fault.Fault.{Fault}
+use Rattle.ports_core.specs.declared.reason.Reason.{Reason}
+use Rattle.ports_core.specs.declared.reason.Reason.TheVariants.{Other}
 use Rattle.ports_core.specs.Message.{Prints}
 use Rattle.ports_core.specs.declared.tool.Tool.TheVariants.{Tail}
 use Rattle.ports_core.specs.declared.fault.Fault.TheVariants.{Memory, Open, Read}
 
--- the message of a call on a name that failed
-abbrev pub IsFailure : List ℕ → Type 0
-IsFailure line = (name : List ℕ) × ((line ≡ message_of Tail (Open 0) name) ⊎ (line ≡ message_of Tail (Read 0) name))
+-- `tail`, called so
+abbrev pub tail_by : Calling → Speaker
+tail_by calling = record { calling = calling; tool = Tail }
 
--- An output got a line. Where memory for the message of a failure is exhausted, the line that says so stands in its
--- place; a notice has no other in its place.
-pub record Tells (told : Bool) (line : List ℕ) (old new : Slot) : Type 0 where
+-- the line that tells that a call on a name failed, without a reason
+abbrev pub failure_text : Fault → List ℕ → List ℕ
+failure_text fault name = line_of (tail_by Cutters) Other (message_of fault name)
+
+abbrev pub IsFailure : List ℕ → Type 0
+IsFailure line = (name : List ℕ) × ((line ≡ failure_text (Open 0) name) ⊎ (line ≡ failure_text (Read 0) name))
+
+-- The line tells this fault of the name. It is said with some reason, as the system gives one, where `tail` was called
+-- by its own name; where memory for the message is exhausted, the line that says so stands in its place.
+abbrev pub SaysFailure : Calling → Fault → (name line said : List ℕ) → Type 0
+SaysFailure calling fault name line said = (line ≡ failure_text fault name)
+    × (((why : Reason) × (said ≡ line_of (tail_by calling) why (message_of fault name)))
+    ⊎ (said ≡ failure_text Memory []))
+
+-- a failure is said so, and any other line as it is, which has no other in its place
+abbrev pub SaysLine : Calling → (line said : List ℕ) → Type 0
+SaysLine calling line said = ((IsFailure line → ⊥) × (said ≡ line))
+    ⊎ ((name : List ℕ) × (SaysFailure calling (Open 0) name line said ⊎ SaysFailure calling (Read 0) name line said))
+
+-- an output got a line
+pub record Tells (told : Bool) (calling : Calling) (line : List ℕ) (old new : Slot) : Type 0 where
   pub said : List ℕ
-  pub is : (said ≡ line) ⊎ (IsFailure line × (said ≡ message_of Tail Memory []))
+  pub is : SaysLine calling line said
   pub printed : Prints told said old new
 
 -- it got these lines, one after another
-abbrev pub TellsAll : Bool → List (List ℕ) → Slot → Slot → Type 0
-TellsAll told [] old new = new ≡ old
-TellsAll told (line ∷ lines) old new = (mid : Slot) × Tells told line old mid × TellsAll told lines mid new
+abbrev pub TellsAll : Bool → Calling → List (List ℕ) → Slot → Slot → Type 0
+TellsAll told calling [] old new = new ≡ old
+TellsAll told calling (line ∷ lines) old new =
+    (mid : Slot) × Tells told calling line old mid × TellsAll told calling lines mid new

@@ -1,6 +1,7 @@
 //! Following: looks at names, one after another.
 ghost use Rattle.std.specs.Prelude.{◌≡◌, ◌<◌, ◌≤◌, ◌+◌, ◌^◌, ◌∷◌, ◌++◌, [], ℕ, Bool, List, true, false, length, map, Err, IfOk, IfErr, OnOk};
 ghost use Rattle.ports_core.specs.Slot.{Slot};
+ghost use Rattle.ports_core.specs.declared.calling.Calling.{Calling};
 ghost use Rattle.watch_core.specs.Watched.{Watched, watched_at};
 ghost use Rattle.follow_core.specs.Sharing.{HasError};
 ghost use Rattle.follow_core.specs.inner.Visits.{AddsSome, Begins, CanBegin, MakesLook};
@@ -11,7 +12,7 @@ ghost use Rattle.follow_core.specs.Standing.{NoneGoesOn, texts};
 use crate::name::{Name, add_all, any_goes_on, new_names, visit_all};
 use crate::start::Start;
 use crate::visitor::Visitor;
-use ports_core::{Fault, Outs};
+use ports_core::{Calling, Fault, Outs};
 use std::alloc::Global;
 use std::marker::Model;
 use watch_core::Watch;
@@ -70,13 +71,14 @@ impl Follow {
     /// `Memory` where there is no room for the names and the buffer.
     pub fn open(
         alloc: Global,
+        calling: Calling,
         names: &[&str],
         start: Start,
         by_name: bool,
         headers: bool,
     ) -> Result<Self, Fault>
         ensures ok { IfOk result (λ follow. follow
-            ≡ opened_follow by_name start headers (map (λ name. name.now) names.now)) }
+            ≡ opened_follow calling by_name start headers (map (λ name. name.now) names.now)) }
         ensures err { IfErr result (λ fault. fault ≡ Fault.Memory) }
     {
         Ok(Follow {
@@ -84,7 +86,7 @@ impl Follow {
             start,
             names: new_names(alloc, names)?,
             first: 0,
-            visitor: Visitor::new(alloc, headers)?,
+            visitor: Visitor::new(alloc, calling, headers)?,
             stage: Stage::Fresh,
             has_failed: false,
         })
@@ -93,8 +95,8 @@ impl Follow {
     /// Makes a look. The first one adds the names to what is watched, after those that others added, which stay as they are. All
     /// looks take the same `watch`, on which nobody else calls from the first look on.
     ///
-    /// A name that can't be looked at, opened or read is told on standard error and dropped, and the others go on. A message that can't
-    /// be written is passed over.
+    /// A name that can't be looked at, opened or read is told on standard error, with the system's reason where `tail` was called by its
+    /// own name, and dropped, and the others go on. A message that can't be written is passed over.
     ///
     /// # Errors
     ///
@@ -144,13 +146,13 @@ impl Follow {
 
     /// Whether a further look can give something: some name was not dropped and is followed by name or has its file open.
     pub fn alive(&self) -> bool
-        ensures alive { (told : Bool) (ways : Ways) (headers : Bool) (names : List (List ℕ)) (looks : List Look)
-            (first slots : List Slot) (watched : List Watched)
-            → Holds true told ways headers names looks first self.now watched slots
+        ensures alive { (told : Bool) (calling : Calling) (ways : Ways) (headers : Bool) (names : List (List ℕ))
+            (looks : List Look) (first slots : List Slot) (watched : List Watched)
+            → Holds true told calling ways headers names looks first self.now watched slots
             → result ≡ is_alive ways names looks }
-        ensures none { (told_in told : Bool) (ways : Ways) (headers : Bool) (names : List (List ℕ)) (looks : List Look)
-            (first slots : List Slot) (watched : List Watched)
-            → Holds told_in told ways headers names looks first self.now watched slots → 0 < length looks
+        ensures none { (told_in told : Bool) (calling : Calling) (ways : Ways) (headers : Bool) (names : List (List ℕ))
+            (looks : List Look) (first slots : List Slot) (watched : List Watched)
+            → Holds told_in told calling ways headers names looks first self.now watched slots → 0 < length looks
             → result ≡ false → NoneGoesOn ways watched }
     {
         any_goes_on(&self.names, self.by_name)

@@ -1,11 +1,12 @@
 //! Laws of the definitions, with no code: each stands on the contract of a function whose body is empty.
-ghost use Rattle.std.specs.Prelude.{◌≡◌, ◌++◌, ◌∷◌, [], ◌||◌, ℕ, List, Bool};
+ghost use Rattle.std.specs.Prelude.{◌≡◌, ◌<◌, ◌+◌, ◌++◌, ◌∷◌, [], ◌||◌, ℕ, List, Bool, None, length};
 ghost use Rattle.watch_core.specs.Edits.{Edit};
 ghost use Rattle.follow_core.specs.Version.{Entry};
 ghost use Rattle.follow_core.specs.Run.{AreKept, name_text};
 ghost use Rattle.follow_core.specs.Gain.{gains_after};
-ghost use Rattle.follow_core.specs.Look.{Look, Ways, entries_in};
-ghost use Rattle.follow_core.specs.Share.{gain, gains_from, shares_at_look};
+ghost use Rattle.follow_core.specs.Look.{Look, Ways, entries_in, failed_in};
+ghost use Rattle.follow_core.specs.Reading.{AreFound, NoneBreaks};
+ghost use Rattle.follow_core.specs.Share.{Share, gain, gains_from, shares_at_look};
 ghost use Rattle.follow_core.specs.Followed.{any_failed, followed, last_header, messages_of, text_from};
 ghost use Rattle.follow_core.specs.Placing.{Agree};
 ghost use Rattle.follow_core.specs.Notice.{notice_of};
@@ -45,6 +46,13 @@ pub fn text_goes_on()
 pub fn looks_agree()
     ensures { (start : List ℕ → List ℕ) (by_name : Bool) (name : List ℕ) (first : List Edit)
         (one other : List (List Edit)) → Agree start by_name name first one other }
+{}
+
+/// Where no call can fail no name is dropped: of no name a call failed in these looks.
+pub fn forgiven_names_stay()
+    ensures { (ways : Ways) (names : List (List ℕ)) (looks : List Look) (shares : List Share)
+        → AreFound ways names looks shares → NoneBreaks looks → (place : ℕ) → place < length names
+        → failed_in (ways.first + place) looks ≡ None }
 {}
 
 /// A line that tells what a look found is never the message of a failure: so it is told whole, or following ends before it.

@@ -11,7 +11,9 @@ mod start;
 mod visitor;
 
 pub use follow::{Follow, Stage};
-pub use laws::{looks_agree, notices_are_no_failures, one_look_more, text_goes_on};
+pub use laws::{
+    forgiven_names_stay, looks_agree, notices_are_no_failures, one_look_more, text_goes_on,
+};
 pub use notice::{Notice, notice_line};
 pub use run::{Limits, follow_files};
 pub use start::Start;

@@ -6,14 +6,15 @@ ghost use Rattle.follow_core.specs.Printing.{PrinterState, Short, fresh_printer}
 ghost use Rattle.follow_core.specs.inner.Giving.{Puts, over_by, over_in};
 ghost use Rattle.follow_core.specs.Followed.{has_header, is_last};
 
-use ports_core::{Fault, Outs, header, write_whole};
+use ports_core::{Calling, Fault, Outs, header, write_whole};
 use std::alloc::Global;
 use std::marker::Model;
 
-/// Standard output, and the name that its last header was of.
+/// Standard output, the name that its last header was of, and how `tail` was called.
 #[derive(Drop)]
 pub(crate) struct Printer {
     alloc: Global,
+    calling: Calling,
     headers: bool,
     last: Option<String>,
 }
@@ -21,19 +22,31 @@ pub(crate) struct Printer {
 impl Model for Printer {
     ghost Value = { PrinterState };
 
-    ghost view = { λ p. record { headers = p.headers; last = option_map (λ name. string_bytes name) p.last } };
+    ghost view = { λ p. record {
+      calling = p.calling;
+      headers = p.headers;
+      last = option_map (λ name. string_bytes name) p.last;
+    } };
 }
 
 impl Printer {
     /// A printer that has written nothing yet.
-    pub(crate) fn new(alloc: Global, headers: bool) -> Self
-        ensures { result ≡ fresh_printer headers }
+    pub(crate) fn new(alloc: Global, calling: Calling, headers: bool) -> Self
+        ensures { result ≡ fresh_printer calling headers }
     {
         Printer {
             alloc,
+            calling,
             headers,
             last: None,
         }
+    }
+
+    /// How `tail` was called.
+    pub(crate) fn calling(&self) -> Calling
+        ensures { result ≡ self.now.calling }
+    {
+        self.calling
     }
 
     /// Writes bytes of a name, after its header where one is due: where its file was just opened, if headers are written, or where there

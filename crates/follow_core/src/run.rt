@@ -1,15 +1,16 @@
 //! A whole run of following.
 ghost use Rattle.std.specs.Prelude.{◌≡◌, ◌∷◌, [], ℕ, Bool, List, true, length, map, IfErr, IsTrue, OnOk};
 ghost use Rattle.ports_core.specs.Slot.{Slot, streams};
+ghost use Rattle.ports_core.specs.declared.calling.Calling.{Calling};
 ghost use Rattle.follow_core.specs.Sharing.{HasError};
-ghost use Rattle.follow_core.specs.Ending.{AreMost, FollowEndsBy, StoppedIn, is_over};
+ghost use Rattle.follow_core.specs.Ending.{AreMost, FollowEndsBy, StoppedIn, is_over, shows_by};
 ghost use Rattle.follow_core.specs.inner.Visits.{LookedAll};
 ghost use Rattle.follow_core.specs.FollowState.{CanLook, Holds};
 ghost use Rattle.follow_core.specs.Look.{Ways, ways_of};
 
 use crate::follow::Follow;
 use crate::start::Start;
-use ports_core::{Fault, Outs, Tool, tell};
+use ports_core::{Calling, Fault, Outs, Speaker, Tool, tell};
 use std::alloc::Global;
 use watch_core::Watch;
 
@@ -24,7 +25,8 @@ pub struct Limits {
 
 /// A whole run of `tail` that follows these names (POSIX.1-2017, XCU tail, `-f`; GNU's `--follow=name` too): looks, one directly
 /// after another, up to the limits. It ends sooner where after a look no further one can give anything. Its status is 1 where a name was
-/// missing at the first look or failed, or a fault ended following, and else 0.
+/// missing at the first look or failed, or a fault ended following, and else 0; where `tail` was called by its own name and the reader
+/// of its output is gone, 141.
 ///
 /// Standard output has exactly what the looks saw: of each file the part that `start` says, then what it has past the length that the
 /// look before saw; all of a file that was truncated, that came back, or that the name leads to in place of another. Standard error has
@@ -33,6 +35,7 @@ pub struct Limits {
 /// anything is opened, and for its lines and headers.
 pub fn follow_files<W: Watch, O: Outs>(
     alloc: Global,
+    calling: Calling,
     names: &[&str],
     start: Start,
     by_name: bool,
@@ -44,23 +47,35 @@ pub fn follow_files<W: Watch, O: Outs>(
     requires unseen { W.seen watch.old ≡ [] }
     requires unwatched { W.watched watch.old ≡ [] }
     requires outputs { O.slots outs.old ≡ streams }
-    ensures { FollowEndsBy limits.process W.told O.told (ways_of 0 by_name start) headers
-        (map (λ name. name.now) names.now) limits.looks (W.shows watch.old) (O.slots outs.old) (W.seen watch.new)
-        (W.watched watch.new) (O.slots outs.new) result }
+    ensures { FollowEndsBy limits.process W.told O.told O.breaks_for calling (ways_of 0 by_name start) headers
+        (map (λ name. name.now) names.now) limits.looks (shows_by calling by_name (W.shows watch.old))
+        (O.slots outs.old) (W.seen watch.new) (W.watched watch.new) (O.slots outs.new) result }
 {
-    let mut follow = match Follow::open(alloc, names, start, by_name, headers) {
-        Ok(follow) => follow,
-        Err(fault) => {
-            tell(alloc, Tool::Tail, &fault, outs);
-            return 1;
-        }
+    let speaker = Speaker {
+        calling,
+        tool: Tool::Tail,
     };
+    let mut follow = match Follow::open(alloc, calling, names, start, by_name, headers) {
+        Ok(follow) => follow,
+        Err(fault) => return tell(alloc, speaker, &fault, outs),
+    };
+    forgive_by(calling, by_name, watch);
     match make_looks(&mut follow, limits, watch, outs) {
         Ok(()) => u8::from(follow.failed()),
-        Err(fault) => {
-            tell(alloc, Tool::Tail, &fault, outs);
-            1
-        }
+        Err(fault) => tell(alloc, speaker, &fault, outs),
+    }
+}
+
+/// Has the watch forgive, where `tail` was called by its own name and follows names.
+fn forgive_by<W: Watch>(calling: Calling, by_name: bool, watch: &mut W)
+    requires unseen { W.seen watch.old ≡ [] }
+    ensures shows { W.shows watch.new ≡ shows_by calling by_name (W.shows watch.old) }
+    ensures watched { W.watched watch.new ≡ W.watched watch.old }
+    ensures seen { W.seen watch.new ≡ W.seen watch.old }
+{
+    match (calling, by_name) {
+        (Calling::OwnName, true) => watch.forgive(),
+        _ => {}
     }
 }
 
@@ -79,15 +94,15 @@ fn make_looks<W: Watch, O: Outs>(
     requires can { CanLook follow.old (W.watched watch.old) (O.slots outs.old) }
     requires error { HasError (O.slots outs.old) }
     ensures looked { OnOk result ((most : ℕ) × AreMost W.told limits.process (W.shows watch.old) limits.looks most
-        × ((ways : Ways) (headers : Bool) (names : List (List ℕ)) (first : List Slot)
-        → Holds W.told O.told ways headers names [] first follow.old (W.watched watch.old) (O.slots outs.old)
-        → LookedAll W.told O.told ways headers names most (W.shows watch.old) first follow.new (W.seen watch.new)
-        (W.watched watch.new) (O.slots outs.new))) }
+        × ((calling : Calling) (ways : Ways) (headers : Bool) (names : List (List ℕ)) (first : List Slot)
+        → Holds W.told O.told calling ways headers names [] first follow.old (W.watched watch.old) (O.slots outs.old)
+        → LookedAll W.told O.told calling ways headers names most (W.shows watch.old) first follow.new
+        (W.seen watch.new) (W.watched watch.new) (O.slots outs.new))) }
     ensures stopped { IfErr result
         (λ why. (most : ℕ) × AreMost W.told limits.process (W.shows watch.old) limits.looks most
-        × ((ways : Ways) (headers : Bool) (names : List (List ℕ)) (first : List Slot)
-        → Holds W.told O.told ways headers names [] first follow.old (W.watched watch.old) (O.slots outs.old)
-        → StoppedIn W.told O.told ways headers names most (W.shows watch.old) first (W.seen watch.new)
+        × ((calling : Calling) (ways : Ways) (headers : Bool) (names : List (List ℕ)) (first : List Slot)
+        → Holds W.told O.told calling ways headers names [] first follow.old (W.watched watch.old) (O.slots outs.old)
+        → StoppedIn W.told O.told calling ways headers names most (W.shows watch.old) first (W.seen watch.new)
         (W.watched watch.new) (O.slots outs.new) why)) }
     ensures error { HasError (O.slots outs.new) }
 {

@@ -54,6 +54,7 @@ impl Start {
         ensures same { OnOk result (W.watched watch.new ≡ W.watched watch.old) }
         ensures err { IfErr result
             (λ fault. (fault ≡ Fault.Read place) × FailsToRead place (W.watched watch.old) (W.watched watch.new)) }
+        ensures breaks { IfErr result (λ _. (latest (W.seen watch.old)).breaks ≡ true) }
         ensures sought { IfErr result (λ _. IsTrue (is_sought self.unit)) }
         ensures seen { W.seen watch.new ≡ W.seen watch.old }
         ensures shows { W.shows watch.new ≡ W.shows watch.old }
@@ -94,6 +95,7 @@ fn find_last_lines<W: Watch>(
     ensures same { OnOk result (W.watched watch.new ≡ W.watched watch.old) }
     ensures err { IfErr result
         (λ fault. (fault ≡ Fault.Read place) × FailsToRead place (W.watched watch.old) (W.watched watch.new)) }
+    ensures breaks { IfErr result (λ _. (latest (W.seen watch.old)).breaks ≡ true) }
     ensures seen { W.seen watch.new ≡ W.seen watch.old }
     ensures shows { W.shows watch.new ≡ W.shows watch.old }
 {
@@ -136,6 +138,7 @@ fn pass_lines<W: Watch>(
     ensures same { OnOk result (W.watched watch.new ≡ W.watched watch.old) }
     ensures err { IfErr result
         (λ fault. (fault ≡ Fault.Read place) × FailsToRead place (W.watched watch.old) (W.watched watch.new)) }
+    ensures breaks { IfErr result (λ _. (latest (W.seen watch.old)).breaks ≡ true) }
     ensures seen { W.seen watch.new ≡ W.seen watch.old }
     ensures shows { W.shows watch.new ≡ W.shows watch.old }
 {
@@ -175,6 +178,7 @@ fn read_block<W: Watch>(
     ensures same { OnOk result (W.watched watch.new ≡ W.watched watch.old) }
     ensures err { IfErr result
         (λ fault. (fault ≡ Fault.Read place) × FailsToRead place (W.watched watch.old) (W.watched watch.new)) }
+    ensures breaks { IfErr result (λ _. (latest (W.seen watch.old)).breaks ≡ true) }
     ensures seen { W.seen watch.new ≡ W.seen watch.old }
     ensures shows { W.shows watch.new ≡ W.shows watch.old }
 {

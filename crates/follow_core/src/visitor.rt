@@ -1,7 +1,9 @@
 //! A look at one name: what came to its file is written, and what changed or failed is told.
 ghost use Rattle.std.specs.Prelude.{◌≡◌, ◌≤◌, ◌<◌, ◌-◌, ◌∷◌, [], ℕ, List, Bool, true, false, length, drop, nat_lt, option_map, if◌then◌else◌, IsTrue, IfOk, IfErr, OnOk, Some};
 ghost use Rattle.ends_core.specs.Ends.{tail_of};
-ghost use Rattle.ports_core.specs.Slot.{is_writable};
+ghost use Rattle.ports_core.specs.Slot.{is_open, is_writable, slot_at};
+ghost use Rattle.ports_core.specs.Message.{SaysOn};
+ghost use Rattle.ports_core.specs.Text.{message_of};
 ghost use Rattle.watch_core.specs.Snapshot.{latest};
 ghost use Rattle.watch_core.specs.Watched.{is_readable, is_watchable, open_contents, watched_at};
 ghost use Rattle.follow_core.specs.declared.name.Standing.TheVariants.{New, Followed};
@@ -11,12 +13,13 @@ ghost use Rattle.follow_core.specs.inner.Giving.{Adds, CanGoOn, Copies, Ends, Ho
 ghost use Rattle.follow_core.specs.Sharing.{CanPrint};
 ghost use Rattle.follow_core.specs.inner.Visits.{TellsStop, Visits};
 ghost use Rattle.follow_core.specs.Look.{is_sought, ways_of};
+ghost use Rattle.follow_core.specs.Telling.{tail_by};
 
 use crate::name::Standing;
 use crate::notice::{Notice, notice_line};
 use crate::printer::Printer;
 use crate::start::Start;
-use ports_core::{Fault, Outs, PIECE, Tool, print, say};
+use ports_core::{Calling, Fault, Outs, PIECE, Reason, Speaker, Tool, print, say};
 use std::alloc::Global;
 use std::marker::Model;
 use watch_core::{Seen, Watch};
@@ -51,13 +54,13 @@ impl Visitor {
     /// # Errors
     ///
     /// `Memory` where there is no room for the buffer.
-    pub(crate) fn new(alloc: Global, headers: bool) -> Result<Self, Fault>
-        ensures ok { IfOk result (λ visitor. visitor ≡ fresh_printer headers) }
+    pub(crate) fn new(alloc: Global, calling: Calling, headers: bool) -> Result<Self, Fault>
+        ensures ok { IfOk result (λ visitor. visitor ≡ fresh_printer calling headers) }
         ensures err { IfErr result (λ fault. fault ≡ Fault.Memory) }
     {
         Ok(Visitor {
             alloc,
-            printer: Printer::new(alloc, headers),
+            printer: Printer::new(alloc, calling, headers),
             buffer: vec![in alloc; 0u8; PIECE]?,
         })
     }
@@ -92,7 +95,7 @@ impl Visitor {
         match watch.reopen(place) {
             Ok(true) => {}
             Ok(false) => {
-                say(self.alloc, Tool::Tail, &Fault::Open(place), name, outs);
+                self.say_failure(&Fault::Open(place), watch.reason(place), name, outs);
                 *standing = if by_name {
                     Standing::Followed(0)
                 } else {
@@ -100,7 +103,10 @@ impl Visitor {
                 };
                 return Ok(true);
             }
-            Err(fault) => return self.stop(Stop::Broke(fault), name, standing, outs),
+            Err(fault) => {
+                let why = watch.reason(place);
+                return self.stop(Stop::Broke(fault), why, name, standing, outs);
+            }
         }
         if let Err(fault) = self.printer.put(true, name, b"", outs) {
             return Err(fault);
@@ -110,7 +116,7 @@ impl Visitor {
                 *standing = Standing::Followed(len);
                 Ok(false)
             }
-            Err(stop) => self.stop(stop, name, standing, outs),
+            Err(stop) => self.stop(stop, watch.reason(place), name, standing, outs),
         }
     }
 
@@ -189,7 +195,7 @@ impl Visitor {
     {
         let len = match self.catch_up(watch, place, name, position, outs) {
             Ok(len) => len,
-            Err(stop) => return self.stop(stop, name, standing, outs),
+            Err(stop) => return self.stop(stop, watch.reason(place), name, standing, outs),
         };
         if !by_name {
             *standing = Standing::Followed(len);
@@ -200,7 +206,7 @@ impl Visitor {
                 *standing = Standing::Followed(now);
                 Ok(false)
             }
-            Err(stop) => self.stop(stop, name, standing, outs),
+            Err(stop) => self.stop(stop, watch.reason(place), name, standing, outs),
         }
     }
 
@@ -289,7 +295,7 @@ impl Visitor {
         )
     }
 
-    /// Tells that a call on a name failed, which is dropped then. A message that can't be written is passed over.
+    /// Tells that a call on a name failed, for this reason, which is dropped then. A message that can't be written is passed over.
     ///
     /// # Errors
     ///
@@ -297,22 +303,37 @@ impl Visitor {
     fn stop<O: Outs>(
         &self,
         stop: Stop,
+        why: Reason,
         name: &str,
         standing: &mut Standing,
         outs: &mut O,
     ) -> Result<bool, Fault>
         requires can { CanGoOn (Some stop) (O.slots outs.old) }
-        ensures tells { TellsStop O.told name.now (O.slots outs.old) standing.new (O.slots outs.new) stop result }
+        ensures tells { TellsStop O.told self.now.calling name.now (O.slots outs.old) standing.new (O.slots outs.new)
+            stop result }
         ensures can { CanGoOn (over_in result) (O.slots outs.new) }
     {
         match stop {
             Stop::Broke(fault) => {
-                say(self.alloc, Tool::Tail, &fault, name, outs);
+                self.say_failure(&fault, why, name, outs);
                 *standing = Standing::Left;
                 Ok(true)
             }
             Stop::Over(fault) => Err(fault),
         }
+    }
+
+    /// Tells that a call on a name failed, and why, if `tail` was called by its own name.
+    fn say_failure<O: Outs>(&self, fault: &Fault, why: Reason, name: &str, outs: &mut O)
+        requires { is_open (slot_at (O.slots outs.old) 1).state ≡ true }
+        ensures { SaysOn O.told (tail_by self.now.calling) why (message_of fault.now name.now) (O.slots outs.old)
+            (O.slots outs.new) }
+    {
+        let speaker = Speaker {
+            calling: self.printer.calling(),
+            tool: Tool::Tail,
+        };
+        say(self.alloc, speaker, why, fault, name, outs);
     }
 }
 

@@ -1,12 +1,13 @@
 -- A watch in memory sees at each look what was planned for it.
-use Rattle.std.proofs.Common.{◌≡◌, ℕ, ◌+◌, ◌-◌, ◌<◌, ◌≤◌, ◌⊎◌, inl, inr, min, zero, suc, Bool, true, List, [], ◌∷◌, ◌++◌, Option, Some, length, refl, sym, ◌∙◌, ap, subst, arith, get_or, set, length-append, is_some}
+use Rattle.std.proofs.Common.{◌≡◌, ℕ, ◌+◌, ◌-◌, ◌<◌, ◌≤◌, ◌⊎◌, inl, inr, min, zero, suc, Bool, true, false, List, [], ◌∷◌, ◌++◌, Option, Some, None, length, refl, if◌then◌else◌, sym, ◌∙◌, ap, subst, arith, get_or, set, length-append, is_some}
 use Rattle.std.proofs.lemmas.Bool.{cases_lt}
 use Rattle.std.proofs.lemmas.Grind.{common_steps}
-use Rattle.watch_core.specs.Snapshot.{Snapshot, latest, Finding, Found}
-use Rattle.watch_core.specs.Edits.{World, empty_world, held_in, is_one, led_to, seen_in}
+use Rattle.watch_core.specs.Snapshot.{Snapshot, forgiving, latest, Finding, Found}
+use Rattle.watch_core.specs.Edits.{World, empty_world, held_in, is_one, led_to}
+use Rattle.ports_core.specs.declared.reason.Reason.{Reason}
 use Rattle.watch_core.specs.Watched.{Watched, Finds, Reopens, open_contents, opens, watched_at}
 use Rattle.watch_core.specs.declared.watch.Seen.{Seen}
-use Rattle.mem_core.specs.MemWatchState.{MemWatchState, world_at, seen_by, seen, shows}
+use Rattle.mem_core.specs.MemWatchState.{MemWatchState, world_at, seen_by, seen, shown, shows}
 use Rattle.watch_core.proofs.NameLemmas.{latest-last, name_changes, name_there}
 
 pub world_there : (worlds : List World) (n : ℕ) (world : World) → n < length worlds → world_at worlds n ≡ get_or worlds n world
@@ -43,61 +44,109 @@ world_again (first ∷ next ∷ worlds) (suc n) = world_again (next ∷ worlds) 
 abbrev pub SameWorlds : List World → List World → Type 0
 SameWorlds new old = (n : ℕ) → world_at new n ≡ world_at old n
 
-seen_same : (new old : List World) (n : ℕ) → SameWorlds new old → seen_by new n ≡ seen_by old n
-seen_same new old zero same = refl
-seen_same new old (suc n) same = ap (λ before. before ++ seen_in (world_at new (suc n)) ∷ []) (seen_same new old n same) ∙ ap (λ world. seen_by old n ++ seen_in world ∷ []) (same (suc n))
+seen_same : (forgives : Bool) (new old : List World) (n : ℕ) → SameWorlds new old → seen_by forgives new n ≡ seen_by forgives old n
+seen_same forgives new old zero same = refl
+seen_same forgives new old (suc n) same = ap (λ before. before ++ shown forgives (world_at new (suc n)) ∷ []) (seen_same forgives new old n same) ∙ ap (λ world. seen_by forgives old n ++ shown forgives world ∷ []) (same (suc n))
 
-pub length-seen : (worlds : List World) (n : ℕ) → length (seen_by worlds n) ≡ n
-length-seen worlds zero = refl
-length-seen worlds (suc n) =
-    let both : length (seen_by worlds n ++ seen_in (world_at worlds (suc n)) ∷ []) ≡ length (seen_by worlds n) + 1 = length-append (seen_by worlds n) _ in
-    let before : length (seen_by worlds n) ≡ n = length-seen worlds n in
+pub length-seen : (forgives : Bool) (worlds : List World) (n : ℕ) → length (seen_by forgives worlds n) ≡ n
+length-seen forgives worlds zero = refl
+length-seen forgives worlds (suc n) =
+    let both : length (seen_by forgives worlds n ++ shown forgives (world_at worlds (suc n)) ∷ []) ≡ length (seen_by forgives worlds n) + 1 = length-append (seen_by forgives worlds n) _ in
+    let before : length (seen_by forgives worlds n) ≡ n = length-seen forgives worlds n in
     omega arith
 
-pub shows_same : (new old : MemWatchState) → SameWorlds new.worlds old.worlds → shows new ≡ shows old
-shows_same new old same = let is : shows new ≡ shows old = λ i. λ n. seen_in (same (n + 1) i) in is
+pub shows_same : (new old : MemWatchState) → new.forgives ≡ old.forgives → SameWorlds new.worlds old.worlds → shows new ≡ shows old
+shows_same new old also same = let is : shows new ≡ shows old = λ i. λ n. shown (also i) (same (n + 1) i) in is
 
 -- one more look sees what the watch was to show
 pub turns_on : (watch : MemWatchState) (worlds : List World) → SameWorlds worlds watch.worlds
-    → seen_by worlds (watch.turns + 1) ≡ seen watch ++ shows watch (length (seen watch)) ∷ []
+    → seen_by watch.forgives worlds (watch.turns + 1) ≡ seen watch ++ shows watch (length (seen watch)) ∷ []
 turns_on watch worlds same =
     let next : watch.turns + 1 ≡ suc watch.turns = omega arith in
-    rw (next) (seen_same worlds watch.worlds (suc watch.turns) same
-    ∙ ap (λ n. seen watch ++ seen_in (world_at watch.worlds n) ∷ []) (let count : length (seen watch) ≡ watch.turns = length-seen watch.worlds watch.turns in let more : suc watch.turns ≡ length (seen watch) + 1 = omega arith in more))
+    rw (next) (seen_same watch.forgives worlds watch.worlds (suc watch.turns) same
+    ∙ ap (λ n. seen watch ++ shown watch.forgives (world_at watch.worlds n) ∷ []) (let count : length (seen watch) ≡ watch.turns = length-seen watch.forgives watch.worlds watch.turns in let more : suc watch.turns ≡ length (seen watch) + 1 = omega arith in more))
+
+-- what is seen of files whether that is forgiven or not
+
+shown_finds : (forgives : Bool) (world : World) (name : List ℕ) (finding : Finding) → Found (shown forgives world) name finding
+shown_finds false world name finding = refl
+shown_finds true world name finding = refl
+
+shown_holds : (forgives : Bool) (world : World) (file : ℕ) → held_in world.files file ≡ (shown forgives world).holds file
+shown_holds false world file = refl
+shown_holds true world file = refl
+
+shown_lacks : (forgives : Bool) (world : World) (process : ℕ) → is_one process world.ended ≡ (shown forgives world).lacks process
+shown_lacks false world process = refl
+shown_lacks true world process = refl
 
 -- any call may have found anything
-pub finds_any : (worlds : List World) (n : ℕ) (name : List ℕ) (finding : Finding) → Found (latest (seen_by worlds n)) name finding
-finds_any worlds zero name finding = refl
-finds_any worlds (suc n) name finding = ap (λ (those : Snapshot). those.finds name finding) (latest-last (seen_by worlds n) _)
+pub finds_any : (forgives : Bool) (worlds : List World) (n : ℕ) (name : List ℕ) (finding : Finding) → Found (latest (seen_by forgives worlds n)) name finding
+finds_any forgives worlds zero name finding = refl
+finds_any forgives worlds (suc n) name finding = ap (λ (those : Snapshot). those.finds name finding) (latest-last (seen_by forgives worlds n) _) ∙ shown_finds forgives (world_at worlds (suc n)) name finding
+
+-- all of a look but whether calls can fail
+abbrev pub kept : Snapshot → Snapshot
+kept snapshot = record snapshot { breaks = false }
 
 -- what the last look sees are the files of its turn
-pub latest_seen : (worlds : List World) (n : ℕ) → world_at worlds 0 ≡ empty_world → latest (seen_by worlds n) ≡ seen_in (world_at worlds n)
-latest_seen worlds zero is = ap seen_in (sym is)
-latest_seen worlds (suc n) is = latest-last (seen_by worlds n) _
+pub latest_seen : (forgives : Bool) (worlds : List World) (n : ℕ) → world_at worlds 0 ≡ empty_world → kept (latest (seen_by forgives worlds n)) ≡ kept (shown forgives (world_at worlds n))
+latest_seen false worlds zero is = ap (λ world. kept (shown false world)) (sym is)
+latest_seen true worlds zero is = ap (λ world. kept (shown true world)) (sym is)
+latest_seen forgives worlds (suc n) is = ap kept (latest-last (seen_by forgives worlds n) _)
+
+-- where nothing is forgiven, a call may have failed
+latest_breaks : (forgives : Bool) (worlds : List World) (n : ℕ) → forgives ≡ false → (latest (seen_by forgives worlds n)).breaks ≡ true
+latest_breaks forgives worlds zero is = refl
+latest_breaks forgives worlds (suc n) is = ap (λ (those : Snapshot). those.breaks) (latest-last (seen_by forgives worlds n) _) ∙ rw is refl
+
+pub may_break : (watch : MemWatchState) → watch.forgives ≡ false → (latest (seen watch)).breaks ≡ true
+may_break watch unforgiven = latest_breaks watch.forgives watch.worlds watch.turns unforgiven
+
+-- what was forgiven is
+
+forgiven_twice : (barred : Bool) (led : Option ℕ) → (if barred then None else (if barred then None else led)) ≡ (if barred then None else led)
+forgiven_twice true led = refl
+forgiven_twice false led = refl
+
+shown_again : (forgives : Bool) (world : World) → shown true world ≡ forgiving (shown forgives world)
+shown_again false world = refl
+shown_again true world = λ i. record (shown true world) { leads = λ name. sym (forgiven_twice ((shown true world).barred name) (led_to world.links name)) i }
+
+pub forgives_all : {watch : MemWatchState} (new : MemWatchState) {worlds : List World} {turns : ℕ} {names : List Watched} {forgives : Bool} {why : Reason} → record { worlds = worlds; turns = turns; watched = names; forgives = forgives; why = why } ≡ watch
+    → new.worlds ≡ worlds → new.forgives ≡ true → shows new ≡ (λ n. forgiving (shows watch n))
+forgives_all {watch} new {worlds} {turns} {names} {forgives} is same forgiven =
+    (λ i. λ n. shown (forgiven i) (world_at (same i) (n + 1))) ∙ (λ i. λ n. shown_again forgives (world_at worlds (n + 1)) i)
+    ∙ (λ i. λ n. forgiving (shows (is i) n))
+
+pub forgives_none : {watch : MemWatchState} {worlds : List World} (turns : ℕ) {names : List Watched} {forgives : Bool} {why : Reason} (now : Bool) → record { worlds = worlds; turns = turns; watched = names; forgives = forgives; why = why } ≡ watch
+    → seen watch ≡ [] → seen_by now worlds turns ≡ seen watch
+forgives_none zero now is unseen = sym unseen
+forgives_none {watch} {worlds} (suc turns) {forgives} now is unseen = absurd (let count : length (seen watch) ≡ suc turns = ap (λ (those : MemWatchState). length (seen those)) (sym is) ∙ length-seen forgives worlds (suc turns) in let none = ap length unseen in omega (arith, count, none))
 
 -- what is so of the files of the last turn is so of the last look
-module _ {watch : MemWatchState} {worlds : List World} (turns : ℕ) {names : List Watched} {world : World}
-    (is : record { worlds = worlds; turns = turns; watched = names } ≡ watch) (empty : world_at worlds 0 ≡ empty_world) (now : world ≡ world_at worlds turns) where
-  now_seen : seen_in world ≡ latest (seen watch)
-  now_seen = ap seen_in now ∙ sym (latest_seen worlds turns empty) ∙ ap (λ (those : MemWatchState). latest (seen those)) is
+module _ {watch : MemWatchState} {worlds : List World} (turns : ℕ) {names : List Watched} {world : World} {forgives : Bool} {why : Reason}
+    (is : record { worlds = worlds; turns = turns; watched = names; forgives = forgives; why = why } ≡ watch) (empty : world_at worlds 0 ≡ empty_world) (now : world ≡ world_at worlds turns) where
+  now_seen : kept (shown forgives world) ≡ kept (latest (seen watch))
+  now_seen = ap (λ those. kept (shown forgives those)) now ∙ sym (latest_seen forgives worlds turns empty) ∙ ap (λ (those : MemWatchState). kept (latest (seen those))) is
 
   item_is : (place : ℕ) {item : Watched} → place < length names → item ≡ get_or names place item → item ≡ watched_at watch.watched place
   item_is place {item} within at = name_there names place item within at ∙ ap (λ (those : MemWatchState). watched_at those.watched place) is
 
   pub finds_now : (place : ℕ) {item : Watched} {found : Option Seen} → place < length names → item ≡ get_or names place item
-      → Finds (seen_in world) item.name found → Finds (latest (seen watch)) (watched_at watch.watched place).name found
+      → Finds (shown forgives world) item.name found → Finds (latest (seen watch)) (watched_at watch.watched place).name found
   finds_now place {found} within at finds =
       subst (λ snapshot. Finds snapshot (watched_at watch.watched place).name found) now_seen
-      (subst (λ (those : Watched). Finds (seen_in world) those.name found) (item_is place within at) finds)
+      (subst (λ (those : Watched). Finds (shown forgives world) those.name found) (item_is place within at) finds)
 
   pub reopens_now : (place : ℕ) {item new : Watched} {file : Option ℕ} {is_there : Bool} → place < length names → item ≡ get_or names place item
-      → file ≡ led_to world.links item.name → new ≡ opens file item → is_there ≡ is_some file
+      → file ≡ (shown forgives world).leads item.name → new ≡ opens file item → is_there ≡ is_some file
       → Reopens true (latest (seen watch)) watch.watched (set names place new) place is_there
   reopens_now place {item} {new} {file} within at leads changed found = record {
     file = file;
     found = sym found;
     names = name_changes names watch.watched place (opens file) item new (ap (λ (those : MemWatchState). those.watched) is) within at changed;
-    opens = finds_any watch.worlds watch.turns _ _;
+    opens = finds_any watch.forgives watch.worlds watch.turns _ _;
     leads = λ told. leads ∙ ap (λ (snapshot : Snapshot). snapshot.leads item.name) now_seen
         ∙ ap (λ (those : Watched). (latest (seen watch)).leads those.name) (item_is place within at);
   }
@@ -105,7 +154,7 @@ module _ {watch : MemWatchState} {worlds : List World} (turns : ℕ) {names : Li
   pub opened_now : (place : ℕ) {file : ℕ} {item : Watched} → place < length names → item ≡ get_or names place item → item.opened ≡ Some file
       → held_in world.files file ≡ open_contents (latest (seen watch)) (watched_at watch.watched place)
   opened_now place {file} {item} within at opened =
-      ap (λ (snapshot : Snapshot). snapshot.holds file) now_seen
+      shown_holds forgives world file ∙ ap (λ (snapshot : Snapshot). snapshot.holds file) now_seen
       ∙ sym (ap (λ those. open_contents (latest (seen watch)) (record item { opened = those })) opened)
       ∙ ap (open_contents (latest (seen watch))) (item_is place within at)
 
@@ -117,25 +166,26 @@ at_last worlds n m some is = by (cases_lt n (length worlds)) where
   by (inr past) = world_past worlds m (grind (arith, common_steps)) ∙ sym (world_past worlds n (omega (arith, past)))
 
 -- the processes that are gone before the next look
-pub gone_next : {watch : MemWatchState} {worlds : List World} {turns next : ℕ} {names : List Watched} {world : World} (process : ℕ) {gone : Bool}
-    → record { worlds = worlds; turns = turns; watched = names } ≡ watch → turns < length worlds → next ≡ min (turns + 1) (length worlds - 1)
+pub gone_next : {watch : MemWatchState} {worlds : List World} {turns next : ℕ} {names : List Watched} {world : World} {forgives : Bool} {why : Reason} (process : ℕ) {gone : Bool}
+    → record { worlds = worlds; turns = turns; watched = names; forgives = forgives; why = why } ≡ watch → turns < length worlds → next ≡ min (turns + 1) (length worlds - 1)
     → world ≡ world_at worlds next → gone ≡ is_one process world.ended → gone ≡ (shows watch (length (seen watch))).lacks process
-gone_next {worlds} {turns} {next} process is within at there gone = gone ∙ ap (λ (those : World). is_one process those.ended)
-    (there ∙ at_last worlds (turns + 1) next (omega (arith, within)) at ∙ ap (λ n. world_at worlds (n + 1)) (sym (length-seen worlds turns)))
+gone_next {worlds} {turns} {next} {forgives} process is within at there gone = gone ∙ ap (λ (those : World). is_one process those.ended)
+    (there ∙ at_last worlds (turns + 1) next (omega (arith, within)) at ∙ ap (λ n. world_at worlds (n + 1)) (sym (length-seen forgives worlds turns)))
+    ∙ shown_lacks forgives (world_at worlds (length (seen_by forgives worlds turns) + 1)) process
     ∙ ap (λ (those : MemWatchState). (shows those (length (seen those))).lacks process) is
 
-pub turned : {watch : MemWatchState} {worlds : List World} (new : List World) (turns : ℕ) {n : ℕ} {names : List Watched} → record { worlds = worlds; turns = turns; watched = names } ≡ watch → SameWorlds new worlds → n ≡ turns + 1
-    → seen_by new n ≡ seen watch ++ shows watch (length (seen watch)) ∷ []
-turned {worlds} new turns {n} {names} is same next =
-    subst (λ (those : MemWatchState). seen_by new n ≡ seen those ++ shows those (length (seen those)) ∷ []) is
-    (ap (seen_by new) next ∙ turns_on (record { worlds = worlds; turns = turns; watched = names }) new same)
+pub turned : {watch : MemWatchState} {worlds : List World} (new : List World) (turns : ℕ) {n : ℕ} {names : List Watched} {forgives : Bool} {why : Reason} → record { worlds = worlds; turns = turns; watched = names; forgives = forgives; why = why } ≡ watch → SameWorlds new worlds → n ≡ turns + 1
+    → seen_by forgives new n ≡ seen watch ++ shows watch (length (seen watch)) ∷ []
+turned {worlds} new turns {n} {names} {forgives} {why} is same next =
+    subst (λ (those : MemWatchState). seen_by forgives new n ≡ seen those ++ shows those (length (seen those)) ∷ []) is
+    (ap (seen_by forgives new) next ∙ turns_on (record { worlds = worlds; turns = turns; watched = names; forgives = forgives; why = why }) new same)
 
 -- where nothing more was planned, the last files are added once more
 pub same_again : (worlds : List World) {new : List World} {world : World} → world ≡ world_at worlds (length worlds) → new ≡ worlds ++ world ∷ [] → SameWorlds new worlds
 same_again worlds last is n = ap (λ those. world_at those n) (is ∙ ap (λ those. worlds ++ those ∷ []) last) ∙ world_again worlds n
 
-pub still_shows : {watch : MemWatchState} (new : MemWatchState) {worlds : List World} (turns : ℕ) {names : List Watched} → record { worlds = worlds; turns = turns; watched = names } ≡ watch → SameWorlds new.worlds worlds → shows new ≡ shows watch
-still_shows new {worlds} turns {names} is same = shows_same new (record { worlds = worlds; turns = turns; watched = names }) same ∙ ap shows is
+pub still_shows : {watch : MemWatchState} (new : MemWatchState) {worlds : List World} (turns : ℕ) {names : List Watched} {forgives : Bool} {why : Reason} → new.forgives ≡ forgives → record { worlds = worlds; turns = turns; watched = names; forgives = forgives; why = why } ≡ watch → SameWorlds new.worlds worlds → shows new ≡ shows watch
+still_shows new {worlds} turns {names} {forgives} {why} also is same = shows_same new (record { worlds = worlds; turns = turns; watched = names; forgives = forgives; why = why }) also same ∙ ap shows is
 
 -- one look more is planned: the watch is still at one of them, and begins with no file
 pub holds_more : (worlds : List World) {new : List World} (world : World) (turns n : ℕ) → turns < length worlds → world_at worlds 0 ≡ empty_world → new ≡ worlds ++ world ∷ [] → n ≤ turns + 1 → (n < length new) × (world_at new 0 ≡ empty_world)

@@ -1,8 +1,10 @@
 -- What contracts see of a watch in memory.
-use Rattle.std.specs.Prelude.{ℕ, ◌+◌, zero, suc, List, [], ◌∷◌, ◌++◌, length}
-use Rattle.watch_core.specs.Snapshot.{Snapshot}
-use Rattle.watch_core.specs.Edits.{Edit, append, truncate, replace, remove, end, World, empty_world, edited_by, seen_in}
+use Rattle.std.specs.Prelude.{ℕ, ◌+◌, zero, suc, Bool, false, List, [], ◌∷◌, ◌++◌, length, if◌then◌else◌}
+use Rattle.watch_core.specs.Snapshot.{Snapshot, forgiving}
+use Rattle.watch_core.specs.Edits.{Edit, append, bar, truncate, replace, remove, end, World, empty_world, edited_by, seen_in}
 use Rattle.watch_core.specs.Watched.{Watched}
+use Rattle.ports_core.specs.declared.reason.Reason.{Reason}
+use Rattle.ports_core.specs.declared.reason.Reason.TheVariants.{Other}
 use Rattle.mem_core.specs.declared.edit.Edit.{Edit as Change}
 use Rattle.mem_core.specs.declared.edit.Edit.TheVariants as change
 
@@ -12,6 +14,10 @@ pub record MemWatchState : Type 0 where
   -- how many looks began
   pub turns : ℕ
   pub watched : List Watched
+  -- a name that can't be read counts as missing
+  pub forgives : Bool
+  -- why calls fail that do
+  pub why : Reason
 
 abbrev pub edit_of : Change → Edit
 edit_of (change.Append name bytes) = append name.now bytes.now
@@ -19,6 +25,7 @@ edit_of (change.Truncate name n) = truncate name.now n
 edit_of (change.Replace name bytes) = replace name.now bytes.now
 edit_of (change.Remove name) = remove name.now
 edit_of (change.End process) = end process
+edit_of (change.Bar name is) = bar name.now is
 
 -- the files at the look of this number, from 1; those at the last look that was planned stay
 abbrev pub world_at : List World → ℕ → World
@@ -27,16 +34,20 @@ world_at (world ∷ []) n = world
 world_at (world ∷ next ∷ worlds) zero = world
 world_at (world ∷ next ∷ worlds) (suc n) = world_at (next ∷ worlds) n
 
+-- what a look sees of these files
+abbrev pub shown : (forgives : Bool) → World → Snapshot
+shown forgives world = if forgives then forgiving (seen_in world) else seen_in world
+
 -- what the first n looks see
-abbrev pub seen_by : List World → ℕ → List Snapshot
-seen_by worlds zero = []
-seen_by worlds (suc n) = seen_by worlds n ++ seen_in (world_at worlds (suc n)) ∷ []
+abbrev pub seen_by : (forgives : Bool) → List World → ℕ → List Snapshot
+seen_by forgives worlds zero = []
+seen_by forgives worlds (suc n) = seen_by forgives worlds n ++ shown forgives (world_at worlds (suc n)) ∷ []
 
 abbrev pub seen : MemWatchState → List Snapshot
-seen watch = seen_by watch.worlds watch.turns
+seen watch = seen_by watch.forgives watch.worlds watch.turns
 
 abbrev pub shows : MemWatchState → ℕ → Snapshot
-shows watch n = seen_in (world_at watch.worlds (n + 1))
+shows watch n = shown watch.forgives (world_at watch.worlds (n + 1))
 
 -- one more look is planned, after these edits
 abbrev pub with_look : List Edit → MemWatchState → MemWatchState
@@ -47,4 +58,4 @@ with_look edits watch = record watch {
 
 -- no name, no file and no look
 abbrev pub no_looks : MemWatchState
-no_looks = record { worlds = empty_world ∷ []; turns = 0; watched = [] }
+no_looks = record { worlds = empty_world ∷ []; turns = 0; watched = []; forgives = false; why = Other }

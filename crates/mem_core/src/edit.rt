@@ -1,4 +1,4 @@
-/// A change of the files between two looks, or the end of a process. Of a name that leads nowhere only `Replace` does anything.
+/// A change of the files between two looks, or the end of a process. Of a name that leads nowhere only `Replace` and `Bar` do anything.
 #[derive(Clone, Copy, Debug, PartialEq, Eq)]
 pub enum Edit<'a> {
     /// These bytes come to the end of the name's file.
@@ -11,4 +11,6 @@ pub enum Edit<'a> {
     Remove(&'a str),
     /// The process of this number ends.
     End(u32),
+    /// The name can't be opened or read from now on, where this is true, and it can again where it is false.
+    Bar(&'a str, bool),
 }

@@ -3,7 +3,8 @@ ghost use Rattle.ports_core.specs.Slot.{changed_at};
 ghost use Rattle.ports_core.specs.Source.{Source, Content, source_of, missing, gives, gets_back, fails, looks, skips, Gave, BrokeOff, Shows, count_left, holds, cut, is_readable, source_at};
 ghost use Rattle.mem_core.specs.MemInState.{MemInState, Laid, laid_at, laid_in, breaks_in, content_of, with_break};
 
-use ports_core::{Fault, Inputs};
+use crate::failing::{Cause, planned};
+use ports_core::{Fault, Inputs, Reason};
 use std::alloc::{AllocError, Global};
 use std::marker::Model;
 
@@ -189,6 +190,7 @@ pub struct MemIn {
     sources: Vec<MemSource>,
     files: Vec<MemFile>,
     breaks: Vec<Break>,
+    causes: Vec<Cause>,
     /// The most bytes that a read gives.
     piece: usize,
 }
@@ -229,6 +231,7 @@ impl MemIn {
             sources,
             files: Vec::new(alloc),
             breaks: Vec::new(alloc),
+            causes: Vec::new(alloc),
             piece: usize::MAX,
         })
     }
@@ -289,6 +292,18 @@ impl MemIn {
         }
         Ok(self.breaks.push(Break { slot, at })?)
     }
+
+    /// Says why an input breaks or can't be opened, if so. Of several reasons for one input the first counts.
+    ///
+    /// # Errors
+    ///
+    /// `Memory` where there is no room to note the reason: nothing is changed.
+    pub fn breaks_as(&mut self, slot: usize, why: Reason) -> Result<(), Fault>
+        ensures same { self.new ≡ self.old }
+        ensures err { IfErr result (λ fault. fault ≡ Fault.Memory) }
+    {
+        Ok(self.causes.push(Cause { slot, why })?)
+    }
 }
 
 fn laid(alloc: Global, name: &str, bytes: &[u8]) -> Result<MemFile, AllocError>
@@ -342,6 +357,8 @@ impl Inputs for MemIn {
 
     ghost told = { true };
 
+    ghost breaks_for = { λ slot why. true };
+
     fn open(&mut self, name: &str) -> Result<usize, Fault> {
         let slot = self.sources.len();
         let Some(bytes) = find(&self.files, name) else {
@@ -365,6 +382,11 @@ impl Inputs for MemIn {
             return Err(Fault::Read(slot));
         };
         Ok(n)
+    }
+
+    /// As it was planned by `breaks_as`.
+    fn reason(&self, slot: usize) -> Reason {
+        planned(&self.causes, slot)
     }
 
     /// How many bytes the input has left, unless it breaks off.

@@ -1,8 +1,8 @@
 ghost use Rattle.std.specs.Prelude.{◌≡◌, ◌++◌, ◌∷◌, [], ℕ, ◌+◌, ◌≤◌, ◌<◌, List, length, take, replicate, string_bytes, true, false, IsTrue, IfOk, IfErr, IfSome, OnOk, OnErr, OnSome, IfNone};
 ghost use Rattle.ports_core.specs.Slot.{Slot, adds, breaks, closes, removes, opened, unopened, with_lost, streams, slot_at, is_removed};
 
-use crate::failing::fails;
-use ports_core::{Fault, Mode, Outs, Slots, State, Unopened};
+use crate::failing::{Cause, fails, planned};
+use ports_core::{Fault, Mode, Outs, Reason, Slots, State, Unopened};
 use std::alloc::{AllocError, Global};
 use std::marker::Model;
 
@@ -113,6 +113,7 @@ pub struct MemOut {
     alloc: Global,
     slots: Slots<MemSlot>,
     limits: Vec<Limit>,
+    causes: Vec<Cause>,
     /// The most bytes that a write takes.
     most: usize,
     /// The number of calls from now to the one that fails, which is counted too. None where none is to fail.
@@ -142,6 +143,7 @@ impl MemOut {
                 lost: 0,
             },
             limits: Vec::new(alloc),
+            causes: Vec::new(alloc),
             most: usize::MAX,
             failing_in: None,
         })
@@ -158,6 +160,18 @@ impl MemOut {
         ensures err { IfErr result (λ fault. fault ≡ Fault.Memory) }
     {
         Ok(self.limits.push(Limit { slot, bytes })?)
+    }
+
+    /// Says why an output breaks, opened already or later, if it does. Of several reasons for one output the first counts.
+    ///
+    /// # Errors
+    ///
+    /// `Memory` where there is no room to note the reason: nothing is changed.
+    pub fn breaks_as(&mut self, slot: usize, why: Reason) -> Result<(), Fault>
+        ensures same { self.new ≡ self.old }
+        ensures err { IfErr result (λ fault. fault ≡ Fault.Memory) }
+    {
+        Ok(self.causes.push(Cause { slot, why })?)
     }
 
     /// Limits each write to `n` bytes.
@@ -226,6 +240,8 @@ impl Outs for MemOut {
 
     ghost told = { true };
 
+    ghost breaks_for = { λ slot why. true };
+
     fn open(&mut self, name: &str, mode: Mode) -> Result<usize, Fault> {
         let Some(slot) = self.slots.next(0) else {
             return Err(Fault::Memory);
@@ -281,6 +297,11 @@ impl Outs for MemOut {
             Some(out) => out.is_broken,
             None => slot - self.slots.kept.len() < self.slots.lost,
         }
+    }
+
+    /// As it was planned by `breaks_as`.
+    fn reason(&self, slot: usize) -> Reason {
+        planned(&self.causes, slot)
     }
 
     fn name(&self, slot: usize) -> &str {

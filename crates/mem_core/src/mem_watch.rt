@@ -1,14 +1,14 @@
 ghost use Rattle.std.specs.Prelude.{◌≡◌, ◌<◌, ◌≤◌, ◌-◌, ◌^◌, ◌∷◌, ◌++◌, [], ℕ, map, length, true, false, string_bytes, IfOk, IfErr, OnOk, IfSome, IfNone, IsTrue, is_some};
-ghost use Rattle.watch_core.specs.Edits.{empty_world, seen_in};
+ghost use Rattle.watch_core.specs.Edits.{empty_world, is_barred_in};
 ghost use Rattle.watch_core.specs.Snapshot.{latest};
-ghost use Rattle.mem_core.specs.MemWatchState.{MemWatchState, edit_of, no_looks, seen, shows, with_look, world_at};
+ghost use Rattle.mem_core.specs.MemWatchState.{MemWatchState, edit_of, no_looks, seen, shown, shows, with_look, world_at};
 ghost use Rattle.ports_core.specs.Slot.{changed_at};
 ghost use Rattle.watch_core.specs.Watched.{Finds, GaveFrom, Watched, added, breaks, is_readable, is_watchable, open_contents, opens, watched_at};
 
 use crate::Edit;
 use crate::failing::fails;
 use crate::mem_world::MemWorld;
-use ports_core::{Fault, MOST_BYTES};
+use ports_core::{Fault, Reason};
 use std::alloc::{AllocError, Global};
 use std::marker::Model;
 use watch_core::{Broken, Seen, Watch};
@@ -66,7 +66,8 @@ impl MemName {
     }
 }
 
-/// Files in memory, which tell their bytes, and whose changes are planned look by look. For tests, a call can be made to fail.
+/// Files in memory, which tell their bytes, and whose changes are planned look by look. For tests, a call can be made to fail, unless
+/// it forgives. Where it doesn't, a look of a name that is barred fails, and so does opening it.
 /// It keeps the files of each look, and takes memory for all of them.
 #[derive(Drop)]
 pub struct MemWatch {
@@ -78,12 +79,22 @@ pub struct MemWatch {
     names: Vec<MemName>,
     /// The number of calls from now to the one that fails, which is counted too. None where none is to fail.
     failing_in: Option<u64>,
+    /// A name that can't be read counts as missing, and no call fails.
+    forgives: bool,
+    /// Why calls fail that do.
+    why: Reason,
 }
 
 impl Model for MemWatch {
     ghost Value = { MemWatchState };
 
-    ghost view = { λ w. record { worlds = w.worlds.items; turns = w.turns; watched = w.names.items } };
+    ghost view = { λ w. record {
+      worlds = w.worlds.items;
+      turns = w.turns;
+      watched = w.names.items;
+      forgives = w.forgives;
+      why = w.why;
+    } };
 
     ghost invariant = { λ w. (w.turns < length w.worlds.items) × (world_at w.worlds.items 0 ≡ empty_world) };
 }
@@ -108,6 +119,8 @@ impl MemWatch {
             turns: 0,
             names: Vec::new(alloc),
             failing_in: None,
+            forgives: false,
+            why: Reason::Other,
         })
     }
 
@@ -148,6 +161,37 @@ impl MemWatch {
         self.names[place].break_off(how);
     }
 
+    /// Plans why calls on names fail that do.
+    pub fn fail_for(&mut self, why: Reason)
+        ensures { self.new ≡ record self.old { why = why } }
+    {
+        self.why = why;
+    }
+
+    /// Whether a call on a name fails now, since that was asked for.
+    fn fails(&mut self) -> bool
+        ensures same { self.new ≡ self.old }
+        ensures forgives { IsTrue result → self.old.forgives ≡ false }
+    {
+        if self.forgives {
+            return false;
+        }
+        fails(&mut self.failing_in)
+    }
+
+    /// The same of a call that looks where a name leads or opens it, which fails too where the name can't be read.
+    fn refuses(&mut self, place: usize) -> bool
+        requires { IsTrue (is_watchable self.old.watched place) }
+        ensures same { self.new ≡ self.old }
+        ensures forgives { IsTrue result → self.old.forgives ≡ false }
+    {
+        if self.fails() {
+            return true;
+        }
+        !self.forgives
+            && world_in(&self.worlds, self.turns).is_barred(self.names[place].name.as_str())
+    }
+
     /// Makes one of the calls of `look`, `reopen`, `open_len` and `read_at` fail, counted from here on; the next call has the
     /// number 1.
     pub fn fail_at(&mut self, call: u64)
@@ -157,26 +201,17 @@ impl MemWatch {
     }
 }
 
-/// The file to which a name leads.
-fn find(world: &MemWorld, name: &str) -> Option<Seen>
-    ensures { Finds (seen_in world.now) name.now result }
+/// The file to which a look finds a name to lead.
+fn find(world: &MemWorld, name: &str, forgives: bool) -> Option<Seen>
+    ensures finds { Finds (shown forgives world.now) name.now result }
+    ensures bound { IfSome result (λ file. file.len < 2 ^ 63) }
 {
-    match world.file_of(name) {
+    match world.leads(name, forgives) {
         Some(file) => Some(Seen {
             id: file as u128,
             len: world.bytes(file).len() as u64,
         }),
         None => None,
-    }
-}
-
-/// Whether the file has no more bytes than a watch tells.
-fn fits(found: Option<Seen>) -> bool
-    ensures { IsTrue result → IfSome found (λ file. file.len < 2 ^ 63) }
-{
-    match found {
-        Some(file) => file.len <= MOST_BYTES,
-        None => true,
     }
 }
 
@@ -233,6 +268,8 @@ impl Watch for MemWatch {
 
     ghost watched = { λ watch. watch.watched };
 
+    ghost fails_for = { λ watch place why. true };
+
     ghost told = { true };
 
     fn turn(&mut self) -> Result<(), Fault> {
@@ -262,6 +299,10 @@ impl Watch for MemWatch {
         let _ = milliseconds;
     }
 
+    fn forgive(&mut self) {
+        self.forgives = true;
+    }
+
     fn add(&mut self, name: &str) -> Result<usize, Fault> {
         let place = self.names.len();
         let name = MemName::new(self.alloc, name)?;
@@ -273,8 +314,8 @@ impl Watch for MemWatch {
 
     fn look(&mut self, place: usize) -> Result<Option<Seen>, Fault> {
         let world = world_in(&self.worlds, self.turns);
-        let found = find(world, self.names[place].name.as_str());
-        if fails(&mut self.failing_in) || !fits(found) {
+        let found = find(world, self.names[place].name.as_str(), self.forgives);
+        if self.refuses(place) {
             self.break_off(place, Broken::Look);
             return Err(Fault::Open(place));
         }
@@ -282,13 +323,25 @@ impl Watch for MemWatch {
     }
 
     fn reopen(&mut self, place: usize) -> Result<bool, Fault> {
-        if fails(&mut self.failing_in) {
+        if self.refuses(place) {
             self.break_off(place, Broken::Open);
             return Err(Fault::Open(place));
         }
         let world = world_in(&self.worlds, self.turns);
-        let file = world.file_of(self.names[place].name.as_str());
+        let file = world.leads(self.names[place].name.as_str(), self.forgives);
         Ok(self.names[place].open(file))
+    }
+
+    fn reason(&self, place: usize) -> Reason {
+        let Some(name) = self.names.get(place) else {
+            return Reason::Other;
+        };
+        if name.failed.is_some()
+            || world_in(&self.worlds, self.turns).is_barred(name.name.as_str())
+        {
+            return self.why;
+        }
+        Reason::Missing
     }
 
     fn open_id(&self, place: usize) -> Option<u128> {
@@ -300,7 +353,7 @@ impl Watch for MemWatch {
 
     fn open_len(&mut self, place: usize) -> Result<u64, Fault> {
         let len = self.open_bytes(place).len() as u64;
-        if fails(&mut self.failing_in) || len > MOST_BYTES {
+        if self.fails() {
             self.break_off(place, Broken::Len(self.open_id(place)));
             return Err(Fault::Read(place));
         }
@@ -308,7 +361,7 @@ impl Watch for MemWatch {
     }
 
     fn read_at(&mut self, place: usize, from: u64, buffer: &mut [u8]) -> Result<usize, Fault> {
-        if fails(&mut self.failing_in) {
+        if self.fails() {
             self.break_off(place, Broken::Read(self.open_id(place), from));
             return Err(Fault::Read(place));
         }

@@ -1,7 +1,7 @@
 //! Files in memory, and names that lead to them.
 ghost use Rattle.std.specs.Prelude.{◌≡◌, ◌++◌, ◌∷◌, [], ◌<◌, ℕ, List, Some, map, take, length, string_bytes, IfOk, OnOk, IfSome, IfNone, None};
-ghost use Rattle.watch_core.specs.Edits.{Link, World, append, edited, edited_by, empty_world, end, held_in, is_one, led_to, remove, replace, truncate, with_file};
-ghost use Rattle.mem_core.specs.MemWatchState.{edit_of};
+ghost use Rattle.watch_core.specs.Edits.{Bar, Link, World, append, bar, edited, edited_by, empty_world, end, held_in, is_barred_in, is_one, led_to, remove, replace, truncate, with_file};
+ghost use Rattle.mem_core.specs.MemWatchState.{edit_of, shown};
 
 use crate::Edit;
 use std::alloc::{AllocError, Global};
@@ -32,19 +32,39 @@ impl Model for MemLink {
     ghost view = { λ l. record { name = string_bytes l.name; file = l.file } };
 }
 
-/// Files in memory, each at its identity, and where the names lead: of one name the first link counts.
+/// Whether a name can't be opened or read.
+#[derive(Drop)]
+struct MemBar {
+    name: String,
+    is_barred: bool,
+}
+
+impl Model for MemBar {
+    ghost Value = { Bar };
+
+    ghost view = { λ b. record { name = string_bytes b.name; is_barred = b.is_barred } };
+}
+
+/// Files in memory, each at its identity, and where the names lead and which can't be read: of one name the first link counts, and the
+/// first bar.
 #[derive(Drop)]
 pub(crate) struct MemWorld {
     links: Vec<MemLink>,
     files: Vec<MemFile>,
     /// The processes that ended.
     ended: Vec<u32>,
+    bars: Vec<MemBar>,
 }
 
 impl Model for MemWorld {
     ghost Value = { World };
 
-    ghost view = { λ w. record { links = w.links.items; files = w.files.items; ended = w.ended.items } };
+    ghost view = { λ w. record {
+      links = w.links.items;
+      files = w.files.items;
+      ended = w.ended.items;
+      bars = w.bars.items;
+    } };
 }
 
 impl MemWorld {
@@ -56,6 +76,7 @@ impl MemWorld {
             links: Vec::new(alloc),
             files: Vec::new(alloc),
             ended: Vec::new(alloc),
+            bars: Vec::new(alloc),
         }
     }
 
@@ -67,6 +88,7 @@ impl MemWorld {
             links: copy_links(alloc, &self.links)?,
             files: copy_files(alloc, &self.files)?,
             ended: Vec::from_slice(alloc, &self.ended)?,
+            bars: copy_bars(alloc, &self.bars)?,
         })
     }
 
@@ -82,6 +104,30 @@ impl MemWorld {
             links = rest;
         }
         None
+    }
+
+    /// The file to which a look finds a name to lead: none where it can't be read, if that is forgiven.
+    pub(crate) fn leads(&self, name: &str, forgives: bool) -> Option<usize>
+        ensures { result ≡ (shown forgives self.now).leads name.now }
+    {
+        if forgives && self.is_barred(name) {
+            return None;
+        }
+        self.file_of(name)
+    }
+
+    /// Whether a name can't be opened or read.
+    pub(crate) fn is_barred(&self, name: &str) -> bool
+        ensures { result ≡ is_barred_in self.now.bars name.now }
+    {
+        let mut bars: &[MemBar] = &self.bars;
+        while let [bar, rest @ ..] = bars {
+            if bar.name.as_str() == name {
+                return bar.is_barred;
+            }
+            bars = rest;
+        }
+        false
     }
 
     /// What a file holds; nothing where there is no such file.
@@ -119,6 +165,7 @@ impl MemWorld {
             Edit::Replace(name, bytes) => self.replace(alloc, name, bytes),
             Edit::Remove(name) => self.lead(alloc, name, None),
             Edit::End(process) => self.end(process),
+            Edit::Bar(name, is) => self.bar(alloc, name, is),
         }
     }
 
@@ -161,6 +208,15 @@ impl MemWorld {
         Ok(())
     }
 
+    /// Has a name that can't be read, or that can again.
+    fn bar(&mut self, alloc: Global, name: &str, is_barred: bool) -> Result<(), AllocError>
+        ensures { OnOk result (self.new ≡ edited (bar name.now is_barred) self.old) }
+    {
+        let name = String::from_str(alloc, name)?;
+        self.bars.insert(0, MemBar { name, is_barred })?;
+        Ok(())
+    }
+
     /// Whether this process ended.
     pub(crate) fn has_ended(&self, process: u32) -> bool
         ensures { result ≡ is_one process self.now.ended }
@@ -195,6 +251,20 @@ fn copy_links(alloc: Global, links: &[MemLink]) -> Result<Vec<MemLink>, AllocErr
         copies.push(MemLink {
             name,
             file: link.file,
+        })?;
+    }
+    Ok(copies)
+}
+
+fn copy_bars(alloc: Global, bars: &[MemBar]) -> Result<Vec<MemBar>, AllocError>
+    ensures { IfOk result (λ copies. copies.items ≡ bars.now) }
+{
+    let mut copies = Vec::new(alloc);
+    for bar in bars {
+        let name = String::from_str(alloc, bar.name.as_str())?;
+        copies.push(MemBar {
+            name,
+            is_barred: bar.is_barred,
         })?;
     }
     Ok(copies)

@@ -4,10 +4,11 @@ ghost use Rattle.watch_core.specs.Watched.{is_readable, is_watchable};
 
 use crate::compare::same;
 use crate::folder::{append, make_file, make_folder};
-use ports_core::Fault;
+use ports_core::{Fault, Reason};
 use std::fs;
 use std::io::{self, PipeWriter, Write};
 use std::os::fd::AsRawFd;
+use std::os::unix::fs::symlink;
 use std::process::Abort;
 use std::test::Fail;
 use std::time::{Duration, Instant};
@@ -32,6 +33,16 @@ fn watch_of(rt: HostRuntime, name: &str) -> Result<DirWatch<HostRuntime>, Fault>
     ensures { IfOk result (λ watch. IsTrue (is_watchable watch.watched 0)) }
 {
     let mut watch = DirWatch::new(rt, rt.alloc());
+    watch.add(name)?;
+    Ok(watch)
+}
+
+/// One that forgives.
+fn forgiving_watch_of(rt: HostRuntime, name: &str) -> Result<DirWatch<HostRuntime>, Fault>
+    ensures { IfOk result (λ watch. IsTrue (is_watchable watch.watched 0)) }
+{
+    let mut watch = DirWatch::new(rt, rt.alloc());
+    watch.forgive();
     watch.add(name)?;
     Ok(watch)
 }
@@ -100,6 +111,12 @@ enum Step<'a> {
     Rename(&'a str, &'a str),
     /// A file is removed.
     Remove(&'a str),
+    /// A folder is made, which is empty.
+    MakeFolder(&'a str),
+    /// A folder is removed, which is empty.
+    RemoveFolder(&'a str),
+    /// A name is made that leads to itself.
+    Loop(&'a str),
     /// A look begins.
     Turn,
     /// A look begins, a second or more after it was asked for or at once.
@@ -120,6 +137,8 @@ enum Step<'a> {
     EarlierIsOpen,
     /// The file of the last look is open, or another one.
     LatestIsOpen(bool),
+    /// This was why the last call failed that did, or found none.
+    Says(Reason),
 }
 
 /// What the last two looks saw.
@@ -137,8 +156,32 @@ fn play(
     name: &str,
     steps: &[Step<'_>],
 ) -> Result<(), Fail> {
-    make_folder(rt, folder)?;
     let mut watch = watch_of(*rt, name)?;
+    play_with(abort, rt, folder, &mut watch, steps)
+}
+
+/// The same where the watch forgives.
+fn play_forgiving(
+    abort: &impl Abort,
+    rt: &HostRuntime,
+    folder: &str,
+    name: &str,
+    steps: &[Step<'_>],
+) -> Result<(), Fail> {
+    let mut watch = forgiving_watch_of(*rt, name)?;
+    play_with(abort, rt, folder, &mut watch, steps)
+}
+
+fn play_with(
+    abort: &impl Abort,
+    rt: &HostRuntime,
+    folder: &str,
+    watch: &mut DirWatch<HostRuntime>,
+    steps: &[Step<'_>],
+) -> Result<(), Fail>
+    requires { IsTrue (is_watchable watch.old.watched 0) }
+{
+    make_folder(rt, folder)?;
     let mut looks = Looks {
         earlier: None,
         latest: None,
@@ -146,7 +189,7 @@ fn play(
     let mut buffer = [0u8; 3];
     let mut number = 0usize;
     for step in steps {
-        let is_so = take(rt, &mut watch, &mut looks, &mut buffer, step)?;
+        let is_so = take(rt, watch, &mut looks, &mut buffer, step)?;
         assert!(abort; is_so, "at step {number}");
         number = number.saturating_add(1);
     }
@@ -213,6 +256,9 @@ fn edit(rt: &HostRuntime, step: &Step<'_>) -> Result<(), Fail> {
         Step::Append(name, bytes) => append(rt, name, bytes)?,
         Step::Rename(from, to) => fs::rename(rt, from, to)?,
         Step::Remove(name) => fs::remove_file(rt, name)?,
+        Step::MakeFolder(name) => fs::create_dir(rt, name)?,
+        Step::RemoveFolder(name) => fs::remove_dir(rt, name)?,
+        Step::Loop(name) => symlink(rt, name.rsplit('/').next().unwrap_or(name), name)?,
         _ => {}
     }
     Ok(())
@@ -226,6 +272,7 @@ fn is_open(watch: &DirWatch<HostRuntime>, looks: &Looks, step: &Step<'_>) -> boo
         Step::SawSame(is_same) => (id_of(looks.earlier) == id_of(looks.latest)) == *is_same,
         Step::EarlierIsOpen => open == id_of(looks.earlier),
         Step::LatestIsOpen(is_it) => (open == id_of(looks.latest)) == *is_it,
+        Step::Says(why) => watch.reason(0) == *why,
         _ => true,
     }
 }
@@ -303,6 +350,7 @@ fn a_removed_file_stays_open(rt: HostRuntime) -> Result<(), Fail> {
 const APPEARING: &[Step<'static>] = &[
     Step::Sees(None),
     Step::Opens(false),
+    Step::Says(Reason::Missing),
     Step::Make("watch_core_appears/f", b"abc"),
     Step::Sees(Some(3)),
     Step::Opens(true),
@@ -373,6 +421,63 @@ fn looks_wait_for_an_open_file(rt: HostRuntime) -> Result<(), Fail> {
     )
 }
 
+/// A file is replaced by a folder, and that by a file again.
+const FORGIVEN: &[Step<'static>] = &[
+    Step::Make("watch_core_forgiven/f", b"abc"),
+    Step::Sees(Some(3)),
+    Step::Opens(true),
+    Step::Remove("watch_core_forgiven/f"),
+    Step::MakeFolder("watch_core_forgiven/f"),
+    Step::Sees(None),
+    Step::EarlierIsOpen,
+    Step::Says(Reason::Folder),
+    Step::Opens(false),
+    Step::IsOpen(false),
+    Step::Says(Reason::Folder),
+    Step::Waits(true),
+    Step::RemoveFolder("watch_core_forgiven/f"),
+    Step::Make("watch_core_forgiven/f", b"wxyz"),
+    Step::Sees(Some(4)),
+    Step::Opens(true),
+    Step::LatestIsOpen(true),
+    Step::Append("watch_core_forgiven/f", b"v"),
+    Step::Sees(Some(5)),
+    Step::Reads(3, 2, b"zv\0"),
+];
+
+#[test]
+fn a_folder_in_place_of_a_file_is_forgiven(rt: HostRuntime) -> Result<(), Fail> {
+    play_forgiving(
+        &rt,
+        &rt,
+        "watch_core_forgiven",
+        "watch_core_forgiven/f",
+        FORGIVEN,
+    )
+}
+
+/// A name that leads to itself at the first look, and then to a file.
+const LOOPED: &[Step<'static>] = &[
+    Step::Loop("watch_core_looped/f"),
+    Step::Turn,
+    Step::Opens(false),
+    Step::Says(Reason::Circle),
+    Step::Sees(None),
+    Step::Says(Reason::Circle),
+    Step::Waits(true),
+    Step::Remove("watch_core_looped/f"),
+    Step::Make("watch_core_looped/f", b"abc"),
+    Step::Waits(false),
+    Step::Sees(Some(3)),
+    Step::Opens(true),
+    Step::LatestIsOpen(true),
+];
+
+#[test]
+fn a_name_that_leads_to_itself_is_forgiven(rt: HostRuntime) -> Result<(), Fail> {
+    play_forgiving(&rt, &rt, "watch_core_looped", "watch_core_looped/f", LOOPED)
+}
+
 #[test]
 fn a_name_in_no_folder(rt: HostRuntime) -> Result<(), Fail> {
     let mut watch = watch_of(rt, "watch_core_no_folder/f")?;
@@ -424,6 +529,7 @@ fn a_folder_breaks_at_its_first_read(rt: HostRuntime) -> Result<(), Fail> {
     breaks_at_its_first_read(&rt, &mut watch)?;
     // It is given back, so that no file of the name is open.
     same(&rt, &watch.open_id(0), &None);
+    same(&rt, &watch.reason(0), &Reason::Folder);
     fs::remove_dir_all(&rt, "watch_core_folder")?;
     Ok(())
 }

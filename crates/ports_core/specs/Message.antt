@@ -1,8 +1,10 @@
 -- What a tool says on standard error.
-use Rattle.std.specs.Prelude.{◌≡◌, ℕ, ◌<◌, Bool, true, false, List, [], ◌∷◌, length, take, ◌⊎◌}
+use Rattle.std.specs.Prelude.{◌≡◌, ℕ, ◌<◌, Bool, true, false, List, [], ◌∷◌, length, take, IsTrue, ◌⊎◌}
 use Rattle.ports_core.specs.Slot.{Slot, slot_at, adds, breaks, told_of}
-use Rattle.ports_core.specs.Text.{message_of}
-use Rattle.ports_core.specs.declared.tool.Tool.{Tool}
+use Rattle.ports_core.specs.Text.{Message, is_quiet, line_of, message_of}
+use Rattle.ports_core.specs.declared.calling.Speaker.{Speaker}
+use Rattle.ports_core.specs.declared.reason.Reason.{Reason}
+use Rattle.ports_core.specs.declared.reason.Reason.TheVariants.{Other}
 use Rattle.ports_core.specs.declared.fault.Fault.{Fault}
 use Rattle.ports_core.specs.declared.fault.Fault.TheVariants.{Memory, Write, Open}
 
@@ -13,29 +15,56 @@ pub data Prints (told : Bool) (text : List ℕ) (old new : Slot) : Type 0 where
       → Prints told text old new
   passed : old.is_broken ≡ true → new ≡ old → Prints told text old new
 
--- standard error, the slot after standard output, got the text in that way, and no other output changed
-abbrev pub PrintsOn : Bool → List ℕ → List Slot → List Slot → Type 0
-PrintsOn told text old new = (output error : Slot) (since : List Slot) → old ≡ output ∷ error ∷ since
-    → (after : Slot) × Prints told text error after × (new ≡ output ∷ after ∷ since)
+-- what happens to standard error, the slot after standard output, where no other output changes
+abbrev pub OnError : (Slot → Slot → Type 0) → List Slot → List Slot → Type 0
+OnError Change old new = (output error : Slot) (since : List Slot) → old ≡ output ∷ error ∷ since
+    → (after : Slot) × Change error after × (new ≡ output ∷ after ∷ since)
 
--- an output got the text; where memory for that is exhausted, the line that says so stands in its place
-pub record Says (told : Bool) (tool : Tool) (text : List ℕ) (old new : Slot) : Type 0 where
+-- standard error got the text in that way, and no other output changed
+abbrev pub PrintsOn : Bool → List ℕ → List Slot → List Slot → Type 0
+PrintsOn told text = OnError (Prints told text)
+
+-- an output got the line of a message with this reason; where memory for that is exhausted, the line that says so stands
+-- in its place
+pub record SaysFor (told : Bool) (speaker : Speaker) (why : Reason) (message : Message) (old new : Slot) : Type 0 where
   pub said : List ℕ
-  pub is : (said ≡ text) ⊎ (said ≡ message_of tool Memory [])
+  pub is : (said ≡ line_of speaker why message) ⊎ (said ≡ line_of speaker why (message_of Memory []))
   pub printed : Prints told said old new
 
--- it got these texts, one after another
-abbrev pub SaysAll : Bool → Tool → List (List ℕ) → Slot → Slot → Type 0
-SaysAll told tool [] old new = new ≡ old
-SaysAll told tool (text ∷ texts) old new = (mid : Slot) × Says told tool text old mid × SaysAll told tool texts mid new
+-- the same for some reason, as the system gives one
+abbrev pub Says : Bool → Speaker → Message → Slot → Slot → Type 0
+Says told speaker message old new = (why : Reason) × SaysFor told speaker why message old new
 
--- standard error, the slot after standard output, got the text, and no other output changed
-abbrev pub SaysOn : Bool → Tool → List ℕ → List Slot → List Slot → Type 0
-SaysOn told tool text old new = (output error : Slot) (since : List Slot) → old ≡ output ∷ error ∷ since
-    → (after : Slot) × Says told tool text error after × (new ≡ output ∷ after ∷ since)
+-- it got these messages, one after another
+abbrev pub SaysAll : Bool → Speaker → List Message → Slot → Slot → Type 0
+SaysAll told speaker [] old new = new ≡ old
+SaysAll told speaker (message ∷ messages) old new = (mid : Slot) × Says told speaker message old mid
+    × SaysAll told speaker messages mid new
+
+-- standard error got a message, with this reason, and no other output changed
+abbrev pub SaysOn : Bool → Speaker → Reason → Message → List Slot → List Slot → Type 0
+SaysOn told speaker why message = OnError (SaysFor told speaker why message)
+
+-- a fault was told, or there was nothing to say of it
+abbrev pub TellsIf : (quiet : Bool) → Bool → Speaker → Reason → Message → Slot → Slot → Type 0
+TellsIf true told speaker why message old new = new ≡ old
+TellsIf false told speaker why message old new = SaysFor told speaker why message old new
+
+abbrev pub Tells : Bool → Speaker → Reason → Fault → List ℕ → Slot → Slot → Type 0
+Tells told speaker why fault name =
+    TellsIf (is_quiet fault speaker.calling why) told speaker why (message_of fault name)
+
+abbrev pub TellsOn : Bool → Speaker → Reason → Fault → List ℕ → List Slot → List Slot → Type 0
+TellsOn told speaker why fault name = OnError (Tells told speaker why fault name)
 
 -- the name of the output that a fault speaks of; there is none where no memory was left to keep it
 abbrev pub output_named : List Slot → Fault → List ℕ
 output_named slots (Write slot) = (slot_at slots slot).name
 output_named slots (Open slot) = (slot_at slots slot).name
 output_named slots fault = []
+
+-- why the output broke of which a fault speaks, where outputs say this of each
+abbrev pub IsWhy : (ℕ → Reason → Bool) → Fault → Reason → Type 0
+IsWhy breaks_for (Write slot) why = IsTrue (breaks_for slot why)
+IsWhy breaks_for (Open slot) why = IsTrue (breaks_for slot why)
+IsWhy breaks_for fault why = why ≡ Other

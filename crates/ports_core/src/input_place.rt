@@ -36,7 +36,7 @@ fn fill(source: &mut impl Read, buffer: &mut [u8]) -> Option<usize>
 {
     let mut count = 0;
     while count < buffer.len() {
-        let more = read_some(source, &mut buffer[count..])?;
+        let more = read_some(source, &mut buffer[count..]).ok()?;
         if more == 0 {
             return Some(count);
         }

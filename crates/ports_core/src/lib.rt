@@ -3,6 +3,7 @@
 #![tactic(auto)]
 
 mod alphabet;
+mod calling;
 mod dir_in;
 mod dir_out;
 mod dir_slot;
@@ -22,6 +23,7 @@ mod naming;
 mod numbering;
 mod on_broken;
 mod outs;
+mod reason;
 mod slot;
 mod slots;
 mod stage;
@@ -33,6 +35,7 @@ mod verdict;
 mod whole;
 
 pub use alphabet::Alphabet;
+pub use calling::{Calling, Speaker};
 pub use dir_in::DirIn;
 pub use dir_out::DirOut;
 pub use fault::{Fault, UsageKind};
@@ -49,11 +52,12 @@ pub use naming::Naming;
 pub use numbering::Numbering;
 pub use on_broken::OnBroken;
 pub use outs::Outs;
+pub use reason::Reason;
 pub use slot::{Mode, State};
 pub use slots::{Slots, Unopened};
 pub use stage::Stage;
 pub use sweep::sweep_files;
-pub use text::{header, memory_exhausted, message};
+pub use text::{header, is_quiet, memory_exhausted, message, message_for};
 pub use tool::Tool;
 pub use verdict::Verdict;
 pub use whole::{WriteCut, write_whole};

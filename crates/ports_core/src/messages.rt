@@ -1,34 +1,51 @@
 //! What a tool says on standard error.
-ghost use Rattle.std.specs.Prelude.{◌≡◌, ℕ, List, true, IfOk};
+ghost use Rattle.std.specs.Prelude.{◌≡◌, true, IfOk};
 ghost use Rattle.ports_core.specs.Slot.{is_open, slot_at};
-ghost use Rattle.ports_core.specs.Text.{message_of};
-ghost use Rattle.ports_core.specs.Message.{PrintsOn, SaysOn, output_named};
+ghost use Rattle.ports_core.specs.Text.{Message, line_of, message_of, status_after};
+ghost use Rattle.ports_core.specs.Message.{IsWhy, PrintsOn, SaysOn, TellsOn, output_named};
 
-use crate::{Fault, Outs, Tool, memory_exhausted, message, write_whole};
+use crate::{Fault, Outs, Reason, Speaker, is_quiet, memory_exhausted, message_for, write_whole};
 use std::alloc::Global;
 
 /// The output for messages.
 const STANDARD_ERROR: usize = 1;
 
-/// Says what went wrong. The name is that of the file or the word that the fault speaks of. Where there is no memory
-/// for the message, the line that says so stands in its place. Where standard error can't be written, the message is
-/// passed over. It takes memory for the message, and gives it back.
-pub fn say<O: Outs>(alloc: Global, tool: Tool, fault: &Fault, name: &str, outs: &mut O)
+/// Says what went wrong, and why. The name is that of the file or the word that the fault speaks of. Where there is no
+/// memory for the message, the line that says so stands in its place. Where standard error can't be written, the message
+/// is passed over. It takes memory for the message, and gives it back.
+pub fn say<O: Outs>(
+    alloc: Global,
+    speaker: Speaker,
+    why: Reason,
+    fault: &Fault,
+    name: &str,
+    outs: &mut O,
+)
     requires { is_open (slot_at (O.slots outs.old) 1).state ≡ true }
-    ensures { SaysOn O.told tool (message_of tool fault.now name.now) (O.slots outs.old) (O.slots outs.new) }
+    ensures { SaysOn O.told speaker why (message_of fault.now name.now) (O.slots outs.old) (O.slots outs.new) }
 {
-    print_message(tool, message(alloc, tool, fault, name), outs)
+    let line = message_for(alloc, speaker, why, fault, name);
+    print_message(speaker, line, outs)
 }
 
-/// Says what went wrong as `say` does, with the same memory. Where the fault speaks of an output, the name is that
-/// output's; else there is none.
-pub fn tell<O: Outs>(alloc: Global, tool: Tool, fault: &Fault, outs: &mut O)
+/// Says what went wrong as `say` does, with the same memory, and returns the status of a run that ends with it: 1. Where
+/// the fault speaks of an output, the name and the reason are that output's; else there are none. Of an output whose
+/// reader is gone a tool that was called by its own name says nothing, and the status is 141, which a shell gives for one
+/// that the signal stopped.
+pub fn tell<O: Outs>(alloc: Global, speaker: Speaker, fault: &Fault, outs: &mut O) -> u8
     requires { is_open (slot_at (O.slots outs.old) 1).state ≡ true }
-    ensures { SaysOn O.told tool (message_of tool fault.now (output_named (O.slots outs.old) fault.now))
-        (O.slots outs.old) (O.slots outs.new) }
+    ensures { (why : Reason) × IsWhy O.breaks_for fault.now why
+        × TellsOn O.told speaker why fault.now (output_named (O.slots outs.old) fault.now) (O.slots outs.old)
+        (O.slots outs.new)
+        × (result ≡ status_after fault.now speaker.calling why) }
 {
-    let line = message(alloc, tool, fault, output_name(fault, outs));
-    print_message(tool, line, outs)
+    let why = output_reason(fault, outs);
+    if is_quiet(fault, speaker.calling, why) {
+        return 141;
+    }
+    let line = message_for(alloc, speaker, why, fault, output_name(fault, outs));
+    print_message(speaker, line, outs);
+    1
 }
 
 /// The name of the output that a fault speaks of.
@@ -42,15 +59,26 @@ fn output_name<'a, O: Outs>(fault: &Fault, outs: &'a O) -> &'a str
     }
 }
 
+/// Why the output broke of which a fault speaks.
+fn output_reason<O: Outs>(fault: &Fault, outs: &O) -> Reason
+    ensures { IsWhy O.breaks_for fault.now result }
+{
+    match fault {
+        Fault::Write(slot) => outs.reason(*slot),
+        Fault::Open(slot) => outs.reason(*slot),
+        _ => Reason::Other,
+    }
+}
+
 /// Writes a line to standard error, or that there was no memory for it.
-fn print_message<O: Outs>(tool: Tool, line: Result<Vec<u8>, Fault>, outs: &mut O)
+fn print_message<O: Outs>(speaker: Speaker, line: Result<Vec<u8>, Fault>, outs: &mut O)
     requires { is_open (slot_at (O.slots outs.old) 1).state ≡ true }
-    ensures { (text : List ℕ) → IfOk line (λ bytes. bytes.items ≡ text)
-        → SaysOn O.told tool text (O.slots outs.old) (O.slots outs.new) }
+    ensures { (why : Reason) (message : Message) → IfOk line (λ text. text.items ≡ line_of speaker why message)
+        → SaysOn O.told speaker why message (O.slots outs.old) (O.slots outs.new) }
 {
     match line {
         Ok(text) => print(&text, outs),
-        Err(_) => print(memory_exhausted(tool), outs),
+        Err(_) => print(memory_exhausted(speaker.tool), outs),
     }
 }
 

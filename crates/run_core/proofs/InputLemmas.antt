@@ -18,8 +18,9 @@ use Rattle.std.proofs.Math.Bool.{and-false, and-true, or-false, or-true, or_asso
 use Rattle.ports_core.specs.Slot.{Slot, adds, is_open, slot_at, is_writable, told_of, with_written, streams}
 use Rattle.ports_core.specs.Part.{Part, only_out, OutputsAt}
 use Rattle.ports_core.specs.Swept.{Swept}
-use Rattle.ports_core.specs.Text.{message_of}
-use Rattle.ports_core.specs.Message.{SaysOn, SaysAll, output_named}
+use Rattle.ports_core.specs.Text.{Message, message_of, status_after}
+use Rattle.ports_core.specs.Message.{IsWhy, SaysFor, SaysOn, SaysAll, Tells, TellsOn, output_named}
+use Rattle.ports_core.specs.declared.reason.Reason.{Reason}
 use Rattle.ports_core.specs.declared.fault.Fault.TheVariants.{Memory, Write, Read, Open}
 use Rattle.ports_core.proofs.PartLemmas.{out_more, out_cut, part_begins_itself, stopped_here, broken_at, nothing_out}
 use Rattle.ports_core.proofs.WriteLemmas.{writable-written}
@@ -32,7 +33,7 @@ use Rattle.ports_core.specs.Streams.{streams_with, standard_output, standard_err
 use Rattle.run_core.specs.RunSteps.{world_of}
 use Rattle.run_core.specs.Task.{Task, Outcome, after_part, header_text, of_content, made_by, no_outcome, joined, of_input, of_inputs, is_missing, are_missing}
 use Rattle.run_core.proofs.StopLemmas.{after_assoc, out_on, at_after, stop_after, none_to_sweep, nothing_after, swept_from, said_swept, error_open, stop_error, stop_swept, said_at}
-use Rattle.ports_core.proofs.MessageLemmas.{says_more, all_said_state, says_after}
+use Rattle.ports_core.proofs.MessageLemmas.{all_said_state, printed_named, says_after, told_named}
 use Rattle.std.proofs.lemmas.List.{append-nil, nil_from_length}
 use Rattle.std.proofs.lemmas.List.Recursion.{and_push}
 
@@ -218,30 +219,30 @@ module _ (told_in told : Bool) (task : Task) (most : ℕ) (is_first failed was_r
       rw (made_well task (task.work coming) is_first name content enough well) (took (record { was_read = was_read; is_first = false; failed = failed }) error new (simp (and-false, or-false)) done refl (part_after error _ (at_after at there)) refl)
 
   -- a message is due
-  went_badly : (content : Content) (part : Part) (text : List ℕ) (reached old new : List Slot) → IsDone told_in (task.work coming) most source (Some content) sources
-      → of_content task (task.work coming) is_first name (Some content) ≡ record { part = after_part (only_out (header_text task.with_header is_first name)) part; messages = text ∷ []; failed = true; sweeps = (task.work coming).clears }
-      → OutputsAt told mid part reached → Swept (task.work coming).clears (length mid) reached old → SaysOn told task.tool text old new → TookSo content new (Ok (record { was_read = was_read; is_first = false; failed = true }))
-  went_badly content part text reached old new done made there swept says =
+  went_badly : {why : Reason} (content : Content) (part : Part) (message : Message) (reached old new : List Slot) → IsDone told_in (task.work coming) most source (Some content) sources
+      → of_content task (task.work coming) is_first name (Some content) ≡ record { part = after_part (only_out (header_text task.with_header is_first name)) part; messages = message ∷ []; failed = true; sweeps = (task.work coming).clears }
+      → OutputsAt told mid part reached → Swept (task.work coming).clears (length mid) reached old → SaysOn told task.speaker why message old new → TookSo content new (Ok (record { was_read = was_read; is_first = false; failed = true }))
+  went_badly {why} content part message reached old new done made there swept says =
       let top = adds (told_of told (after_part so_far (after_part (only_out (header_text task.with_header is_first name)) part)).out) standard_output in
       let all = part_after error part (at_after at there) in
-      let said = said_swept told task.tool text (task.work coming).clears old new count streams_there (rw all.slots at (rw counted at swept)) says in
+      let said = said_swept told (SaysFor told task.speaker why message) (λ _ _ says. printed_named says.printed) (task.work coming).clears old new count streams_there (rw all.slots at (rw counted at swept)) says in
       rw made (took (record { was_read = was_read; is_first = false; failed = true }) said.after (top ∷ said.after ∷ all.since)
-      (simp (and-false, or-true)) done (said.after, said.says, refl) (record { standard = lit< tt; since = all.since; slots = refl; files = all.files }) said.swept)
+      (simp (and-false, or-true)) done (said.after, (why, said.says), refl) (record { standard = lit< tt; since = all.since; slots = refl; files = all.files }) said.swept)
 
   pub took_well : {content : Content} {new : List Slot} {fed : Fed} → IsDone told_in (task.work coming) most source (Some content) sources → (fed ≡ Whole) ⊎ (fed ≡ Enough) → FedAs told mid (task.work coming) task.opening most content (Leaves told_in content source sources) new (Ok fed) → TookSo content new (Ok (record { was_read = was_read; is_first = false; failed = failed }))
   took_well {content} {new} done good (whole sound going well there) = went_well content new done (or_left _ _ (ap not sound)) well there
   took_well {content} {new} done good (had_enough complete well there) = went_well content new done (or_right _ _ complete) well there
   took_well done good (broke_off breaks going reached there swept) = absurd (elim good [ inl is ↦ cc | inr is ↦ cc ])
 
-  pub took_broken : {content : Content} {old new : List Slot} {fed : Fed} → IsDone told_in (task.work coming) most source (Some content) sources → fed ≡ Broken → FedAs told mid (task.work coming) task.opening most content (Leaves told_in content source sources) old (Ok fed) → SaysOn told task.tool (message_of task.tool (Read 0) name) old new → TookSo content new (Ok (record { was_read = was_read; is_first = false; failed = true }))
+  pub took_broken : {why : Reason} {content : Content} {old new : List Slot} {fed : Fed} → IsDone told_in (task.work coming) most source (Some content) sources → fed ≡ Broken → FedAs told mid (task.work coming) task.opening most content (Leaves told_in content source sources) old (Ok fed) → SaysOn told task.speaker why (message_of (Read 0) name) old new → TookSo content new (Ok (record { was_read = was_read; is_first = false; failed = true }))
   took_broken {content} {old} {new} done is (broke_off breaks going reached there swept) says =
-      went_badly content ((task.work coming).settled content.bytes) (message_of task.tool (Read 0) name) reached old new done
+      went_badly content ((task.work coming).settled content.bytes) (message_of (Read 0) name) reached old new done
       (let short : is_enough (task.work coming) content ≡ false = ap (λ (b : Bool). not b || (task.work coming).is_complete content.bytes) breaks ∙ going in simp (short, and-true)) there swept says
   took_broken done is ends says = absurd (cc)
 
-  pub took_verdict : {content : Content} {old new : List Slot} {verdict : Verdict} → IsDone told_in (task.work coming) most source (Some content) sources → FedAs told mid (task.work coming) task.opening most content (Leaves told_in content source sources) old (Err (fault_is.Verdict verdict)) → SaysOn told task.tool (message_of task.tool (fault_is.Verdict verdict) (task.subject verdict)) old new → TookSo content new (Ok (record { was_read = was_read; is_first = false; failed = true }))
+  pub took_verdict : {why : Reason} {content : Content} {old new : List Slot} {verdict : Verdict} → IsDone told_in (task.work coming) most source (Some content) sources → FedAs told mid (task.work coming) task.opening most content (Leaves told_in content source sources) old (Err (fault_is.Verdict verdict)) → SaysOn told task.speaker why (message_of (fault_is.Verdict verdict) (task.subject verdict)) old new → TookSo content new (Ok (record { was_read = was_read; is_first = false; failed = true }))
   took_verdict {content} {old} {new} {verdict} done (judged _ enough judges reached there swept) says =
-      went_badly content ((task.work coming).whole content.bytes) (message_of task.tool (fault_is.Verdict verdict) (task.subject verdict)) reached old new done (simp (enough, judges, and-true)) there swept says
+      went_badly content ((task.work coming).whole content.bytes) (message_of (fault_is.Verdict verdict) (task.subject verdict)) reached old new done (simp (enough, judges, and-true)) there swept says
   took_verdict done (stopped _ unjudged call is_call read reached why stop swept) says = absurd (false≢true (sym unjudged))
 
   pub took_stopped : {content : Content} {new : List Slot} {fault : Fault} → ((verdict : Verdict) → fault ≡ fault_is.Verdict verdict → ⊥) → FedAs told mid (task.work coming) task.opening most content (Leaves told_in content source sources) new (Err fault) → TookSo content new (Err fault)
@@ -266,7 +267,7 @@ fed_open {work} {new} WasRead opened at (stopped fault is call is_call read reac
 -- Lemmas on how a run ends.
 
 -- the run that reached the end of its inputs
-pub ran_through : {told_in told : Bool} {task : Task} {found : List Input} {sources : List Source} {new : List Slot} {failed : Bool} {status : ℕ} → status ≡ (if failed then 1 else 0) → TookAll told_in told task found sources new (Ok failed) → EndsAs told_in told task found sources new status
+pub ran_through : {told_in told : Bool} {breaks_for : ℕ → Reason → Bool} {task : Task} {found : List Input} {sources : List Source} {new : List Slot} {failed : Bool} {status : ℕ} → status ≡ (if failed then 1 else 0) → TookAll told_in told task found sources new (Ok failed) → EndsAs told_in told breaks_for task found sources new status
 ran_through is (all _ error reached same says at swept done) = as_defined error reached says at swept done (is ∙ ap (λ (b : Bool). if b then 1 else 0) same)
 
 -- standard error is there for the fault that stopped the run
@@ -275,17 +276,16 @@ stop_open {told} {task} {new} (stopped_at _ before input after error step reache
 stop_open (not_begun is untouched none) = grind (arith, common_steps)
 
 -- the run that a fault stopped
-pub ran_into : {told_in told : Bool} {task : Task} {found : List Input} {sources : List Source} {mid new : List Slot} {fault : Fault} → TookAll told_in told task found sources mid (Err fault) → SaysOn told task.tool (message_of task.tool fault (output_named mid fault)) mid new
-    → EndsAs told_in told task found sources new 1
-ran_into {told} {task} {mid} {fault} (stopped_at _ before input after error step reached among done untouched is_step stops said stop swept) says =
-    let text = message_of task.tool fault (output_named mid fault) in
-    let said_so = stop_swept told task.tool text step (task.work input.coming).clears (lit≤ tt)
-    (ap is_open (all_said_state told task.tool (made_by task before).messages standard_error error said)) stop stops swept says in
-    run_stopped fault before input after said_so.after step said_so.reached among done untouched is_step said_so.why said_so.stop said_so.swept
-    (rw said_so.named (says_more told task.tool (made_by task before).messages text standard_error error said_so.after said said_so.says)) refl
-ran_into (not_begun at_first untouched none) says =
-    let said = says standard_output standard_error [] at_first in
-    run_unmade said.0 (said.0, said.1, refl) said.2 untouched none refl
+pub ran_into : {told_in told : Bool} {breaks_for : ℕ → Reason → Bool} {task : Task} {found : List Input} {sources : List Source} {mid new : List Slot} {fault : Fault} {status : ℕ} → TookAll told_in told task found sources mid (Err fault)
+    → (why : Reason) × IsWhy breaks_for fault why × TellsOn told task.speaker why fault (output_named mid fault) mid new × (status ≡ status_after fault task.speaker.calling why) → EndsAs told_in told breaks_for task found sources new status
+ran_into {told} {task} {mid} {fault} (stopped_at _ before input after error step reached among done untouched is_step stops said stop swept) (why, is_why, tells, is) =
+    let told_so = stop_swept told (Tells told task.speaker why fault (output_named mid fault)) (told_named told task.speaker why fault _) step (task.work input.coming).clears (lit≤ tt)
+    (ap is_open (all_said_state told task.speaker (made_by task before).messages standard_error error said)) stop stops swept tells in
+    run_stopped fault why before input after error told_so.after step told_so.reached among done untouched is_step told_so.why told_so.stop told_so.swept
+    said is_why (rw told_so.named told_so.says) is
+ran_into (not_begun at_first untouched none) (why, is_why, tells, is) =
+    let said = tells standard_output standard_error [] at_first in
+    run_unmade said.0 (said.0, (why, said.1), refl) said.2 untouched none is
 
 -- Lemmas on taking the inputs for names, one after another.
 
@@ -343,14 +343,14 @@ took_standard {told_in} {told} {task} {most} {is_first} {failed} was_read laid n
 
 -- a name that could not be opened: it is passed over with a message
 
-pub of_missing : {told_in told : Bool} {task : Task} {most : ℕ} {is_first failed was_read : Bool} {laid : ℕ → List ℕ → Option Content} {name : List ℕ} {sources after : List Source} {fault : Fault} {slot : ℕ} {so_far : Part} {error : Slot} {old new : List Slot} → is_dash name ≡ false → OpensNothing told_in laid sources after name fault → fault ≡ Open slot → OutputsAt told (streams_with error) so_far old
-    → SaysOn told task.tool (message_of task.tool fault name) old new → OfName told_in (world_of laid sources) was_read (length sources) name
+pub of_missing : {told_in told : Bool} {IsSaid : Reason → Type 0} {task : Task} {most : ℕ} {is_first failed was_read : Bool} {laid : ℕ → List ℕ → Option Content} {name : List ℕ} {sources after : List Source} {fault : Fault} {slot : ℕ} {so_far : Part} {error : Slot} {old new : List Slot} → is_dash name ≡ false → OpensNothing told_in laid sources after name fault → fault ≡ Open slot → OutputsAt told (streams_with error) so_far old
+    → (why : Reason) × IsSaid why × SaysOn told task.speaker why (message_of (Open slot) name) old new → OfName told_in (world_of laid sources) was_read (length sources) name
     (λ input. TookInput told_in told task most input (of_input task is_first input) is_first failed (was_read || is_dash name) so_far error (length old) after new (Ok (record { was_read = was_read; is_first = is_first; failed = true })))
-of_missing {told_in} {told} {task} {most} {is_first} {was_read} {laid} {name} {sources} {new} differs (from.broke slot number lies are) cannot at says =
+of_missing {told_in} {told} {task} {most} {is_first} {was_read} {laid} {name} {sources} {new} differs (from.broke slot number lies are) cannot at (why, reason, says) =
     of_file (world_of laid sources) was_read 0 _ differs (λ t. ap (λ n. laid n name) (sym number) ∙ lies t) (λ t. refl)
     (let said = said_at at says in
     took (record { was_read = was_read; is_first = is_first; failed = true }) said.0 new (simp (differs, or-false, and-true, or-true)) (missing_done told_in (task.work 0) most sources are)
-    (said.0, said.1, refl) (subst (λ part. OutputsAt told (streams_with said.0) part new) (sym nothing_after) said.2) refl)
+    (said.0, (why, said.1), refl) (subst (λ part. OutputsAt told (streams_with said.0) part new) (sym nothing_after) said.2) refl)
 of_missing differs (from.no_room are) cannot at says = absurd (cc)
 
 -- there was no room for it
@@ -391,7 +391,7 @@ pub record Walked (told_in told : Bool) (task : Task) (world : World) (names lef
   pub reached : List Slot
   pub at : OutputsAt told (streams_with error) made.part reached
   pub swept : Swept made.sweeps 2 reached slots
-  pub says : SaysAll told task.tool made.messages standard_error error
+  pub says : SaysAll told task.speaker made.messages standard_error error
   pub failed : progress.failed ≡ made.failed
   -- where the work clears files, there is one name at most
   pub alone : (coming : ℕ) → (task.work coming).clears ≡ true → (left ≡ []) ⊎ ((length left ≤ 1) × (length slots ≡ 2))
@@ -444,7 +444,7 @@ slots_at {slots} some walked = grind (arith, common_steps)
 pub walked_error : {told_in : Bool} (told : Bool) {task : Task} {world : World} {names left : List (List ℕ)} {progress : Progress}
     {laid : ℕ → List ℕ → Option Content} {sources : List Source} {slots : List Slot}
     → (walked : Walked told_in told task world names left progress laid sources slots) → is_open walked.error.state ≡ true
-walked_error told {task} walked = ap is_open (all_said_state told task.tool walked.made.messages standard_error walked.error walked.says)
+walked_error told {task} walked = ap is_open (all_said_state told task.speaker walked.made.messages standard_error walked.error walked.says)
 
 pub walk_streams : {told_in told : Bool} {task : Task} {world : World} {names left : List (List ℕ)} {progress : Progress} {laid : ℕ → List ℕ → Option Content} {sources : List Source} {slots : List Slot} → 1 ≤ length left
     → Walked told_in told task world names left progress laid sources slots → HasStreams told slots
@@ -489,7 +489,7 @@ walk_goes_on {told_in} {told} {task} {world} {names} {name} {left} {progress} {n
       reached = reached;
       at = at;
       swept = rw sweeps_one (swept_from one.sweeps reached new (λ sweeps. (only sweeps).1) swept);
-      says = says_after told task.tool walked.made.messages one.messages standard_error walked.error after walked.says says;
+      says = says_after told task.speaker walked.made.messages one.messages standard_error walked.error after walked.says says;
       failed = rw (is, walked.failed);
       alone = λ coming clears. inl (taken_alone slots (walked.alone coming) clears).0;
       unswept = λ some. sweeps_one ∙ false_from_ne_true one.sweeps (λ sweeps. omega (arith, some, ap length (only sweeps).0));

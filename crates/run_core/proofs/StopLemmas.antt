@@ -13,9 +13,8 @@ use Rattle.ports_core.proofs.SlotSteps.{none_past, swept_none}
 use Rattle.ports_core.proofs.SlotLemmas.{length-changed_at, changed_at-append}
 use Rattle.ports_core.proofs.WriteLemmas.{told_of-append, with_written-append}
 use Rattle.run_core.specs.Task.{after_part}
-use Rattle.ports_core.specs.declared.tool.Tool.{Tool}
 use Rattle.run_core.specs.Feeding.{Step, Stops}
-use Rattle.ports_core.specs.Message.{Prints, whole, cut, passed, Says, SaysOn, output_named}
+use Rattle.ports_core.specs.Message.{OnError, output_named}
 
 -- Lemmas on what is written after what was written before.
 
@@ -159,21 +158,16 @@ stop_error {told} {output} {error} {high} {fault} opened stop = grind (arith, co
 
 -- a message changes standard error, and no other output
 
-pub said_at : {told : Bool} {tool : Tool} {text : List ℕ} {output error : Slot} {part : Part} {old new : List Slot} → OutputsAt told (output ∷ error ∷ []) part old → SaysOn told tool text old new
-    → (after : Slot) × Says told tool text error after × OutputsAt told (output ∷ after ∷ []) part new
+pub said_at : {told : Bool} {Change : Slot → Slot → Type 0} {output error : Slot} {part : Part} {old new : List Slot} → OutputsAt told (output ∷ error ∷ []) part old → OnError Change old new
+    → (after : Slot) × Change error after × OutputsAt told (output ∷ after ∷ []) part new
 said_at {told} {output} {error} {part} at says =
     let said = says (adds (told_of told part.out) output) error at.since at.slots in
     (said.0, said.1, record { standard = lit< tt; since = at.since; slots = said.2; files = at.files })
 
-printed_named : {told : Bool} {text : List ℕ} {old new : Slot} → Prints told text old new → new.name ≡ old.name
-printed_named (whole sound is) = ap (λ slot. slot.name) is
-printed_named (cut sound n within is) = ap (λ slot. slot.name) is
-printed_named (passed broken is) = ap (λ slot. slot.name) is
-
-module _ (told : Bool) (tool : Tool) (text : List ℕ) where
+module _ (told : Bool) (Change : Slot → Slot → Type 0) where
   -- what a fault left, with its message after it; standard error is none of the outputs that it can mark
-  told_marked : (IsName : List ℕ → Type 0) (fault : Fault) (place count : ℕ) (output : Slot) {error : Slot} (since : List Slot) {mid : List Slot} (new : List Slot) → IsAt fault 2 place count → Marks IsName fault (output ∷ error ∷ since) mid → SaysOn told tool text mid new
-      → (after : Slot) × Says told tool text error after × Marks IsName fault (output ∷ after ∷ since) new
+  told_marked : (IsName : List ℕ → Type 0) (fault : Fault) (place count : ℕ) (output : Slot) {error : Slot} (since : List Slot) {mid : List Slot} (new : List Slot) → IsAt fault 2 place count → Marks IsName fault (output ∷ error ∷ since) mid → OnError Change mid new
+      → (after : Slot) × Change error after × Marks IsName fault (output ∷ after ∷ since) new
   told_marked IsName (Write zero) place count output {error} since new from marks says = let said = says (breaks output) error since marks.1 in (said.0, said.1, (marks.0, said.2))
   told_marked IsName (Write (suc zero)) place count output since new from marks says = absurd (elim from [ inl is ↦ omega (arith, is) | inr is ↦ omega (arith, is) ])
   told_marked IsName (Write (suc (suc slot))) place count output {error} since new from marks says = let said = says output error (with_broken slot since) marks.1 in (said.0, said.1, (marks.0, said.2))
@@ -181,8 +175,8 @@ module _ (told : Bool) (tool : Tool) (text : List ℕ) where
       let said = says output error (since ++ unopened marks.1.1 ∷ []) marks.1.4 in (said.0, said.1, (marks.0, (marks.1.0, marks.1.1, marks.1.2, marks.1.3, said.2)))
   told_marked IsName fault place count output {error} since new from marks says = says output error since marks
 
-  stop_said : {how : Output} {output error : Slot} {low high : Part} {fault : Fault} {mid new : List Slot} → StoppedBetween how told (output ∷ error ∷ []) low high fault mid → SaysOn told tool text mid new
-      → (after : Slot) × Says told tool text error after × StoppedBetween how told (output ∷ after ∷ []) low high fault new
+  stop_said : {how : Output} {output error : Slot} {low high : Part} {fault : Fault} {mid new : List Slot} → StoppedBetween how told (output ∷ error ∷ []) low high fault mid → OnError Change mid new
+      → (after : Slot) × Change error after × StoppedBetween how told (output ∷ after ∷ []) low high fault new
   stop_said {output = output} {high} {fault} {new} stop says =
       let first = adds (told_of told stop.part.out) output in
       let marked = told_marked (IsNext stop.part high) fault stop.place _ first stop.outputs.since new stop.from (rw stop.outputs.slots at stop.marks) says in (
@@ -207,7 +201,7 @@ beside_error output error error_too files (suc zero) differs = absurd (differs r
 beside_error output error error_too files place differs = refl
 
 -- what stopped a step did so after the message too
-stops_still : {told : Bool} {tool : Tool} {text : List ℕ} (step : Step) {mid new : List Slot} (fault : Fault) (place count : ℕ) → IsAt fault 2 place count → HasError mid → SaysOn told tool text mid new → Stops step mid fault → Stops step new fault
+stops_still : {Change : Slot → Slot → Type 0} (step : Step) {mid new : List Slot} (fault : Fault) (place count : ℕ) → IsAt fault 2 place count → HasError mid → OnError Change mid new → Stops step mid fault → Stops step new fault
 stops_still step {mid} {new} (Write slot) place count from has says stops = grind (arith, common_steps, beside_error)
 stops_still step fault place count from has says stops = stops
 
@@ -239,18 +233,18 @@ named_same (Write (suc zero)) output error after since is = is
 named_same (Open (suc zero)) output error after since is = is
 named_same fault output error after since is = refl
 
-module _ (told : Bool) (tool : Tool) (text : List ℕ) where
+module _ (told : Bool) (Change : Slot → Slot → Type 0) (keeps : (old new : Slot) → Change old new → new.name ≡ old.name) where
   -- a message after the files were removed changes standard error alone, and no name
   pub record SaidSwept (clears : Bool) (first : ℕ) (output error : Slot) (since mid new : List Slot) : Type 0 where
     pub after : Slot
-    pub says : Says told tool text error after
+    pub says : Change error after
     pub swept : Swept clears first (output ∷ after ∷ since) new
     pub named : (fault : Fault) → output_named new fault ≡ output_named mid fault
 
-  said_named : {output error : Slot} {since mid new : List Slot} {after : Slot} → mid ≡ output ∷ error ∷ since → Says told tool text error after → new ≡ output ∷ after ∷ since → (fault : Fault) → output_named new fault ≡ output_named mid fault
-  said_named {output} {error} {since} {after} was says is fault = rw (is, named_same fault output error after since (printed_named says.printed), was)
+  said_named : {output error : Slot} {since mid new : List Slot} {after : Slot} → mid ≡ output ∷ error ∷ since → Change error after → new ≡ output ∷ after ∷ since → (fault : Fault) → output_named new fault ≡ output_named mid fault
+  said_named {output} {error} {since} {after} was says is fault = rw (is, named_same fault output error after since (keeps _ _ says), was)
 
-  pub said_swept : (clears : Bool) {output error : Slot} {since : List Slot} (mid new : List Slot) (first : ℕ) → 2 ≤ first → Swept clears first (output ∷ error ∷ since) mid → SaysOn told tool text mid new → SaidSwept clears first output error since mid new
+  pub said_swept : (clears : Bool) {output error : Slot} {since : List Slot} (mid new : List Slot) (first : ℕ) → 2 ≤ first → Swept clears first (output ∷ error ∷ since) mid → OnError Change mid new → SaidSwept clears first output error since mid new
   said_swept false {output} {error} {since} mid new first past same says =
       let said = says output error since same in record { after = said.0; says = said.1; swept = said.2; named = said_named same said.1 said.2 }
   said_swept true {output} {error} mid new first past swept says =
@@ -265,7 +259,7 @@ module _ (told : Bool) (tool : Tool) (text : List ℕ) where
   -- what a fault left, once its files were removed and its message was said
   pub record ToldStop (step : Step) (output error : Slot) (low high : Part) (fault : Fault) (clears : Bool) (first : ℕ) (mid new : List Slot) : Type 0 where
     pub after : Slot
-    pub says : Says told tool text error after
+    pub says : Change error after
     pub reached : List Slot
     pub stop : StoppedBetween step.output told (output ∷ after ∷ []) low high fault reached
     pub why : Stops step reached fault
@@ -273,15 +267,15 @@ module _ (told : Bool) (tool : Tool) (text : List ℕ) where
     pub named : output_named new fault ≡ output_named mid fault
 
   pub stop_swept : (step : Step) (clears : Bool) {output error : Slot} {low high : Part} {fault : Fault} {reached mid new : List Slot} {first : ℕ} → 2 ≤ first → is_open error.state ≡ true → StoppedBetween step.output told (output ∷ error ∷ []) low high fault reached
-      → Stops step reached fault → Swept clears first reached mid → SaysOn told tool text mid new → ToldStop step output error low high fault clears first mid new
+      → Stops step reached fault → Swept clears first reached mid → OnError Change mid new → ToldStop step output error low high fault clears first mid new
   stop_swept step clears {fault} {reached} {mid} {new} {first} past opened stop why swept says =
       let has = stop_error opened stop in
       let said = said_swept clears mid new first past (rw has.are at swept) says in
       -- the same text said of outputs with the same streams
-      let too : SaysOn told tool text reached (has.output ∷ said.after ∷ has.since) = λ top other rest is.
+      let too : OnError Change reached (has.output ∷ said.after ∷ has.since) = λ top other rest is.
       let same : has.output ∷ has.error ∷ has.since ≡ top ∷ other ∷ rest = sym has.are ∙ is in
-      let was : has.error ≡ other = cc in (said.after, subst (λ those. Says told tool text those said.after) was said.says, cc) in
-      let told_so = stop_said told tool text stop too in record {
+      let was : has.error ≡ other = cc in (said.after, subst (λ those. Change those said.after) was said.says, cc) in
+      let told_so = stop_said told Change stop too in record {
         after = told_so.0;
         says = told_so.1;
         reached = has.output ∷ said.after ∷ has.since;

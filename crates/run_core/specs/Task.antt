@@ -3,8 +3,8 @@ use Rattle.std.specs.Prelude.{is_some, ℕ, ◌||◌, ◌&&◌, Bool, true, fals
 use Rattle.ports_core.specs.Part.{Part, nothing, only_out}
 use Rattle.ports_core.specs.Source.{Content}
 use Rattle.ports_core.specs.Work.{Work, Needs}
-use Rattle.ports_core.specs.Text.{message_of, header_of}
-use Rattle.ports_core.specs.declared.tool.Tool.{Tool}
+use Rattle.ports_core.specs.Text.{Message, message_of, header_of}
+use Rattle.ports_core.specs.declared.calling.Speaker.{Speaker}
 use Rattle.ports_core.specs.declared.fault.Fault.TheVariants.{Read, Open}
 use Rattle.ports_core.specs.declared.fault.Fault.TheVariants as fault_is
 use Rattle.ports_core.specs.declared.verdict.Verdict.{Verdict}
@@ -13,7 +13,8 @@ use Rattle.run_core.specs.Input.{Input}
 
 -- what a run does with each of its inputs
 pub record Task : Type 0 where
-  pub tool : Tool
+  -- who speaks in its messages
+  pub speaker : Speaker
   -- what it makes of an input which says that it has this many bytes; 0 where it doesn't say
   pub work : ℕ → Work
   -- what opening its engine may need
@@ -27,8 +28,8 @@ pub record Task : Type 0 where
 pub record Outcome : Type 0 where
   -- standard output, and the files in order
   pub part : Part
-  -- the texts on standard error, in order
-  pub messages : List (List ℕ)
+  -- what is said on standard error, in order
+  pub messages : List Message
   -- a fault was met
   pub failed : Bool
   -- the files are removed in the end
@@ -56,9 +57,9 @@ abbrev pub header_text : Bool → Bool → List ℕ → List ℕ
 header_text with_header is_first name = if with_header then header_of name is_first else []
 
 -- the message for the verdict with which the work ends, if there is one
-abbrev pub verdict_messages : Task → Option Verdict → List (List ℕ)
+abbrev pub verdict_messages : Task → Option Verdict → List Message
 verdict_messages task None = []
-verdict_messages task (Some verdict) = message_of task.tool (fault_is.Verdict verdict) (task.subject verdict) ∷ []
+verdict_messages task (Some verdict) = message_of (fault_is.Verdict verdict) (task.subject verdict) ∷ []
 
 -- the work ends with a verdict, or the input breaks off before it is done
 abbrev pub ends_badly : Work → Content → Bool
@@ -69,11 +70,11 @@ ends_badly work content = if is_enough work content then is_some (work.verdict c
 -- off. After either the files go if the work clears them.
 abbrev pub of_content : Task → Work → Bool → List ℕ → Option Content → Outcome
 of_content task work is_first name None =
-    record no_outcome { messages = message_of task.tool (Open 0) name ∷ []; failed = true }
+    record no_outcome { messages = message_of (Open 0) name ∷ []; failed = true }
 of_content task work is_first name (Some content) = record {
   part = after_part (only_out (header_text task.with_header is_first name)) (made_of work content);
   messages = if is_enough work content then verdict_messages task (work.verdict content.bytes)
-      else message_of task.tool (Read 0) name ∷ [];
+      else message_of (Read 0) name ∷ [];
   failed = ends_badly work content;
   sweeps = work.clears && ends_badly work content;
 }

@@ -3,7 +3,7 @@ ghost use Rattle.ports_core.specs.Slot.{is_writable};
 ghost use Rattle.run_core.specs.Task.{Task};
 ghost use Rattle.run_core.specs.RunSteps.{Opens, OpensShort};
 
-use ports_core::{Fault, Guarded, Outs, Stage, Tool, Verdict};
+use ports_core::{Fault, Guarded, Outs, Speaker, Stage, Verdict};
 use std::alloc::Global;
 
 /// What a run knows of a tool that feeds each of its inputs to an engine of its own.
@@ -14,9 +14,9 @@ pub trait Adapter {
     /// What it does with its inputs.
     ghost task: { Self → Task };
 
-    /// The tool, which speaks in its messages.
-    fn tool(&self) -> Tool
-        ensures { result ≡ (task self.now).tool };
+    /// Who speaks in its messages: the tool, as it was called.
+    fn speaker(&self) -> Speaker
+        ensures { result ≡ (task self.now).speaker };
 
     /// Whether a header goes before each input.
     fn with_header(&self) -> bool

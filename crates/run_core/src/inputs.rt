@@ -10,13 +10,17 @@ ghost use Rattle.run_core.specs.Reading.{IsDone, Leaves, count_after};
 ghost use Rattle.ports_core.specs.Inputs.{AsksAtMost, largest_piece};
 ghost use Rattle.run_core.specs.inner.RunSteps.{TakesOne, HasStreams, HeaderFails, IsComing, KeepsOther, OfName, OfSource, TookAll, TookInput, input_from, standard_source};
 ghost use Rattle.run_core.specs.RunEnds.{EndsAs, RunsOver};
+ghost use Rattle.ports_core.specs.Message.{SaysOn};
 ghost use Rattle.ports_core.specs.Streams.{streams_with};
+ghost use Rattle.ports_core.specs.Text.{message_of};
 ghost use Rattle.run_core.specs.RunSteps.{world_of};
 ghost use Rattle.run_core.specs.Task.{Task, header_text, of_content, of_input};
 
 use crate::adapter::Adapter;
 use crate::feeding::{Fed, feed_input, feed_nothing};
-use ports_core::{Fault, Inputs, Outs, PIECE, STANDARD_INPUT, header, say, tell, write_whole};
+use ports_core::{
+    Fault, Inputs, Outs, PIECE, Reason, STANDARD_INPUT, header, say, tell, write_whole,
+};
 use std::alloc::Global;
 
 /// What all inputs of a run have in common.
@@ -56,21 +60,18 @@ pub fn run_inputs<A: Adapter, I: Inputs, O: Outs>(
         → source_at (I.sources inputs.new) 0 ≡ source_at (I.sources inputs.old) 0 }
     ensures ends { RunsOver I.told (world_of (I.laid inputs.old) (I.sources inputs.old))
         (map (λ name. name.now) names.now)
-        (λ found. EndsAs I.told O.told (A.task adapter.now) found (I.sources inputs.new) (O.slots outs.new) result) }
+        (λ found. EndsAs I.told O.told O.breaks_for (A.task adapter.now) found (I.sources inputs.new)
+        (O.slots outs.new) result) }
     ensures opened { length (I.sources inputs.new) ≤ count_after 1 (map (λ name. name.now) names.now) }
     ensures asked { AsksAtMost largest_piece (I.sources inputs.new) }
 {
     let job = Job { alloc, adapter };
     let Ok(mut buffer) = vec![in alloc; 0u8; PIECE] else {
-        tell(alloc, adapter.tool(), &Fault::Memory, outs);
-        return 1;
+        return tell(alloc, adapter.speaker(), &Fault::Memory, outs);
     };
     match take_names(&job, names, &mut buffer, inputs, outs) {
         Ok(failed) => u8::from(failed),
-        Err(fault) => {
-            tell(alloc, adapter.tool(), &fault, outs);
-            1
-        }
+        Err(fault) => tell(alloc, adapter.speaker(), &fault, outs),
     }
 }
 
@@ -164,10 +165,10 @@ fn take_name<A: Adapter, I: Inputs, O: Outs>(
     match inputs.open(name) {
         Ok(slot) => take_input(job, name, Some(slot), progress, buffer, inputs, outs),
         Err(fault) => {
-            let Fault::Open(_) = fault else {
+            let Fault::Open(slot) = fault else {
                 return Err(fault);
             };
-            say(job.alloc, job.adapter.tool(), &fault, name, outs);
+            say_why(job, Some(slot), &fault, name, inputs, outs);
             Ok(Progress {
                 failed: true,
                 ..progress
@@ -233,7 +234,7 @@ fn take_input<A: Adapter, I: Inputs, O: Outs>(
         Ok(Fed::Whole) => Ok(after),
         Ok(Fed::Enough) => Ok(after),
         Ok(Fed::Broken) => {
-            say(job.alloc, job.adapter.tool(), &Fault::Read(0), name, outs);
+            say_why(job, source, &Fault::Read(0), name, inputs, outs);
             Ok(Progress {
                 failed: true,
                 ..after
@@ -244,12 +245,47 @@ fn take_input<A: Adapter, I: Inputs, O: Outs>(
                 return Err(fault);
             };
             let subject = job.adapter.subject(&verdict);
-            say(job.alloc, job.adapter.tool(), &fault, subject, outs);
+            say(
+                job.alloc,
+                job.adapter.speaker(),
+                Reason::Other,
+                &fault,
+                subject,
+                outs,
+            );
             Ok(Progress {
                 failed: true,
                 ..after
             })
         }
+    }
+}
+
+/// Says that an input can't be opened or read, and why.
+fn say_why<A: Adapter, I: Inputs, O: Outs>(
+    job: &Job<'_, A>,
+    source: Option<usize>,
+    fault: &Fault,
+    name: &str,
+    inputs: &I,
+    outs: &mut O,
+)
+    requires { is_open (slot_at (O.slots outs.old) 1).state ≡ true }
+    ensures { (why : Reason) × IfSome source (λ slot. IsTrue (I.breaks_for slot why))
+        × SaysOn O.told (A.task job.now.adapter.now).speaker why (message_of fault.now name.now) (O.slots outs.old)
+        (O.slots outs.new) }
+{
+    let why = reason_of(source, inputs);
+    say(job.alloc, job.adapter.speaker(), why, fault, name, outs);
+}
+
+/// Why a source broke; one that is no input never does.
+fn reason_of<I: Inputs>(source: Option<usize>, inputs: &I) -> Reason
+    ensures { IfSome source (λ slot. IsTrue (I.breaks_for slot result)) }
+{
+    match source {
+        Some(slot) => inputs.reason(slot),
+        None => Reason::Other,
     }
 }
 

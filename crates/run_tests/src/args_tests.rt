@@ -1,15 +1,16 @@
 //! Words that the system gives as bytes.
+use ports_core::Calling;
 use std::alloc::Global;
 use std::env::{Env, FillError};
 use words_core::{ArgsFault, read_args};
 
 /// Arguments in memory.
 #[derive(Clone, Copy)]
-pub(crate) struct Args<'a> {
+pub(crate) struct Given<'a> {
     pub words: &'a [&'a [u8]],
 }
 
-impl<'a> Env for Args<'a> {
+impl<'a> Env for Given<'a> {
     fn arg(&self, i: usize, buf: &mut [u8]) -> Result<usize, FillError> {
         let Some(word) = self.words.get(i) else {
             return Err(FillError::NotPresent);
@@ -35,16 +36,16 @@ const LONG: &[u8] = &[b'a'; 1000];
 
 /// Whether the words are refused, since the one at this place is no text.
 fn refuses(alloc: Global, words: &[&[u8]], place: usize) -> bool {
-    match read_args(&Args { words }, alloc) {
+    match read_args(&Given { words }, alloc) {
         Ok(_) => false,
         Err(fault) => fault == ArgsFault::NotUtf8(place),
     }
 }
 
-/// Whether the words are read as these.
-fn reads(alloc: Global, words: &[&[u8]], wanted: &[&[u8]]) -> bool {
-    match read_args(&Args { words }, alloc) {
-        Ok(found) => are(&found, wanted),
+/// Whether the words are read as these of a program that is called so.
+fn reads(alloc: Global, words: &[&[u8]], calling: Calling, wanted: &[&[u8]]) -> bool {
+    match read_args(&Given { words }, alloc) {
+        Ok(found) => found.calling == calling && are(&found.words, wanted),
         Err(_) => false,
     }
 }
@@ -62,7 +63,10 @@ fn are(found: &[String], wanted: &[&[u8]]) -> bool {
 #[test]
 fn reads_words(rt: HostRuntime) {
     for (words, wanted) in READ {
-        assert!(rt; reads(rt.alloc(), words, wanted), "{wanted:?}");
+        assert!(rt;
+            reads(rt.alloc(), words, Calling::Cutters, wanted),
+            "{wanted:?}"
+        );
     }
 }
 
@@ -72,26 +76,43 @@ const READ: &[(&[&[u8]], &[&[u8]])] = &[
     (&[], &[]),
 ];
 
-/// The program's own name, and its words where `x` follows it.
-const CALLS: &[(&[u8], &[&[u8]])] = &[
-    (b"cutters", &[b"x"]),
-    (b"head", &[b"head", b"x"]),
-    (b"/usr/bin/tail", &[b"tail", b"x"]),
-    (b"./split", &[b"split", b"x"]),
-    (b"no \xff text/csplit", &[b"csplit", b"x"]),
-    (b"//tee", &[b"tee", b"x"]),
-    (b"tee/", &[b"x"]),
-    (b"tee/cutters", &[b"x"]),
-    (b"header", &[b"x"]),
-    (b"a-head", &[b"x"]),
-    (b"", &[b"x"]),
-    (b"head\xff", &[b"x"]),
+/// Names by which the program is called as a tool, and the tool's name.
+const OWN_NAMES: &[(&[u8], &[u8])] = &[
+    (b"head", b"head"),
+    (b"/usr/bin/tail", b"tail"),
+    (b"./split", b"split"),
+    (b"no \xff text/csplit", b"csplit"),
+    (b"//tee", b"tee"),
 ];
 
 #[test]
 fn is_called_by_a_tool(rt: HostRuntime) {
-    for (name, wanted) in CALLS {
-        assert!(rt; reads(rt.alloc(), &[*name, b"x"], wanted), "at {name:?}");
+    for (name, tool) in OWN_NAMES {
+        assert!(rt;
+            reads(rt.alloc(), &[*name, b"x"], Calling::OwnName, &[*tool, b"x"]),
+            "at {name:?}"
+        );
+    }
+}
+
+/// Names that are no tool's.
+const OTHER_NAMES: &[&[u8]] = &[
+    b"cutters",
+    b"tee/",
+    b"tee/cutters",
+    b"header",
+    b"a-head",
+    b"",
+    b"head\xff",
+];
+
+#[test]
+fn is_called_by_no_tool(rt: HostRuntime) {
+    for name in OTHER_NAMES {
+        assert!(rt;
+            reads(rt.alloc(), &[*name, b"x"], Calling::Cutters, &[b"x"]),
+            "at {name:?}"
+        );
     }
 }
 

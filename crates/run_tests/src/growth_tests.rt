@@ -7,7 +7,7 @@ ghost use Rattle.ports_core.specs.Slot.{streams};
 ghost use Rattle.mem_core.specs.MemWatchState.{seen};
 
 use crate::about_tests::HEAD_HELP;
-use crate::args_tests::Args;
+use crate::args_tests::Given;
 use crate::follow_tests::{Row as Followed, TRUNCATED, TWO_FILES, watch_of};
 use crate::left::{
     File, Left, NOTHING, Plan, Run as Planned, differs, planned_inputs, planned_outs,
@@ -23,7 +23,7 @@ use std::process::Abort;
 use std::test::Fail;
 use tools_core::run::run;
 use tools_core::run_follow;
-use words_core::{ArgsFault, read_args};
+use words_core::{Args, ArgsFault, read_args};
 
 /// A run, what is planned for it, and all that it may say where a growth is refused.
 #[derive(Clone, Copy)]
@@ -409,27 +409,27 @@ const FOLLOWED: &[(Followed<'static>, &[&[u8]])] = &[
 ];
 
 /// A tool's name by which the program is called, and a word that needs more room than words are first given.
-const ARGS: Args<'static> = Args {
+const GIVEN: Given<'static> = Given {
     words: &[b"bin/head", &[b'a'; 300]],
 };
 
 #[test]
 fn args_are_read(rt: HostRuntime) {
-    assert!(rt; has_args(&read_args(&ARGS, rt.alloc())));
+    assert!(rt; has_args(&read_args(&GIVEN, rt.alloc())));
 }
 
 #[test]
 fn args_are_read_or_are_refused(rt: HostRuntime) {
-    if let Err(fault) = read_args(&ARGS, rt.alloc()) {
+    if let Err(fault) = read_args(&GIVEN, rt.alloc()) {
         assert!(rt; fault == ArgsFault::Memory);
-        assert!(rt; has_args(&read_args(&ARGS, rt.alloc())));
+        assert!(rt; has_args(&read_args(&GIVEN, rt.alloc())));
     }
 }
 
 /// Whether these are the tool's name and the word after it.
-fn has_args(read: &Result<Vec<String>, ArgsFault>) -> bool {
+fn has_args(read: &Result<Args, ArgsFault>) -> bool {
     match read {
-        Ok(words) => words.len() == 2,
+        Ok(args) => args.words.len() == 2,
         Err(_) => false,
     }
 }

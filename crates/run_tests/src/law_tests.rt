@@ -10,7 +10,7 @@ ghost use Rattle.seg_core.specs.declared.cut.Limit.TheVariants.{Bytes};
 ghost use Rattle.seg_core.specs.declared.cut.Way.TheVariants.{Cut};
 ghost use Rattle.ports_core.specs.Slot.{Slot, slot_at, streams};
 ghost use Rattle.ports_core.specs.Source.{source_of};
-ghost use Rattle.tools_core.specs.Promises.{AreCopies, Does, CountAlike, HasInput, IsBare, OnlyGrows, Ran, Run, SkipNothing, counted};
+ghost use Rattle.tools_core.specs.Promises.{forgives_gone, AreCopies, Does, CountAlike, HasInput, IsBare, OnlyGrows, Ran, Run, SkipNothing, counted};
 ghost use Rattle.tools_core.specs.Tasks.{is_plus, names_of};
 ghost use Rattle.words_core.specs.CsplitWords.{CsplitAsked};
 ghost use Rattle.words_core.specs.EndsWords.{EndsAsked};
@@ -22,7 +22,7 @@ ghost use Rattle.words_core.specs.declared.settings.Settings.{Settings};
 ghost use Rattle.words_core.specs.declared.settings.Settings.TheVariants.{Csplit, Head, Split, Tail, Tee};
 
 use mem_core::{Edit, MemIn, MemOut, MemWatch};
-use ports_core::{Fault, Outs};
+use ports_core::{Calling, Fault, Outs};
 use std::alloc::Global;
 use std::process::Abort;
 use std::test::Fail;
@@ -50,24 +50,31 @@ fn ran(
     outs: &mut MemOut,
 ) -> Result<u8, Fault>
     requires { outs.old ≡ streams }
-    ensures { (asked : Settings) → settings_of (map (λ word. word.now) words.now) ≡ Ok asked → names_of asked ≡ codes "-" ∷ [] → follows asked ≡ false
-        → IfOk result (λ status. (one : Run) × Ran one asked × HasInput one bytes.now × (one.words ≡ map (λ word. word.now) words.now) × (one.outputs ≡ outs.new) × (one.status ≡ status)) }
+    ensures { (asked : Settings) → settings_of Calling.Cutters (map (λ word. word.now) words.now) ≡ Ok asked → names_of asked ≡ codes "-" ∷ [] → follows asked ≡ false
+        → IfOk result (λ status. (one : Run) × Ran one asked × HasInput one bytes.now × (one.calling ≡ Calling.Cutters) × (one.words ≡ map (λ word. word.now) words.now) × (one.outputs ≡ outs.new) × (one.status ≡ status)) }
 {
     program_makes_these_runs();
     let mut inputs = standard_input(alloc, bytes, pieces)?;
     let mut watch = MemWatch::new(alloc)?;
-    Ok(run_words(alloc, words, &mut inputs, &mut watch, outs))
+    Ok(run_words(
+        alloc,
+        Calling::Cutters,
+        words,
+        &mut inputs,
+        &mut watch,
+        outs,
+    ))
 }
 
-/// What a run of the words leaves of these bytes, if its status is 0.
+/// What a run of the words leaves of these bytes, if its status is 0. A reader that is gone is a fault for them.
 fn left_of(
     alloc: Global,
     words: &[&str],
     bytes: &[u8],
     pieces: usize,
 ) -> Result<Option<MemOut>, Fault>
-    ensures { (asked : Settings) → settings_of (map (λ word. word.now) words.now) ≡ Ok asked → names_of asked ≡ codes "-" ∷ [] → follows asked ≡ false
-        → IfOk result (λ left. IfSome left (λ outs. (one : Run) × Does one asked × HasInput one bytes.now × (one.words ≡ map (λ word. word.now) words.now) × (one.outputs ≡ outs))) }
+    ensures { (asked : Settings) → settings_of Calling.Cutters (map (λ word. word.now) words.now) ≡ Ok asked → names_of asked ≡ codes "-" ∷ [] → follows asked ≡ false → forgives_gone asked ≡ false
+        → IfOk result (λ left. IfSome left (λ outs. (one : Run) × Does one asked × HasInput one bytes.now × (one.calling ≡ Calling.Cutters) × (one.words ≡ map (λ word. word.now) words.now) × (one.outputs ≡ outs))) }
 {
     let mut outs = MemOut::new(alloc)?;
     if ran(alloc, words, bytes, pieces, &mut outs)? != 0 {
@@ -79,8 +86,8 @@ fn left_of(
 /// What `head` and then `tail` write of the same bytes, if both go well: all of them, where `tail` begins with the line or byte
 /// after those that `head` writes.
 fn met(alloc: Global, head: &[&str], tail: &[&str], bytes: &[u8]) -> Result<Option<Vec<u8>>, Fault>
-    ensures { (first rest : EndsAsked) (n looks pause : ℕ) → settings_of (map (λ word. word.now) head.now) ≡ Ok (Head (counted first Plain n))
-        → settings_of (map (λ word. word.now) tail.now) ≡ Ok (Tail (record { ends = counted rest Plus (n + 1); followed = None; looks = looks; pause = pause; process = None }))
+    ensures { (first rest : EndsAsked) (n looks pause : ℕ) → settings_of Calling.Cutters (map (λ word. word.now) head.now) ≡ Ok (Head (counted first Plain n))
+        → settings_of Calling.Cutters (map (λ word. word.now) tail.now) ≡ Ok (Tail (record { ends = counted rest Plus (n + 1); followed = None; looks = looks; pause = pause; process = None }))
         → CountAlike first rest → first.names ≡ codes "-" ∷ [] → rest.names ≡ codes "-" ∷ []
         → IfOk result (λ both. IfSome both (λ all. all.items ≡ bytes.now)) }
 {
@@ -105,7 +112,7 @@ fn first_and_rest(alloc: Global, bytes: &[u8]) -> Result<Option<Vec<u8>>, Fault>
 
 /// The files into which `split -b` cuts these bytes, if that goes well: joined they are the bytes.
 fn pieces(alloc: Global, words: &[&str], bytes: &[u8]) -> Result<Option<MemOut>, Fault>
-    ensures { (asked : SplitAsked) (n : ℕ) → settings_of (map (λ word. word.now) words.now) ≡ Ok (Split asked) → asked.input ≡ codes "-" → asked.way ≡ Cut (Parts (Bytes n))
+    ensures { (asked : SplitAsked) (n : ℕ) → settings_of Calling.Cutters (map (λ word. word.now) words.now) ≡ Ok (Split asked) → asked.input ≡ codes "-" → asked.way ≡ Cut (Parts (Bytes n))
         → IfOk result (λ left. IfSome left (λ outs. joined (map (λ (file : Slot). file.written) (drop 2 outs)) ≡ bytes.now)) }
 {
     split_loses_nothing();
@@ -114,7 +121,7 @@ fn pieces(alloc: Global, words: &[&str], bytes: &[u8]) -> Result<Option<MemOut>,
 
 /// What `tee` leaves of these bytes, if that goes well: standard output and each file that is named has them.
 fn copied(alloc: Global, words: &[&str], bytes: &[u8]) -> Result<Option<MemOut>, Fault>
-    ensures { (asked : TeeAsked) → settings_of (map (λ word. word.now) words.now) ≡ Ok (Tee asked)
+    ensures { (asked : TeeAsked) → settings_of Calling.Cutters (map (λ word. word.now) words.now) ≡ Ok (Tee asked) → forgives_gone (Tee asked) ≡ false
         → IfOk result (λ left. IfSome left (λ outs. ((slot_at outs 0).written ≡ bytes.now) × AreCopies asked.mode asked.names bytes.now (drop 2 outs))) }
 {
     tee_copies();
@@ -124,7 +131,7 @@ fn copied(alloc: Global, words: &[&str], bytes: &[u8]) -> Result<Option<MemOut>,
 /// The files into which `csplit` cuts these bytes, if that goes well: joined they are the bytes, where no section is skipped and no
 /// line is left out at a cut.
 fn sections(alloc: Global, words: &[&str], bytes: &[u8]) -> Result<Option<MemOut>, Fault>
-    ensures { (asked : CsplitAsked) → settings_of (map (λ word. word.now) words.now) ≡ Ok (Csplit asked) → asked.input ≡ codes "-" → asked.style.suppress ≡ false → SkipNothing asked.operands
+    ensures { (asked : CsplitAsked) → settings_of Calling.Cutters (map (λ word. word.now) words.now) ≡ Ok (Csplit asked) → asked.input ≡ codes "-" → asked.style.suppress ≡ false → SkipNothing asked.operands
         → IfOk result (λ left. IfSome left (λ outs. joined (map (λ (file : Slot). file.written) (drop 2 outs)) ≡ bytes.now)) }
 {
     csplit_loses_nothing();
@@ -136,7 +143,7 @@ fn sections(alloc: Global, words: &[&str], bytes: &[u8]) -> Result<Option<MemOut
 fn grown(alloc: Global, words: &[&str], watch: &mut MemWatch) -> Result<Option<MemOut>, Fault>
     requires seen { seen watch.old ≡ [] }
     requires watched { watch.old.watched ≡ [] }
-    ensures { (options : EndsAsked) (followed : Followed) (name came : List ℕ) (file n pause : ℕ) → settings_of (map (λ word. word.now) words.now) ≡ Ok (Tail (record { ends = options; followed = Some followed; looks = n + 1; pause = pause; process = None }))
+    ensures { (options : EndsAsked) (followed : Followed) (name came : List ℕ) (file n pause : ℕ) → settings_of Calling.Cutters (map (λ word. word.now) words.now) ≡ Ok (Tail (record { ends = options; followed = Some followed; looks = n + 1; pause = pause; process = None }))
         → IsBare options → options.names ≡ name ∷ [] → ((count : ℕ) → OnlyGrows count (shows watch.old) name file) → (shows watch.old n).holds file ≡ (shows watch.old 0).holds file ++ came
         → IfOk result (λ left. IfSome left (λ outs. (slot_at outs 0).written ≡ tail_of options.delim options.unit (is_plus options.count.sign) options.count.amount ((shows watch.old 0).holds file) ++ came)) }
 {
@@ -144,7 +151,15 @@ fn grown(alloc: Global, words: &[&str], watch: &mut MemWatch) -> Result<Option<M
     tail_follows();
     let mut inputs = standard_input(alloc, b"", 1)?;
     let mut outs = MemOut::new(alloc)?;
-    if run_words(alloc, words, &mut inputs, watch, &mut outs) != 0 {
+    if run_words(
+        alloc,
+        Calling::Cutters,
+        words,
+        &mut inputs,
+        watch,
+        &mut outs,
+    ) != 0
+    {
         return Ok(None);
     }
     Ok(Some(outs))
@@ -152,7 +167,7 @@ fn grown(alloc: Global, words: &[&str], watch: &mut MemWatch) -> Result<Option<M
 
 /// What the words leave of these bytes where they come byte by byte, and where they come whole, if both go well: the same.
 fn both(alloc: Global, words: &[&str], bytes: &[u8]) -> Result<Option<(MemOut, MemOut)>, Fault>
-    ensures { (asked : Settings) → settings_of (map (λ word. word.now) words.now) ≡ Ok asked → names_of asked ≡ codes "-" ∷ [] → follows asked ≡ false
+    ensures { (asked : Settings) → settings_of Calling.Cutters (map (λ word. word.now) words.now) ≡ Ok asked → names_of asked ≡ codes "-" ∷ [] → follows asked ≡ false → forgives_gone asked ≡ false
         → IfOk result (λ left. IfSome left (λ outs. outs.0 ≡ outs.1)) }
 {
     cutting_changes_nothing();
@@ -165,10 +180,11 @@ fn both(alloc: Global, words: &[&str], bytes: &[u8]) -> Result<Option<(MemOut, M
     Ok(Some((one, other)))
 }
 
-/// The status of a run of the words over these bytes, into outputs that may fail: it is 1 where standard output broke.
+/// The status of a run of the words over these bytes, into outputs that may fail: it is 1 where standard output broke, or 141, which
+/// tells that its reader is gone.
 fn status_of(alloc: Global, words: &[&str], bytes: &[u8], outs: &mut MemOut) -> Result<u8, Fault>
     requires { outs.old ≡ streams }
-    ensures { (asked : Settings) → settings_of (map (λ word. word.now) words.now) ≡ Ok asked → names_of asked ≡ codes "-" ∷ [] → follows asked ≡ false
+    ensures { (asked : EndsAsked) → settings_of Calling.Cutters (map (λ word. word.now) words.now) ≡ Ok (Head asked) → asked.names ≡ codes "-" ∷ []
         → IfOk result (λ status. (slot_at outs.new 0).is_broken ≡ true → status ≡ 1) }
 {
     faults_leave_a_beginning();

@@ -22,6 +22,8 @@ mod law_tests;
 #[cfg(test)]
 mod left;
 #[cfg(test)]
+mod own_name_tests;
+#[cfg(test)]
 mod pages;
 #[cfg(test)]
 mod promise_tests;

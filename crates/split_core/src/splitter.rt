@@ -141,8 +141,8 @@ impl Stage for Splitter {
         let _ = outs;
     }
 
-    /// Where one chunk is written, once it and those before it have all that goes with them; else never: that the input needs more files than there
-    /// are names is a fault.
+    /// Where one chunk is written, once it and those before it have all that goes with them; else never: that the input needs
+    /// more files than there are names is a fault.
     fn is_done(&self) -> bool
         ensures { (x : List ℕ) → Holds self.now x → result ≡ (work self.now).is_complete x }
     {

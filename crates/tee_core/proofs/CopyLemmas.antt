@@ -2,17 +2,18 @@
 use Rattle.std.proofs.lemmas.Grind.{common_steps}
 use Rattle.std.proofs.lemmas.Bool.Decides.{nat_tests}
 use Rattle.std.proofs.lemmas.Bool.{cond_both, false≢true}
-use Rattle.std.proofs.Common.{◌≡◌, ℕ, ◌+◌, ◌<◌, zero, suc, List, [], ◌∷◌, ◌++◌, length, map, take, drop, get_or, set, Bor, Bool, true, false, not, ◌&&◌, if◌then◌else◌, refl, sym, ◌∙◌, ap, arith, append_assoc, ◌≤◌, Option, Some, None, inl, inr, length-append, append-nil, is_none}
+use Rattle.std.proofs.Common.{◌≡◌, ℕ, ◌+◌, ◌<◌, zero, suc, List, [], ◌∷◌, ◌++◌, length, map, take, codes, get_or, set, Bor, Bool, true, false, if◌then◌else◌, refl, sym, ◌∙◌, ap, arith, append_assoc, ◌≤◌, Option, Some, None, inl, inr, length-append, append-nil}
 use Rattle.std.proofs.Math.ListN.{get_or-map}
 use Rattle.std.proofs.lemmas.List.{append-nil, length-map}
 use Rattle.ports_core.specs.Slot.{Slot, no_slot, slot_at, is_open, changed_at, opened, adds, breaks, told_of}
-use Rattle.ports_core.specs.Text.{message_of}
+use Rattle.ports_core.specs.Text.{Message, message_of}
 use Rattle.ports_core.specs.Message.{SaysOn, SaysAll}
-use Rattle.ports_core.specs.declared.tool.Tool.TheVariants.{Tee}
+use Rattle.ports_core.specs.declared.calling.Calling.{Calling}
+use Rattle.ports_core.specs.declared.reason.Reason.{Reason}
 use Rattle.ports_core.specs.declared.fault.Fault.{Fault}
 use Rattle.ports_core.proofs.MessageLemmas.{all_said_state, says_more, says_after}
-use Rattle.tee_core.specs.Run.{EachFile, FilesLeft, no_file, one_file, output_names, OutputLeft, output_whole, output_cut, broke_before, broken_before, broke_in, fault_in, is_done, said_in, said_before, FileLeft, file_whole, file_unopened, file_cut, file_unclosed, said_of_input}
-use Rattle.tee_core.specs.inner.Steps.{HasStreams, SaysTo, broken_of, output_slot, said_since, Copies, FileHas, has_all, has_none, has_begun, IsTeeOf, HasCopied}
+use Rattle.tee_core.specs.Run.{output_slot, Break, EachFile, no_file, one_file, output_names, OutputLeft, output_whole, output_cut, fault_in, is_done, lost_as, said_in, said_before, FileLeft, file_whole, file_unopened, file_cut, file_unclosed, said_of_input, standing_before, standing_of, standings_before, tee_called, tells_in}
+use Rattle.tee_core.specs.inner.Steps.{HasStreams, SaysTo, Sees, SeesAll, broken_of, is_lost, said_since, tells, Copies, FileHas, has_all, has_none, has_begun, IsTeeOf, HasCopied}
 use Rattle.std.specs.List.{concat}
 use Rattle.std.proofs.lemmas.List.Folds.{concat-append}
 use Rattle.ports_core.specs.declared.on_broken.OnBroken.{OnBroken}
@@ -20,30 +21,83 @@ use Rattle.ports_core.specs.declared.slot.Mode.{Mode}
 use Rattle.ports_core.specs.Streams.{standard_output, standard_error}
 use Rattle.tee_core.specs.Outputs.{ChangesEach, Gets, gets_all, breaks_off, gets_none, IsFile, IsOutput, IsReady, IsUsable, Closes, is_closed, fails_to_close, was_broken}
 use Rattle.tee_core.specs.TeeState.{TeeState}
+use Rattle.tee_core.specs.declared.standing.Standing.{Standing}
+use Rattle.tee_core.specs.declared.standing.Standing.TheVariants.{Sound, Broken, Gone}
 use Rattle.ports_core.proofs.Runs.{adds_both}
+
+-- how an output stands
+
+sound_is : (now : Standing) → is_lost now ≡ false → now ≡ Sound
+sound_is Sound sound = refl
+sound_is Broken sound = absurd (false≢true (sym sound))
+sound_is Gone sound = absurd (false≢true (sym sound))
+
+abbrev gone_is : Standing → Bool
+gone_is Gone = true
+gone_is other = false
+
+lost_is : (now : Standing) → is_lost now ≡ true → lost_as (gone_is now) ≡ now
+lost_is Sound lost = absurd (false≢true lost)
+lost_is Broken lost = refl
+lost_is Gone lost = refl
+
+is_lost-lost_as : (gone : Bool) → is_lost (lost_as gone) ≡ true
+is_lost-lost_as true = refl
+is_lost-lost_as false = refl
+
+-- of one that is known nothing is said
+tells_known : (on_broken : OnBroken) (was now : Standing) → is_lost was ≡ true → tells on_broken was now ≡ false
+tells_known on_broken Sound now lost = absurd (false≢true lost)
+tells_known on_broken Broken now lost = refl
+tells_known on_broken Gone now lost = refl
+
+tells_same : (on_broken : OnBroken) (was : Standing) → tells on_broken was was ≡ false
+tells_same on_broken Sound = refl
+tells_same on_broken Broken = refl
+tells_same on_broken Gone = refl
 
 -- what is said of one output
 
-abbrev said_one : Fault → List ℕ → Bool → Bool → List (List ℕ)
-said_one fault name was now = if not was && now then message_of Tee fault name ∷ [] else []
+abbrev said_one : OnBroken → Fault → List ℕ → Standing → Standing → List Message
+said_one on_broken fault name was now = if tells on_broken was now then message_of fault name ∷ [] else []
 
-said_next : (fault : Fault) (names : List (List ℕ)) (known broken : List Bool) (n : ℕ) → n < length names → length known ≡ length names → length broken ≡ length names
-    → said_since fault (drop n names) (drop n known) (drop n broken) ≡ said_one fault (get_or names n []) (get_or known n false) (get_or broken n false) ++ said_since fault (drop (suc n) names) (drop (suc n) known) (drop (suc n) broken)
-said_next fault (name ∷ names) (was ∷ known) (now ∷ broken) zero within known_many many = grind (arith, nat_tests)
-said_next fault (name ∷ names) (was ∷ known) (now ∷ broken) (suc n) within known_many many = said_next fault names known broken n (omega arith) (omega (arith, known_many)) (omega (arith, many))
-said_next fault names known broken n within known_many many = absurd (omega (arith, known_many, many))
+none_said : (on_broken : OnBroken) (fault : Fault) (names : List (List ℕ)) (known : List Standing) → said_since on_broken fault names known known ≡ []
+none_said on_broken fault [] known = refl
+none_said on_broken fault (name ∷ names) [] = refl
+none_said on_broken fault (name ∷ names) (was ∷ known) = rw (tells_same on_broken was) (none_said on_broken fault names known)
 
--- flags that are brought up to date one after another
+-- outputs up to a place that were looked at, and after it those that weren't
+abbrev SeenTo : ℕ → List Standing → List Bool → List Standing → Type 0
+SeenTo zero known broken nows = nows ≡ known
+SeenTo (suc n) (was ∷ known) (is_broken ∷ broken) (now ∷ nows) = Sees was is_broken now × SeenTo n known broken nows
+SeenTo (suc n) known broken nows = ⊥
 
-set_next : (n : ℕ) (known broken : List Bool) → n < length known → length broken ≡ length known → set (take n broken ++ drop n known) n (get_or broken n false) ≡ take (suc n) broken ++ drop (suc n) known
-set_next zero (was ∷ known) (now ∷ broken) within many = refl
-set_next (suc n) (was ∷ known) (now ∷ broken) within many = ap (λ rest. now ∷ rest) (set_next n known broken (omega arith) (omega (arith, many)))
-set_next n known broken within many = absurd (omega (arith, many))
+seen_next : (n : ℕ) (known : List Standing) (broken : List Bool) (nows : List Standing) {now : Standing} → n < length known → length broken ≡ length known → SeenTo n known broken nows → Sees (get_or known n Sound) (get_or broken n false) now → SeenTo (suc n) known broken (set nows n now)
+seen_next zero (was ∷ known) (is_broken ∷ broken) nows within many so_far sees = rw so_far (sees, refl)
+seen_next (suc n) (was ∷ known) (is_broken ∷ broken) (now ∷ nows) within many so_far sees = (so_far.0, seen_next n known broken nows (omega arith) (omega (arith, many)) so_far.1 sees)
+seen_next (suc n) (was ∷ known) (is_broken ∷ broken) [] within many so_far sees = absurd so_far
+seen_next n known broken nows within many so_far sees = absurd (omega (arith, many))
 
-get_next : (n : ℕ) (known broken : List Bool) (other : Bool) → n < length known → length broken ≡ length known → get_or (take n broken ++ drop n known) n other ≡ get_or known n false
-get_next zero (was ∷ known) (now ∷ broken) other within many = refl
-get_next (suc n) (was ∷ known) (now ∷ broken) other within many = get_next n known broken other (omega arith) (omega (arith, many))
-get_next n known broken other within many = absurd (omega (arith, many))
+get_next : (n : ℕ) (known : List Standing) (broken : List Bool) (nows : List Standing) (other : Standing) → n < length known → length broken ≡ length known → SeenTo n known broken nows → get_or nows n other ≡ get_or known n Sound
+get_next zero (was ∷ known) (is_broken ∷ broken) nows other within many so_far = rw so_far refl
+get_next (suc n) (was ∷ known) (is_broken ∷ broken) (now ∷ nows) other within many so_far = get_next n known broken nows other (omega arith) (omega (arith, many)) so_far.1
+get_next (suc n) (was ∷ known) (is_broken ∷ broken) [] other within many so_far = absurd so_far
+get_next n known broken nows other within many so_far = absurd (omega (arith, many))
+
+pub seen_all : (known : List Standing) (broken : List Bool) (nows : List Standing) → length broken ≡ length known → SeenTo (length known) known broken nows → SeesAll known broken nows
+seen_all [] [] nows many so_far = rw so_far tt
+seen_all (was ∷ known) (is_broken ∷ broken) (now ∷ nows) many so_far = (so_far.0, seen_all known broken nows (omega (arith, many)) so_far.1)
+seen_all (was ∷ known) (is_broken ∷ broken) [] many so_far = absurd so_far
+seen_all known broken nows many so_far = absurd (omega (arith, many))
+
+said_next : (on_broken : OnBroken) (fault : Fault) (names : List (List ℕ)) (known : List Standing) (broken : List Bool) (nows : List Standing) (n : ℕ) (now : Standing) → n < length names → length known ≡ length names → length broken ≡ length names → SeenTo n known broken nows
+    → said_since on_broken fault names known (set nows n now) ≡ said_since on_broken fault names known nows ++ said_one on_broken fault (get_or names n []) (get_or known n Sound) now
+said_next on_broken fault (name ∷ names) (was ∷ known) (is_broken ∷ broken) nows zero now within known_many many so_far =
+    rw (so_far, tells_same on_broken was, none_said on_broken fault names known) refl
+said_next on_broken fault (name ∷ names) (was ∷ known) (is_broken ∷ broken) (first ∷ nows) (suc n) now within known_many many so_far =
+    let rest = said_next on_broken fault names known broken nows n now (omega arith) (omega (arith, known_many)) (omega (arith, many)) so_far.1 in grind (arith, nat_tests, rest)
+said_next on_broken fault (name ∷ names) (was ∷ known) (is_broken ∷ broken) [] (suc n) now within known_many many so_far = absurd so_far
+said_next on_broken fault names known broken nows n now within known_many many so_far = absurd (omega (arith, known_many, many))
 
 -- where outputs stand
 
@@ -56,108 +110,142 @@ count_broken {count} has = ap (λ those. length (broken_of those)) has.are ∙ (
 
 -- standard error alone is written
 
-pub says_too : (told : Bool) (texts : List (List ℕ)) (text : List ℕ) {count : ℕ} {old : List Slot} (now new : List Slot) → HasStreams old count → SaysTo told texts old now → SaysOn told Tee text now new → SaysTo told (texts ++ text ∷ []) old new
-says_too told texts text now new has so_far says =
+pub says_too : (told : Bool) (calling : Calling) (messages : List Message) (message : Message) {count : ℕ} {old : List Slot} (now new : List Slot) {why : Reason} → HasStreams old count → SaysTo told calling messages old now → SaysOn told (tee_called calling) why message now new → SaysTo told calling (messages ++ message ∷ []) old new
+says_too told calling messages message now new {why} has so_far says =
     let first = rw has.are at so_far in let said = says has.output first.0 has.files first.2 in
-    rw has.are (said.0, says_more told Tee texts text has.error first.0 said.0 first.1 said.1, said.2)
+    rw has.are (said.0, says_more told (tee_called calling) messages message has.error first.0 said.0 first.1 (why, said.1), said.2)
 
-broken_still : (told : Bool) (texts : List (List ℕ)) (output error : Slot) (files now : List Slot) (n : ℕ) → SaysTo told texts (output ∷ error ∷ files) now → (slot_at now (output_slot n)).is_broken ≡ get_or (broken_of (output ∷ error ∷ files)) n false
-broken_still told texts output error files now n said = ap (λ those. (slot_at those (output_slot n)).is_broken) said.2 ∙ broken_at output said.0 files n
+broken_still : (told : Bool) (calling : Calling) (messages : List Message) (output error : Slot) (files now : List Slot) (n : ℕ) → SaysTo told calling messages (output ∷ error ∷ files) now → (slot_at now (output_slot n)).is_broken ≡ get_or (broken_of (output ∷ error ∷ files)) n false
+broken_still told calling messages output error files now n said = ap (λ those. (slot_at those (output_slot n)).is_broken) said.2 ∙ broken_at output said.0 files n
+
+-- the message for the fault that ended the reading
+pub input_told : (told : Bool) (calling : Calling) {fault : Option Fault} {one : Fault} {count : ℕ} {old new : List Slot} {why : Reason} → fault ≡ Some one → HasStreams old count → SaysOn told (tee_called calling) why (message_of one (codes "standard input")) old new → SaysTo told calling (said_of_input fault) old new
+input_told told calling {why = why} is has says = rw (is, has.are) (let said = says has.output has.error has.files has.are in (said.0, (said.0, (why, said.1), refl), said.2))
 
 -- how far the loop over the outputs has come
-pub record Telling (told : Bool) (fault : Fault) (names : List (List ℕ)) (known_before : List Bool) (n : ℕ) (old now : List Slot) (known : List Bool) : Type 0 where
-  pub so_far : List (List ℕ)
-  pub said : SaysTo told so_far old now
-  pub rest : so_far ++ said_since fault (drop n names) (drop n known_before) (drop n (broken_of old)) ≡ said_since fault names known_before (broken_of old)
-  pub known_are : known ≡ take n (broken_of old) ++ drop n known_before
+pub record Telling (told : Bool) (calling : Calling) (on_broken : OnBroken) (fault : Fault) (names : List (List ℕ)) (known_before : List Standing) (n : ℕ) (old now : List Slot) (known : List Standing) : Type 0 where
+  pub said : SaysTo told calling (said_since on_broken fault names known_before known) old now
+  pub seen : SeenTo n known_before (broken_of old) known
 
-pub error_open : (told : Bool) {fault : Fault} {names : List (List ℕ)} {before known : List Bool} {n count : ℕ} {old now : List Slot} → HasStreams old count → Telling told fault names before n old now known → is_open (slot_at now 1).state ≡ true
-error_open told {now} has so_far =
-    let said : SaysTo told so_far.so_far (has.output ∷ has.error ∷ has.files) now = rw has.are at so_far.said in
-    ap (λ those. is_open (slot_at those 1).state) said.2 ∙ ap is_open (all_said_state told Tee so_far.so_far has.error said.0 said.1) ∙ has.opened
+pub tells_none : (told : Bool) (calling : Calling) (on_broken : OnBroken) (fault : Fault) (names : List (List ℕ)) (known : List Standing) {count : ℕ} {slots : List Slot} → HasStreams slots count → Telling told calling on_broken fault names known 0 slots slots known
+tells_none told calling on_broken fault names known has = record {
+  said = rw (none_said on_broken fault names known, has.are) (has.error, refl, refl);
+  seen = refl;
+}
 
-pub tells_next : (told : Bool) {fault : Fault} {names : List (List ℕ)} {before known : List Bool} (other : Bool) {n count : ℕ} {old now new : List Slot} {name : List ℕ} {broken : Bool} → HasStreams old count → length names ≡ count + 1 → length before ≡ count + 1 → n < length before → Telling told fault names before n old now known
-    → name ≡ get_or names n [] → broken ≡ (slot_at now (output_slot n)).is_broken → ((not (get_or known n other) && broken) ≡ true → SaysOn told Tee (message_of Tee fault name) now new) → ((not (get_or known n other) && broken) ≡ false → new ≡ now)
-    → Telling told fault names before (n + 1) old new (set known n broken)
-tells_next told {fault} {names} {before} {known} other {n} {count} {old} {now} {new} {name} {broken} has names_many many within so_far named tells says quiet =
+pub error_open : (told : Bool) {calling : Calling} {on_broken : OnBroken} {fault : Fault} {names : List (List ℕ)} {before known : List Standing} {n count : ℕ} {old now : List Slot} → HasStreams old count → Telling told calling on_broken fault names before n old now known → is_open (slot_at now 1).state ≡ true
+error_open told {calling} {on_broken} {fault} {names} {before} {known} {now = now} has so_far =
+    let messages = said_since on_broken fault names before known in
+    let said : SaysTo told calling messages (has.output ∷ has.error ∷ has.files) now = rw has.are at so_far.said in
+    ap (λ those. is_open (slot_at those 1).state) said.2 ∙ ap is_open (all_said_state told (tee_called calling) messages has.error said.0 said.1) ∙ has.opened
+
+pub tells_next : (told : Bool) {calling : Calling} {on_broken : OnBroken} {fault : Fault} {names : List (List ℕ)} {before known : List Standing} (other : Standing) {n count : ℕ} {old now new : List Slot} {name : List ℕ} {standing : Standing} → HasStreams old count → length names ≡ count + 1 → length before ≡ count + 1 → n < length before
+    → Telling told calling on_broken fault names before n old now known → name ≡ get_or names n [] → Sees (get_or known n other) (slot_at now (output_slot n)).is_broken standing
+    → (tells on_broken (get_or known n other) standing ≡ true → (why : Reason) × SaysOn told (tee_called calling) why (message_of fault name) now new) → (tells on_broken (get_or known n other) standing ≡ false → new ≡ now)
+    → Telling told calling on_broken fault names before (n + 1) old new (set known n standing)
+tells_next told {calling} {on_broken} {fault} {names} {before} {known} other {n} {count} {old} {now} {new} {name} {standing} has names_many many within so_far named sees says quiet =
     rw (← (let e : suc n ≡ n + 1 = omega arith in e)) (record {
-      so_far = so_far.so_far ++ here_said;
-      said = cond_both (not (get_or known n other) && broken) (message_of Tee fault name ∷ []) [] (λ texts. SaysTo told (so_far.so_far ++ texts) old new)
-          (λ is. says_too told so_far.so_far (message_of Tee fault name) now new has so_far.said (says is))
-          (λ is. rw (append-nil so_far.so_far, quiet is) so_far.said);
-      rest = append_assoc so_far.so_far here_said _ ∙ ap (λ texts. so_far.so_far ++ texts) (sym step) ∙ so_far.rest;
-      known_are = flags;
+      said = rw step (cond_both (tells on_broken (get_or known n other) standing) (message_of fault name ∷ []) [] (λ more. SaysTo told calling (messages ++ more) old new)
+          (λ is. let (why, said) = says is in says_too told calling messages (message_of fault name) now new has so_far.said said)
+          (λ is. rw (append-nil messages, quiet is) so_far.said));
+      seen = seen_next n before (broken_of old) known within (broken_are ∙ sym many) so_far.seen (rw (was, here) at sees);
     }) where
-      here_said : List (List ℕ)
-      here_said = if not (get_or known n other) && broken then message_of Tee fault name ∷ [] else []
+      messages : List Message
+      messages = said_since on_broken fault names before known
 
       broken_are : length (broken_of old) ≡ count + 1
       broken_are = count_broken has
 
-      here : broken ≡ get_or (broken_of old) n false
-      here = tells ∙ broken_still told so_far.so_far has.output has.error has.files now n (rw has.are at so_far.said) ∙ ap (λ those. get_or (broken_of those) n false) (sym has.are)
+      here : (slot_at now (output_slot n)).is_broken ≡ get_or (broken_of old) n false
+      here = broken_still told calling messages has.output has.error has.files now n (rw has.are at so_far.said) ∙ ap (λ those. get_or (broken_of those) n false) (sym has.are)
 
-      was : get_or known n other ≡ get_or before n false
-      was = ap (λ those. get_or those n other) so_far.known_are ∙ get_next n before (broken_of old) other within (broken_are ∙ sym many)
+      was : get_or known n other ≡ get_or before n Sound
+      was = get_next n before (broken_of old) known other within (broken_are ∙ sym many) so_far.seen
 
-      flags : set known n broken ≡ take (suc n) (broken_of old) ++ drop (suc n) before
-      flags = ap (λ those. set those n broken) so_far.known_are ∙ ap (set (take n (broken_of old) ++ drop n before) n) here ∙ set_next n before (broken_of old) within (broken_are ∙ sym many)
+      step : said_since on_broken fault names before (set known n standing) ≡ messages ++ (if tells on_broken (get_or known n other) standing then message_of fault name ∷ [] else [])
+      step = cc (said_next on_broken fault names before (broken_of old) known n standing (omega (arith, names_many, within, many)) (many ∙ sym names_many) (broken_are ∙ sym names_many) so_far.seen, named, was)
 
-      step : said_since fault (drop n names) (drop n before) (drop n (broken_of old)) ≡ here_said ++ said_since fault (drop (suc n) names) (drop (suc n) before) (drop (suc n) (broken_of old))
-      step = cc (said_next fault names before (broken_of old) n (omega (arith, names_many, within, many)) (many ∙ sym names_many) (broken_are ∙ sym names_many), named, was, here)
+pub told_all : (told : Bool) {calling : Calling} {on_broken : OnBroken} {fault : Fault} {names : List (List ℕ)} {before known : List Standing} {n count : ℕ} {old now : List Slot} → HasStreams old count → length before ≡ count + 1 → n ≡ length before → Telling told calling on_broken fault names before n old now known → SeesAll before (broken_of old) known
+told_all told {before} {known} {old = old} has many all so_far = seen_all before (broken_of old) known (count_broken has ∙ sym many) (rw all at so_far.seen)
 
 pub count_names : (names : List (Bor (List ℕ))) → length (output_names (map (λ name. name.now) names)) ≡ length names + 1
 count_names names = grind (arith, common_steps)
 
--- What a call added to what broke when: it is said where the flag rose, and what broke in the calls before stays.
-pub record Marks (call : ℕ) (before after : Option ℕ) (was now : Bool) : Type 0 where
-  pub said : broke_in call after ≡ (not was && now)
-  pub older : (other : ℕ) → other < call → broke_in other after ≡ broke_in other before
-  pub sooner : (other : ℕ) → other ≤ call → broke_before other after ≡ broke_before other before
-  pub then_is : broke_before call after ≡ was
-  pub now_is : broke_before (suc call) after ≡ now
+-- What a call added to what broke when, where the output stands so now: it is said where that wasn't known, and what broke
+-- in the calls before stays.
+pub record Marks (call : ℕ) (before after : Option Break) (now : Standing) : Type 0 where
+  pub said : (on_broken : OnBroken) → tells_in on_broken call after ≡ tells on_broken (standing_of before) now
+  pub older : (on_broken : OnBroken) (other : ℕ) → other < call → tells_in on_broken other after ≡ tells_in on_broken other before
+  pub sooner : (other : ℕ) → other ≤ call → standing_before other after ≡ standing_before other before
+  pub then_is : standing_before call after ≡ standing_of before
+  pub now_is : standing_before (suc call) after ≡ now
+  pub stands : standing_of after ≡ now
 
-pub marked_none : {call : ℕ} → Marks call None None false false
-marked_none = grind (arith, common_steps)
+pub marked_none : {call : ℕ} {now : Standing} → is_lost now ≡ false → Marks call None None now
+marked_none {call} {now} sound = rw (sound_is now sound) (record { said = λ on_broken. refl; older = λ on_broken other less. refl; sooner = λ other within. refl; then_is = refl; now_is = refl; stands = refl })
 
-pub marked_now : {call : ℕ} → Marks call None (Some call) false true
-marked_now {call} = grind (arith, common_steps)
+abbrev pub break_now : ℕ → Standing → Break
+break_now call now = record { call = call; is_gone = gone_is now }
 
-pub marked_before : {call earlier : ℕ} → earlier < call → Marks call (Some earlier) (Some earlier) true true
-marked_before {call} {earlier} less = grind (arith, common_steps)
+not_in : (on_broken : OnBroken) (call : ℕ) (broke : Break) → (broke.call ≡ call → ⊥) → tells_in on_broken call (Some broke) ≡ false
+not_in on_broken call broke differs = grind (arith, nat_tests, differs)
 
-pub data AllMark (call : ℕ) : List (Option ℕ) → List (Option ℕ) → List Bool → List Bool → Type 0 where
-  none_marked : AllMark call [] [] [] []
-  all_marked : (before after : Option ℕ) (was now : Bool) (befores afters : List (Option ℕ)) (known broken : List Bool) → Marks call before after was now → AllMark call befores afters known broken → AllMark call (before ∷ befores) (after ∷ afters) (was ∷ known) (now ∷ broken)
+pub marked_now : {call : ℕ} {now : Standing} → is_lost now ≡ true → Marks call None (Some (break_now call now)) now
+marked_now {call} {now} lost = let is = lost_is now lost in record {
+  said = λ on_broken. grind (arith, nat_tests, is);
+  older = λ on_broken other less. not_in on_broken other (break_now call now) (λ same. omega (arith, same, less));
+  sooner = λ other within. grind (arith, nat_tests, within);
+  then_is = grind (arith, nat_tests);
+  now_is = grind (arith, nat_tests, is);
+  stands = is;
+}
 
-pub said_marked : {call : ℕ} (names : List (List ℕ)) {befores afters : List (Option ℕ)} {known broken : List Bool} → AllMark call befores afters known broken → said_in call names afters ≡ said_since (fault_in call) names known broken
-said_marked [] marked = refl
-said_marked (name ∷ names) none_marked = refl
-said_marked {call} (name ∷ names) (all_marked before after was now befores afters known broken one rest) = cc (one.said, said_marked names rest)
+marked_before : {call : ℕ} {now : Standing} (broke : Break) → broke.call < call → is_lost now ≡ true → (is_lost (lost_as broke.is_gone) ≡ true → is_lost now ≡ true → now ≡ lost_as broke.is_gone) → Marks call (Some broke) (Some broke) now
+marked_before {call} {now} broke less lost kept = let known = is_lost-lost_as broke.is_gone in let is = kept known lost in record {
+  said = λ on_broken. not_in on_broken call broke (λ same. omega (arith, same, less)) ∙ sym (tells_known on_broken (lost_as broke.is_gone) now known);
+  older = λ on_broken other sooner. refl;
+  sooner = λ other within. refl;
+  then_is = grind (arith, nat_tests, less);
+  now_is = grind (arith, nat_tests, less, is);
+  stands = sym is;
+}
 
-said_older : {call : ℕ} (other : ℕ) (names : List (List ℕ)) {befores afters : List (Option ℕ)} {known broken : List Bool} → other < call → AllMark call befores afters known broken → said_in other names afters ≡ said_in other names befores
-said_older other [] less marked = refl
-said_older other (name ∷ names) less none_marked = refl
-said_older other (name ∷ names) less (all_marked before after was now befores afters known broken one rest) =
-    cc (one.older other less, said_older other names less rest)
+pub data AllMark (call : ℕ) : List (Option Break) → List (Option Break) → List Standing → Type 0 where
+  none_marked : AllMark call [] [] []
+  all_marked : (before after : Option Break) (now : Standing) (befores afters : List (Option Break)) (nows : List Standing) → Marks call before after now → AllMark call befores afters nows → AllMark call (before ∷ befores) (after ∷ afters) (now ∷ nows)
 
-pub all_older : {call : ℕ} (end : ℕ) (names : List (List ℕ)) {befores afters : List (Option ℕ)} {known broken : List Bool} → end ≤ call → AllMark call befores afters known broken → said_before end names afters ≡ said_before end names befores
-all_older zero names past marked = refl
-all_older (suc end) names {befores} {afters} past marked = cc (all_older end names (omega arith) marked, said_older end names (omega arith) marked)
+pub said_marked : {call : ℕ} (on_broken : OnBroken) (names : List (List ℕ)) {befores afters : List (Option Break)} {nows : List Standing} → AllMark call befores afters nows → said_in on_broken call names afters ≡ said_since on_broken (fault_in call) names (map standing_of befores) nows
+said_marked on_broken [] marked = refl
+said_marked on_broken (name ∷ names) none_marked = refl
+said_marked {call} on_broken (name ∷ names) (all_marked before after now befores afters nows one rest) = cc (one.said on_broken, said_marked on_broken names rest)
 
--- which outputs broke before a call
+said_older : {call : ℕ} (on_broken : OnBroken) (other : ℕ) (names : List (List ℕ)) {befores afters : List (Option Break)} {nows : List Standing} → other < call → AllMark call befores afters nows → said_in on_broken other names afters ≡ said_in on_broken other names befores
+said_older on_broken other [] less marked = refl
+said_older on_broken other (name ∷ names) less none_marked = refl
+said_older on_broken other (name ∷ names) less (all_marked before after now befores afters nows one rest) =
+    cc (one.older on_broken other less, said_older on_broken other names less rest)
 
-pub broke_sooner : {call : ℕ} (other : ℕ) {befores afters : List (Option ℕ)} {known broken : List Bool} → other ≤ call → AllMark call befores afters known broken → broken_before other afters ≡ broken_before other befores
-broke_sooner other within none_marked = refl
-broke_sooner other within (all_marked before after was now befores afters known broken one rest) = cc (one.sooner other within, broke_sooner other within rest)
+pub all_older : {call : ℕ} (on_broken : OnBroken) (end : ℕ) (names : List (List ℕ)) {befores afters : List (Option Break)} {nows : List Standing} → end ≤ call → AllMark call befores afters nows → said_before on_broken end names afters ≡ said_before on_broken end names befores
+all_older on_broken zero names past marked = refl
+all_older on_broken (suc end) names {befores} {afters} past marked = cc (all_older on_broken end names (omega arith) marked, said_older on_broken end names (omega arith) marked)
 
-pub broke_then : {call : ℕ} {befores afters : List (Option ℕ)} {known broken : List Bool} → AllMark call befores afters known broken → broken_before call afters ≡ known
-broke_then none_marked = refl
-broke_then {call} (all_marked before after was now befores afters known broken one rest) = cc (one.then_is, broke_then rest)
+-- how the outputs stood before a call
 
-pub broke_now : {call : ℕ} {befores afters : List (Option ℕ)} {known broken : List Bool} → AllMark call befores afters known broken → broken_before (suc call) afters ≡ broken
-broke_now none_marked = refl
-broke_now {call} (all_marked before after was now befores afters known broken one rest) = cc (one.now_is, broke_now rest)
+pub stood_sooner : {call : ℕ} (other : ℕ) {befores afters : List (Option Break)} {nows : List Standing} → other ≤ call → AllMark call befores afters nows → standings_before other afters ≡ standings_before other befores
+stood_sooner other within none_marked = refl
+stood_sooner other within (all_marked before after now befores afters nows one rest) = cc (one.sooner other within, stood_sooner other within rest)
+
+pub stood_then : {call : ℕ} {befores afters : List (Option Break)} {nows : List Standing} → AllMark call befores afters nows → standings_before call afters ≡ map standing_of befores
+stood_then none_marked = refl
+stood_then {call} (all_marked before after now befores afters nows one rest) = cc (one.then_is, stood_then rest)
+
+pub stand_now : {call : ℕ} {befores afters : List (Option Break)} {nows : List Standing} → AllMark call befores afters nows → standings_before (suc call) afters ≡ nows
+stand_now none_marked = refl
+stand_now {call} (all_marked before after now befores afters nows one rest) = cc (one.now_is, stand_now rest)
+
+pub stand_so : {call : ℕ} {befores afters : List (Option Break)} {nows : List Standing} → AllMark call befores afters nows → nows ≡ map standing_of afters
+stand_so none_marked = refl
+stand_so {call} (all_marked before after now befores afters nows one rest) = cc (one.stands, stand_so rest)
 
 -- one output
 
@@ -177,33 +265,33 @@ still_there before after piece more is = ap (λ those. those ++ more ∷ []) is 
 pub call_before : {pieces : List (List ℕ)} (before after : List (List ℕ)) (piece : List ℕ) → pieces ≡ before ++ piece ∷ after → suc (length before) < suc (length pieces)
 call_before before after piece is = omega (arith, length-append before (piece ∷ after), ap length is)
 
--- an output is so after a call, with what that adds to what broke when
-abbrev pub Marked : (Option ℕ → Slot → Type 0) → ℕ → Option ℕ → Bool → Slot → Type 0
-Marked Is call first was new = (after : Option ℕ) × Is after new × Marks call first after was new.is_broken
+-- an output that stands so now is so after a call, with what that adds to what broke when
+abbrev pub Marked : (Option Break → Slot → Type 0) → ℕ → Option Break → Standing → Slot → Type 0
+Marked Is call first now new = (after : Option Break) × Is after new × Marks call first after now
 
-output_more : (told : Bool) {pieces : List (List ℕ)} {piece : List ℕ} {first : Option ℕ} {old new : Slot} → OutputLeft told pieces first old → Gets told piece old new → Marked (OutputLeft told (pieces ++ piece ∷ [])) (suc (length pieces)) first old.is_broken new
-output_more told {pieces} {piece} output_whole (gets_all sound) = (None, rw (whole_now told pieces piece standard_output) output_whole, marked_none)
-output_more told {pieces} {piece} output_whole (breaks_off sound n within) =
-    (Some (suc (length pieces)), rw (begun_now told pieces piece n standard_output) (output_cut pieces piece [] n refl within), marked_now)
-output_more told output_whole (gets_none broken) = absurd (false≢true broken)
-output_more told (output_cut before that after n is within) (gets_all again) = absurd (false≢true (sym again))
-output_more told (output_cut before that after n is within) (breaks_off again m less) = absurd (false≢true (sym again))
-output_more told {piece} (output_cut before that after n is within) (gets_none broken) =
-    (Some (suc (length before)), output_cut before that (after ++ piece ∷ []) n (still_there before after that piece is) within, marked_before (call_before before after that is))
+output_more : (told : Bool) {pieces : List (List ℕ)} {piece : List ℕ} {first : Option Break} {old new : Slot} {now : Standing} → OutputLeft told pieces first old → Gets told piece old new → Sees (standing_of first) new.is_broken now → Marked (OutputLeft told (pieces ++ piece ∷ [])) (suc (length pieces)) first now new
+output_more told {pieces} {piece} output_whole (gets_all sound) sees = (None, rw (whole_now told pieces piece standard_output) output_whole, marked_none sees.broken)
+output_more told {pieces} {piece} {now = now} output_whole (breaks_off sound n within) sees =
+    (Some (break_now (suc (length pieces)) now), rw (begun_now told pieces piece n standard_output) (output_cut pieces piece [] n refl within), marked_now sees.broken)
+output_more told output_whole (gets_none broken) sees = absurd (false≢true broken)
+output_more told (output_cut before that after n is within) (gets_all again) sees = absurd (false≢true (sym again))
+output_more told (output_cut before that after n is within) (breaks_off again m less) sees = absurd (false≢true (sym again))
+output_more told {piece} (output_cut {is_gone} before that after n is within) (gets_none broken) sees =
+    (Some (record { call = suc (length before); is_gone = is_gone }), output_cut before that (after ++ piece ∷ []) n (still_there before after that piece is) within, marked_before _ (call_before before after that is) sees.broken sees.kept)
 
-file_more : (told : Bool) {mode : Mode} {pieces : List (List ℕ)} {piece : List ℕ} {name : List ℕ} {first : Option ℕ} {old new : Slot} → FileHas told mode pieces name first old → Gets told piece old new
-    → Marked (FileHas told mode (pieces ++ piece ∷ []) name) (suc (length pieces)) first old.is_broken new
-file_more told {mode} {pieces} {piece} {name} has_all (gets_all sound) = (None, rw (whole_now told pieces piece (opened name mode)) has_all, marked_none)
-file_more told {mode} {pieces} {piece} {name} has_all (breaks_off sound n within) =
-    (Some (suc (length pieces)), rw (begun_now told pieces piece n (opened name mode)) (has_begun pieces piece [] n refl within), marked_now)
-file_more told has_all (gets_none broken) = absurd (false≢true broken)
-file_more told (has_none kept named) (gets_all again) = absurd (false≢true (sym again))
-file_more told (has_none kept named) (breaks_off again m less) = absurd (false≢true (sym again))
-file_more told (has_none kept named) (gets_none broken) = (Some 0, has_none kept named, marked_before (omega arith))
-file_more told (has_begun before that after n is within) (gets_all again) = absurd (false≢true (sym again))
-file_more told (has_begun before that after n is within) (breaks_off again m less) = absurd (false≢true (sym again))
-file_more told {piece} (has_begun before that after n is within) (gets_none broken) =
-    (Some (suc (length before)), has_begun before that (after ++ piece ∷ []) n (still_there before after that piece is) within, marked_before (call_before before after that is))
+file_more : (told : Bool) {mode : Mode} {pieces : List (List ℕ)} {piece : List ℕ} {name : List ℕ} {first : Option Break} {old new : Slot} {now : Standing} → FileHas told mode pieces name first old → Gets told piece old new → Sees (standing_of first) new.is_broken now
+    → Marked (FileHas told mode (pieces ++ piece ∷ []) name) (suc (length pieces)) first now new
+file_more told {mode} {pieces} {piece} {name} has_all (gets_all sound) sees = (None, rw (whole_now told pieces piece (opened name mode)) has_all, marked_none sees.broken)
+file_more told {mode} {pieces} {piece} {name} {now = now} has_all (breaks_off sound n within) sees =
+    (Some (break_now (suc (length pieces)) now), rw (begun_now told pieces piece n (opened name mode)) (has_begun pieces piece [] n refl within), marked_now sees.broken)
+file_more told has_all (gets_none broken) sees = absurd (false≢true broken)
+file_more told (has_none kept named) (gets_all again) sees = absurd (false≢true (sym again))
+file_more told (has_none kept named) (breaks_off again m less) sees = absurd (false≢true (sym again))
+file_more told (has_none {is_gone} kept named) (gets_none broken) sees = (Some (record { call = 0; is_gone = is_gone }), has_none kept named, marked_before _ (omega arith) sees.broken sees.kept)
+file_more told (has_begun before that after n is within) (gets_all again) sees = absurd (false≢true (sym again))
+file_more told (has_begun before that after n is within) (breaks_off again m less) sees = absurd (false≢true (sym again))
+file_more told {piece} (has_begun {is_gone} before that after n is within) (gets_none broken) sees =
+    (Some (record { call = suc (length before); is_gone = is_gone }), has_begun before that (after ++ piece ∷ []) n (still_there before after that piece is) within, marked_before _ (call_before before after that is) sees.broken sees.kept)
 
 -- the files
 
@@ -211,35 +299,41 @@ abbrev pub flags : List Slot → List Bool
 flags files = map (λ (file : Slot). file.is_broken) files
 
 -- each is changed by the call
-pub files_go : {Is Then : List ℕ → Option ℕ → Slot → Type 0} {Change : Slot → Slot → Type 0} {call : ℕ} {names : List (List ℕ)} {broke : List (Option ℕ)} {olds : List Slot}
-    → ((name : List ℕ) (first : Option ℕ) (old new : Slot) → Is name first old → Change old new → Marked (Then name) call first old.is_broken new)
-    → (news : List Slot)
-    → length news ≡ length olds → ((n : ℕ) → n < length olds → Change (slot_at olds n) (slot_at news n)) → EachFile Is names broke olds
-    → (after : List (Option ℕ)) × EachFile Then names after news × AllMark call broke after (flags olds) (flags news)
-files_go go [] many changes no_file = ([], no_file, none_marked)
-files_go go (new ∷ news) many changes no_file = absurd (omega (arith, many))
-files_go go [] many changes (one_file name names first broke old olds one rest) = absurd (omega (arith, many))
-files_go go (new ∷ news) many changes (one_file name names first broke old olds one rest) =
-    let here = go name first old new one (changes 0 (omega arith)) in
-    let there = files_go go news (omega (arith, many)) (λ n within. changes (suc n) (omega arith)) rest in
-    (here.0 ∷ there.0, one_file name names here.0 there.0 new news here.1 there.1, all_marked first here.0 old.is_broken new.is_broken broke there.0 _ _ here.2 there.2)
+pub files_go : {Is Then : List ℕ → Option Break → Slot → Type 0} {Change : Slot → Slot → Type 0} {call : ℕ} {names : List (List ℕ)} {broke : List (Option Break)} {olds : List Slot}
+    → ((name : List ℕ) (first : Option Break) (old new : Slot) (now : Standing) → Is name first old → Change old new → Sees (standing_of first) new.is_broken now → Marked (Then name) call first now new)
+    → (news : List Slot) (nows : List Standing)
+    → length news ≡ length olds → ((n : ℕ) → n < length olds → Change (slot_at olds n) (slot_at news n)) → SeesAll (map standing_of broke) (flags news) nows → EachFile Is names broke olds
+    → (after : List (Option Break)) × EachFile Then names after news × AllMark call broke after nows
+files_go go [] [] many changes sees no_file = ([], no_file, none_marked)
+files_go go [] (now ∷ nows) many changes sees no_file = absurd sees
+files_go go (new ∷ news) nows many changes sees no_file = absurd (omega (arith, many))
+files_go go [] nows many changes sees (one_file name names first broke old olds one rest) = absurd (omega (arith, many))
+files_go go (new ∷ news) [] many changes sees (one_file name names first broke old olds one rest) = absurd sees
+files_go go (new ∷ news) (now ∷ nows) many changes sees (one_file name names first broke old olds one rest) =
+    let here = go name first old new now one (changes 0 (omega arith)) sees.0 in
+    let there = files_go go news nows (omega (arith, many)) (λ n within. changes (suc n) (omega arith)) sees.1 rest in
+    (here.0 ∷ there.0, one_file name names here.0 there.0 new news here.1 there.1, all_marked first here.0 now broke there.0 nows here.2 there.2)
 
 -- the outputs of a run
 
-pub length-files : {Is : List ℕ → Option ℕ → Slot → Type 0} {names : List (List ℕ)} {broke : List (Option ℕ)} {files : List Slot} → EachFile Is names broke files → length files ≡ length names
+pub length-files : {Is : List ℕ → Option Break → Slot → Type 0} {names : List (List ℕ)} {broke : List (Option Break)} {files : List Slot} → EachFile Is names broke files → length files ≡ length names
 length-files no_file = refl
 length-files (one_file name names first broke file files one rest) = ap suc (length-files rest)
 
-output_usable : (told : Bool) {pieces : List (List ℕ)} {first : Option ℕ} {output : Slot} → OutputLeft told pieces first output → IsUsable output
+length-broke : {Is : List ℕ → Option Break → Slot → Type 0} {names : List (List ℕ)} {broke : List (Option Break)} {files : List Slot} → EachFile Is names broke files → length broke ≡ length names
+length-broke no_file = refl
+length-broke (one_file name names first broke file files one rest) = ap suc (length-broke rest)
+
+output_usable : (told : Bool) {pieces : List (List ℕ)} {first : Option Break} {output : Slot} → OutputLeft told pieces first output → IsUsable output
 output_usable told output_whole = λ sound. refl
 output_usable told (output_cut before that after n is within) = λ sound. refl
 
-file_usable : (told : Bool) {mode : Mode} {pieces : List (List ℕ)} {name : List ℕ} {first : Option ℕ} {file : Slot} → FileHas told mode pieces name first file → IsUsable file
+file_usable : (told : Bool) {mode : Mode} {pieces : List (List ℕ)} {name : List ℕ} {first : Option Break} {file : Slot} → FileHas told mode pieces name first file → IsUsable file
 file_usable told has_all = λ sound. refl
 file_usable told (has_none kept named) = λ sound. absurd (false≢true (sym sound))
 file_usable told (has_begun before that after n is within) = λ sound. refl
 
-files_usable : (told : Bool) {mode : Mode} {pieces : List (List ℕ)} {names : List (List ℕ)} {broke : List (Option ℕ)} {files : List Slot} (n : ℕ) → n < length files → EachFile (FileHas told mode pieces) names broke files → IsUsable (slot_at files n)
+files_usable : (told : Bool) {mode : Mode} {pieces : List (List ℕ)} {names : List (List ℕ)} {broke : List (Option Break)} {files : List Slot} (n : ℕ) → n < length files → EachFile (FileHas told mode pieces) names broke files → IsUsable (slot_at files n)
 files_usable told n within no_file = absurd (omega arith)
 files_usable told zero within (one_file name names first broke file files one rest) = file_usable told one
 files_usable told (suc n) within (one_file name names first broke file files one rest) = files_usable told n (omega arith) rest
@@ -257,8 +351,8 @@ pub error_no_output : {names : List (List ℕ)} {tee : TeeState} → IsTeeOf nam
 error_no_output is (inl here) = omega (arith, here)
 error_no_output is (inr file) = let there = file_place 1 is file in omega (arith, there.1)
 
-module _ (told : Bool) (mode : Mode) (on_broken : OnBroken) (names : List (List ℕ)) where
-  pub copies_ready : {pieces : List (List ℕ)} {messages : List (List ℕ)} {slots : List Slot} {known : List Bool} {tee : TeeState} → IsTeeOf names tee → Copies told mode on_broken names pieces messages slots known → IsReady tee slots
+module _ (told : Bool) (calling : Calling) (mode : Mode) (on_broken : OnBroken) (names : List (List ℕ)) where
+  pub copies_ready : {pieces : List (List ℕ)} {messages : List Message} {slots : List Slot} {known : List Standing} {tee : TeeState} → IsTeeOf names tee → Copies told calling mode on_broken names pieces messages slots known → IsReady tee slots
   copies_ready {tee} is copies place output = rw copies.are (by output) where
     by : IsOutput tee place → IsUsable (slot_at (copies.output ∷ copies.error ∷ copies.files) place)
     by (inl here) = rw here (output_usable told copies.output_has)
@@ -266,35 +360,36 @@ module _ (told : Bool) (mode : Mode) (on_broken : OnBroken) (names : List (List 
         let there = file_place place is file in
         rw there.1 (files_usable told there.0 (omega (arith, there.2, length-files copies.files_have)) copies.files_have)
 
-  -- the outputs after a call, before anything is said of it
-  pub record After (OutputIs : Option ℕ → Slot → Type 0) (FileIs : List ℕ → Option ℕ → Slot → Type 0)
-      (call : ℕ) {pieces messages : List (List ℕ)} {old : List Slot} {known : List Bool}
-      (copies : Copies told mode on_broken names pieces messages old known) (mid : List Slot) : Type 0 where
+  -- the outputs after a call, before anything is said of it, where they stand so now
+  pub record After (OutputIs : Option Break → Slot → Type 0) (FileIs : List ℕ → Option Break → Slot → Type 0)
+      (call : ℕ) {pieces : List (List ℕ)} {messages : List Message} {old : List Slot} {known : List Standing}
+      (copies : Copies told calling mode on_broken names pieces messages old known) (mid : List Slot) (nows : List Standing) : Type 0 where
     pub output : Slot
     pub files : List Slot
-    pub first : Option ℕ
-    pub broke : List (Option ℕ)
+    pub first : Option Break
+    pub broke : List (Option Break)
     pub are : mid ≡ output ∷ copies.error ∷ files
     pub output_is : OutputIs first output
     pub files_are : EachFile FileIs names broke files
-    pub marked : AllMark call (copies.first ∷ copies.broke) (first ∷ broke) (broken_of old) (broken_of mid)
+    pub marked : AllMark call (copies.first ∷ copies.broke) (first ∷ broke) nows
 
-  pub called : {OutputIs : Option ℕ → Slot → Type 0} {FileIs : List ℕ → Option ℕ → Slot → Type 0} {Change : Slot → Slot → Type 0} {pieces messages : List (List ℕ)} {old mid : List Slot} {known : List Bool} {tee : TeeState}
-      → IsTeeOf names tee → (copies : Copies told mode on_broken names pieces messages old known) → (call : ℕ) → length mid ≡ length old → slot_at mid 1 ≡ slot_at old 1
-      → ((output : Slot) → slot_at mid 0 ≡ output → Marked OutputIs call copies.first copies.output.is_broken output)
+  pub called : {OutputIs : Option Break → Slot → Type 0} {FileIs : List ℕ → Option Break → Slot → Type 0} {Change : Slot → Slot → Type 0} {pieces : List (List ℕ)} {messages : List Message} {old mid : List Slot} {known nows : List Standing} {tee : TeeState}
+      → IsTeeOf names tee → (copies : Copies told calling mode on_broken names pieces messages old known) → (call : ℕ) → length mid ≡ length old → slot_at mid 1 ≡ slot_at old 1
+      → ((now : Standing) (output : Slot) → slot_at mid 0 ≡ output → Sees (standing_of copies.first) output.is_broken now → Marked OutputIs call copies.first now output)
       → ((place : ℕ) → IsFile tee place → Change (slot_at old place) (slot_at mid place))
-      → ((name : List ℕ) (first : Option ℕ) (old new : Slot) → FileHas told mode pieces name first old → Change old new → Marked (FileIs name) call first old.is_broken new)
-      → After OutputIs FileIs call copies mid
-  called {OutputIs} {FileIs} {Change} {mid} is copies call count error one changes go = by mid refl where
-    by : (those : List Slot) → mid ≡ those → After OutputIs FileIs call copies mid
-    by [] short = absurd (omega (arith, ap length short, count, ap length copies.are))
-    by (output ∷ []) short = absurd (omega (arith, ap length short, count, ap length copies.are))
-    by (output ∷ other ∷ files) are =
+      → ((name : List ℕ) (first : Option Break) (old new : Slot) (now : Standing) → FileHas told mode pieces name first old → Change old new → Sees (standing_of first) new.is_broken now → Marked (FileIs name) call first now new)
+      → SeesAll known (broken_of mid) nows → After OutputIs FileIs call copies mid nows
+  called {OutputIs} {FileIs} {Change} {mid = mid} {nows = nows} is copies call count error one changes go sees = by mid nows refl (rw copies.known_are at sees) where
+    by : (those : List Slot) (stand : List Standing) → mid ≡ those → SeesAll (map standing_of (copies.first ∷ copies.broke)) (broken_of those) stand → After OutputIs FileIs call copies mid stand
+    by [] stand short see = absurd (omega (arith, ap length short, count, ap length copies.are))
+    by (output ∷ []) stand short see = absurd (omega (arith, ap length short, count, ap length copies.are))
+    by (output ∷ other ∷ files) [] are see = absurd see
+    by (output ∷ other ∷ files) (now ∷ stand) are see =
         let same : other ≡ copies.error = sym (ap (λ those. slot_at those 1) are) ∙ error ∙ ap (λ those. slot_at those 1) copies.are in
-        let here = one output (ap (λ those. slot_at those 0) are) in let many = length-files copies.files_have in
-        let rest = files_go go files (omega (arith, ap length are, count, ap length copies.are))
+        let here = one now output (ap (λ those. slot_at those 0) are) see.0 in let many = length-files copies.files_have in
+        let rest = files_go go files stand (omega (arith, ap length are, count, ap length copies.are))
         (λ n within. rw (ap (λ those. slot_at those (suc (suc n))) are) at (rw (ap (λ those. slot_at those (suc (suc n))) copies.are) at
-        (changes (suc (suc n)) (place_file n is (omega (arith, within, many)))))) copies.files_have in
+        (changes (suc (suc n)) (place_file n is (omega (arith, within, many)))))) see.1 copies.files_have in
         record {
           output = output;
           files = files;
@@ -303,150 +398,131 @@ module _ (told : Bool) (mode : Mode) (on_broken : OnBroken) (names : List (List 
           are = are ∙ ap (λ slot. output ∷ slot ∷ files) same;
           output_is = here.1;
           files_are = rest.1;
-          marked = rw (ap broken_of copies.are) (rw (ap broken_of are)
-              (all_marked copies.first here.0 copies.output.is_broken output.is_broken copies.broke rest.0 _ _ here.2 rest.2));
+          marked = all_marked copies.first here.0 now copies.broke rest.0 stand here.2 rest.2;
         }
 
   -- what is on standard error once it was told
-  pub said_after : {OutputIs : Option ℕ → Slot → Type 0} {FileIs : List ℕ → Option ℕ → Slot → Type 0} {pieces messages : List (List ℕ)} {old mid new : List Slot} {known : List Bool}
-      (copies : Copies told mode on_broken names pieces messages old known) → (next : After OutputIs FileIs (suc (length pieces)) copies mid)
-      → (says : SaysTo told (said_since (fault_in (suc (length pieces))) (output_names names) known (broken_of mid)) mid new)
-      → SaysAll told Tee ((said_before (suc (length pieces)) (output_names names) (next.first ∷ next.broke) ++ messages) ++ said_in (suc (length pieces)) (output_names names) (next.first ∷ next.broke)) standard_error says.0
-  said_after {pieces} {messages} {mid} {known} copies next says =
-      rw (said_marked (output_names names) next.marked, all_older (suc (length pieces)) (output_names names) (omega arith) next.marked, ← copies.known_are)
-      (says_after told Tee (said_before (suc (length pieces)) (output_names names) (copies.first ∷ copies.broke) ++ messages) _ standard_error copies.error says.0 copies.said
+  pub said_after : {OutputIs : Option Break → Slot → Type 0} {FileIs : List ℕ → Option Break → Slot → Type 0} {pieces : List (List ℕ)} {messages : List Message} {old mid new : List Slot} {known nows : List Standing}
+      (copies : Copies told calling mode on_broken names pieces messages old known) → (next : After OutputIs FileIs (suc (length pieces)) copies mid nows)
+      → (says : SaysTo told calling (said_since on_broken (fault_in (suc (length pieces))) (output_names names) known nows) mid new)
+      → SaysAll told (tee_called calling) ((said_before on_broken (suc (length pieces)) (output_names names) (next.first ∷ next.broke) ++ messages) ++ said_in on_broken (suc (length pieces)) (output_names names) (next.first ∷ next.broke)) standard_error says.0
+  said_after {pieces} {messages} {mid = mid} {known} copies next says =
+      rw (said_marked on_broken (output_names names) next.marked, all_older on_broken (suc (length pieces)) (output_names names) (omega arith) next.marked, ← copies.known_are)
+      (says_after told (tee_called calling) (said_before on_broken (suc (length pieces)) (output_names names) (copies.first ∷ copies.broke) ++ messages) _ standard_error copies.error says.0 copies.said
       (rw (ap (λ those. slot_at those 1) next.are) at says.1))
 
   -- a piece was fed
 
-  pub fed_next : {pieces : List (List ℕ)} {piece : List ℕ} {messages : List (List ℕ)} {old mid : List Slot} {known : List Bool} {tee : TeeState} → IsTeeOf names tee
-      → (copies : Copies told mode on_broken names pieces messages old known) → ChangesEach (Gets told piece) (IsOutput tee) old mid
-      → After (OutputLeft told (pieces ++ piece ∷ [])) (FileHas told mode (pieces ++ piece ∷ [])) (suc (length pieces)) copies mid
-  fed_next {pieces} {piece} {mid} is copies gets = called is copies (suc (length pieces)) gets.count (gets.others 1 (error_no_output is))
-      (λ output here. output_more told copies.output_has (rw here at (rw (ap (λ those. slot_at those 0) copies.are) at (gets.each 0 (inl refl)))))
-      (λ place file. gets.each place (inr file)) (λ name first old new has got. file_more told has got)
+  pub fed_next : {pieces : List (List ℕ)} {piece : List ℕ} {messages : List Message} {old mid : List Slot} {known nows : List Standing} {tee : TeeState} → IsTeeOf names tee
+      → (copies : Copies told calling mode on_broken names pieces messages old known) → ChangesEach (Gets told piece) (IsOutput tee) old mid → SeesAll known (broken_of mid) nows
+      → After (OutputLeft told (pieces ++ piece ∷ [])) (FileHas told mode (pieces ++ piece ∷ [])) (suc (length pieces)) copies mid nows
+  fed_next {pieces} {piece} {mid = mid} is copies gets sees = called is copies (suc (length pieces)) gets.count (gets.others 1 (error_no_output is))
+      (λ now output here see. output_more told copies.output_has (rw here at (rw (ap (λ those. slot_at those 0) copies.are) at (gets.each 0 (inl refl)))) see)
+      (λ place file. gets.each place (inr file)) (λ name first old new now has got see. file_more told has got see) sees
 
   -- the message for it was said
-  pub piece_said : {pieces : List (List ℕ)} (piece : List ℕ) {old mid new : List Slot} {known now : List Bool} → is_done on_broken known ≡ false → (copies : Copies told mode on_broken names pieces [] old known)
-      → After (OutputLeft told (pieces ++ piece ∷ [])) (FileHas told mode (pieces ++ piece ∷ [])) (suc (length pieces)) copies mid
-      → SaysTo told (said_since (fault_in (suc (length pieces))) (output_names names) known (broken_of mid)) mid new → now ≡ broken_of mid → Copies told mode on_broken names (pieces ++ piece ∷ []) [] new now
-  piece_said {pieces} piece {mid} {new} {known} some copies next says flags_are = record {
+  pub piece_said : {pieces : List (List ℕ)} (piece : List ℕ) {old mid new : List Slot} {known nows : List Standing} → is_done on_broken known ≡ false → (copies : Copies told calling mode on_broken names pieces [] old known)
+      → After (OutputLeft told (pieces ++ piece ∷ [])) (FileHas told mode (pieces ++ piece ∷ [])) (suc (length pieces)) copies mid nows
+      → SaysTo told calling (said_since on_broken (fault_in (suc (length pieces))) (output_names names) known nows) mid new → Copies told calling mode on_broken names (pieces ++ piece ∷ []) [] new nows
+  piece_said {pieces} piece {mid = mid} {new} {known} some copies next says = record {
     output = next.output;
     error = says.0;
     files = next.files;
     first = next.first;
     broke = next.broke;
-    are = new_is;
+    are = says.2 ∙ ap (changed_at 1 (λ _. says.0)) next.are;
     output_has = next.output_is;
     files_have = next.files_are;
-    said = rw (ap (λ texts. texts ++ said_in (suc (length pieces)) (output_names names) (next.first ∷ next.broke)) (append-nil _)
-        ∙ sym (append-nil _) ∙ ap (λ call. said_before (suc call) (output_names names) (next.first ∷ next.broke) ++ []) one_more_call) at
+    said = rw (ap (λ texts. texts ++ said_in on_broken (suc (length pieces)) (output_names names) (next.first ∷ next.broke)) (append-nil _)
+        ∙ sym (append-nil _) ∙ ap (λ call. said_before on_broken (suc call) (output_names names) (next.first ∷ next.broke) ++ []) one_more_call) at
         (said_after copies next says);
-    known_are = flags_are ∙ ap broken_of next.are ∙ sym (ap broken_of new_is);
-    goes_on = ap (λ call. is_done on_broken (broken_before call (next.first ∷ next.broke))) (sym one_more_call) ∙ ap (is_done on_broken) (broke_then next.marked ∙ sym copies.known_are) ∙ some;
-    are_known = ap (λ call. broken_before (suc call) (next.first ∷ next.broke)) (sym one_more_call) ∙ broke_now next.marked ∙ sym flags_are;
+    known_are = stand_so next.marked;
+    goes_on = ap (λ call. is_done on_broken (standings_before call (next.first ∷ next.broke))) (sym one_more_call) ∙ ap (is_done on_broken) (stood_then next.marked ∙ sym copies.known_are) ∙ some;
+    are_known = ap (λ call. standings_before (suc call) (next.first ∷ next.broke)) (sym one_more_call) ∙ stand_now next.marked;
   } where
     one_more_call : suc (length pieces) ≡ length (pieces ++ piece ∷ [])
     one_more_call = omega (arith, length-append pieces (piece ∷ []))
 
-    new_is : new ≡ next.output ∷ says.0 ∷ next.files
-    new_is = says.2 ∙ ap (changed_at 1 (λ _. says.0)) next.are
-
   -- both streams are there, whatever became of the other outputs
-  pub streams_after : {pieces messages : List (List ℕ)} {old mid : List Slot} {known : List Bool} {output : Slot} {files : List Slot}
-      → (copies : Copies told mode on_broken names pieces messages old known) → mid ≡ output ∷ copies.error ∷ files → length files ≡ length names
+  pub streams_after : {pieces : List (List ℕ)} {messages : List Message} {old mid : List Slot} {known : List Standing} {output : Slot} {files : List Slot}
+      → (copies : Copies told calling mode on_broken names pieces messages old known) → mid ≡ output ∷ copies.error ∷ files → length files ≡ length names
       → HasStreams mid (length names)
   streams_after {output = output} {files = files} copies are many = record {
     output = output;
     error = copies.error;
     files = files;
     are = are;
-    opened = ap is_open (all_said_state told Tee _ standard_error copies.error copies.said);
+    opened = ap is_open (all_said_state told (tee_called calling) _ standard_error copies.error copies.said);
     files_are = many;
   }
 
-  pub copies_streams : {pieces : List (List ℕ)} {messages : List (List ℕ)} {slots : List Slot} {known : List Bool}
-      → Copies told mode on_broken names pieces messages slots known → HasStreams slots (length names)
+  pub copies_streams : {pieces : List (List ℕ)} {messages : List Message} {slots : List Slot} {known : List Standing}
+      → Copies told calling mode on_broken names pieces messages slots known → HasStreams slots (length names)
   copies_streams copies = streams_after copies copies.are (length-files copies.files_have)
 
-  pub after_streams : {OutputIs : Option ℕ → Slot → Type 0} {FileIs : List ℕ → Option ℕ → Slot → Type 0} {call : ℕ} {pieces messages : List (List ℕ)} {old mid : List Slot} {known : List Bool}
-      {copies : Copies told mode on_broken names pieces messages old known} → After OutputIs FileIs call copies mid → HasStreams mid (length names)
-  after_streams {copies = copies} next = streams_after copies next.are (length-files next.files_are)
+  -- so it is after a call that left standard error
+  pub mid_streams : {pieces : List (List ℕ)} {messages : List Message} {old mid : List Slot} {known : List Standing}
+      → Copies told calling mode on_broken names pieces messages old known → length mid ≡ length old → slot_at mid 1 ≡ slot_at old 1 → HasStreams mid (length names)
+  mid_streams {mid = []} copies count error = absurd (omega (arith, count, ap length copies.are))
+  mid_streams {mid = output ∷ []} copies count error = absurd (omega (arith, count, ap length copies.are))
+  mid_streams {mid = output ∷ other ∷ files} copies count error =
+      streams_after copies (ap (λ slot. output ∷ slot ∷ files) (error ∙ ap (λ those. slot_at those 1) copies.are)) (omega (arith, count, ap length copies.are, length-files copies.files_have))
 
-  pub known_many : {pieces : List (List ℕ)} {messages : List (List ℕ)} {slots : List Slot} {known : List Bool} → Copies told mode on_broken names pieces messages slots known → length known ≡ length names + 1
-  known_many copies = ap length copies.known_are ∙ count_broken (copies_streams copies)
+  pub known_many : {pieces : List (List ℕ)} {messages : List Message} {slots : List Slot} {known : List Standing} → Copies told calling mode on_broken names pieces messages slots known → length known ≡ length names + 1
+  known_many copies = let count = ap length copies.known_are ∙ length-map (copies.first ∷ copies.broke) standing_of in omega (arith, count, length-broke copies.files_have)
 
 -- an output that isn't closed
-output_kept : (told : Bool) {pieces : List (List ℕ)} {first : Option ℕ} {output : Slot} → OutputLeft told pieces first output → Marks (suc (length pieces)) first first output.is_broken output.is_broken
-output_kept told output_whole = marked_none
-output_kept told (output_cut before that after n is within) = marked_before (call_before before after that is)
+output_kept : (told : Bool) {pieces : List (List ℕ)} {first : Option Break} {output : Slot} {now : Standing} → OutputLeft told pieces first output → Sees (standing_of first) output.is_broken now → Marks (suc (length pieces)) first first now
+output_kept told output_whole sees = marked_none sees.broken
+output_kept told (output_cut before that after n is within) sees = marked_before _ (call_before before after that is) sees.broken sees.kept
 
 -- a file that is
-file_ends : (told : Bool) {mode : Mode} {pieces : List (List ℕ)} {name : List ℕ} {first : Option ℕ} {old new : Slot} → FileHas told mode pieces name first old → Closes old new
-    → Marked (FileLeft told mode pieces name) (suc (length pieces)) first old.is_broken new
-file_ends told has_all (is_closed sound) = (None, file_whole, marked_none)
-file_ends told {pieces} has_all (fails_to_close sound) = (Some (suc (length pieces)), file_unclosed, marked_now)
-file_ends told has_all (was_broken broken) = absurd (false≢true broken)
-file_ends told (has_none kept named) (is_closed sound) = absurd (false≢true (sym sound))
-file_ends told (has_none kept named) (fails_to_close sound) = absurd (false≢true (sym sound))
-file_ends told (has_none kept named) (was_broken broken) = (Some 0, file_unopened kept named, marked_before (omega arith))
-file_ends told (has_begun before that after n is within) (is_closed sound) = absurd (false≢true (sym sound))
-file_ends told (has_begun before that after n is within) (fails_to_close sound) = absurd (false≢true (sym sound))
-file_ends told (has_begun before that after n is within) (was_broken broken) = (Some (suc (length before)), file_cut before that after n is within, marked_before (call_before before after that is))
+file_ends : (told : Bool) {mode : Mode} {pieces : List (List ℕ)} {name : List ℕ} {first : Option Break} {old new : Slot} {now : Standing} → FileHas told mode pieces name first old → Closes old new → Sees (standing_of first) new.is_broken now
+    → Marked (FileLeft told mode pieces name) (suc (length pieces)) first now new
+file_ends told has_all (is_closed sound) sees = (None, file_whole, marked_none sees.broken)
+file_ends told {pieces = pieces} {now = now} has_all (fails_to_close sound) sees = (Some (break_now (suc (length pieces)) now), file_unclosed, marked_now sees.broken)
+file_ends told has_all (was_broken broken) sees = absurd (false≢true broken)
+file_ends told (has_none kept named) (is_closed sound) sees = absurd (false≢true (sym sound))
+file_ends told (has_none kept named) (fails_to_close sound) sees = absurd (false≢true (sym sound))
+file_ends told (has_none {is_gone} kept named) (was_broken broken) sees = (Some (record { call = 0; is_gone = is_gone }), file_unopened kept named, marked_before _ (omega arith) sees.broken sees.kept)
+file_ends told (has_begun before that after n is within) (is_closed sound) sees = absurd (false≢true (sym sound))
+file_ends told (has_begun before that after n is within) (fails_to_close sound) sees = absurd (false≢true (sym sound))
+file_ends told (has_begun {is_gone} before that after n is within) (was_broken broken) sees =
+    (Some (record { call = suc (length before); is_gone = is_gone }), file_cut before that after n is within, marked_before _ (call_before before after that is) sees.broken sees.kept)
 
--- a broken output is one that broke in some call
-
-output_flag : (told : Bool) {pieces : List (List ℕ)} {first : Option ℕ} {output : Slot} → OutputLeft told pieces first output → output.is_broken ≡ not (is_none first)
-output_flag told output_whole = refl
-output_flag told (output_cut before that after n is within) = refl
-
-file_flag : (told : Bool) {mode : Mode} {pieces : List (List ℕ)} {name : List ℕ} {first : Option ℕ} {file : Slot} → FileLeft told mode pieces name first file → file.is_broken ≡ not (is_none first)
-file_flag told file_whole = refl
-file_flag told (file_unopened kept named) = refl
-file_flag told (file_cut before that after n is within) = refl
-file_flag told file_unclosed = refl
-
-file_flags : (told : Bool) {mode : Mode} {pieces : List (List ℕ)} {names : List (List ℕ)} {broke : List (Option ℕ)} {files : List Slot}
-    → FilesLeft told mode pieces names broke files → flags files ≡ map (λ (when : Option ℕ). not (is_none when)) broke
-file_flags told no_file = refl
-file_flags told (one_file name names first broke file files one rest) =
-    ap (λ (flag : Bool). flag ∷ flags files) (file_flag told one) ∙ ap (λ flags. not (is_none first) ∷ flags) (file_flags told rest)
-
-module _ (told : Bool) (mode : Mode) (on_broken : OnBroken) (names : List (List ℕ)) where
-  -- a text more on standard error, while the files are open
-  pub copies_said : {pieces : List (List ℕ)} {texts : List (List ℕ)} {old new : List Slot} {known : List Bool} → Copies told mode on_broken names pieces [] old known → SaysTo told texts old new → Copies told mode on_broken names pieces texts new known
-  copies_said {pieces} {texts} {new} copies says = record {
+module _ (told : Bool) (calling : Calling) (mode : Mode) (on_broken : OnBroken) (names : List (List ℕ)) where
+  -- a message more on standard error, while the files are open
+  pub copies_said : {pieces : List (List ℕ)} {messages : List Message} {old new : List Slot} {known : List Standing} → Copies told calling mode on_broken names pieces [] old known → SaysTo told calling messages old new → Copies told calling mode on_broken names pieces messages new known
+  copies_said {pieces} {messages} copies says = record {
     output = copies.output;
     error = says.0;
     files = copies.files;
     first = copies.first;
     broke = copies.broke;
-    are = new_is;
+    are = says.2 ∙ ap (changed_at 1 (λ _. says.0)) copies.are;
     output_has = copies.output_has;
     files_have = copies.files_have;
     said = rw (append-nil _) at
-        (says_after told Tee (said_before (suc (length pieces)) (output_names names) (copies.first ∷ copies.broke) ++ []) texts standard_error copies.error says.0 copies.said (rw (ap (λ those. slot_at those 1) copies.are) at says.1));
-    known_are = copies.known_are ∙ ap broken_of copies.are ∙ sym (ap broken_of new_is);
+        (says_after told (tee_called calling) (said_before on_broken (suc (length pieces)) (output_names names) (copies.first ∷ copies.broke) ++ []) messages standard_error copies.error says.0 copies.said (rw (ap (λ those. slot_at those 1) copies.are) at says.1));
+    known_are = copies.known_are;
     goes_on = copies.goes_on;
     are_known = copies.are_known;
-  } where
-    new_is : new ≡ copies.output ∷ says.0 ∷ copies.files
-    new_is = says.2 ∙ ap (changed_at 1 (λ _. says.0)) copies.are
+  }
 
   -- the files were closed
 
-  pub closed_next : {pieces messages : List (List ℕ)} {old mid : List Slot} {known : List Bool} {tee : TeeState} → IsTeeOf names tee → (copies : Copies told mode on_broken names pieces messages old known)
-      → ChangesEach Closes (IsFile tee) old mid → After told mode on_broken names (OutputLeft told pieces) (FileLeft told mode pieces) (suc (length pieces)) copies mid
-  closed_next {pieces} is copies closes =
-      called told mode on_broken names is copies (suc (length pieces)) closes.count (closes.others 1 (λ file. error_no_output is (inr file)))
-      (λ output here. rw (← here, closes.others 0 (λ file. let there = file_place 0 is file in omega (arith, there.1)), copies.are)
-      (copies.first, copies.output_has, output_kept told copies.output_has))
-      closes.each (λ name first old new has ends. file_ends told has ends)
+  pub closed_next : {pieces : List (List ℕ)} {messages : List Message} {old mid : List Slot} {known nows : List Standing} {tee : TeeState} → IsTeeOf names tee → (copies : Copies told calling mode on_broken names pieces messages old known)
+      → ChangesEach Closes (IsFile tee) old mid → SeesAll known (broken_of mid) nows → After told calling mode on_broken names (OutputLeft told pieces) (FileLeft told mode pieces) (suc (length pieces)) copies mid nows
+  closed_next {pieces} is copies closes sees =
+      called told calling mode on_broken names is copies (suc (length pieces)) closes.count (closes.others 1 (λ file. error_no_output is (inr file)))
+      (λ now output here see. let same = sym here ∙ closes.others 0 (λ file. let there = file_place 0 is file in omega (arith, there.1)) ∙ ap (λ those. slot_at those 0) copies.are in
+      let left : OutputLeft told pieces copies.first output = rw same copies.output_has in (copies.first, left, output_kept told left see))
+      closes.each (λ name first old new now has ends see. file_ends told has ends see) sees
 
-  pub closing_said : {pieces : List (List ℕ)} {fault : Option Fault} {old mid new : List Slot} {known now : List Bool} (copies : Copies told mode on_broken names pieces (said_of_input fault) old known)
-      → After told mode on_broken names (OutputLeft told pieces) (FileLeft told mode pieces) (suc (length pieces)) copies mid
-      → SaysTo told (said_since (fault_in (suc (length pieces))) (output_names names) known (broken_of mid)) mid new → now ≡ broken_of mid → HasCopied told mode on_broken names pieces fault known new now
-  closing_said {pieces} copies next says flags_are = record {
+  pub closing_said : {pieces : List (List ℕ)} {fault : Option Fault} {old mid new : List Slot} {known nows : List Standing} (copies : Copies told calling mode on_broken names pieces (said_of_input fault) old known)
+      → After told calling mode on_broken names (OutputLeft told pieces) (FileLeft told mode pieces) (suc (length pieces)) copies mid nows
+      → SaysTo told calling (said_since on_broken (fault_in (suc (length pieces))) (output_names names) known nows) mid new → HasCopied told calling mode on_broken names pieces fault known new nows
+  closing_said {pieces} copies next says = record {
     output = next.output;
     error = says.0;
     files = next.files;
@@ -455,8 +531,8 @@ module _ (told : Bool) (mode : Mode) (on_broken : OnBroken) (names : List (List 
     are = says.2 ∙ ap (changed_at 1 (λ _. says.0)) next.are;
     output_left = next.output_is;
     files_left = next.files_are;
-    said = said_after told mode on_broken names copies next says;
-    known_are = cc (flags_are, next.are, output_flag told next.output_is, file_flags told next.files_are);
-    goes_on = ap (is_done on_broken) (broke_sooner (length pieces) (omega arith) next.marked) ∙ copies.goes_on;
-    before_are = broke_sooner (suc (length pieces)) (omega arith) next.marked ∙ copies.are_known;
+    said = said_after told calling mode on_broken names copies next says;
+    known_are = stand_so next.marked;
+    goes_on = ap (is_done on_broken) (stood_sooner (length pieces) (omega arith) next.marked) ∙ copies.goes_on;
+    before_are = stood_sooner (suc (length pieces)) (omega arith) next.marked ∙ copies.are_known;
   }

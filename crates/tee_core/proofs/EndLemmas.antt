@@ -1,6 +1,6 @@
 -- Lemmas on what a run reads of its input, and on how it ends.
 use Rattle.std.proofs.lemmas.Grind.{common_steps}
-use Rattle.std.proofs.Common.{◌≡◌, ℕ, ◌+◌, ◌<◌, ◌≤◌, ◌^◌, List, [], ◌∷◌, ◌++◌, length, take, Bool, true, false, Option, Some, None, IsTrue, ◌⊎◌, refl, sym, ◌∙◌, ap, subst, arith, length-append, length-take, append-nil, All, zero, suc, map, not, ◌&&◌, ◌||◌, if◌then◌else◌, is_none}
+use Rattle.std.proofs.Common.{◌≡◌, ℕ, ◌+◌, ◌<◌, ◌≤◌, ◌^◌, List, [], ◌∷◌, ◌++◌, length, take, Bool, true, false, Option, Some, None, IsTrue, ◌⊎◌, refl, sym, ◌∙◌, ap, subst, arith, length-append, length-take, append-nil, All, zero, suc, map, not, ◌&&◌, ◌||◌, if◌then◌else◌, is_none, get_or, replicate, set}
 use Rattle.std.specs.List.{concat}
 use Rattle.std.proofs.lemmas.Bool.{false≢true}
 use Rattle.ports_core.specs.Slot.{Slot, changed_at, adds, closes, opened, streams, told_of}
@@ -8,16 +8,18 @@ use Rattle.ports_core.specs.Source.{Content, Source, source_at, is_readable, fai
 use Rattle.ports_core.specs.declared.fault.Fault.{Fault}
 use Rattle.ports_core.specs.declared.fault.Fault.TheVariants.{Read, Memory}
 use Rattle.ports_core.specs.declared.on_broken.OnBroken.{OnBroken}
-use Rattle.ports_core.specs.declared.on_broken.OnBroken.TheVariants.{GoOn, Stop}
+use Rattle.ports_core.specs.declared.on_broken.OnBroken.TheVariants.{Warn, Exit, WarnNoPipe, ExitNoPipe, Signal}
+use Rattle.ports_core.specs.declared.calling.Calling.{Calling}
+use Rattle.ports_core.specs.declared.reason.Reason.{Reason}
 use Rattle.ports_core.specs.declared.slot.Mode.{Mode}
-use Rattle.ports_core.proofs.InputsLemmas.{HasRead, came_broken, came_sound, still_readable, read_broken, read_failed, read_more, read_none_more, read_to_end, of_content}
+use Rattle.ports_core.proofs.InputsLemmas.{HasRead, changed_source, came_broken, came_sound, still_readable, read_broken, read_failed, read_more, read_none_more, read_to_end, of_content}
 use Rattle.ports_core.specs.Inputs.{CameFrom, largest_piece, OfContent, empty}
-use Rattle.tee_core.specs.Run.{IsRead, LeavesOf, to_end, to_break, to_limit, to_broken_output, EndsAs, copied, no_room, file_whole, file_unopened, file_cut, file_unclosed, FilesLeft, no_file, one_file, ComesIn, IsAsFound, OutputLeft, output_whole, output_cut, all_copied, any_of, are_sound, broken_before, is_done, messages_of, output_names, said_before, said_in, status_of}
-use Rattle.tee_core.specs.inner.Steps.{Copies, CopiesRead, HasCopied}
-use Rattle.std.proofs.lemmas.Bool.Decides.{nat_tests}
-use Rattle.ports_core.specs.Text.{message_of}
-use Rattle.ports_core.specs.Message.{SaysOn, output_named}
-use Rattle.ports_core.specs.declared.tool.Tool.TheVariants.{Tee}
+use Rattle.tee_core.specs.Run.{EachStandsFor, StandsFor, lost_for, output_slot, GaveLast, IsRead, LeavesOf, to_end, to_break, to_limit, to_broken_output, EndsAs, copied, no_room, file_whole, file_unopened, file_cut, file_unclosed, FilesLeft, no_file, one_file, ComesIn, IsAsFound, OutputLeft, output_whole, output_cut, Break, all_copied, any_is, are_sound, forgives, gone_status, is_done, is_same, lost_as, messages_of, output_names, said_before, said_in, standing_of, standings_before, status_for, status_of, tee_called}
+use Rattle.tee_core.specs.declared.standing.Standing.{Standing}
+use Rattle.tee_core.specs.declared.standing.Standing.TheVariants.{Sound, Broken, Gone}
+use Rattle.tee_core.specs.inner.Steps.{Copies, CopiesRead, HasCopied, Sees, is_lost}
+use Rattle.ports_core.specs.Text.{status_after}
+use Rattle.ports_core.specs.Message.{TellsOn, output_named}
 use Rattle.ports_core.specs.Streams.{standard_output, standard_error}
 
 nothing_more : {x : List ℕ} (rest : List ℕ) → x ≡ x ++ rest → rest ≡ []
@@ -89,42 +91,88 @@ none_sized k d low = absurd (omega (arith, low))
 pub more_sized : (pieces : List (List ℕ)) (buffer : List ℕ) {n : ℕ} → AreSized pieces → (n ≡ 0 → ⊥) → n ≤ length buffer → length buffer ≤ largest_piece → AreSized (pieces ++ take n buffer ∷ [])
 more_sized pieces buffer {n} sized some within most = grind (arith, common_steps)
 
-pub reads_copied : {told_in : Bool} (told : Bool) {mode : Mode} {on_broken : OnBroken} {names : List (List ℕ)} {content : Content} {source : Source} {slots : List Slot} {known : List Bool} {fault : Option Fault} {came : List ℕ} {pieces : List (List ℕ)} {is_vain : Bool} → came ≡ concat pieces → is_done on_broken known ≡ is_vain → AreSized pieces → length came < 2 ^ 63
-    → (fault ≡ Some (Read 0)) ⊎ (source.is_broken ≡ false) → (fault ≡ None → is_vain ≡ false → source.ended ≡ true) → IsRead content (LeavesOf told_in source) is_vain came fault → Copies told mode on_broken names pieces [] slots known → CopiesRead told_in told mode on_broken names content source slots known fault
-reads_copied {told_in} told {content} {source} {known} {fault} {came} {pieces} joined vain sized few met ended read copies = grind (arith, common_steps)
+last_same : (before others : List (List ℕ)) (piece other : List ℕ) → before ++ piece ∷ [] ≡ others ++ other ∷ [] → piece ≡ other
+last_same [] [] piece other is = cc
+last_same [] (first ∷ others) piece other is = absurd (omega (arith, ap length is, length-append others (other ∷ [])))
+last_same (first ∷ before) [] piece other is = absurd (omega (arith, ap length is, length-append before (piece ∷ [])))
+last_same (first ∷ before) (next ∷ others) piece other is = last_same before others piece other (cc)
 
--- the status
+pub gave_none : (source : Source) → GaveLast [] source
+gave_none source before piece is = absurd (omega (arith, ap length is, length-append before (piece ∷ [])))
 
-any_broken : (broke : List (Option ℕ)) → any_of (map (λ (when : Option ℕ). not (is_none when)) broke) ≡ not (are_sound broke)
-any_broken [] = refl
-any_broken (first ∷ broke) = let rest = any_broken broke in grind (arith, nat_tests, rest)
+pub gave_last : (pieces : List (List ℕ)) (size : ℕ) (sources new : List Source) {old_buffer buffer : List ℕ} {n : ℕ} → IsTrue (is_readable sources 0) → Gave (source_at sources 0).left old_buffer buffer n → new ≡ changed_at 0 (gives size n) sources → GaveLast (pieces ++ take n buffer ∷ []) (source_at new 0)
+gave_last pieces size sources new {n = n} can gave is before piece same =
+    ap (λ (source : Source). source.last) (changed_source 0 (gives size n) sources new can is) ∙ sym (ap length gave.front) ∙ ap length (last_same pieces before _ piece same)
 
-one_fails : (sound whole : Bool) → ◌≡◌ {A = ℕ} (if not sound || not whole then 1 else 0) (if whole && sound then 0 else 1)
-one_fails sound whole = grind (arith, nat_tests)
+pub reads_copied : {told_in : Bool} (told : Bool) {calling : Calling} {mode : Mode} {on_broken : OnBroken} {names : List (List ℕ)} {content : Content} {source : Source} {slots : List Slot} {known : List Standing} {fault : Option Fault} {came : List ℕ} {pieces : List (List ℕ)} {is_vain : Bool} → came ≡ concat pieces → is_done on_broken known ≡ is_vain → AreSized pieces → length came < 2 ^ 63
+    → (fault ≡ Some (Read 0)) ⊎ (source.is_broken ≡ false) → (fault ≡ None → is_vain ≡ false → source.ended ≡ true) → (told_in ≡ true → is_vain ≡ true → GaveLast pieces source) → IsRead content (LeavesOf told_in source) is_vain came fault → Copies told calling mode on_broken names pieces [] slots known → CopiesRead told_in told calling mode on_broken names content source slots known fault
+reads_copied {told_in} told {content} {source} {known} {fault} {came} {pieces} joined vain sized few met ended last read copies = grind (arith, common_steps)
 
-status_is : (broke : List (Option ℕ)) (fault : Option Fault) (failed : Bool) {known : List Bool} → failed ≡ (not (is_none fault) || any_of known) → known ≡ map (λ (when : Option ℕ). not (is_none when)) broke → (if failed then 1 else 0) ≡ status_of broke fault
-status_is broke fault failed failing is = cc (failing, is, any_broken broke, one_fails (is_none fault) (are_sound broke))
+-- why outputs stand as they do
 
-pub ends_copied : {told_in : Bool} (told : Bool) {mode : Mode} {on_broken : OnBroken} {names : List (List ℕ)} {content : Content} {source : Source} {pieces : List (List ℕ)}
-    {fault : Option Fault} {failed : Bool} {slots : List Slot} {before known : List Bool} → failed ≡ (not (is_none fault) || any_of known)
+sound_at : (n place : ℕ) → get_or (replicate n Sound) place Sound ≡ Sound
+sound_at zero place = refl
+sound_at (suc n) zero = refl
+sound_at (suc n) (suc place) = sound_at n place
+
+pub all_sound : (breaks_for : ℕ → Reason → Bool) (known : List Standing) (n : ℕ) → known ≡ replicate n Sound → EachStandsFor breaks_for known
+all_sound breaks_for known n is place = subst (StandsFor (breaks_for (output_slot place))) (sym (ap (λ those. get_or those place Sound) is ∙ sound_at n place)) tt
+
+stands_one : (may : Reason → Bool) (was now : Standing) {is_broken : Bool} → StandsFor may was → Sees was is_broken now → (is_lost was ≡ false → is_lost now ≡ true → (why : Reason) × IsTrue (may why) × (now ≡ lost_for why)) → StandsFor may now
+stands_one may was Sound before sees broke = tt
+stands_one may Sound Broken before sees broke = broke refl refl
+stands_one may Sound Gone before sees broke = broke refl refl
+stands_one may Broken Broken before sees broke = before
+stands_one may Gone Gone before sees broke = before
+stands_one may Broken Gone before sees broke = subst (StandsFor may) (sym (sees.kept refl refl)) before
+stands_one may Gone Broken before sees broke = subst (StandsFor may) (sym (sees.kept refl refl)) before
+
+each_set : (P : ℕ → Standing → Type 0) (known : List Standing) (n place : ℕ) (now : Standing) → ((at : ℕ) → P at (get_or known at Sound)) → P n now → P place (get_or (set known n now) place Sound)
+each_set P [] n place now all one = all place
+each_set P (first ∷ known) zero zero now all one = one
+each_set P (first ∷ known) zero (suc place) now all one = all (suc place)
+each_set P (first ∷ known) (suc n) zero now all one = all zero
+each_set P (first ∷ known) (suc n) (suc place) now all one = each_set (λ at. P (suc at)) known n place now (λ at. all (suc at)) one
+
+get_or-default : (known : List Standing) (n : ℕ) (one other : Standing) → n < length known → get_or known n one ≡ get_or known n other
+get_or-default [] n one other within = absurd (omega (arith, within))
+get_or-default (first ∷ known) zero one other within = refl
+get_or-default (first ∷ known) (suc n) one other within = get_or-default known n one other (omega arith)
+
+pub stands_next : (breaks_for : ℕ → Reason → Bool) (old known : List Standing) (other : Standing) {n : ℕ} {now : Standing} {is_broken : Bool} → (EachStandsFor breaks_for old → EachStandsFor breaks_for known) → EachStandsFor breaks_for old → n < length known
+    → Sees (get_or known n other) is_broken now → (is_lost (get_or known n other) ≡ false → is_lost now ≡ true → (why : Reason) × IsTrue (breaks_for (output_slot n) why) × (now ≡ lost_for why)) → EachStandsFor breaks_for (set known n now)
+stands_next breaks_for old known other {n} {now} step stand within sees broke place =
+    each_set (λ at. StandsFor (breaks_for (output_slot at))) known n place now (step stand)
+    (stands_one (breaks_for (output_slot n)) (get_or known n other) now (subst (StandsFor (breaks_for (output_slot n))) (get_or-default known n Sound other within) (step stand n)) sees broke)
+
+-- the end
+
+pub ends_copied : {told_in : Bool} (told : Bool) {breaks_for : ℕ → Reason → Bool} {calling : Calling} {mode : Mode} {on_broken : OnBroken} {names : List (List ℕ)} {content : Content} {source : Source} {pieces : List (List ℕ)}
+    {fault : Option Fault} {status : ℕ} {slots : List Slot} {before known : List Standing} → status ≡ status_for on_broken known fault → EachStandsFor breaks_for known
     → ComesIn told_in content source (is_done on_broken before) pieces fault
-    → HasCopied told mode on_broken names pieces fault before slots known → EndsAs told_in told mode on_broken names content source slots (if failed then 1 else 0)
-ends_copied {told_in} told {content} {source} {pieces} {fault} {failed = failed} failing read left =
-    copied pieces fault left.first left.broke left.output left.error left.files (rw left.before_are read) left.goes_on left.output_left left.files_left left.said left.are
-    (status_is (left.first ∷ left.broke) fault failed failing left.known_are)
+    → HasCopied told calling mode on_broken names pieces fault before slots known → EndsAs told_in told breaks_for calling mode on_broken names content source slots status
+ends_copied {told_in} told {on_broken = on_broken} {content} {source} {pieces} {fault} is stand read left =
+    copied pieces fault left.first left.broke left.output left.error left.files (rw left.before_are read) left.goes_on left.output_left left.files_left (rw left.known_are at stand) left.said left.are
+    (is ∙ ap (λ standings. status_for on_broken standings fault) left.known_are)
 
 -- there was no memory
 
-ends_nowhere : {told_in : Bool} (told : Bool) {mode : Mode} {on_broken : OnBroken} {names : List (List ℕ)} {content : Content} {source : Source} {mid new : List Slot} {fault : Fault} → fault ≡ Memory → mid ≡ streams → IsAsFound told_in content source → SaysOn told Tee (message_of Tee fault (output_named mid fault)) mid new → EndsAs told_in told mode on_broken names content source new 1
-ends_nowhere told {mid} {new} is at unread says =
-    let said = subst (λ (those : Fault). SaysOn told Tee (message_of Tee those (output_named mid those)) mid new) is says standard_output standard_error [] at in
-    no_room said.0 (said.0, said.1, refl) unread said.2 refl
+-- the fault was told, and the run has this status
+abbrev pub ToldSo : Bool → Calling → Fault → List Slot → List Slot → ℕ → Type 0
+ToldSo told calling fault mid new status = (why : Reason) × TellsOn told (tee_called calling) why fault (output_named mid fault) mid new
+    × (status ≡ status_after fault calling why)
 
-pub ends_at_once : {told_in : Bool} (told : Bool) {mode : Mode} {on_broken : OnBroken} {names : List (List ℕ)} {old new_sources : List Source} {first mid new : List Slot} {fault : Fault} → fault ≡ Memory → IsFresh old → first ≡ streams → mid ≡ first → new_sources ≡ old → SaysOn told Tee (message_of Tee fault (output_named mid fault)) mid new
-    → OfContent told_in (source_at old 0).left (λ content. EndsAs told_in told mode on_broken names content (source_at new_sources 0) new 1 × CameFrom told_in content (source_at new_sources 0))
-ends_at_once {told_in} told {mode} {on_broken} {names} {old} {new_sources} {new} is fresh at same sources says =
+ends_nowhere : {told_in : Bool} (told : Bool) {breaks_for : ℕ → Reason → Bool} {calling : Calling} {mode : Mode} {on_broken : OnBroken} {names : List (List ℕ)} {content : Content} {source : Source} {mid new : List Slot} {fault : Fault} {status : ℕ} → fault ≡ Memory → mid ≡ streams → IsAsFound told_in content source → ToldSo told calling fault mid new status → EndsAs told_in told breaks_for calling mode on_broken names content source new status
+ends_nowhere told {calling} {mid = mid} {new} {status = status} is at unread says =
+    let (why, tells, one) = subst (λ (those : Fault). ToldSo told calling those mid new status) is says in
+    let said = tells standard_output standard_error [] at in
+    no_room said.0 (said.0, (why, said.1), refl) unread said.2 one
+
+pub ends_at_once : {told_in : Bool} (told : Bool) {breaks_for : ℕ → Reason → Bool} {calling : Calling} {mode : Mode} {on_broken : OnBroken} {names : List (List ℕ)} {old new_sources : List Source} {first mid new : List Slot} {fault : Fault} {status : ℕ} → fault ≡ Memory → IsFresh old → first ≡ streams → mid ≡ first → new_sources ≡ old → ToldSo told calling fault mid new status
+    → OfContent told_in (source_at old 0).left (λ content. EndsAs told_in told breaks_for calling mode on_broken names content (source_at new_sources 0) new status × CameFrom told_in content (source_at new_sources 0))
+ends_at_once {told_in} told {breaks_for} {calling} {mode} {on_broken} {names} {old} {new_sources} {new = new} {status = status} is fresh at same sources says =
     let unread = ap (λ those. source_at those 0) (sources ∙ fresh.only) in
-    of_content told_in (source_at old 0).left empty (source_at new_sources 0) (λ content. EndsAs told_in told mode on_broken names content (source_at new_sources 0) new 1)
+    of_content told_in (source_at old 0).left empty (source_at new_sources 0) (λ content. EndsAs told_in told breaks_for calling mode on_broken names content (source_at new_sources 0) new status)
     (λ _. ends_nowhere told is (same ∙ at) (fresh.standard, unread, λ _. sym (ap (λ those. (source_at those 0).left) fresh.only)) says)
     (λ untold. ends_nowhere told is (same ∙ at) (fresh.standard, unread, λ tells. absurd (false≢true (sym untold ∙ tells))) says)
     (ap (λ (source : Source). source.is_open) unread) (sym (ap (λ (source : Source). source.is_broken) unread))
@@ -135,29 +183,51 @@ pub sound_first : {X : Type 0} (first : Option X) (rest : Bool) → (is_none fir
 sound_first None rest is = (refl, is)
 sound_first (Some x) rest is = absurd (false≢true is)
 
-pub nothing_in : (call : ℕ) (names : List (List ℕ)) (broke : List (Option ℕ)) → are_sound broke ≡ true → said_in call names broke ≡ []
-nothing_in call [] broke sound = refl
-nothing_in call (name ∷ names) [] sound = refl
-nothing_in call (name ∷ names) (None ∷ broke) sound = nothing_in call names broke sound
-nothing_in call (name ∷ names) (Some other ∷ broke) sound = absurd (false≢true sound)
+pub nothing_in : (on_broken : OnBroken) (call : ℕ) (names : List (List ℕ)) (broke : List (Option Break)) → are_sound broke ≡ true → said_in on_broken call names broke ≡ []
+nothing_in on_broken call [] broke sound = refl
+nothing_in on_broken call (name ∷ names) [] sound = refl
+nothing_in on_broken call (name ∷ names) (None ∷ broke) sound = nothing_in on_broken call names broke sound
+nothing_in on_broken call (name ∷ names) (Some other ∷ broke) sound = absurd (false≢true sound)
 
-pub nothing_before : (call : ℕ) (names : List (List ℕ)) (broke : List (Option ℕ)) → are_sound broke ≡ true → said_before call names broke ≡ []
-nothing_before zero names broke sound = refl
-nothing_before (suc call) names broke sound = ap (λ texts. texts ++ said_in call names broke) (nothing_before call names broke sound) ∙ nothing_in call names broke sound
+pub nothing_before : (on_broken : OnBroken) (call : ℕ) (names : List (List ℕ)) (broke : List (Option Break)) → are_sound broke ≡ true → said_before on_broken call names broke ≡ []
+nothing_before on_broken zero names broke sound = refl
+nothing_before on_broken (suc call) names broke sound = ap (λ texts. texts ++ said_in on_broken call names broke) (nothing_before on_broken call names broke sound) ∙ nothing_in on_broken call names broke sound
 
-pub whole_output : (told : Bool) (pieces : List (List ℕ)) (first : Option ℕ) (output : Slot) → first ≡ None → OutputLeft told pieces first output → output ≡ adds (told_of told (concat pieces)) standard_output
+pub whole_output : (told : Bool) (pieces : List (List ℕ)) (first : Option Break) (output : Slot) → first ≡ None → OutputLeft told pieces first output → output ≡ adds (told_of told (concat pieces)) standard_output
 whole_output told pieces _ _ is output_whole = refl
 whole_output told pieces _ _ is (output_cut before that after n is_there within) = absurd (cc)
 
-pub whole_files : (told : Bool) (mode : Mode) (pieces : List (List ℕ)) (names : List (List ℕ)) (broke : List (Option ℕ)) (files : List Slot) → are_sound broke ≡ true → FilesLeft told mode pieces names broke files → files ≡ map (λ name. closes (adds (told_of told (concat pieces)) (opened name mode))) names
+pub whole_files : (told : Bool) (mode : Mode) (pieces : List (List ℕ)) (names : List (List ℕ)) (broke : List (Option Break)) (files : List Slot) → are_sound broke ≡ true → FilesLeft told mode pieces names broke files → files ≡ map (λ name. closes (adds (told_of told (concat pieces)) (opened name mode))) names
 whole_files told mode pieces _ _ _ sound no_file = refl
 whole_files told mode pieces _ _ _ sound (one_file name names _ broke _ files file_whole rest) = ap (λ those. closes (adds (told_of told (concat pieces)) (opened name mode)) ∷ those) (whole_files told mode pieces names broke files sound rest)
 whole_files told mode pieces _ _ _ sound (one_file name names _ broke _ files (file_unopened kept named) rest) = absurd (false≢true sound)
 whole_files told mode pieces _ _ _ sound (one_file name names _ broke _ files (file_cut before that after n is within) rest) = absurd (false≢true sound)
 whole_files told mode pieces _ _ _ sound (one_file name names _ broke _ files file_unclosed rest) = absurd (false≢true sound)
 
-status_zero : (sound whole : Bool) → ◌≡◌ {A = ℕ} (if whole && sound then 0 else 1) 0 → (whole ≡ true) × (sound ≡ true)
-status_zero sound whole is = grind (arith, nat_tests)
+-- where it is no fault that one is gone, and none failed, nothing broke
+pub sound_if : (broke : List (Option Break)) → any_is Broken (map standing_of broke) ≡ false → any_is Gone (map standing_of broke) ≡ false → are_sound broke ≡ true
+sound_if [] whole left = refl
+sound_if (None ∷ broke) whole left = sound_if broke whole left
+sound_if (Some one ∷ broke) whole left = by one.is_gone whole left where
+  by : (gone : Bool) → any_is Broken (lost_as gone ∷ map standing_of broke) ≡ false → any_is Gone (lost_as gone ∷ map standing_of broke) ≡ false → false ≡ true
+  by true none left = absurd (false≢true (sym left))
+  by false none left = absurd (false≢true (sym none))
+
+gone_fails : (on_broken : OnBroken) (failed : Bool) → forgives on_broken ≡ false → gone_status on_broken failed ≡ 0 → ⊥
+gone_fails Warn failed strict zero_is = omega (arith, zero_is)
+gone_fails Exit failed strict zero_is = omega (arith, zero_is)
+gone_fails WarnNoPipe failed strict zero_is = false≢true (sym strict)
+gone_fails ExitNoPipe failed strict zero_is = false≢true (sym strict)
+gone_fails Signal failed strict zero_is = omega (arith, zero_is)
+
+pub status_zero : (on_broken : OnBroken) (broke : List (Option Break)) (fault : Option Fault) → forgives on_broken ≡ false → status_of on_broken broke fault ≡ 0 → (is_none fault ≡ true) × (are_sound broke ≡ true)
+status_zero on_broken broke fault strict = by (any_is Gone (map standing_of broke)) (any_is Broken (map standing_of broke)) (is_none fault) refl refl refl where
+  by : (gone broken ended : Bool) → any_is Gone (map standing_of broke) ≡ gone → any_is Broken (map standing_of broke) ≡ broken → is_none fault ≡ ended
+      → (if gone then gone_status on_broken (not ended || broken) else if not ended || broken then 1 else 0) ≡ 0 → (ended ≡ true) × (are_sound broke ≡ true)
+  by true broken ended is_gone is_broken is_ended zero_is = absurd (gone_fails on_broken (not ended || broken) strict zero_is)
+  by false true true is_gone is_broken is_ended zero_is = absurd (omega (arith, zero_is))
+  by false broken false is_gone is_broken is_ended zero_is = absurd (omega (arith, zero_is))
+  by false false true is_gone is_broken is_ended zero_is = (refl, sound_if broke is_broken is_gone)
 
 read_whole : {content : Content} (Leaves : List ℕ → Type 0) {is_vain : Bool} {x : List ℕ} {fault : Option Fault} → is_vain ≡ false → is_none fault ≡ true → IsRead content Leaves is_vain x fault → content.bytes ≡ x
 read_whole Leaves left sound (to_end x is ended leaves) = is
@@ -166,29 +236,32 @@ read_whole Leaves left sound (to_limit x piece rest is many within leaves) = abs
 read_whole Leaves left sound (to_broken_output x rest is leaves) = absurd (false≢true (sym left))
 
 -- where nothing broke the run goes on
-none_sound : (call : ℕ) (broke : List (Option ℕ)) → are_sound broke ≡ true → any_of (broken_before call broke) ≡ false
-none_sound call [] sound = refl
-none_sound call (first ∷ broke) sound =
-    let sounds = sound_first first (are_sound broke) sound in rw sounds.0 (none_sound call broke sounds.1)
+none_stand : (one : Standing) → is_same Sound one ≡ false → (call : ℕ) (broke : List (Option Break)) → are_sound broke ≡ true → any_is one (standings_before call broke) ≡ false
+none_stand one differs call [] sound = refl
+none_stand one differs call (None ∷ broke) sound = rw differs (none_stand one differs call broke sound)
+none_stand one differs call (Some broke ∷ rest) sound = absurd (false≢true sound)
 
-pub sound_goes_on : (on_broken : OnBroken) (call : ℕ) (first : Option ℕ) (broke : List (Option ℕ)) → are_sound (first ∷ broke) ≡ true → is_done on_broken (broken_before call (first ∷ broke)) ≡ false
-sound_goes_on GoOn call first broke sound = rw (sound_first first (are_sound broke) sound).0
-sound_goes_on Stop call first broke sound = none_sound call (first ∷ broke) sound
+pub sound_goes_on : (on_broken : OnBroken) (call : ℕ) (first : Option Break) (broke : List (Option Break)) → are_sound (first ∷ broke) ≡ true → is_done on_broken (standings_before call (first ∷ broke)) ≡ false
+sound_goes_on Warn call first broke sound = rw (sound_first first (are_sound broke) sound).0
+sound_goes_on Exit call first broke sound = rw (none_stand Broken refl call (first ∷ broke) sound, none_stand Gone refl call (first ∷ broke) sound) refl
+sound_goes_on WarnNoPipe call first broke sound = rw (sound_first first (are_sound broke) sound).0
+sound_goes_on ExitNoPipe call first broke sound = rw (none_stand Broken refl call (first ∷ broke) sound, (sound_first first (are_sound broke) sound).0) refl
+sound_goes_on Signal call first broke sound = rw (none_stand Gone refl call (first ∷ broke) sound, (sound_first first (are_sound broke) sound).0) refl
 
-pub whole_if : {told_in : Bool} (told : Bool) {mode : Mode} {on_broken : OnBroken} {names : List (List ℕ)} {content : Content} {source : Source} {new : List Slot} {status : ℕ} → status ≡ 0 → EndsAs told_in told mode on_broken names content source new status → new ≡ all_copied told mode names content.bytes
-whole_if told zero_is (no_room error said left at one) = absurd (omega (arith, zero_is, one))
-whole_if told {mode} {on_broken} {names} zero_is (copied pieces fault first broke output error files read some output_left files_left said at is) =
-    let good = status_zero (is_none fault) (are_sound (first ∷ broke)) (sym is ∙ zero_is) in let sounds = sound_first first (are_sound broke) good.0 in
-    let silent = quiet fault (length pieces) (first ∷ broke) good.1 good.0 in
+pub whole_if : {told_in : Bool} (told : Bool) {breaks_for : ℕ → Reason → Bool} {calling : Calling} {mode : Mode} {on_broken : OnBroken} {names : List (List ℕ)} {content : Content} {source : Source} {new : List Slot} {status : ℕ} → status ≡ 0 → forgives on_broken ≡ false → EndsAs told_in told breaks_for calling mode on_broken names content source new status → new ≡ all_copied told mode names content.bytes
+whole_if told zero_is strict (no_room error said left at one) = absurd (omega (arith, zero_is, one))
+whole_if told {mode = mode} {on_broken} {names} zero_is strict (copied pieces fault first broke output error files read some output_left files_left stand said at is) =
+    let good = status_zero on_broken (first ∷ broke) fault strict (sym is ∙ zero_is) in let sounds = sound_first first (are_sound broke) good.1 in
+    let silent = quiet fault (length pieces) (first ∷ broke) good.0 good.1 in
     at ∙ ap (λ slot. slot ∷ error ∷ files) (whole_output told pieces first output sounds.0 output_left)
     ∙ ap (λ slot. adds (told_of told (concat pieces)) standard_output ∷ slot ∷ files) (rw silent at said)
     ∙ ap (λ those. adds (told_of told (concat pieces)) standard_output ∷ standard_error ∷ those) (whole_files told mode pieces names broke files sounds.1 files_left)
-    ∙ ap (all_copied told mode names) (sym (read_whole _ (sound_goes_on on_broken (suc (length pieces)) first broke good.0) good.1 read.read)) where
-      quiet : (fault : Option Fault) (pieces : ℕ) (broke : List (Option ℕ)) → is_none fault ≡ true → are_sound broke ≡ true → messages_of names broke pieces fault ≡ []
+    ∙ ap (all_copied told mode names) (sym (read_whole _ (sound_goes_on on_broken (suc (length pieces)) first broke good.1) good.0 read.read)) where
+      quiet : (fault : Option Fault) (pieces : ℕ) (broke : List (Option Break)) → is_none fault ≡ true → are_sound broke ≡ true → messages_of on_broken names broke pieces fault ≡ []
       quiet None pieces broke ended sound =
-          ap (λ texts. (texts ++ []) ++ said_in (suc pieces) (output_names names) broke) (nothing_before (suc pieces) (output_names names) broke sound) ∙ nothing_in (suc pieces) (output_names names) broke sound
+          ap (λ texts. (texts ++ []) ++ said_in on_broken (suc pieces) (output_names names) broke) (nothing_before on_broken (suc pieces) (output_names names) broke sound) ∙ nothing_in on_broken (suc pieces) (output_names names) broke sound
       quiet (Some fault) pieces broke ended sound = absurd (false≢true ended)
 
-pub whole_of : {told_in : Bool} (told : Bool) {mode : Mode} {on_broken : OnBroken} {names : List (List ℕ)} (there : Content) {source : Source} {new : List Slot} {status : ℕ} → told_in ≡ true → status ≡ 0
-    → OfContent told_in there (λ content. EndsAs told_in told mode on_broken names content source new status × CameFrom told_in content source) → new ≡ all_copied told mode names there.bytes
-whole_of told {mode} {names} there tells zero_is (content, is, holds) = cc (whole_if told zero_is holds.0, is tells)
+pub whole_of : {told_in : Bool} (told : Bool) {breaks_for : ℕ → Reason → Bool} {calling : Calling} {mode : Mode} {on_broken : OnBroken} {names : List (List ℕ)} (there : Content) {source : Source} {new : List Slot} {status : ℕ} → told_in ≡ true → status ≡ 0 → forgives on_broken ≡ false
+    → OfContent told_in there (λ content. EndsAs told_in told breaks_for calling mode on_broken names content source new status × CameFrom told_in content source) → new ≡ all_copied told mode names there.bytes
+whole_of told {mode = mode} {names = names} there tells zero_is strict (content, is, holds) = cc (whole_if told zero_is strict holds.0, is tells)

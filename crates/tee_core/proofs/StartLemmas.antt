@@ -6,7 +6,8 @@ use Rattle.std.proofs.lemmas.List.{append-nil, get_or-append-add, get_or_append_
 use Rattle.std.proofs.lemmas.Bool.{false≢true}
 use Rattle.ports_core.specs.Slot.{Slot, no_slot, slot_at, opened, unopened, is_open, FailsToOpen, broke, changed_at, streams}
 use Rattle.ports_core.specs.declared.on_broken.OnBroken.{OnBroken}
-use Rattle.ports_core.specs.declared.on_broken.OnBroken.TheVariants.{GoOn, Stop}
+use Rattle.ports_core.specs.declared.on_broken.OnBroken.TheVariants.{Warn, Exit, WarnNoPipe, ExitNoPipe, Signal}
+use Rattle.ports_core.specs.declared.calling.Calling.{Calling}
 use Rattle.ports_core.specs.declared.slot.Mode.{Mode}
 use Rattle.tee_core.specs.Opening.{OpensAs, is_opened, is_unopened, OpensEach, no_more, one_more, Opens, OpensSome}
 use Rattle.tee_core.specs.inner.Opening.{OpensOne}
@@ -14,9 +15,11 @@ use Rattle.tee_core.specs.Outputs.{IsOutput, IsReady, IsUsable}
 use Rattle.tee_core.specs.TeeState.{TeeState}
 use Rattle.ports_core.proofs.Runs.{adds-nil}
 use Rattle.ports_core.specs.Streams.{standard_output, standard_error}
-use Rattle.tee_core.specs.Run.{EachFile, no_file, one_file, output_whole, any_of, broken_before, fault_in, is_done, output_names}
-use Rattle.tee_core.specs.inner.Steps.{Copies, FileHas, has_all, has_none, HasStreams, IsTeeOf, SaysTo, broken_of, said_since}
-use Rattle.tee_core.proofs.CopyLemmas.{AllMark, Marked, all_marked, marked_none, marked_now, none_marked, broke_now, said_marked}
+use Rattle.tee_core.specs.Run.{Break, EachFile, no_file, one_file, output_whole, any_is, fault_in, is_done, is_same, output_names, standing_of, standings_before}
+use Rattle.tee_core.specs.inner.Steps.{Copies, FileHas, has_all, has_none, HasStreams, IsTeeOf, SaysTo, Sees, SeesAll, broken_of, said_since}
+use Rattle.tee_core.specs.declared.standing.Standing.{Standing}
+use Rattle.tee_core.specs.declared.standing.Standing.TheVariants.{Sound, Broken, Gone}
+use Rattle.tee_core.proofs.CopyLemmas.{AllMark, Marked, all_marked, break_now, flags, marked_none, marked_now, none_marked, said_marked, stand_now, stand_so}
 use Rattle.ports_core.specs.declared.fault.Fault.TheVariants as fault
 
 -- one file
@@ -124,58 +127,77 @@ some_now is = rw is (some_none)
 pub in_range : {mode : Mode} {names : List (List ℕ)} {old new : List Slot} → Opens mode names old new → length new ≡ length old + length names
 in_range {names} {old} opens = grind (arith, common_steps, length-since)
 
-file_starts : (told : Bool) {mode : Mode} {name : List ℕ} {file : Slot} → OpensAs mode name file → Marked (FileHas told mode [] name) 0 None false file
-file_starts told {mode} {name} is_opened = (None, rw (← (adds-nil told (opened name mode))) has_all, marked_none)
-file_starts told (is_unopened kept named) = (Some 0, has_none kept named, marked_now)
+file_starts : (told : Bool) {mode : Mode} {name : List ℕ} {file : Slot} {now : Standing} → OpensAs mode name file → Sees Sound file.is_broken now → Marked (FileHas told mode [] name) 0 None now file
+file_starts told {mode} {name} is_opened sees = (None, rw (← (adds-nil told (opened name mode))) has_all, marked_none sees.broken)
+file_starts told {now = now} (is_unopened kept named) sees = (Some (break_now 0 now), has_none kept named, marked_now sees.broken)
 
-abbrev FilesStart : Bool → Mode → List (List ℕ) → List Slot → Type 0
-FilesStart told mode names files =
-    (broke : List (Option ℕ)) × EachFile (FileHas told mode []) names broke files × AllMark 0 (replicate (length names) None) broke (replicate (length names) false) (map (λ (file : Slot). file.is_broken) files)
+abbrev FilesStart : Bool → Mode → List (List ℕ) → List Slot → List Standing → Type 0
+FilesStart told mode names files nows =
+    (broke : List (Option Break)) × EachFile (FileHas told mode []) names broke files × AllMark 0 (replicate (length names) None) broke nows
 
-files_start : (told : Bool) {mode : Mode} {names : List (List ℕ)} {files : List Slot} → OpensEach mode names files → FilesStart told mode names files
-files_start told no_more = ([], no_file, none_marked)
-files_start told (one_more name names file files one rest) =
-    let here = file_starts told one in
-    let there = files_start told rest in
-    (here.0 ∷ there.0, one_file name names here.0 there.0 file files here.1 there.1, all_marked None here.0 false file.is_broken _ there.0 _ _ here.2 there.2)
+files_start : (told : Bool) {mode : Mode} {names : List (List ℕ)} {files : List Slot} (nows : List Standing) → OpensEach mode names files → SeesAll (replicate (length names) Sound) (flags files) nows → FilesStart told mode names files nows
+files_start told [] no_more sees = ([], no_file, none_marked)
+files_start told (now ∷ nows) no_more sees = absurd sees
+files_start told [] (one_more name names file files one rest) sees = absurd sees
+files_start told (now ∷ nows) (one_more name names file files one rest) sees =
+    let here = file_starts told one sees.0 in
+    let there = files_start told nows rest sees.1 in
+    (here.0 ∷ there.0, one_file name names here.0 there.0 file files here.1 there.1, all_marked None here.0 now _ there.0 nows here.2 there.2)
+
+-- standard output, which nothing has broken, and the files
+abbrev AllStart : Bool → Mode → List (List ℕ) → List Slot → List Standing → Type 0
+AllStart told mode names files nows =
+    (broke : List (Option Break)) × EachFile (FileHas told mode []) names broke files × AllMark 0 (None ∷ replicate (length names) None) (None ∷ broke) nows
+
+all_start : (told : Bool) {mode : Mode} {names : List (List ℕ)} {files : List Slot} (nows : List Standing) → OpensEach mode names files → SeesAll (Sound ∷ replicate (length names) Sound) (broken_of (standard_output ∷ standard_error ∷ files)) nows → AllStart told mode names files nows
+all_start told [] each sees = absurd sees
+all_start told (now ∷ nows) each sees =
+    let files = files_start told nows each sees.1 in (files.0, files.1, all_marked None None now _ files.0 nows (marked_none sees.0.broken) files.2)
 
 pub opened_streams : {mode : Mode} {names : List (List ℕ)} {slots : List Slot} → Opens mode names streams slots → HasStreams slots (length names)
 opened_streams {names} opens = grind (arith, common_steps, length-since)
 
 -- nothing broke before a run
 
-none_broken : (whens : List (Option ℕ)) → any_of (broken_before 0 whens) ≡ false
-none_broken [] = refl
-none_broken (None ∷ whens) = none_broken whens
-none_broken (Some call ∷ whens) = let rest = none_broken whens in grind (arith, nat_tests, rest)
+none_before : (one : Standing) → is_same Sound one ≡ false → (whens : List (Option Break)) → any_is one (standings_before 0 whens) ≡ false
+none_before one differs [] = refl
+none_before one differs (None ∷ whens) = rw differs (none_before one differs whens)
+none_before one differs (Some lost ∷ whens) = let rest = none_before one differs whens in grind (arith, nat_tests, differs, rest)
 
-goes_at_first : (on_broken : OnBroken) (whens : List (Option ℕ)) → is_done on_broken (broken_before 0 (None ∷ whens)) ≡ false
-goes_at_first GoOn whens = refl
-goes_at_first Stop whens = none_broken whens
+goes_at_first : (on_broken : OnBroken) (whens : List (Option Break)) → is_done on_broken (standings_before 0 (None ∷ whens)) ≡ false
+goes_at_first Warn whens = refl
+goes_at_first Exit whens = rw (none_before Broken refl whens, none_before Gone refl whens) refl
+goes_at_first WarnNoPipe whens = refl
+goes_at_first ExitNoPipe whens = rw (none_before Broken refl whens) refl
+goes_at_first Signal whens = rw (none_before Gone refl whens) refl
 
-pub starts : (told : Bool) {mode : Mode} (on_broken : OnBroken) {names : List (List ℕ)} {old new : List Slot} {known now : List Bool} → Opens mode names streams old → known ≡ replicate (length names + 1) false → SaysTo told (said_since (fault_in 0) (output_names names) known (broken_of old)) old new → now ≡ broken_of old → Copies told mode on_broken names [] [] new now
-starts told on_broken {names} {old} {new} {known} opens unknown says flags =
-    let files = files_start told opens.each in
-    let new_is : new ≡ standard_output ∷ says.0 ∷ opens.since = says.2 ∙ ap (changed_at 1 (λ _. says.0)) opens.slots in
-    let marked : AllMark 0 (None ∷ replicate (length names) None) (None ∷ files.0) (false ∷ replicate (length names) false) (broken_of (standard_output ∷ standard_error ∷ opens.since)) = all_marked None None false false _ files.0 _ _ (marked_none) files.2 in
+standing_none : (count : ℕ) → map standing_of (replicate count None) ≡ replicate count Sound
+standing_none zero = refl
+standing_none (suc count) = ap (λ rest. Sound ∷ rest) (standing_none count)
+
+pub starts : (told : Bool) {calling : Calling} {mode : Mode} (on_broken : OnBroken) {names : List (List ℕ)} {old new : List Slot} {known nows : List Standing} → Opens mode names streams old → known ≡ replicate (length names + 1) Sound → SaysTo told calling (said_since on_broken (fault_in 0) (output_names names) known nows) old new → SeesAll known (broken_of old) nows → Copies told calling mode on_broken names [] [] new nows
+starts told {calling} on_broken {names} {old} {new} {known} {nows} opens unknown says sees =
+    let known_is : known ≡ Sound ∷ replicate (length names) Sound = unknown ∙ ap (λ n. replicate n Sound) (let e : length names + 1 ≡ suc (length names) = omega arith in e) in
+    let all = all_start told nows opens.each (rw (known_is, ap broken_of opens.slots) at sees) in
+    let unbroken : known ≡ map standing_of (None ∷ replicate (length names) None) = known_is ∙ sym (ap (λ rest. Sound ∷ rest) (standing_none (length names))) in
     record {
       output = standard_output;
       error = says.0;
       files = opens.since;
       first = None;
-      broke = files.0;
-      are = new_is;
+      broke = all.0;
+      are = says.2 ∙ ap (changed_at 1 (λ _. says.0)) opens.slots;
       output_has = rw (← (adds-nil told standard_output)) output_whole;
-      files_have = files.1;
-      said = rw (ap (λ flags. said_since (fault_in 0) (output_names names) flags (broken_of old)) (unknown ∙ ap (λ n. replicate n false) (let e : length names + 1 ≡ suc (length names) = omega arith in e)) ∙ ap (λ those. said_since (fault_in 0) (output_names names) (false ∷ replicate (length names) false) (broken_of those)) opens.slots
-          ∙ sym (said_marked (output_names names) marked) ∙ sym (append-nil _)) at (rw (ap (λ those. slot_at those 1) opens.slots) at says.1);
-      known_are = flags ∙ ap broken_of opens.slots ∙ sym (ap broken_of new_is);
-      goes_on = goes_at_first on_broken files.0;
-      are_known = broke_now marked ∙ sym (flags ∙ ap broken_of opens.slots);
+      files_have = all.1;
+      said = rw (ap (λ those. said_since on_broken (fault_in 0) (output_names names) those nows) unbroken
+          ∙ sym (said_marked on_broken (output_names names) all.2) ∙ sym (append-nil _)) at (rw (ap (λ those. slot_at those 1) opens.slots) at says.1);
+      known_are = stand_so all.2;
+      goes_on = goes_at_first on_broken all.0;
+      are_known = stand_now all.2;
     }
 
-pub length-names : (names : List (Bor (List ℕ))) {known : List Bool} → known ≡ replicate (length names + 1) false → known ≡ replicate (length (map (λ (name : Bor (List ℕ)). name.now) names) + 1) false
-length-names names is = is ∙ ap (λ n. replicate (n + 1) false) (sym (length-map names (λ (name : Bor (List ℕ)). name.now)))
+pub length-names : (names : List (Bor (List ℕ))) {known : List Standing} → known ≡ replicate (length names + 1) Sound → known ≡ replicate (length (map (λ (name : Bor (List ℕ)). name.now) names) + 1) Sound
+length-names names is = is ∙ ap (λ n. replicate (n + 1) Sound) (sym (length-map names (λ (name : Bor (List ℕ)). name.now)))
 
 pub is_tee_of : (names : List (Bor (List ℕ))) {old : List Slot} {tee : TeeState} → old ≡ streams → tee.is_over ≡ false → tee.count ≡ length names → (0 < tee.count → tee.first ≡ length old) → IsTeeOf (map (λ (name : Bor (List ℕ)). name.now) names) tee
 is_tee_of names is live count first = grind (arith, common_steps)

@@ -1,26 +1,115 @@
 -- What a run of `tee` leaves, of its input and of what broke when.
-use Rattle.std.specs.Prelude.{is_none, ◌≡◌, ℕ, ◌≤◌, ◌<◌, ◌^◌, zero, suc, ◌==◌, ◌&&◌, ◌||◌, nat_lt, All, Bool, true, false, List, [], ◌∷◌, ◌++◌, length, map, take, Option, Some, None, ◌⊎◌, codes, if◌then◌else◌}
+use Rattle.std.specs.Prelude.{is_none, ◌≡◌, ℕ, ◌≤◌, ◌<◌, ◌^◌, zero, suc, ◌==◌, ◌&&◌, ◌||◌, not, nat_lt, All, Bool, true, false, List, [], ◌∷◌, ◌++◌, length, map, take, Option, Some, None, ◌⊎◌, codes, if◌then◌else◌, get_or, IsTrue}
 use Rattle.std.specs.List.{concat}
 use Rattle.ports_core.specs.Slot.{Slot, opened, unopened, adds, breaks, closes, told_of}
 use Rattle.ports_core.specs.Inputs.{largest_piece}
 use Rattle.ports_core.specs.Source.{Content, Source, source_of}
-use Rattle.ports_core.specs.Text.{message_of}
+use Rattle.ports_core.specs.Text.{Message, message_of}
 use Rattle.ports_core.specs.Message.{SaysAll}
+use Rattle.ports_core.specs.declared.calling.Calling.{Calling}
+use Rattle.ports_core.specs.declared.calling.Speaker.{Speaker}
+use Rattle.ports_core.specs.declared.reason.Reason.{Reason}
+use Rattle.ports_core.specs.declared.reason.Reason.TheVariants as reason
 use Rattle.ports_core.specs.declared.on_broken.OnBroken.{OnBroken}
-use Rattle.ports_core.specs.declared.on_broken.OnBroken.TheVariants.{GoOn, Stop}
+use Rattle.ports_core.specs.declared.on_broken.OnBroken.TheVariants.{Warn, Exit, WarnNoPipe, ExitNoPipe, Signal}
 use Rattle.ports_core.specs.declared.slot.Mode.{Mode}
 use Rattle.ports_core.specs.declared.tool.Tool.TheVariants.{Tee}
 use Rattle.ports_core.specs.declared.fault.Fault.{Fault}
 use Rattle.ports_core.specs.declared.fault.Fault.TheVariants.{Memory, Write, Read, Open, TooLong}
 use Rattle.ports_core.specs.Streams.{standard_output, standard_error, streams_with}
+use Rattle.tee_core.specs.declared.standing.Standing.{Standing}
+use Rattle.tee_core.specs.declared.standing.Standing.TheVariants.{Sound, Broken, Gone}
+
+-- who speaks in its messages
+abbrev pub tee_called : Calling → Speaker
+tee_called calling = record { calling = calling; tool = Tee }
 
 -- The calls of a run are numbered: call 0 opens the files, one call follows for each piece of the input, and the last
--- one closes the files. What broke when is a list: for standard output and then for each file, the number of the call
--- in which it broke, if it did.
+-- one closes the files. What broke when is a list: for standard output and then for each file, how it broke, if it did.
 
-abbrev pub broke_in : ℕ → Option ℕ → Bool
-broke_in call None = false
-broke_in call (Some other) = other == call
+-- an output broke in this call, and is gone where nobody read it any more
+pub record Break : Type 0 where
+  pub call : ℕ
+  pub is_gone : Bool
+
+-- how an output stands that broke so, and one of which this is said
+abbrev pub lost_as : Bool → Standing
+lost_as true = Gone
+lost_as false = Broken
+
+abbrev pub standing_of : Option Break → Standing
+standing_of None = Sound
+standing_of (Some broke) = lost_as broke.is_gone
+
+-- how an output stands that broke for this reason
+abbrev pub lost_for : Reason → Standing
+lost_for reason.Gone = Gone
+lost_for other = Broken
+
+-- an output stands so for a reason for which it can break
+abbrev pub StandsFor : (Reason → Bool) → Standing → Type 0
+StandsFor may Sound = Unit {0}
+StandsFor may lost = (why : Reason) × IsTrue (may why) × (lost ≡ lost_for why)
+
+-- the number of an output: standard error stands between standard output and the files
+abbrev pub output_slot : ℕ → ℕ
+output_slot zero = 0
+output_slot (suc n) = suc (suc n)
+
+-- so does each
+abbrev pub EachStandsFor : (ℕ → Reason → Bool) → List Standing → Type 0
+EachStandsFor breaks_for standings =
+    (place : ℕ) → StandsFor (breaks_for (output_slot place)) (get_or standings place Sound)
+
+-- how the outputs stand by what broke before this call
+
+abbrev pub standing_before : ℕ → Option Break → Standing
+standing_before call None = Sound
+standing_before call (Some broke) = if nat_lt broke.call call then lost_as broke.is_gone else Sound
+
+abbrev pub standings_before : ℕ → List (Option Break) → List Standing
+standings_before call broke = map (standing_before call) broke
+
+-- some output stands so
+
+abbrev pub is_same : Standing → Standing → Bool
+is_same Sound Sound = true
+is_same Broken Broken = true
+is_same Gone Gone = true
+is_same one other = false
+
+abbrev pub any_is : Standing → List Standing → Bool
+any_is one [] = false
+any_is one (standing ∷ standings) = is_same standing one || any_is one standings
+
+-- Whether a run ends, where its outputs stand so: each once none is left; one that exits, with the first that broke;
+-- without those that are gone, with the first that broke otherwise; one that goes by the signal, with the first that is
+-- gone.
+abbrev pub is_done : OnBroken → List Standing → Bool
+is_done Warn standings = not (any_is Sound standings)
+is_done Exit standings = any_is Broken standings || any_is Gone standings
+is_done WarnNoPipe standings = not (any_is Sound standings)
+is_done ExitNoPipe standings = any_is Broken standings || not (any_is Sound standings)
+is_done Signal standings = any_is Gone standings || not (any_is Sound standings)
+
+-- nothing is said of an output that is gone
+abbrev pub is_quiet : OnBroken → Bool
+is_quiet Warn = false
+is_quiet Exit = false
+is_quiet WarnNoPipe = true
+is_quiet ExitNoPipe = true
+is_quiet Signal = true
+
+-- there is a message for an output that stands so
+abbrev pub is_told : OnBroken → Standing → Bool
+is_told on_broken Sound = false
+is_told on_broken Broken = true
+is_told on_broken Gone = not (is_quiet on_broken)
+
+-- an output broke in this call, and there is a message for it
+abbrev pub tells_in : OnBroken → ℕ → Option Break → Bool
+tells_in on_broken call None = false
+tells_in on_broken call (Some broke) = broke.call == call && is_told on_broken (lost_as broke.is_gone)
 
 -- what a call couldn't do with an output that broke in it; the number stands in no message
 abbrev pub fault_in : ℕ → Fault
@@ -32,58 +121,60 @@ abbrev pub output_names : List (List ℕ) → List (List ℕ)
 output_names names = codes "standard output" ∷ names
 
 -- the messages for the outputs that broke in this call, in the outputs' order
-abbrev pub said_in : ℕ → List (List ℕ) → List (Option ℕ) → List (List ℕ)
-said_in call [] broke = []
-said_in call (name ∷ names) [] = []
-said_in call (name ∷ names) (first ∷ broke) = if broke_in call first
-    then message_of Tee (fault_in call) name ∷ said_in call names broke else said_in call names broke
+abbrev pub said_in : OnBroken → ℕ → List (List ℕ) → List (Option Break) → List Message
+said_in on_broken call [] broke = []
+said_in on_broken call (name ∷ names) [] = []
+said_in on_broken call (name ∷ names) (first ∷ broke) = if tells_in on_broken call first
+    then message_of (fault_in call) name ∷ said_in on_broken call names broke
+    else said_in on_broken call names broke
 
 -- those for the calls before this one, one call after another
-abbrev pub said_before : ℕ → List (List ℕ) → List (Option ℕ) → List (List ℕ)
-said_before zero names broke = []
-said_before (suc call) names broke = said_before call names broke ++ said_in call names broke
+abbrev pub said_before : OnBroken → ℕ → List (List ℕ) → List (Option Break) → List Message
+said_before on_broken zero names broke = []
+said_before on_broken (suc call) names broke =
+    said_before on_broken call names broke ++ said_in on_broken call names broke
 
 -- the message for the fault that ended the reading, if one did
-abbrev pub said_of_input : Option Fault → List (List ℕ)
+abbrev pub said_of_input : Option Fault → List Message
 said_of_input None = []
-said_of_input (Some fault) = message_of Tee fault (codes "standard input") ∷ []
+said_of_input (Some fault) = message_of fault (codes "standard input") ∷ []
 
 -- all messages of a run over `pieces` pieces
-abbrev pub messages_of : List (List ℕ) → List (Option ℕ) → ℕ → Option Fault → List (List ℕ)
-messages_of names broke pieces fault =
-    said_before (suc pieces) (output_names names) broke ++ said_of_input fault
-    ++ said_in (suc pieces) (output_names names) broke
+abbrev pub messages_of : OnBroken → List (List ℕ) → List (Option Break) → ℕ → Option Fault → List Message
+messages_of on_broken names broke pieces fault =
+    said_before on_broken (suc pieces) (output_names names) broke ++ said_of_input fault
+    ++ said_in on_broken (suc pieces) (output_names names) broke
 
-abbrev pub are_sound : List (Option ℕ) → Bool
+abbrev pub are_sound : List (Option Break) → Bool
 are_sound [] = true
 are_sound (first ∷ broke) = is_none first && are_sound broke
 
-abbrev pub status_of : List (Option ℕ) → Option Fault → ℕ
-status_of broke fault = if are_sound broke && is_none fault then 0 else 1
+-- something failed that isn't an output that is gone
+abbrev pub has_failed : List Standing → Option Fault → Bool
+has_failed standings fault = not (is_none fault) || any_is Broken standings
 
--- which outputs broke before this call
+-- the status where an output is gone: one that goes by the signal has the status of a tool that the signal stopped
+abbrev pub gone_status : OnBroken → Bool → ℕ
+gone_status Warn failed = 1
+gone_status Exit failed = 1
+gone_status WarnNoPipe failed = if failed then 1 else 0
+gone_status ExitNoPipe failed = if failed then 1 else 0
+gone_status Signal failed = 141
 
-abbrev pub broke_before : ℕ → Option ℕ → Bool
-broke_before call None = false
-broke_before call (Some other) = nat_lt other call
+abbrev pub status_for : OnBroken → List Standing → Option Fault → ℕ
+status_for on_broken standings fault = if any_is Gone standings
+    then gone_status on_broken (has_failed standings fault) else if has_failed standings fault then 1 else 0
 
-abbrev pub broken_before : ℕ → List (Option ℕ) → List Bool
-broken_before call broke = map (broke_before call) broke
+abbrev pub status_of : OnBroken → List (Option Break) → Option Fault → ℕ
+status_of on_broken broke fault = status_for on_broken (map standing_of broke) fault
 
--- Whether a run ends, where these of its outputs are broken: one that goes on, once none is left; one that stops, once
--- one is broken.
-
-abbrev pub all_of : List Bool → Bool
-all_of [] = true
-all_of (flag ∷ flags) = flag && all_of flags
-
-abbrev pub any_of : List Bool → Bool
-any_of [] = false
-any_of (flag ∷ flags) = flag || any_of flags
-
-abbrev pub is_done : OnBroken → List Bool → Bool
-is_done GoOn broken = all_of broken
-is_done Stop broken = any_of broken
+-- an output that is gone is no fault
+abbrev pub forgives : OnBroken → Bool
+forgives Warn = false
+forgives Exit = false
+forgives WarnNoPipe = true
+forgives ExitNoPipe = true
+forgives Signal = false
 
 -- How an input is read: to its end; or until it breaks off; or up to a piece with which it has more bytes than any tool
 -- takes; or, where the outputs that broke end the run, up to the piece in which that came, so that nothing after it is
@@ -105,8 +196,15 @@ LeavesOf told source rest = told ≡ true → source.left.bytes ≡ rest
 abbrev pub IsAsFound : Bool → Content → Source → Type 0
 IsAsFound told content source = (there : Content) × (source ≡ source_of there) × (told ≡ true → there ≡ content)
 
+-- the last read gave the last of these pieces
+abbrev pub GaveLast : List (List ℕ) → Source → Type 0
+GaveLast pieces source = (before : List (List ℕ)) (piece : List ℕ) → pieces ≡ before ++ piece ∷ []
+    → source.last ≡ length piece
+
 -- An input came in these pieces, each of a size that one read gives, and together no more bytes than any tool takes. A
--- read failed only where that is the fault that is told. Where the reading ended with the input, a read told the end.
+-- read failed only where that is the fault that is told. Where the reading ended with the input, a read told the end;
+-- where the outputs that broke ended it, the last read gave the last piece. As that may come with any piece, each is what
+-- one read gave.
 pub record ComesIn (told : Bool) (content : Content) (source : Source) (is_vain : Bool) (pieces : List (List ℕ))
     (fault : Option Fault) : Type 0 where
   pub read : IsRead content (LeavesOf told source) is_vain (concat pieces) fault
@@ -114,56 +212,63 @@ pub record ComesIn (told : Bool) (content : Content) (source : Source) (is_vain 
   pub few : length (concat pieces) < 2 ^ 63
   pub met : (fault ≡ Some (Read 0)) ⊎ (source.is_broken ≡ false)
   pub ended : fault ≡ None → is_vain ≡ false → source.ended ≡ true
+  pub last : told ≡ true → is_vain ≡ true → GaveLast pieces source
 
 -- Standard output: it has all that was copied; or it broke in a piece, and has a beginning.
-pub data OutputLeft (told : Bool) (pieces : List (List ℕ)) : Option ℕ → Slot → Type 0 where
+pub data OutputLeft (told : Bool) (pieces : List (List ℕ)) : Option Break → Slot → Type 0 where
   output_whole : OutputLeft told pieces None (adds (told_of told (concat pieces)) standard_output)
-  output_cut : (before : List (List ℕ)) (piece : List ℕ) (after : List (List ℕ)) (n : ℕ)
+  output_cut : {is_gone : Bool} (before : List (List ℕ)) (piece : List ℕ) (after : List (List ℕ)) (n : ℕ)
       → pieces ≡ before ++ piece ∷ after → n < length piece
-      → OutputLeft told pieces (Some (suc (length before)))
+      → OutputLeft told pieces (Some (record { call = suc (length before); is_gone = is_gone }))
       (breaks (adds (told_of told (concat before ++ take n piece)) standard_output))
 
 -- A file: it has all that was copied, and was closed; or it couldn't be opened, and its name is lost where there was no
 -- memory to keep it; or it broke in a piece, and has a beginning; or it has all, and broke as it was closed.
-pub data FileLeft (told : Bool) (mode : Mode) (pieces : List (List ℕ)) (name : List ℕ) : Option ℕ → Slot → Type 0 where
-  file_whole : FileLeft told mode pieces name None (closes (adds (told_of told (concat pieces)) (opened name mode)))
-  file_unopened : (kept : List ℕ) → (kept ≡ name) ⊎ (kept ≡ [])
-      → FileLeft told mode pieces name (Some 0) (unopened kept)
-  file_cut : (before : List (List ℕ)) (piece : List ℕ) (after : List (List ℕ)) (n : ℕ)
-      → pieces ≡ before ++ piece ∷ after → n < length piece
-      → FileLeft told mode pieces name (Some (suc (length before)))
-      (breaks (adds (told_of told (concat before ++ take n piece)) (opened name mode)))
-  file_unclosed : FileLeft told mode pieces name (Some (suc (length pieces)))
-      (breaks (closes (adds (told_of told (concat pieces)) (opened name mode))))
+pub data FileLeft (told : Bool) (mode : Mode) (pieces : List (List ℕ)) (name : List ℕ) : Option Break → Slot → Type 0
+  where
+    file_whole : FileLeft told mode pieces name None (closes (adds (told_of told (concat pieces)) (opened name mode)))
+    file_unopened : {is_gone : Bool} (kept : List ℕ) → (kept ≡ name) ⊎ (kept ≡ [])
+        → FileLeft told mode pieces name (Some (record { call = 0; is_gone = is_gone })) (unopened kept)
+    file_cut : {is_gone : Bool} (before : List (List ℕ)) (piece : List ℕ) (after : List (List ℕ)) (n : ℕ)
+        → pieces ≡ before ++ piece ∷ after → n < length piece
+        → FileLeft told mode pieces name (Some (record { call = suc (length before); is_gone = is_gone }))
+        (breaks (adds (told_of told (concat before ++ take n piece)) (opened name mode)))
+    file_unclosed : {is_gone : Bool}
+        → FileLeft told mode pieces name (Some (record { call = suc (length pieces); is_gone = is_gone }))
+        (breaks (closes (adds (told_of told (concat pieces)) (opened name mode))))
 
--- each file is so, by its name and the call in which it broke, whatever became of the others
-pub data EachFile (Is : List ℕ → Option ℕ → Slot → Type 0) : List (List ℕ) → List (Option ℕ) → List Slot → Type 0 where
+-- each file is so, by its name and how it broke, whatever became of the others
+pub data EachFile (Is : List ℕ → Option Break → Slot → Type 0) : List (List ℕ) → List (Option Break) → List Slot
+    → Type 0 where
   no_file : EachFile Is [] [] []
-  one_file : (name : List ℕ) (names : List (List ℕ)) (first : Option ℕ) (broke : List (Option ℕ)) (file : Slot)
+  one_file : (name : List ℕ) (names : List (List ℕ)) (first : Option Break) (broke : List (Option Break)) (file : Slot)
       (files : List Slot) → Is name first file → EachFile Is names broke files
       → EachFile Is (name ∷ names) (first ∷ broke) (file ∷ files)
 
-abbrev pub FilesLeft : Bool → Mode → List (List ℕ) → List (List ℕ) → List (Option ℕ) → List Slot → Type 0
+abbrev pub FilesLeft : Bool → Mode → List (List ℕ) → List (List ℕ) → List (Option Break) → List Slot → Type 0
 FilesLeft told mode pieces = EachFile (FileLeft told mode pieces)
 
 -- A run ended so: as each piece was read, the outputs that were broken didn't end it, and where they did the reading
--- ended with that; standard output and each file were left as they must be by what broke when, the messages for that
--- were said, and the status tells whether anything went wrong; or there was no memory for the run at all, and nothing
--- was opened or read.
-pub data EndsAs (told_in told : Bool) (mode : Mode) (on_broken : OnBroken) (names : List (List ℕ)) (content : Content)
-    (source : Source) (new : List Slot) (status : ℕ) : Type 0 where
-  copied : (pieces : List (List ℕ)) (fault : Option Fault) (first : Option ℕ) (broke : List (Option ℕ))
+-- ended with that; standard output and each file were left as they must be by what broke when, and each broke for a
+-- reason for which it can; the messages for that were said, each with some reason, and the status tells whether anything went wrong; or there was no memory for the run
+-- at all, and nothing was opened or read.
+pub data EndsAs (told_in told : Bool) (breaks_for : ℕ → Reason → Bool) (calling : Calling) (mode : Mode)
+    (on_broken : OnBroken) (names : List (List ℕ)) (content : Content) (source : Source) (new : List Slot)
+    (status : ℕ) : Type 0 where
+  copied : (pieces : List (List ℕ)) (fault : Option Fault) (first : Option Break) (broke : List (Option Break))
       (output error : Slot) (files : List Slot)
-      → ComesIn told_in content source (is_done on_broken (broken_before (suc (length pieces)) (first ∷ broke)))
+      → ComesIn told_in content source (is_done on_broken (standings_before (suc (length pieces)) (first ∷ broke)))
       pieces fault
-      → is_done on_broken (broken_before (length pieces) (first ∷ broke)) ≡ false → OutputLeft told pieces first output
-      → FilesLeft told mode pieces names broke files
-      → SaysAll told Tee (messages_of names (first ∷ broke) (length pieces) fault) standard_error error
-      → new ≡ output ∷ error ∷ files → status ≡ status_of (first ∷ broke) fault
-      → EndsAs told_in told mode on_broken names content source new status
-  no_room : (error : Slot) → SaysAll told Tee (message_of Tee Memory [] ∷ []) standard_error error
+      → is_done on_broken (standings_before (length pieces) (first ∷ broke)) ≡ false
+      → OutputLeft told pieces first output → FilesLeft told mode pieces names broke files
+      → EachStandsFor breaks_for (map standing_of (first ∷ broke))
+      → SaysAll told (tee_called calling) (messages_of on_broken names (first ∷ broke) (length pieces) fault)
+      standard_error error
+      → new ≡ output ∷ error ∷ files → status ≡ status_of on_broken (first ∷ broke) fault
+      → EndsAs told_in told breaks_for calling mode on_broken names content source new status
+  no_room : (error : Slot) → SaysAll told (tee_called calling) (message_of Memory [] ∷ []) standard_error error
       → IsAsFound told_in content source → new ≡ streams_with error → status ≡ 1
-      → EndsAs told_in told mode on_broken names content source new status
+      → EndsAs told_in told breaks_for calling mode on_broken names content source new status
 
 -- where nothing breaks: standard output and every file have these bytes, the files are closed, and nothing was said
 abbrev pub all_copied : Bool → Mode → List (List ℕ) → List ℕ → List Slot

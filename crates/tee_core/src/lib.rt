@@ -3,8 +3,10 @@
 
 mod laws;
 mod run;
+mod standing;
 mod tee;
 
 pub use laws::agreed_is_settled;
 pub use run::run_tee;
+pub use standing::Standing;
 pub use tee::Tee;

@@ -2,6 +2,7 @@
 use Rattle.std.proofs.lemmas.Grind.{common_steps}
 use Rattle.std.proofs.Common.{◌≡◌, ℕ, ◌-◌, ◌<◌, ◌≤◌, ◌^◌, zero, Bool, true, false, not, if◌then◌else◌, List, [], length, Result, Ok, Err, IfOk, IfErr, OnOk, refl, sym, ◌∙◌, ap, arith, Option, inl, inr}
 use Rattle.ports_core.specs.Slot.{Slot}
+use Rattle.ports_core.specs.declared.calling.Calling.TheVariants.{Cutters}
 use Rattle.ports_core.specs.Part.{OutputsAt, StoppedBetween, nothing, only_out}
 use Rattle.csplit_core.specs.Output.{manner_of}
 use Rattle.ports_core.specs.Work.{Work, Needs}
@@ -104,7 +105,7 @@ csplit_halts style operands old new fault breaks = absurd breaks
 -- the work that is asked of `split`
 pub split_asked : (those asked : SplitAsked) (coming : ℕ) {naming : Naming} {tells : Tells} {said : Option ℕ} → those ≡ asked
     → naming ≡ naming_of asked → tells ≡ tells_by those.verbose → said ≡ said_by those.input coming
-    → work_by those.way those.elide naming tells said ≡ (split_task asked).work coming
+    → work_by those.way those.elide naming tells said ≡ (split_task Cutters asked).work coming
 split_asked those asked coming is named told says =
     rw (named, told, says, is) (ap (λ verbose. way_work asked.way asked.elide (record { names = naming_of asked; verbose = verbose })
     (said_by asked.input coming)) (verbose_is asked.verbose))
@@ -132,10 +133,10 @@ no_memory_for told work opening slots (Err fault) P may two err = no_memory (may
 
 -- the work that is asked for, and what opening it may need
 
-pub head_asked : (coming : ℕ) {those asked : EndsAsked} {minus : Bool} → those ≡ asked → minus ≡ is_minus those.count.sign → (head_work those.delim those.unit minus those.count.amount ≡ (head_task asked).work coming) × (minus ≡ true → (head_task asked).opening.memory ≡ true)
+pub head_asked : (coming : ℕ) {those asked : EndsAsked} {minus : Bool} → those ≡ asked → minus ≡ is_minus those.count.sign → (head_work those.delim those.unit minus those.count.amount ≡ (head_task Cutters asked).work coming) × (minus ≡ true → (head_task Cutters asked).opening.memory ≡ true)
 head_asked coming {those} is signed =
-    (ap (λ b. head_work those.delim those.unit b those.count.amount) signed ∙ ap (λ (asked : EndsAsked). (head_task asked).work coming) is, λ may. sym (ap (λ (asked : EndsAsked). is_minus asked.count.sign) is) ∙ sym signed ∙ may)
+    (ap (λ b. head_work those.delim those.unit b those.count.amount) signed ∙ ap (λ (asked : EndsAsked). (head_task Cutters asked).work coming) is, λ may. sym (ap (λ (asked : EndsAsked). is_minus asked.count.sign) is) ∙ sym signed ∙ may)
 
-pub tail_asked : (coming : ℕ) {those asked : EndsAsked} {plus : Bool} → those ≡ asked → plus ≡ is_plus those.count.sign → (tail_work those.delim those.unit plus those.count.amount ≡ (tail_task asked).work coming) × (plus ≡ false → (tail_task asked).opening.memory ≡ true)
+pub tail_asked : (coming : ℕ) {those asked : EndsAsked} {plus : Bool} → those ≡ asked → plus ≡ is_plus those.count.sign → (tail_work those.delim those.unit plus those.count.amount ≡ (tail_task Cutters asked).work coming) × (plus ≡ false → (tail_task Cutters asked).opening.memory ≡ true)
 tail_asked coming {those} is signed =
-    (ap (λ b. tail_work those.delim those.unit b those.count.amount) signed ∙ ap (λ (asked : EndsAsked). (tail_task asked).work coming) is, λ may. ap not (sym (ap (λ (asked : EndsAsked). is_plus asked.count.sign) is) ∙ sym signed ∙ may))
+    (ap (λ b. tail_work those.delim those.unit b those.count.amount) signed ∙ ap (λ (asked : EndsAsked). (tail_task Cutters asked).work coming) is, λ may. ap not (sym (ap (λ (asked : EndsAsked). is_plus asked.count.sign) is) ∙ sym signed ∙ may))

@@ -1,9 +1,10 @@
 -- What a run leaves that a fault stopped is a beginning of what one leaves that none stopped; and what a run of `tee` tells of its
 -- outputs, and what these have.
 use Rattle.std.proofs.lemmas.Grind.{common_steps}
-use Rattle.std.proofs.Common.{◌≡◌, ℕ, ◌+◌, ◌≤◌, ◌<◌, zero, suc, Bool, true, false, List, [], ◌∷◌, ◌++◌, length, map, Option, Some, inl, inr, ◌⊎◌, refl, sym, ◌∙◌, ap, arith, append-nil, rules, cond, take, None, subst, append_assoc, codes, All, not, ◌&&◌}
-use Rattle.std.proofs.lemmas.Bool.{cases_eq, false≢true, cases_lt, cond_both, eq-eqb, eqb-true, lt-ltb}
+use Rattle.std.proofs.Common.{◌≡◌, ℕ, ◌+◌, ◌≤◌, ◌<◌, zero, suc, Bool, true, false, List, [], ◌∷◌, ◌++◌, length, map, Option, Some, inl, inr, ◌⊎◌, refl, sym, ◌∙◌, ap, arith, append-nil, rules, cond, take, None, subst, append_assoc, codes, All, not, ◌&&◌, ◌==◌, ◌||◌}
+use Rattle.std.proofs.lemmas.Bool.{and_parts, cases_eq, false≢true, cases_lt, cond_both, eq-eqb, eqb-true, lt-ltb}
 use Rattle.std.proofs.Math.Bool.{and_assoc, or-true}
+use Rattle.ports_core.specs.declared.reason.Reason.{Reason}
 use Rattle.ports_core.specs.Slot.{Slot, breaks, changed_at, slot_at, unopened, adds}
 use Rattle.ports_core.specs.Source.{Content, Source}
 use Rattle.ports_core.specs.Streams.{streams_with, standard_error, standard_output}
@@ -28,12 +29,12 @@ use Rattle.split_core.specs.Round.{round_plan}
 use Rattle.split_core.specs.Split.{HasNames}
 use Rattle.split_core.proofs.RoundLemmas.{not_short}
 use Rattle.words_core.specs.SplitWords.{SplitAsked, AreNamed, CanSplit, IsInLimits, first_number}
-use Rattle.tools_core.specs.Tasks.{naming_of}
+use Rattle.tools_core.specs.Tasks.{naming_of, speaker_of}
 use Rattle.split_core.specs.laws.WorkLaws.{parts_lawful, round_lawful}
 use Rattle.split_core.proofs.AgreedLemmas.{plan_by}
 use Rattle.run_core.specs.Feeding.{HasAll, IsCall, Step, enough, is_enough, made_of, to_end, opens, feeds, closes}
 use Rattle.run_core.specs.Input.{Input}
-use Rattle.run_core.specs.RunEnds.{EndsAs, RunStep, as_defined, calling, heading, no_room, stopped, unheaded, unopened as unopened_step}
+use Rattle.run_core.specs.RunEnds.{EndsAs, RunStep, as_defined, calling as call_step, heading, no_room, stopped, unheaded, unopened as unopened_step}
 use Rattle.run_core.specs.Task.{Task, after_part, are_missing, header_text, is_missing, made_by, of_content, of_input, of_inputs}
 use Rattle.run_core.proofs.StopLemmas.{after_assoc, begins_after, nothing_after}
 use Rattle.tools_core.specs.Promises.{BeginsAs, BrokeAt, IsCalled, Run, SaysLines, StopsRun, TellsMet, failing}
@@ -42,13 +43,15 @@ use Rattle.std.specs.List.{concat}
 use Rattle.std.proofs.lemmas.List.Elements.{All-append, All-cons, All-nil}
 use Rattle.std.proofs.lemmas.List.Folds.{concat-append}
 use Rattle.ports_core.specs.Message.{SaysAll}
-use Rattle.ports_core.specs.Text.{message_of}
+use Rattle.ports_core.specs.Text.{Message, message_of}
 use Rattle.ports_core.specs.declared.slot.Mode.{Mode}
-use Rattle.ports_core.specs.declared.tool.Tool.{Tool}
-use Rattle.ports_core.specs.declared.tool.Tool.TheVariants as tool
+use Rattle.ports_core.specs.declared.calling.Calling.{Calling}
+use Rattle.ports_core.specs.declared.calling.Speaker.{Speaker}
+use Rattle.ports_core.specs.declared.on_broken.OnBroken.{OnBroken}
 use Rattle.tools_core.specs.About.{TellsText, no_text, text_cut, text_whole}
 use Rattle.tee_core.specs.Run as tee
-use Rattle.tee_core.specs.Run.{FileLeft, FilesLeft, IsRead, OutputLeft, are_sound, fault_in, messages_of, output_names, said_before, said_in, said_of_input}
+use Rattle.tee_core.specs.declared.standing.Standing.TheVariants.{Broken, Gone}
+use Rattle.tee_core.specs.Run.{Break, FileLeft, FilesLeft, IsRead, OutputLeft, are_sound, fault_in, messages_of, output_names, said_before, said_in, said_of_input}
 use Rattle.words_core.specs.TeeWords.{TeeAsked}
 use Rattle.words_core.specs.declared.settings.Settings.{Settings}
 use Rattle.words_core.specs.declared.settings.Settings.TheVariants.{Tee}
@@ -163,7 +166,7 @@ step_begins : {task : Task} {work : Work} (is_first : Bool) (name : List ℕ) {s
 step_begins {task} {work} is_first name {so_far} grows (unopened_step content place at past) = begins_more so_far (of_content task work is_first name content).part
 step_begins {task} {work} is_first name {so_far} grows (unheaded content headed leaves) = begins_more so_far (of_content task work is_first name (Some content)).part
 step_begins {task} {work} is_first name {so_far} grows (heading content headed leaves) = begins_after so_far (begins_more (only_out (header_text task.with_header is_first name)) (made_of work content))
-step_begins {task} {work} is_first name {so_far} grows (calling content call is leaves) =
+step_begins {task} {work} is_first name {so_far} grows (call_step content call is leaves) =
     let header = only_out (header_text task.with_header is_first name) in
     rw (after_assoc so_far header call.high) (begins_after so_far (begins_after header (call_begins (grows content) is)))
 
@@ -191,10 +194,10 @@ step_in_all {task} before input after {step = step} grows are at =
 
 -- A run over any inputs
 
-pub begins_whole : {task : Task} {inputs : List Input} {sources : List Source} {new : List Slot} {status : ℕ} {place : ℕ} → ((coming : ℕ) (content : Content) → IsGrowing (task.work coming) content) → (place ≡ 1 → ⊥)
-    → EndsAs true true task inputs sources new status → BeginsAs (slot_at new place) (slot_at (slots_of (made_by task inputs).part) place)
+pub begins_whole : {breaks_for : ℕ → Reason → Bool} {task : Task} {inputs : List Input} {sources : List Source} {new : List Slot} {status : ℕ} {place : ℕ} → ((coming : ℕ) (content : Content) → IsGrowing (task.work coming) content) → (place ≡ 1 → ⊥)
+    → EndsAs true true breaks_for task inputs sources new status → BeginsAs (slot_at new place) (slot_at (slots_of (made_by task inputs).part) place)
 begins_whole {new} grows differs (as_defined error reached says outputs swept done status_is) = left_begins _ new (part_begins_itself _) differs outputs swept
-begins_whole {task} {new} grows differs (stopped fault before input after error step reached are done untouched at stops between swept says status_is) =
+begins_whole {task} {new} grows differs (stopped fault why before input after said error step reached are done untouched at stops between swept says is_why tells status_is) =
     stopped_begins (task.work input.coming).clears new (step_in_all before input after grows are at) differs between swept
 begins_whole {place} grows differs (no_room error says slots untouched count status_is) = still_begins place slots (bare_begins error place differs)
 
@@ -262,115 +265,167 @@ way_grows (way.Turn place n delim) elide filing said is all = lawful_grows (turn
 
 -- Each line is such a line, where those are that tell of outputs that broke, each in its call, and of the input.
 
-abbrev TellsOutput : (List ℕ → Type 0) → List ℕ → Option ℕ → Type 0
-TellsOutput Line name when = (call : ℕ) → when ≡ Some call → Line (message_of tool.Tee (fault_in call) name)
+abbrev TellsOutput : (Message → Type 0) → List ℕ → Option Break → Type 0
+TellsOutput Line name when = (broke : Break) → when ≡ Some broke → Line (message_of (fault_in broke.call) name)
 
-abbrev TellsOutputs : (List ℕ → Type 0) → List (List ℕ) → List (Option ℕ) → Type 0
+abbrev TellsOutputs : (Message → Type 0) → List (List ℕ) → List (Option Break) → Type 0
 TellsOutputs Line (name ∷ names) (when ∷ broke) = TellsOutput Line name when × TellsOutputs Line names broke
 TellsOutputs Line names broke = Unit {0}
 
-abbrev pub TellsOfInput : (List ℕ → Type 0) → Option Fault → Type 0
+abbrev pub TellsOfInput : (Message → Type 0) → Option Fault → Type 0
 TellsOfInput Line None = Unit {0}
-TellsOfInput Line (Some fault) = Line (message_of tool.Tee fault (codes "standard input"))
+TellsOfInput Line (Some fault) = Line (message_of fault (codes "standard input"))
 
-call_are : (Line : List ℕ → Type 0) (call : ℕ) (name : List ℕ) (when : Option ℕ) (lines : List (List ℕ)) → TellsOutput Line name when → All Line lines → All Line (cond (tee.broke_in call when) (message_of tool.Tee (fault_in call) name ∷ lines) lines)
-call_are Line call name None lines tells are = are
-call_are Line call name (Some other) lines tells are =
-    cond_both (tee.broke_in call (Some other)) (message_of tool.Tee (fault_in call) name ∷ lines) lines (All Line) (λ is. All-cons Line _ lines (tells call (ap Some (eqb-true other call is))) are) (λ differs. are)
+call_are : (Line : Message → Type 0) (on_broken : OnBroken) (call : ℕ) (name : List ℕ) (when : Option Break) (lines : List Message) → TellsOutput Line name when → All Line lines → All Line (cond (tee.tells_in on_broken call when) (message_of (fault_in call) name ∷ lines) lines)
+call_are Line on_broken call name None lines tells are = are
+call_are Line on_broken call name (Some broke) lines tells are =
+    cond_both (tee.tells_in on_broken call (Some broke)) (message_of (fault_in call) name ∷ lines) lines (All Line)
+    (λ is. All-cons Line _ lines (rw (eqb-true broke.call call (and_parts (broke.call == call) (tee.is_told on_broken (tee.lost_as broke.is_gone)) is).0) at (tells broke refl)) are) (λ differs. are)
 
-in_call_are : (Line : List ℕ → Type 0) (call : ℕ) (names : List (List ℕ)) (broke : List (Option ℕ)) → TellsOutputs Line names broke → All Line (said_in call names broke)
-in_call_are Line call (name ∷ names) (when ∷ broke) tells = call_are Line call name when (said_in call names broke) tells.0 (in_call_are Line call names broke tells.1)
-in_call_are Line call [] broke tells = All-nil Line
-in_call_are Line call (name ∷ names) [] tells = All-nil Line
+in_call_are : (Line : Message → Type 0) (on_broken : OnBroken) (call : ℕ) (names : List (List ℕ)) (broke : List (Option Break)) → TellsOutputs Line names broke → All Line (said_in on_broken call names broke)
+in_call_are Line on_broken call (name ∷ names) (when ∷ broke) tells = call_are Line on_broken call name when (said_in on_broken call names broke) tells.0 (in_call_are Line on_broken call names broke tells.1)
+in_call_are Line on_broken call [] broke tells = All-nil Line
+in_call_are Line on_broken call (name ∷ names) [] tells = All-nil Line
 
-before_are : (Line : List ℕ → Type 0) (call : ℕ) (names : List (List ℕ)) (broke : List (Option ℕ)) → TellsOutputs Line names broke → All Line (said_before call names broke)
-before_are Line zero names broke tells = All-nil Line
-before_are Line (suc call) names broke tells = All-append Line _ _ (before_are Line call names broke tells) (in_call_are Line call names broke tells)
+before_are : (Line : Message → Type 0) (on_broken : OnBroken) (call : ℕ) (names : List (List ℕ)) (broke : List (Option Break)) → TellsOutputs Line names broke → All Line (said_before on_broken call names broke)
+before_are Line on_broken zero names broke tells = All-nil Line
+before_are Line on_broken (suc call) names broke tells = All-append Line _ _ (before_are Line on_broken call names broke tells) (in_call_are Line on_broken call names broke tells)
 
-input_are : (Line : List ℕ → Type 0) (fault : Option Fault) → TellsOfInput Line fault → All Line (said_of_input fault)
+input_are : (Line : Message → Type 0) (fault : Option Fault) → TellsOfInput Line fault → All Line (said_of_input fault)
 input_are Line None tells = All-nil Line
 input_are Line (Some fault) tells = one_line Line _ tells
 
-lines_are : (Line : List ℕ → Type 0) (names : List (List ℕ)) (broke : List (Option ℕ)) (pieces : ℕ) (fault : Option Fault) → TellsOutputs Line (output_names names) broke → TellsOfInput Line fault → All Line (messages_of names broke pieces fault)
-lines_are Line names broke pieces fault tells of_input =
-    All-append Line _ _ (All-append Line _ _ (before_are Line (suc pieces) (output_names names) broke tells) (input_are Line fault of_input))
-    (in_call_are Line (suc pieces) (output_names names) broke tells)
+lines_are : (Line : Message → Type 0) (on_broken : OnBroken) (names : List (List ℕ)) (broke : List (Option Break)) (pieces : ℕ) (fault : Option Fault) → TellsOutputs Line (output_names names) broke → TellsOfInput Line fault → All Line (messages_of on_broken names broke pieces fault)
+lines_are Line on_broken names broke pieces fault tells of_input =
+    All-append Line _ _ (All-append Line _ _ (before_are Line on_broken (suc pieces) (output_names names) broke tells) (input_are Line fault of_input))
+    (in_call_are Line on_broken (suc pieces) (output_names names) broke tells)
 
 -- An output that broke has its line, after the call in which it did.
 
 -- in which call it broke, if it did
-abbrev Broke : ℕ → List ℕ → Slot → Option ℕ → Type 0
+abbrev Broke : ℕ → List ℕ → Slot → Option Break → Type 0
 Broke last name output None = output.is_broken ≡ false
-Broke last name output (Some call) = (call ≤ last) × IsCalled output name × ((place : ℕ) → message_of tool.Tee (fault_in call) name ≡ message_of tool.Tee (failing place output.state) name) × (output.is_broken ≡ true)
+Broke last name output (Some broke) = (broke.call ≤ last) × IsCalled output name × ((place : ℕ) → message_of (fault_in broke.call) name ≡ message_of (failing place output.state) name) × (output.is_broken ≡ true)
 
-output_broke : {pieces : List (List ℕ)} {name : List ℕ} {when : Option ℕ} {output : Slot} → name ≡ standard_output.name → OutputLeft true pieces when output → Broke (suc (length pieces)) name output when
+output_broke : {pieces : List (List ℕ)} {name : List ℕ} {when : Option Break} {output : Slot} → name ≡ standard_output.name → OutputLeft true pieces when output → Broke (suc (length pieces)) name output when
 output_broke named tee.output_whole = refl
 output_broke named (tee.output_cut before piece after n is few) = grind (arith, common_steps)
 
-file_broke : {mode : Mode} {pieces : List (List ℕ)} {name : List ℕ} {when : Option ℕ} {file : Slot} → FileLeft true mode pieces name when file → Broke (suc (length pieces)) name file when
+file_broke : {mode : Mode} {pieces : List (List ℕ)} {name : List ℕ} {when : Option Break} {file : Slot} → FileLeft true mode pieces name when file → Broke (suc (length pieces)) name file when
 file_broke tee.file_whole = refl
 file_broke (tee.file_unopened kept (inl same)) = search rules
 file_broke (tee.file_unopened kept (inr lost)) = grind (arith, common_steps)
 file_broke (tee.file_cut before piece after n is few) = grind (arith, common_steps)
 file_broke tee.file_unclosed = search rules
 
-record HasSaid (names : List (List ℕ)) (broke : List (Option ℕ)) (last : ℕ) (output : Slot) (place : ℕ) : Type 0 where
+record HasSaid (on_broken : OnBroken) (names : List (List ℕ)) (broke : List (Option Break)) (last : ℕ) (output : Slot) (place : ℕ) : Type 0 where
   pub name : List ℕ
   pub called : IsCalled output name
   pub call : ℕ
   pub within : call ≤ last
-  pub line : HasLine (message_of tool.Tee (failing place output.state) name) (said_in call names broke)
+  pub line : HasLine (message_of (failing place output.state) name) (said_in on_broken call names broke)
 
-said_here : {name : List ℕ} {names : List (List ℕ)} {broke : List (Option ℕ)} {last place : ℕ} {output : Slot} (when : Option ℕ) → Broke last name output when → output.is_broken ≡ true → HasSaid (name ∷ names) (when ∷ broke) last output place
-said_here None sound broken = grind (arith, common_steps)
-said_here {name} {names} {broke} {place} (Some call) (within, called, same, is) broken = record {
+-- an output that broke is told, but where nothing is said of one that is gone
+told_loud : (on_broken : OnBroken) (gone : Bool) → tee.is_quiet on_broken ≡ false → tee.is_told on_broken (tee.lost_as gone) ≡ true
+told_loud on_broken true loud = ap not loud
+told_loud on_broken false loud = refl
+
+-- nothing is kept back: in no mode, or since no output is gone
+abbrev pub IsLoud : OnBroken → List (Option Break) → Type 0
+IsLoud on_broken broke = (tee.is_quiet on_broken ≡ false) ⊎ (tee.any_is Gone (map tee.standing_of broke) ≡ false)
+
+loud_here : (on_broken : OnBroken) (one : Break) (broke : List (Option Break)) → IsLoud on_broken (Some one ∷ broke) → tee.is_told on_broken (tee.lost_as one.is_gone) ≡ true
+loud_here on_broken one broke (inl loud) = told_loud on_broken one.is_gone loud
+loud_here on_broken one broke (inr none) = by one.is_gone none where
+  by : (gone : Bool) → (tee.is_same (tee.lost_as gone) Gone || tee.any_is Gone (map tee.standing_of broke)) ≡ false → tee.is_told on_broken (tee.lost_as gone) ≡ true
+  by true none = absurd (false≢true (sym none))
+  by false none = refl
+
+loud_rest : (on_broken : OnBroken) (first : Option Break) (broke : List (Option Break)) → IsLoud on_broken (first ∷ broke) → IsLoud on_broken broke
+loud_rest on_broken first broke (inl loud) = inl loud
+loud_rest on_broken first broke (inr none) = inr (by (tee.is_same (tee.standing_of first) Gone) none) where
+  by : (is : Bool) → (is || tee.any_is Gone (map tee.standing_of broke)) ≡ false → tee.any_is Gone (map tee.standing_of broke) ≡ false
+  by true none = absurd (false≢true (sym none))
+  by false none = none
+
+said_here : {name : List ℕ} {names : List (List ℕ)} {broke : List (Option Break)} {last place : ℕ} {output : Slot} (on_broken : OnBroken) (when : Option Break) → IsLoud on_broken (when ∷ broke) → Broke last name output when → output.is_broken ≡ true → HasSaid on_broken (name ∷ names) (when ∷ broke) last output place
+said_here on_broken None loud sound broken = absurd (false≢true (sym sound ∙ broken))
+said_here {name} {names} {broke} {place} on_broken (Some one) loud (within, called, same, is) broken = record {
   name = name;
   called = called;
-  call = call;
+  call = one.call;
   within = within;
-  line = rw (eq-eqb call call refl) ([], said_in call names broke, ap (λ line. line ∷ said_in call names broke) (same place));
+  line = rw (eq-eqb one.call one.call refl, loud_here on_broken one broke loud) ([], said_in on_broken one.call names broke, ap (λ line. line ∷ said_in on_broken one.call names broke) (same place));
 }
 
-said_by : (is : Bool) {line : List ℕ} (other : List ℕ) {lines : List (List ℕ)} → HasLine line lines → HasLine line (cond is (other ∷ lines) lines)
+said_by : (is : Bool) {line : Message} (other : Message) {lines : List Message} → HasLine line lines → HasLine line (cond is (other ∷ lines) lines)
 said_by true other has = has_after (other ∷ []) has
 said_by false other has = has
 
-said_past : {name : List ℕ} {names : List (List ℕ)} {first : Option ℕ} {broke : List (Option ℕ)} {last place : ℕ} {output : Slot} → HasSaid names broke last output place → HasSaid (name ∷ names) (first ∷ broke) last output place
-said_past {name} {first} has = grind (arith, common_steps, said_by)
+said_past : {on_broken : OnBroken} {name : List ℕ} {names : List (List ℕ)} {first : Option Break} {broke : List (Option Break)} {last place : ℕ} {output : Slot} → HasSaid on_broken names broke last output place → HasSaid on_broken (name ∷ names) (first ∷ broke) last output place
+said_past {on_broken} {name} {first} has = grind (arith, common_steps, said_by)
 
 -- the place of a file among the outputs that are there, and among those of the run
-files_said : {mode : Mode} {pieces names : List (List ℕ)} {broke : List (Option ℕ)} {files : List Slot} (at : ℕ) {place : ℕ} → FilesLeft true mode pieces names broke files → (slot_at files at).is_broken ≡ true
-    → HasSaid names broke (suc (length pieces)) (slot_at files at) place
-files_said at tee.no_file broken = absurd (cc)
-files_said zero (tee.one_file name names when broke file files left rest) broken = said_here when (file_broke left) broken
-files_said (suc at) (tee.one_file name names when broke file files left rest) broken = said_past (files_said at rest broken)
+files_said : {on_broken : OnBroken} {mode : Mode} {pieces names : List (List ℕ)} {broke : List (Option Break)} {files : List Slot} (at : ℕ) {place : ℕ} → IsLoud on_broken broke → FilesLeft true mode pieces names broke files → (slot_at files at).is_broken ≡ true
+    → HasSaid on_broken names broke (suc (length pieces)) (slot_at files at) place
+files_said at loud tee.no_file broken = absurd (cc)
+files_said {on_broken} zero loud (tee.one_file name names when broke file files left rest) broken = said_here on_broken when loud (file_broke left) broken
+files_said {on_broken} (suc at) loud (tee.one_file name names when broke file files left rest) broken = said_past (files_said at (loud_rest on_broken when broke loud) rest broken)
 
-outputs_said : {mode : Mode} {pieces names : List (List ℕ)} {first : Option ℕ} {broke : List (Option ℕ)} {output : Slot} (error : Slot) {files : List Slot} (place : ℕ) → OutputLeft true pieces first output → FilesLeft true mode pieces names broke files
-    → (place ≡ 1 → ⊥) → (slot_at (output ∷ error ∷ files) place).is_broken ≡ true → HasSaid (output_names names) (first ∷ broke) (suc (length pieces)) (slot_at (output ∷ error ∷ files) place) place
-outputs_said {first} error zero left rest differs broken = said_here first (output_broke refl left) broken
-outputs_said error (suc zero) left rest differs broken = absurd (differs refl)
-outputs_said error (suc (suc at)) left rest differs broken = said_past (files_said at rest broken)
+outputs_said : {on_broken : OnBroken} {mode : Mode} {pieces names : List (List ℕ)} {first : Option Break} {broke : List (Option Break)} {output : Slot} (error : Slot) {files : List Slot} (place : ℕ) → IsLoud on_broken (first ∷ broke) → OutputLeft true pieces first output → FilesLeft true mode pieces names broke files
+    → (place ≡ 1 → ⊥) → (slot_at (output ∷ error ∷ files) place).is_broken ≡ true → HasSaid on_broken (output_names names) (first ∷ broke) (suc (length pieces)) (slot_at (output ∷ error ∷ files) place) place
+outputs_said {on_broken} {first = first} error zero loud left rest differs broken = said_here on_broken first loud (output_broke refl left) broken
+outputs_said error (suc zero) loud left rest differs broken = absurd (differs refl)
+outputs_said {on_broken} {first = first} {broke} error (suc (suc at)) loud left rest differs broken = said_past (files_said at (loud_rest on_broken first broke loud) rest broken)
 
-before_line : {line : List ℕ} (last : ℕ) {call : ℕ} (names : List (List ℕ)) (broke : List (Option ℕ)) → call < last → HasLine line (said_in call names broke) → HasLine line (said_before last names broke)
-before_line zero names broke less has = search rules
-before_line (suc last) {call} names broke less has = elim (cases_lt call last) [
-  | inl before ↦ has_before (said_in last names broke) (before_line last names broke before has)
-  | inr past ↦ let same : call ≡ last = omega (arith, less, past) in has_after (said_before last names broke) (rw same at has)
+before_line : {line : Message} (on_broken : OnBroken) (last : ℕ) {call : ℕ} (names : List (List ℕ)) (broke : List (Option Break)) → call < last → HasLine line (said_in on_broken call names broke) → HasLine line (said_before on_broken last names broke)
+before_line on_broken zero names broke less has = search rules
+before_line on_broken (suc last) {call} names broke less has = elim (cases_lt call last) [
+  | inl before ↦ has_before (said_in on_broken last names broke) (before_line on_broken last names broke before has)
+  | inr past ↦ let same : call ≡ last = omega (arith, less, past) in has_after (said_before on_broken last names broke) (rw same at has)
 ]
 
-call_line : {line : List ℕ} (names : List (List ℕ)) (broke : List (Option ℕ)) {pieces call : ℕ} (fault : Option Fault) → call ≤ suc pieces → HasLine line (said_in call (output_names names) broke) → HasLine line (messages_of names broke pieces fault)
-call_line {line} names broke {pieces} {call} fault within has = elim (cases_lt call (suc pieces)) [
-  | inl before ↦ has_before _ (has_before _ (before_line (suc pieces) (output_names names) broke before has))
-  | inr past ↦ let same : call ≡ suc pieces = omega (arith, within, past) in has_after _ (subst (λ those. HasLine line (said_in those (output_names names) broke)) same has)
+call_line : {line : Message} (on_broken : OnBroken) (names : List (List ℕ)) (broke : List (Option Break)) {pieces call : ℕ} (fault : Option Fault) → call ≤ suc pieces → HasLine line (said_in on_broken call (output_names names) broke) → HasLine line (messages_of on_broken names broke pieces fault)
+call_line {line} on_broken names broke {pieces} {call} fault within has = elim (cases_lt call (suc pieces)) [
+  | inl before ↦ has_before _ (has_before _ (before_line on_broken (suc pieces) (output_names names) broke before has))
+  | inr past ↦ let same : call ≡ suc pieces = omega (arith, within, past) in has_after _ (subst (λ those. HasLine line (said_in on_broken those (output_names names) broke)) same has)
 ]
+
+-- One that broke, and isn't gone, has its line in any mode.
+
+abbrev LineOf : OnBroken → List (List ℕ) → List (Option Break) → (last : ℕ) → Type 0
+LineOf on_broken names broke last = (call : ℕ) × (line : Message) × (call ≤ last) × HasLine line (said_in on_broken call names broke)
+
+past_line : (on_broken : OnBroken) (name : List ℕ) (names : List (List ℕ)) (first : Option Break) (broke : List (Option Break)) {last : ℕ} → LineOf on_broken names broke last → LineOf on_broken (name ∷ names) (first ∷ broke) last
+past_line on_broken name names first broke (call, line, within, has) = (call, line, within, said_by (tee.tells_in on_broken call first) (message_of (fault_in call) name) has)
+
+here_line : (on_broken : OnBroken) (name : List ℕ) (names : List (List ℕ)) (one : Break) (broke : List (Option Break)) {last : ℕ} → one.is_gone ≡ false → one.call ≤ last → LineOf on_broken (name ∷ names) (Some one ∷ broke) last
+here_line on_broken name names one broke kept within = (one.call, message_of (fault_in one.call) name, within, rw (eq-eqb one.call one.call refl, kept) ([], said_in on_broken one.call names broke, refl))
+
+line_or : (on_broken : OnBroken) (name : List ℕ) (names : List (List ℕ)) (when : Option Break) (broke : List (Option Break)) {last : ℕ} (output : Slot) → Broke last name output when → (tee.any_is Broken (map tee.standing_of broke) ≡ true → LineOf on_broken names broke last)
+    → tee.any_is Broken (map tee.standing_of (when ∷ broke)) ≡ true → LineOf on_broken (name ∷ names) (when ∷ broke) last
+line_or on_broken name names None broke output sound rest is = past_line on_broken name names None broke (rest is)
+line_or on_broken name names (Some one) broke {last} output (within, called, same, broken) rest is = by one.is_gone refl is where
+  by : (gone : Bool) → one.is_gone ≡ gone → (tee.is_same (tee.lost_as gone) Broken || tee.any_is Broken (map tee.standing_of broke)) ≡ true → LineOf on_broken (name ∷ names) (Some one ∷ broke) last
+  by true at is = past_line on_broken name names (Some one) broke (rest is)
+  by false at is = here_line on_broken name names one broke at within
+
+files_line : (on_broken : OnBroken) {mode : Mode} {pieces names : List (List ℕ)} {broke : List (Option Break)} {files : List Slot} → FilesLeft true mode pieces names broke files → tee.any_is Broken (map tee.standing_of broke) ≡ true → LineOf on_broken names broke (suc (length pieces))
+files_line on_broken tee.no_file is = absurd (false≢true is)
+files_line on_broken (tee.one_file name names when broke file files left rest) is = line_or on_broken name names when broke file (file_broke left) (λ others. files_line on_broken rest others) is
+
+pub broken_tells : (on_broken : OnBroken) {mode : Mode} {pieces names : List (List ℕ)} {first : Option Break} {broke : List (Option Break)} {output : Slot} {files : List Slot} (fault : Option Fault) → OutputLeft true pieces first output → FilesLeft true mode pieces names broke files
+    → tee.any_is Broken (map tee.standing_of (first ∷ broke)) ≡ true → (line : Message) × HasLine line (messages_of on_broken names (first ∷ broke) (length pieces) fault)
+broken_tells on_broken {names = names} {first} {broke} {output} fault left rest is =
+    let (call, line, within, has) = line_or on_broken (codes "standard output") names first broke output (output_broke refl left) (λ others. files_line on_broken rest others) is in (line, call_line on_broken names (first ∷ broke) fault within has)
 
 -- the line of an output that is broken is one of those that are due
-pub tee_tells : {mode : Mode} {pieces names : List (List ℕ)} {first : Option ℕ} {broke : List (Option ℕ)} {output : Slot} (error : Slot) {files : List Slot} (fault : Option Fault) (place : ℕ) → OutputLeft true pieces first output → FilesLeft true mode pieces names broke files
+pub tee_tells : (on_broken : OnBroken) {mode : Mode} {pieces names : List (List ℕ)} {first : Option Break} {broke : List (Option Break)} {output : Slot} (error : Slot) {files : List Slot} (fault : Option Fault) (place : ℕ) → IsLoud on_broken (first ∷ broke) → OutputLeft true pieces first output → FilesLeft true mode pieces names broke files
     → (place ≡ 1 → ⊥) → (slot_at (output ∷ error ∷ files) place).is_broken ≡ true
-    → (name : List ℕ) × IsCalled (slot_at (output ∷ error ∷ files) place) name × HasLine (message_of tool.Tee (failing place (slot_at (output ∷ error ∷ files) place).state) name) (messages_of names (first ∷ broke) (length pieces) fault)
-tee_tells {names} {first} {broke} error fault place left rest differs broken =
-    let said = outputs_said error place left rest differs broken in
-    (said.name, said.called, call_line names (first ∷ broke) fault said.within said.line)
+    → (name : List ℕ) × IsCalled (slot_at (output ∷ error ∷ files) place) name × HasLine (message_of (failing place (slot_at (output ∷ error ∷ files) place).state) name) (messages_of on_broken names (first ∷ broke) (length pieces) fault)
+tee_tells on_broken {names = names} {first} {broke} error fault place loud left rest differs broken =
+    let said = outputs_said error place loud left rest differs broken in
+    (said.name, said.called, call_line on_broken names (first ∷ broke) fault said.within said.line)
 
 -- Each line that tells of an output that broke tells a fault that the run met.
 
@@ -381,25 +436,25 @@ failing_stops run asked state.Removed broke = broke
 failing_stops run asked state.Unopened broke = broke
 
 -- an output that stands at this place of the run's
-output_tells : {run : Run} (asked : TeeAsked) (last : ℕ) (name : List ℕ) {output : Slot} (when : Option ℕ) (place : ℕ) → slot_at run.outputs place ≡ output → (place ≡ 1 → ⊥) → Broke last name output when → TellsOutput (TellsMet run (Tee asked)) name when
-output_tells {run} asked last name {output} (Some other) place is differs (within, called, same, broken) call there =
+output_tells : {run : Run} (asked : TeeAsked) (last : ℕ) (name : List ℕ) {output : Slot} (when : Option Break) (place : ℕ) → slot_at run.outputs place ≡ output → (place ≡ 1 → ⊥) → Broke last name output when → TellsOutput (TellsMet run (Tee asked)) name when
+output_tells {run} asked last name {output} (Some other) place is differs (within, called, same, broken) broke there =
     let met : BrokeAt run place name (failing place output.state) = rw is (differs, called, broken, refl) in
-    let here : other ≡ call = cc in
+    let here : other ≡ broke = cc in
     rw (← here) (failing place output.state, name, inl (failing_stops run (Tee asked) output.state met), same place)
 output_tells asked last name None place is differs broke call there = absurd (cc)
 
 -- files, of which each stands at its place
-files_tell : (run : Run) (asked : TeeAsked) {mode : Mode} {pieces names : List (List ℕ)} {broke : List (Option ℕ)} {files : List Slot} (place : ℕ → ℕ) → ((at : ℕ) → slot_at run.outputs (place at) ≡ slot_at files at) → ((at : ℕ) → place at ≡ 1 → ⊥)
+files_tell : (run : Run) (asked : TeeAsked) {mode : Mode} {pieces names : List (List ℕ)} {broke : List (Option Break)} {files : List Slot} (place : ℕ → ℕ) → ((at : ℕ) → slot_at run.outputs (place at) ≡ slot_at files at) → ((at : ℕ) → place at ≡ 1 → ⊥)
     → FilesLeft true mode pieces names broke files → TellsOutputs (TellsMet run (Tee asked)) names broke
 files_tell run asked place are differ tee.no_file = tt
 files_tell run asked {pieces = pieces} place are differ (tee.one_file name names when broke file files left rest) =
     (output_tells asked (suc (length pieces)) name when (place 0) (are 0) (differ 0) (file_broke left), files_tell run asked (λ at. place (suc at)) (λ at. are (suc at)) (λ at. differ (suc at)) rest)
 
 -- all lines of such a run, where that on the input is one
-pub tee_lines : {run : Run} (asked : TeeAsked) {mode : Mode} {pieces names : List (List ℕ)} {first : Option ℕ} {broke : List (Option ℕ)} {output error : Slot} {files : List Slot} (fault : Option Fault) → run.outputs ≡ output ∷ error ∷ files → OutputLeft true pieces first output → FilesLeft true mode pieces names broke files
-    → TellsOfInput (TellsMet run (Tee asked)) fault → SaysAll true tool.Tee (messages_of names (first ∷ broke) (length pieces) fault) standard_error error → SaysLines run (Tee asked) (messages_of names (first ∷ broke) (length pieces) fault)
-tee_lines {run} asked {pieces} {names} {first} {broke} {output} {error} {files} fault slots left rest of_input says = record {
-  are = lines_are (TellsMet run (Tee asked)) names (first ∷ broke) (length pieces) fault (
+pub tee_lines : {run : Run} (asked : TeeAsked) (on_broken : OnBroken) {mode : Mode} {pieces names : List (List ℕ)} {first : Option Break} {broke : List (Option Break)} {output error : Slot} {files : List Slot} (fault : Option Fault) → run.outputs ≡ output ∷ error ∷ files → OutputLeft true pieces first output → FilesLeft true mode pieces names broke files
+    → TellsOfInput (TellsMet run (Tee asked)) fault → SaysAll true (speaker_of run.calling (Tee asked)) (messages_of on_broken names (first ∷ broke) (length pieces) fault) standard_error error → SaysLines run (Tee asked) (messages_of on_broken names (first ∷ broke) (length pieces) fault)
+tee_lines {run} asked on_broken {pieces = pieces} {names} {first} {broke} {output} {error} {files} fault slots left rest of_input says = record {
+  are = lines_are (TellsMet run (Tee asked)) on_broken names (first ∷ broke) (length pieces) fault (
     output_tells asked (suc (length pieces)) (codes "standard output") first 0 (ap (λ those. slot_at those 0) slots) (λ is. omega (arith, is)) (output_broke refl left),
     files_tell run asked (λ at. suc (suc at)) (λ at. ap (λ those. slot_at those (suc (suc at))) slots) (λ at is. omega (arith, is)) rest,
   )
@@ -412,25 +467,25 @@ tee_lines {run} asked {pieces} {names} {first} {broke} {output} {error} {files} 
 abbrev SomeBroke : List Slot → Type 0
 SomeBroke files = (at : ℕ) × ((slot_at files at).is_broken ≡ true)
 
-files_broke : {mode : Mode} {pieces names : List (List ℕ)} {broke : List (Option ℕ)} {files : List Slot} → FilesLeft true mode pieces names broke files → are_sound broke ≡ false → SomeBroke files
+files_broke : {mode : Mode} {pieces names : List (List ℕ)} {broke : List (Option Break)} {files : List Slot} → FilesLeft true mode pieces names broke files → are_sound broke ≡ false → SomeBroke files
 files_broke tee.no_file sound = absurd (cc)
 files_broke (tee.one_file name names _ broke _ files tee.file_whole rest) sound = let (at, broken) = files_broke rest sound in (suc at, broken)
 files_broke (tee.one_file name names _ broke _ files left rest) sound = (0, refl)
 
-pub unsound_broke : {mode : Mode} {pieces names : List (List ℕ)} {first : Option ℕ} {broke : List (Option ℕ)} {output error : Slot} {files : List Slot} → OutputLeft true pieces first output → FilesLeft true mode pieces names broke files → are_sound (first ∷ broke) ≡ false
+pub unsound_broke : {mode : Mode} {pieces names : List (List ℕ)} {first : Option Break} {broke : List (Option Break)} {output error : Slot} {files : List Slot} → OutputLeft true pieces first output → FilesLeft true mode pieces names broke files → are_sound (first ∷ broke) ≡ false
     → (place : ℕ) × (place ≡ 1 → ⊥) × ((slot_at (output ∷ error ∷ files) place).is_broken ≡ true)
 unsound_broke tee.output_whole rest sound = let (at, broken) = files_broke rest sound in (suc (suc at), λ is. omega (arith, is), broken)
 unsound_broke (tee.output_cut before piece after n is few) rest sound = search rules
 
 -- Standard output has a beginning of a text about a tool.
 
-pub text_begins : {which : Tool} {text : List ℕ} {new : List Slot} {status : ℕ} (place : ℕ) → (place ≡ 1 → ⊥) → TellsText true which text new status → BeginsAs (slot_at new place) (slot_at (slots_of (text_made text).part) place)
+pub text_begins : {breaks_for : ℕ → Reason → Bool} {which : Speaker} {text : List ℕ} {new : List Slot} {status : ℕ} (place : ℕ) → (place ≡ 1 → ⊥) → TellsText true breaks_for which text new status → BeginsAs (slot_at new place) (slot_at (slots_of (text_made text).part) place)
 text_begins (suc zero) differs tells = absurd (differs refl)
 text_begins place differs (no_text error says slots is) = still_begins place slots (bare_begins error place differs)
 text_begins {text} zero differs (text_whole slots is) = rw slots (record { bytes = begins_itself text; named = inl refl })
-text_begins {text} zero differs (text_cut n short error says slots is) = rw slots (record { bytes = take_begins_after n [] text; named = inl refl })
+text_begins {text} zero differs (text_cut n short why error is_why says slots is) = rw slots (record { bytes = take_begins_after n [] text; named = inl refl })
 text_begins (suc (suc place)) differs (text_whole slots is) = rw slots (empty_begins refl)
-text_begins (suc (suc place)) differs (text_cut n short error says slots is) = rw slots (empty_begins refl)
+text_begins (suc (suc place)) differs (text_cut n short why error is_why says slots is) = rw slots (empty_begins refl)
 
 -- Each output has a beginning of the input.
 
@@ -447,11 +502,11 @@ cut_begins before piece after n is =
     begins_trans _ (concat before ++ piece) _ (take_begins_after n (concat before) piece)
     (concat after, ap concat is ∙ concat-append before (piece ∷ after) ∙ sym (append_assoc (concat before) piece (concat after)))
 
-output_begins : {pieces : List (List ℕ)} {bytes : List ℕ} {first : Option ℕ} {output : Slot} → IsBeginning (concat pieces) bytes → OutputLeft true pieces first output → BeginsAs output (adds bytes standard_output)
+output_begins : {pieces : List (List ℕ)} {bytes : List ℕ} {first : Option Break} {output : Slot} → IsBeginning (concat pieces) bytes → OutputLeft true pieces first output → BeginsAs output (adds bytes standard_output)
 output_begins all tee.output_whole = grind (arith, common_steps)
 output_begins {pieces} all (tee.output_cut before piece after n is few) = record { bytes = begins_trans _ (concat pieces) _ (cut_begins before piece after n is) all; named = inl refl }
 
-files_begin : {mode : Mode} {pieces : List (List ℕ)} {bytes : List ℕ} {names : List (List ℕ)} {broke : List (Option ℕ)} {files : List Slot} → IsBeginning (concat pieces) bytes → FilesLeft true mode pieces names broke files
+files_begin : {mode : Mode} {pieces : List (List ℕ)} {bytes : List ℕ} {names : List (List ℕ)} {broke : List (Option Break)} {files : List Slot} → IsBeginning (concat pieces) bytes → FilesLeft true mode pieces names broke files
     → (place : ℕ) → BeginsAs (slot_at files place) (slot_at (map slot_of (map (λ name. file_of (copy mode bytes name)) names)) place)
 files_begin all tee.no_file place = empty_begins refl
 files_begin all (tee.one_file name names first broke file files left rest) (suc place) = files_begin all rest place
@@ -460,9 +515,9 @@ files_begin all (tee.one_file name names _ broke _ files (tee.file_unopened kept
 files_begin all (tee.one_file name names first broke file files tee.file_whole rest) zero = grind (arith, common_steps)
 files_begin all (tee.one_file name names first broke file files tee.file_unclosed rest) zero = grind (arith, common_steps)
 
-pub tee_begins : {asked : TeeAsked} {content : Content} {source : Source} {new : List Slot} {status : ℕ} (place : ℕ) → (place ≡ 1 → ⊥) → tee.EndsAs true true asked.mode asked.on_broken asked.names content source new status → BeginsAs (slot_at new place) (slot_at (slots_of (tee_made asked content).part) place)
+pub tee_begins : {breaks_for : ℕ → Reason → Bool} {calling : Calling} {asked : TeeAsked} {content : Content} {source : Source} {new : List Slot} {status : ℕ} (place : ℕ) → (place ≡ 1 → ⊥) → tee.EndsAs true true breaks_for calling asked.mode asked.on_broken asked.names content source new status → BeginsAs (slot_at new place) (slot_at (slots_of (tee_made asked content).part) place)
 tee_begins place differs (tee.no_room error says unread slots failed) = still_begins place slots (bare_begins error place differs)
-tee_begins {asked} {content} place differs (tee.copied pieces fault first broke output error files comes going out_left files_left says slots is) = still_begins place slots (at place differs) where
+tee_begins {asked} {content} place differs (tee.copied pieces fault first broke output error files comes going out_left files_left stand says slots is) = still_begins place slots (at place differs) where
   at : (place : ℕ) → (place ≡ 1 → ⊥) → BeginsAs (slot_at (output ∷ error ∷ files) place) (slot_at (slots_of (tee_made asked content).part) place)
   at zero differs = output_begins (read_begins _ comes.read) out_left
   at (suc zero) differs = absurd (differs refl)

@@ -1,10 +1,11 @@
 -- Over the inputs that any run found there is a run that no fault stops.
-use Rattle.std.proofs.Common.{◌≡◌, ℕ, ◌+◌, ◌≤◌, ◌<◌, ◌^◌, suc, zero, Bool, true, false, ◌||◌, cond, List, [], ◌∷◌, ◌++◌, length, map, Option, Some, None, inl, inr, ◌⊎◌, refl, sym, ◌∙◌, ap, subst, arith, lit<, append_assoc, length-append}
+use Rattle.std.proofs.Common.{◌≡◌, ℕ, ◌+◌, ◌≤◌, ◌<◌, ◌^◌, suc, zero, Bool, true, false, ◌||◌, cond, List, [], ◌∷◌, ◌++◌, length, map, Option, Some, None, inl, inr, ◌⊎◌, refl, sym, ◌∙◌, ap, subst, arith, lit<, append_assoc, length-append, get_or}
 use Rattle.std.specs.List.{concat}
 use Rattle.std.proofs.Math.Seq.{get_or-append_seam}
 use Rattle.std.proofs.lemmas.Bool.{cases_Bool, cases_lt, false≢true}
 use Rattle.std.proofs.lemmas.List.{length-map}
 use Rattle.std.proofs.lemmas.List.Elements.{All-map}
+use Rattle.ports_core.specs.declared.reason.Reason.{Reason}
 use Rattle.ports_core.specs.Inputs.{CameFrom, largest_piece}
 use Rattle.ports_core.specs.Message.{SaysAll, whole}
 use Rattle.ports_core.specs.Part.{File, OutputsAt, Part, file_of, told_file}
@@ -17,8 +18,10 @@ use Rattle.ports_core.specs.Work.{IsNeeded, Work}
 use Rattle.ports_core.specs.declared.fault.Fault.{Fault}
 use Rattle.ports_core.specs.declared.fault.Fault.TheVariants.{Read}
 use Rattle.ports_core.specs.declared.slot.Mode.{Mode}
-use Rattle.ports_core.specs.declared.tool.Tool.{Tool}
-use Rattle.ports_core.specs.declared.tool.Tool.TheVariants as tool
+use Rattle.ports_core.specs.Text.{Message, line_of}
+use Rattle.ports_core.specs.declared.calling.Calling.{Calling}
+use Rattle.ports_core.specs.declared.calling.Speaker.{Speaker}
+use Rattle.ports_core.specs.declared.reason.Reason.TheVariants.{Other}
 use Rattle.run_core.proofs.FeedingLemmas.{needed_within}
 use Rattle.run_core.specs.Input.{World, coming_of, input_of, inputs_at, inputs_from, is_dash, standard_input}
 use Rattle.run_core.specs.Reading.{AreDone, IsLeft}
@@ -26,7 +29,8 @@ use Rattle.run_core.specs.RunEnds.{EndsAs, as_defined}
 use Rattle.run_core.specs.Task.{Task, made_by, status_of}
 use Rattle.tee_core.proofs.EndLemmas.{sound_goes_on}
 use Rattle.tee_core.specs.Run as tee
-use Rattle.tee_core.specs.Run.{FilesLeft, IsRead, LeavesOf, are_sound, messages_of, said_of_input}
+use Rattle.tee_core.specs.declared.standing.Standing.TheVariants.{Sound}
+use Rattle.tee_core.specs.Run.{Break, FilesLeft, tee_called, IsRead, LeavesOf, are_sound, messages_of, said_of_input}
 use Rattle.words_core.specs.TeeWords.{TeeAsked}
 use Rattle.words_core.specs.Words.{HasOperands}
 use Rattle.words_core.specs.declared.settings.Settings.{Settings}
@@ -35,7 +39,7 @@ use Rattle.tools_core.specs.About.{text_whole}
 use Rattle.tools_core.specs.Outcome.{DoesAsked}
 use Rattle.tools_core.specs.Promises.{Completes, FindAlike, HasLong, IsUnstopped, Ran, Run, Unstopped}
 use Rattle.tools_core.specs.Tasks.{csplit_task, head_task, names_of, split_task, tail_task}
-use Rattle.tools_core.proofs.LeftLemmas.{gone, met_by, outputs_of, quiet_outputs, slot_of}
+use Rattle.tools_core.proofs.LeftLemmas.{sound_status, gone, met_by, outputs_of, quiet_outputs, slot_of}
 
 -- Of an input a tool reads a front: as far as it has enough of it, and no further.
 
@@ -115,14 +119,15 @@ all_done work world (name ∷ names) = λ was_read slot more is. name_done (is_d
 
 -- Standard error takes all lines, the outputs get all of a part, and files are removed.
 
-record TookLines (tool : Tool) (lines : List (List ℕ)) (old : Slot) : Type 0 where
+record TookLines (speaker : Speaker) (lines : List Message) (old : Slot) : Type 0 where
   pub error : Slot
-  pub says : SaysAll true tool lines old error
+  pub says : SaysAll true speaker lines old error
 
-took_lines : (tool : Tool) (lines : List (List ℕ)) (old : Slot) → old.is_broken ≡ false → TookLines tool lines old
-took_lines tool [] old sound = record { error = old; says = refl }
-took_lines tool (line ∷ lines) old sound =
-    let rest = took_lines tool lines (adds line old) sound in record { error = rest.error; says = (adds line old, record { said = line; is = inl refl; printed = whole sound refl }, rest.says) }
+took_lines : (speaker : Speaker) (lines : List Message) (old : Slot) → old.is_broken ≡ false → TookLines speaker lines old
+took_lines speaker [] old sound = record { error = old; says = refl }
+took_lines speaker (message ∷ lines) old sound =
+    let line = line_of speaker Other message in
+    let rest = took_lines speaker lines (adds line old) sound in record { error = rest.error; says = (adds line old, (Other, record { said = line; is = inl refl; printed = whole sound refl }), rest.says) }
 
 files_are : (files : List File) → map file_of (map slot_of files) ≡ map (told_file true) files
 files_are [] = refl
@@ -158,17 +163,17 @@ cleans true output error files = record { new = output ∷ error ∷ map gone fi
 
 -- So a run over any inputs can end well.
 
-record EndsWell (task : Task) (world : World) (names : List (List ℕ)) : Type 0 where
+record EndsWell (breaks_for : ℕ → Reason → Bool) (task : Task) (world : World) (names : List (List ℕ)) : Type 0 where
   pub sources : List Source
   pub new : List Slot
   pub status : ℕ
-  pub ends : EndsAs true true task (inputs_at world names) sources new status
+  pub ends : EndsAs true true breaks_for task (inputs_at world names) sources new status
   pub unstopped : IsUnstopped ends
 
-ends_well : (task : Task) (world : World) (names : List (List ℕ)) → EndsWell task world names
-ends_well task world names =
+ends_well : (breaks_for : ℕ → Reason → Bool) (task : Task) (world : World) (names : List (List ℕ)) → EndsWell breaks_for task world names
+ends_well breaks_for task world names =
     let made = made_by task (inputs_at world names) in
-    let lines = took_lines task.tool made.messages standard_error refl in
+    let lines = took_lines task.speaker made.messages standard_error refl in
     let left = cleans made.sweeps (adds made.part.out standard_output) lines.error (map slot_of made.part.files) in record {
       sources = sources_for task.work world [] 1 names;
       new = left.new;
@@ -186,7 +191,7 @@ pieces_are : (bytes : List ℕ) → concat (pieces_of bytes) ≡ bytes
 pieces_are [] = refl
 pieces_are (byte ∷ bytes) = ap (λ rest. byte ∷ rest) (pieces_are bytes)
 
-abbrev unbroken : List (List ℕ) → List (Option ℕ)
+abbrev unbroken : List (List ℕ) → List (Option Break)
 unbroken names = map (λ name. None) names
 
 all_sound : (names : List (List ℕ)) → are_sound (unbroken names) ≡ true
@@ -197,13 +202,23 @@ copies_left : (mode : Mode) (pieces names : List (List ℕ)) → FilesLeft true 
 copies_left mode pieces [] = tee.no_file
 copies_left mode pieces (name ∷ names) = tee.one_file name names None (unbroken names) _ _ tee.file_whole (copies_left mode pieces names)
 
+-- outputs that stand soundly broke for no reason
+all_stand : (names : List (List ℕ)) (place : ℕ) → get_or (map tee.standing_of (unbroken names)) place Sound ≡ Sound
+all_stand [] place = refl
+all_stand (name ∷ names) zero = refl
+all_stand (name ∷ names) (suc place) = all_stand names place
+
+stand_sound : (breaks_for : ℕ → Reason → Bool) (names : List (List ℕ)) → tee.EachStandsFor breaks_for (map tee.standing_of (None ∷ unbroken names))
+stand_sound breaks_for names zero = tt
+stand_sound breaks_for names (suc place) = subst (tee.StandsFor (breaks_for (suc (suc place)))) (sym (all_stand names place)) tt
+
 -- what settings ask for was done
-record DoesWell (asked : Settings) (world : World) : Type 0 where
+record DoesWell (breaks_for : ℕ → Reason → Bool) (calling : Calling) (asked : Settings) (world : World) : Type 0 where
   pub sources : List Source
   pub new : List Slot
   pub status : ℕ
-  pub does : DoesAsked true true asked (inputs_at world (names_of asked)) sources new status
-  pub unstopped : Unstopped asked (inputs_at world (names_of asked)) sources new status does
+  pub does : DoesAsked calling true true breaks_for asked (inputs_at world (names_of asked)) sources new status
+  pub unstopped : Unstopped breaks_for calling asked (inputs_at world (names_of asked)) sources new status does
 
 read_all : (bytes : List ℕ) (breaks_off : Bool) (Leaves : List ℕ → Type 0) → Leaves [] → IsRead (record { bytes = bytes; breaks_off = breaks_off }) Leaves false (concat (pieces_of bytes)) (met_by breaks_off)
 read_all bytes true Leaves none = tee.to_break _ (sym (pieces_are bytes)) refl none
@@ -213,12 +228,12 @@ met_or_sound : (breaks_off : Bool) → (met_by breaks_off ≡ Some (Read 0)) ⊎
 met_or_sound true = inl refl
 met_or_sound false = inr refl
 
-tee_well : (asked : TeeAsked) (world : World) → length world.standard.bytes < 2 ^ 63 → DoesWell (Tee asked) world
-tee_well asked world few = record {
+tee_well : (breaks_for : ℕ → Reason → Bool) (calling : Calling) (asked : TeeAsked) (world : World) → length world.standard.bytes < 2 ^ 63 → DoesWell breaks_for calling (Tee asked) world
+tee_well breaks_for calling asked world few = record {
   sources = source ∷ [];
   new = left lines.error;
-  status = tee.status_of (None ∷ unbroken asked.names) fault;
-  does = record { content = content; input = refl; ends = ends; came = came_from source refl; whole = λ told well. all content.breaks_off well };
+  status = tee.status_of asked.on_broken (None ∷ unbroken asked.names) fault;
+  does = record { content = content; input = refl; ends = ends; came = came_from source refl; whole = λ told well told_of. all content.breaks_off well };
   unstopped = (all_sound asked.names, pieces_are content.bytes);
 } where
   content : Content
@@ -233,13 +248,13 @@ tee_well asked world few = record {
   source : Source
   source = record (source_of content) { left = record { bytes = []; breaks_off = content.breaks_off }; is_broken = content.breaks_off; taken = content.bytes; reached = length content.bytes; ended = true }
 
-  lines : TookLines tool.Tee (said_of_input fault) standard_error
-  lines = took_lines tool.Tee (said_of_input fault) standard_error refl
+  lines : TookLines (tee_called calling) (said_of_input fault) standard_error
+  lines = took_lines (tee_called calling) (said_of_input fault) standard_error refl
 
   left : Slot → List Slot
   left error = adds (concat pieces) standard_output ∷ error ∷ map (λ name. closes (adds (concat pieces) (opened name asked.mode))) asked.names
 
-  ends : tee.EndsAs true true asked.mode asked.on_broken asked.names content source (left lines.error) (tee.status_of (None ∷ unbroken asked.names) fault)
+  ends : tee.EndsAs true true breaks_for calling asked.mode asked.on_broken asked.names content source (left lines.error) (tee.status_of asked.on_broken (None ∷ unbroken asked.names) fault)
   ends = tee.copied pieces fault None (unbroken asked.names) _ lines.error _
       (record {
         read = rw (sound_goes_on asked.on_broken (suc (length pieces)) None (unbroken asked.names) (all_sound asked.names)) (read_all content.bytes content.breaks_off (LeavesOf true source) (λ told. refl));
@@ -247,25 +262,26 @@ tee_well asked world few = record {
         few = rw (pieces_are content.bytes) few;
         met = met_or_sound content.breaks_off;
         ended = λ none some. refl;
+        last = λ told vain. absurd (false≢true (sym (sound_goes_on asked.on_broken (suc (length pieces)) None (unbroken asked.names) (all_sound asked.names)) ∙ vain));
       })
-      (sound_goes_on asked.on_broken (length pieces) None (unbroken asked.names) (all_sound asked.names)) tee.output_whole (copies_left asked.mode pieces asked.names)
-      (rw (quiet_outputs asked.names (None ∷ unbroken asked.names) (length pieces) fault (all_sound asked.names)) lines.says) refl refl
+      (sound_goes_on asked.on_broken (length pieces) None (unbroken asked.names) (all_sound asked.names)) tee.output_whole (copies_left asked.mode pieces asked.names) (stand_sound breaks_for asked.names)
+      (rw (quiet_outputs asked.on_broken asked.names (None ∷ unbroken asked.names) (length pieces) fault (all_sound asked.names)) lines.says) refl refl
 
-  all : (breaks_off : Bool) → tee.status_of (None ∷ unbroken asked.names) (met_by breaks_off) ≡ 0
-      → left (took_lines tool.Tee (said_of_input (met_by breaks_off)) standard_error refl).error ≡ tee.all_copied true asked.mode asked.names content.bytes
-  all true well = absurd (let is = rw (all_sound asked.names) at well in omega (arith, is))
-  all false well = ap left (took_lines tool.Tee (said_of_input (met_by false)) standard_error refl).says ∙ ap (λ those. adds those standard_output ∷ standard_error ∷ map (λ name. closes (adds those (opened name asked.mode))) asked.names) (pieces_are content.bytes)
+  all : (breaks_off : Bool) → tee.status_of asked.on_broken (None ∷ unbroken asked.names) (met_by breaks_off) ≡ 0
+      → left (took_lines (tee_called calling) (said_of_input (met_by breaks_off)) standard_error refl).error ≡ tee.all_copied true asked.mode asked.names content.bytes
+  all true well = absurd (let is : 1 ≡ 0 = sym (sound_status asked.on_broken (None ∷ unbroken asked.names) (Some (Read 0)) (all_sound asked.names)) ∙ well in omega (arith, is))
+  all false well = ap left (took_lines (tee_called calling) (said_of_input (met_by false)) standard_error refl).says ∙ ap (λ those. adds those standard_output ∷ standard_error ∷ map (λ name. closes (adds those (opened name asked.mode))) asked.names) (pieces_are content.bytes)
 
-does_well : (run : Run) (asked : Settings) → HasOperands asked → (HasLong run asked → ⊥) → DoesWell asked run.world
-does_well run (Head asked) can short = let e = ends_well (head_task asked) run.world asked.names in record { sources = e.sources; new = e.new; status = e.status; does = e.ends; unstopped = e.unstopped }
-does_well run (Tail asked) can short = let e = ends_well (tail_task asked.ends) run.world asked.ends.names in record { sources = e.sources; new = e.new; status = e.status; does = e.ends; unstopped = e.unstopped }
-does_well run (Split asked) can short = let e = ends_well (split_task asked) run.world (asked.input ∷ []) in record { sources = e.sources; new = e.new; status = e.status; does = e.ends; unstopped = e.unstopped }
+does_well : (run : Run) (asked : Settings) → HasOperands asked → (HasLong run asked → ⊥) → DoesWell run.breaks_for run.calling asked run.world
+does_well run (Head asked) can short = let e = ends_well run.breaks_for (head_task run.calling asked) run.world asked.names in record { sources = e.sources; new = e.new; status = e.status; does = e.ends; unstopped = e.unstopped }
+does_well run (Tail asked) can short = let e = ends_well run.breaks_for (tail_task run.calling asked.ends) run.world asked.ends.names in record { sources = e.sources; new = e.new; status = e.status; does = e.ends; unstopped = e.unstopped }
+does_well run (Split asked) can short = let e = ends_well run.breaks_for (split_task run.calling asked) run.world (asked.input ∷ []) in record { sources = e.sources; new = e.new; status = e.status; does = e.ends; unstopped = e.unstopped }
 does_well run (Csplit asked) (operands, asks) short =
-    let e = ends_well (csplit_task asked operands) run.world (asked.input ∷ []) in
+    let e = ends_well run.breaks_for (csplit_task run.calling asked operands) run.world (asked.input ∷ []) in
     record { sources = e.sources; new = e.new; status = e.status; does = record { operands = operands; asks = asks; ends = e.ends }; unstopped = e.unstopped }
 does_well run (About which topic) can short = record { sources = []; new = _; status = 0; does = text_whole refl refl; unstopped = refl }
 does_well run (Tee asked) can short = elim (cases_lt (length run.world.standard.bytes) (2 ^ 63)) [
-  | inl few ↦ tee_well asked run.world few
+  | inl few ↦ tee_well run.breaks_for run.calling asked run.world few
   | inr many ↦ absurd (short (standard_input run.world.standard, run.world.standard, ([], [], refl), refl, many))
 ]
 

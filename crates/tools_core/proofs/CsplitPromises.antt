@@ -37,6 +37,7 @@ use Rattle.csplit_core.specs.laws.SectionLaws.{are_within}
 use Rattle.csplit_core.proofs.WholeLemmas.{ends_after_all, none_lost_at_end}
 use Rattle.words_core.specs.CsplitWords.{CsplitAsked}
 use Rattle.words_core.specs.declared.settings.Settings.TheVariants.{Csplit}
+use Rattle.ports_core.specs.declared.calling.Calling.TheVariants.{Cutters}
 use Rattle.tools_core.specs.Tasks.{csplit_task}
 use Rattle.tools_core.proofs.SplitPromises.{formatted_in_order, AreNamed, bytes_written, named_step}
 use Rattle.tools_core.proofs.LeftLemmas.{each_made, each_section, slot_of}
@@ -218,7 +219,7 @@ is_csplit : {run : Run} {asked : CsplitAsked} {input : List ℕ} → Does run (C
 is_csplit {run} {asked} {input} does has =
     let one = did_one does has in
     let (operands, asks, is) = one.makes in
-    let made = one_made one (csplit_task asked operands) is in
+    let made = one_made one (csplit_task Cutters asked operands) is in
     let sections = whole_sections (all_lines input) (plan asked.style.suppress operands (all_lines input)) in
     let files : files_of run ≡ map slot_of (files_from (manner_of asked.style) 0 (shares_in asked.style sections)) = ap (drop 2) made.slots in
     record {

@@ -9,7 +9,7 @@ use Rattle.follow_core.specs.Run.{AreKept, name_text}
 use Rattle.follow_core.specs.Version.{Entry, entries_led, entries_later, entries_of, open_after, open_after_later, version_in}
 use Rattle.follow_core.proofs.AgreeLemmas.{grown}
 use Rattle.follow_core.proofs.RunLemmas.{text_is_gains}
-use Rattle.tools_core.specs.Promises.{AsksToFollow, OnlyGrows, Follows, IsBare, IsOfProgram, Ran, Run}
+use Rattle.tools_core.specs.Promises.{AsksToFollow, OnlyGrows, Follows, IsBare, IsOfProgram, Ran, Run, showing}
 use Rattle.std.proofs.lemmas.Bool.{cond_both, or_parts, cases_lt, false≢true}
 use Rattle.follow_core.specs.Followed.{any_failed, text_from}
 use Rattle.follow_core.specs.Look.{Fate, Look, Ways, entries_in, fate_at, is_dropped, is_first, sound, unled, unopened, unmeasured, unsought, unread, snapshots, ways_of}
@@ -18,6 +18,7 @@ use Rattle.follow_core.specs.Share.{Share, bytes_of, gain, gains_from, missing_s
 use Rattle.follow_core.proofs.LookLemmas.{failed_sound, looks_give_text}
 use Rattle.std.proofs.lemmas.List.{length-map}
 use Rattle.ends_core.specs.Ends.{tail_of}
+use Rattle.ports_core.specs.declared.reason.Reason.{Reason}
 use Rattle.ports_core.specs.Slot.{Slot, slot_at, streams}
 use Rattle.watch_core.specs.Watched.{Watched}
 use Rattle.follow_core.specs.FollowState.{is_alive}
@@ -27,6 +28,8 @@ use Rattle.tools_core.specs.Following.{FollowingEndsAt, is_name, start_of}
 use Rattle.tools_core.specs.Program.{ProgramEndsAt, looks_at}
 use Rattle.tools_core.specs.Tasks.{has_headers, is_plus}
 use Rattle.words_core.specs.Words.{follows, looks, settings_of}
+use Rattle.ports_core.specs.declared.calling.Calling.{Calling}
+use Rattle.tools_core.proofs.LeftLemmas.{status_some}
 use Rattle.words_core.specs.declared.settings.Settings.{Settings}
 use Rattle.ports_core.specs.Source.{source_of}
 use Rattle.tools_core.proofs.LeftLemmas.{unfailed}
@@ -168,42 +171,42 @@ pub record WroteText (ways : Ways) (name : List ℕ) (shows : ℕ → Snapshot) 
   pub full : length looks < count → (0 < length looks) × (◌≡◌ {A = Bool} true true → is_alive ways (name ∷ []) looks ≡ false)
   pub is : (slot_at new 0).written ≡ name_text ways.start (entries_of ways.by_name name seen)
 
-wrote_text : (ways : Ways) (name : List ℕ) (shows : ℕ → Snapshot) (count : ℕ) (seen : List Snapshot) (watched : List Watched) (new : List Slot) → (seen ≡ seen_first shows (length seen) → AreKept (entries_of ways.by_name name seen))
-    → FollowEndsAs true true ways false (name ∷ []) count shows streams seen watched new 0 → WroteText ways name shows count seen new
+wrote_text : {breaks_for : ℕ → Reason → Bool} {calling : Calling} (ways : Ways) (name : List ℕ) (shows : ℕ → Snapshot) (count : ℕ) (seen : List Snapshot) (watched : List Watched) (new : List Slot) → (seen ≡ seen_first shows (length seen) → AreKept (entries_of ways.by_name name seen))
+    → FollowEndsAs true true breaks_for calling ways false (name ∷ []) count shows streams seen watched new 0 → WroteText ways name shows count seen new
 wrote_text ways name shows count seen watched new keeps_bytes (looked looks shares seen_is broken made few full are found leaves) =
     let ends : length looks < count → (0 < length looks) × (◌≡◌ {A = Bool} true true → is_alive ways (name ∷ []) looks ≡ false) = (λ fewer. ((full fewer).0, (full fewer).1)) in grind (arith, common_steps, unfailed, length-map, wrote_all, looks_give_text)
-wrote_text ways name shows count seen watched new keeps_bytes (stopped mid why stop says failed) = search rules
-wrote_text ways name shows count seen watched new keeps_bytes (no_room unseen unwatched says failed) = search rules
+wrote_text ways name shows count seen watched new keeps_bytes (stopped mid fault why stop is_why says failed) = absurd (status_some fault _ why (sym failed))
+wrote_text ways name shows count seen watched new keeps_bytes (no_room why unseen unwatched says failed) = absurd (omega (arith, failed))
 
 pub follows_text : {run : Run} {count : ℕ} {options : EndsAsked} {followed : Followed} {name : List ℕ} → Follows run count options followed → IsBare options
-    → options.names ≡ name ∷ [] → (run.seen ≡ seen_first run.shows (length run.seen) → AreKept (entries_of (is_name followed) name run.seen))
-    → WroteText (ways_of 0 (is_name followed) (start_of options)) name run.shows count run.seen run.outputs
+    → options.names ≡ name ∷ [] → (run.seen ≡ seen_first (showing run followed) (length run.seen) → AreKept (entries_of (is_name followed) name run.seen))
+    → WroteText (ways_of 0 (is_name followed) (start_of options)) name (showing run followed) count run.seen run.outputs
 follows_text {run} {count} {options} {followed} {name} follows bare named keeps_bytes =
     let ways = ways_of 0 (is_name followed) (start_of options) in
-    let ends = subst (FollowingEndsAt true true run.words count run.shows run.seen run.watched run.outputs run.status) follows.read.1 follows.ends in
-    let one = subst (λ names. FollowEndsAs true true ways (has_headers options.headers options.names) names count run.shows streams run.seen run.watched run.outputs run.status) named ends in
-    let headless = subst (λ headers. FollowEndsAs true true ways headers (name ∷ []) count run.shows streams run.seen run.watched run.outputs run.status) bare one in
-    wrote_text ways name run.shows count run.seen run.watched run.outputs keeps_bytes (subst (FollowEndsAs true true ways false (name ∷ []) count run.shows streams run.seen run.watched run.outputs) follows.well headless)
+    let ends = subst (FollowingEndsAt run.calling true true run.breaks_for run.words count run.shows run.seen run.watched run.outputs run.status) follows.read.1 follows.ends in
+    let one = subst (λ names. FollowEndsAs true true run.breaks_for run.calling ways (has_headers options.headers options.names) names count (showing run followed) streams run.seen run.watched run.outputs run.status) named ends in
+    let headless = subst (λ headers. FollowEndsAs true true run.breaks_for run.calling ways headers (name ∷ []) count (showing run followed) streams run.seen run.watched run.outputs run.status) bare one in
+    wrote_text ways name (showing run followed) count run.seen run.watched run.outputs keeps_bytes (subst (FollowEndsAs true true run.breaks_for run.calling ways false (name ∷ []) count (showing run followed) streams run.seen run.watched run.outputs) follows.well headless)
 
-pub tells_all : (run : Run) (options : EndsAsked) (followed : Followed) (name came : List ℕ) (file n : ℕ) → Follows run (n + 1) options followed → IsBare options → options.names ≡ name ∷ [] → OnlyGrows (length run.seen) run.shows name file
-    → (run.shows n).holds file ≡ (run.shows 0).holds file ++ came
-    → (slot_at run.outputs 0).written ≡ tail_of options.delim options.unit (is_plus options.count.sign) options.count.amount ((run.shows 0).holds file) ++ came
+pub tells_all : (run : Run) (options : EndsAsked) (followed : Followed) (name came : List ℕ) (file n : ℕ) → Follows run (n + 1) options followed → IsBare options → options.names ≡ name ∷ [] → OnlyGrows (length run.seen) (showing run followed) name file
+    → (showing run followed n).holds file ≡ (showing run followed 0).holds file ++ came
+    → (slot_at run.outputs 0).written ≡ tail_of options.delim options.unit (is_plus options.count.sign) options.count.amount ((showing run followed 0).holds file) ++ came
 tells_all run options followed name came file n follows bare named grows is =
     let ways = ways_of 0 (is_name followed) (start_of options) in
-    let wrote = follows_text follows bare named (λ saw. rw saw (kept_in (is_name followed) run.shows grows)) in
-    let grew = subst (λ k. OnlyGrows k run.shows name file) (sym wrote.count_is) grows in
-    let made : length wrote.looks ≡ n + 1 = all_made ways run.shows wrote.looks grew wrote.saw wrote.kept wrote.few wrote.full in
+    let wrote = follows_text follows bare named (λ saw. rw saw (kept_in (is_name followed) (showing run followed) grows)) in
+    let grew = subst (λ k. OnlyGrows k (showing run followed) name file) (sym wrote.count_is) grows in
+    let made : length wrote.looks ≡ n + 1 = all_made ways (showing run followed) wrote.looks grew wrote.saw wrote.kept wrote.few wrote.full in
     let all : length wrote.looks ≡ suc n = made ∙ (let e : n + 1 ≡ suc n = omega arith in e) in
     wrote.is
-    ∙ ap (λ those. name_text ways.start (entries_of (is_name followed) name those)) (wrote.seen_is ∙ wrote.saw ∙ ap (seen_first run.shows) all)
-    ∙ growing_text (is_name followed) run.shows ways.start came (omega (arith, all)) grew is
+    ∙ ap (λ those. name_text ways.start (entries_of (is_name followed) name those)) (wrote.seen_is ∙ wrote.saw ∙ ap (seen_first (showing run followed)) all)
+    ∙ growing_text (is_name followed) (showing run followed) ways.start came (omega (arith, all)) grew is
 
 -- A run of the program is a run of one of both kinds, by what its words ask for.
 
-ends_at : (run : Run) {looks : Option ℕ} → IsOfProgram run → looks_at (settings_of run.words) ≡ looks → ProgramEndsAt true true true run.words run.world.laid (source_of run.world.standard ∷ []) run.inputs run.shows run.seen run.watched run.outputs run.status looks
-ends_at run ends is = subst (ProgramEndsAt true true true run.words run.world.laid (source_of run.world.standard ∷ []) run.inputs run.shows run.seen run.watched run.outputs run.status) is ends
+ends_at : (run : Run) {looks : Option ℕ} → IsOfProgram run → looks_at (settings_of run.calling run.words) ≡ looks → ProgramEndsAt run.calling true true true run.breaks_for run.words run.world.laid (source_of run.world.standard ∷ []) run.inputs run.shows run.seen run.watched run.outputs run.status looks
+ends_at run ends is = subst (ProgramEndsAt run.calling true true true run.breaks_for run.words run.world.laid (source_of run.world.standard ∷ []) run.inputs run.shows run.seen run.watched run.outputs run.status) is ends
 
-pub runs_tool : (run : Run) (asked : Settings) → IsOfProgram run → settings_of run.words ≡ Ok asked → follows asked ≡ false → Ran run asked × (run.seen ≡ []) × (run.watched ≡ [])
+pub runs_tool : (run : Run) (asked : Settings) → IsOfProgram run → settings_of run.calling run.words ≡ Ok asked → follows asked ≡ false → Ran run asked × (run.seen ≡ []) × (run.watched ≡ [])
 runs_tool run asked ends read none =
     let (unseen, unwatched, ran) = ends_at run ends (ap looks_at read ∙ ap (λ is. cond is (Some (looks asked)) None) none) in (record { read = read; ends = ran }, unseen, unwatched)
 

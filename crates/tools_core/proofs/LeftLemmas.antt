@@ -1,7 +1,7 @@
 -- What is true of the outcome of any inputs: which messages it has, and that its files are live; and what a run leaves that no fault
 -- stopped: just what its inputs make, but for files that were to be removed.
 use Rattle.std.proofs.lemmas.Grind.{common_steps}
-use Rattle.std.proofs.Common.{◌≡◌, ℕ, ◌+◌, ◌<◌, zero, suc, Bool, true, false, ◌&&◌, cond, is_some, List, [], ◌∷◌, ◌++◌, length, map, Option, Some, None, inl, inr, ◌⊎◌, refl, sym, ◌∙◌, ap, arith, append_assoc, append-nil, not, subst, All, rules, ◌≤◌, ◌^◌, is_none, Ok, codes, length-append}
+use Rattle.std.proofs.Common.{◌≡◌, ℕ, ◌+◌, ◌<◌, zero, suc, Bool, true, false, ◌&&◌, ◌||◌, cond, is_some, List, [], ◌∷◌, ◌++◌, length, map, Option, Some, None, inl, inr, ◌⊎◌, refl, sym, ◌∙◌, ap, arith, append_assoc, append-nil, not, subst, All, rules, ◌≤◌, ◌^◌, is_none, Ok, codes, length-append}
 use Rattle.std.proofs.lemmas.Bool.{and_parts, false≢true, not-false, or_cases, or_left, or_parts, or_right, cases_Bool}
 use Rattle.std.proofs.lemmas.List.Elements.{All-append, All-cons, All-head, All-map, All-nil, All-tail}
 use Rattle.ports_core.specs.Slot.{Slot, adds, has_file, slot_at, closes, opened, removes}
@@ -12,7 +12,12 @@ use Rattle.ports_core.specs.Draft as made
 use Rattle.ports_core.specs.Draft.{Draft, Manner, shares_of}
 use Rattle.ports_core.specs.Name.{has_name}
 use Rattle.ports_core.specs.Part.{File, FilesBegin, Part, nothing, only_out, OutputsAt, file_of, told_file}
-use Rattle.ports_core.specs.Text.{message_of}
+use Rattle.ports_core.specs.Text.{Message, is_quiet, message_of, status_after}
+use Rattle.ports_core.specs.declared.calling.Calling.{Calling}
+use Rattle.ports_core.specs.declared.calling.Calling.TheVariants.{Cutters}
+use Rattle.ports_core.specs.declared.calling.Speaker.{Speaker}
+use Rattle.ports_core.specs.declared.on_broken.OnBroken.{OnBroken}
+use Rattle.ports_core.specs.declared.reason.Reason.{Reason}
 use Rattle.ports_core.specs.Work.{Judges, Needs, Work}
 use Rattle.ports_core.specs.declared.fault.Fault.{Fault}
 use Rattle.ports_core.specs.declared.fault.Fault.TheVariants.{Open as CannotOpen, Read, Write}
@@ -20,7 +25,6 @@ use Rattle.ports_core.specs.declared.fault.Fault.TheVariants as fault_is
 use Rattle.ports_core.specs.declared.verdict.Verdict.{Verdict}
 use Rattle.ports_core.specs.declared.slot.State.{State}
 use Rattle.ports_core.specs.declared.slot.State.TheVariants.{Open, Closed}
-use Rattle.ports_core.specs.declared.tool.Tool.{Tool}
 use Rattle.seg_core.specs.declared.cut.Cut.{Cut}
 use Rattle.seg_core.specs.declared.cut.Cut.TheVariants.{Parts, Round}
 use Rattle.seg_core.specs.declared.cut.Way.{Way}
@@ -43,20 +47,21 @@ use Rattle.csplit_core.specs.Section.{Section, settled_sections, whole_sections}
 use Rattle.csplit_core.specs.Planned.{plan}
 use Rattle.run_core.specs.Feeding.{IsCall, Step, closes as ends_call, feeds, is_enough, opens}
 use Rattle.run_core.specs.Input.{Input, inputs_at, standard_input}
-use Rattle.run_core.specs.RunEnds.{RunStep, calling, heading, unheaded, unopened, EndsAs, as_defined}
+use Rattle.run_core.specs.RunEnds.{RunStep, calling as call_step, heading, unheaded, unopened, EndsAs, as_defined}
 use Rattle.run_core.specs.Task.{Outcome, Task, after_part, header_text, is_missing, joined, of_content, of_input, of_inputs, verdict_messages, made_by, status_of}
-use Rattle.tools_core.specs.Promises.{SaysLines, Completes, FindAlike, IsCopied, IsFound, IsGone, IsMet, IsTask, IsUnstopped, LeaveAlike, Ran, Run, TellsMet, Unstopped, broken_off, failing, judged, missing, removes_files}
+use Rattle.tools_core.specs.Promises.{SaysLines, Completes, FindAlike, IsCopied, IsFound, IsGone, IsTask, IsUnstopped, LeaveAlike, Ran, Run, TellsMet, Unstopped, broken_off, failing, judged, missing, removes_files}
 use Rattle.ports_core.specs.Message.{SaysAll}
 use Rattle.ports_core.specs.Swept.{Cleared, Swept}
 use Rattle.ports_core.specs.Swept as swept_so
 use Rattle.ports_core.specs.declared.slot.Mode.{Mode}
 use Rattle.ports_core.specs.declared.slot.State.TheVariants as state
-use Rattle.ports_core.specs.declared.tool.Tool.TheVariants as tool
 use Rattle.operand_core.proofs.ReadingLemmas.{asks_once}
 use Rattle.operand_core.specs.Reading.{Asks}
 use Rattle.run_core.proofs.StopLemmas.{beside_error, swept_error}
 use Rattle.tee_core.specs.Run as tee
-use Rattle.tee_core.specs.Run.{IsRead, are_sound, messages_of, output_names, said_in, said_of_input}
+use Rattle.tee_core.specs.declared.standing.Standing.{Standing}
+use Rattle.tee_core.specs.declared.standing.Standing.TheVariants.{Sound, Broken, Gone}
+use Rattle.tee_core.specs.Run.{Break, IsRead, are_sound, tee_called, messages_of, output_names, said_in, said_of_input}
 use Rattle.tee_core.proofs.EndLemmas.{nothing_before, nothing_in, sound_first, sound_goes_on, whole_files, whole_output}
 use Rattle.words_core.specs.TeeWords.{TeeAsked}
 use Rattle.words_core.specs.Words.{settings_of}
@@ -65,27 +70,27 @@ use Rattle.words_core.specs.declared.settings.Settings.TheVariants.{Head, Tail, 
 use Rattle.words_core.specs.Help.{text_about}
 use Rattle.tools_core.specs.About.{TellsText, no_text, text_cut, text_whole}
 use Rattle.tools_core.specs.Outcome.{DoesAsked, RefusesOperands}
-use Rattle.tools_core.specs.Tasks.{csplit_task, filing_of, head_task, is_minus, is_plus, names_of, said_by, split_task, tail_task, tool_of}
+use Rattle.tools_core.specs.Tasks.{csplit_task, filing_of, head_task, is_minus, is_plus, names_of, said_by, speaker_of, split_task, tail_task, by}
 
 -- One of the lines
 
-abbrev pub HasLine : List ℕ → List (List ℕ) → Type 0
-HasLine line lines = (before : List (List ℕ)) × (after : List (List ℕ)) × (lines ≡ before ++ line ∷ after)
+abbrev pub HasLine : Message → List Message → Type 0
+HasLine line lines = (before : List Message) × (after : List Message) × (lines ≡ before ++ line ∷ after)
 
-pub has_after : {line : List ℕ} (front : List (List ℕ)) {back : List (List ℕ)} → HasLine line back → HasLine line (front ++ back)
+pub has_after : {line : Message} (front : List Message) {back : List Message} → HasLine line back → HasLine line (front ++ back)
 has_after {line} front (before, after, is) = (front ++ before, after, ap (λ those. front ++ those) is ∙ sym (append_assoc front before (line ∷ after)))
 
-pub has_before : {line : List ℕ} {front : List (List ℕ)} (back : List (List ℕ)) → HasLine line front → HasLine line (front ++ back)
+pub has_before : {line : Message} {front : List Message} (back : List Message) → HasLine line front → HasLine line (front ++ back)
 has_before {line} back (before, after, is) = (before, after ++ back, ap (λ those. those ++ back) is ∙ append_assoc before (line ∷ after) back)
 
 -- it is said, where all are
-abbrev pub SaysLine : Run → Settings → List ℕ → Type 0
-SaysLine run asked line = (before : List (List ℕ)) × (after : List (List ℕ)) × SaysLines run asked (before ++ line ∷ after)
+abbrev pub SaysLine : Run → Settings → Message → Type 0
+SaysLine run asked line = (before : List Message) × (after : List Message) × SaysLines run asked (before ++ line ∷ after)
 
-pub says_line : {run : Run} {asked : Settings} {line : List ℕ} {lines : List (List ℕ)} → HasLine line lines → SaysLines run asked lines → SaysLine run asked line
+pub says_line : {run : Run} {asked : Settings} {line : Message} {lines : List Message} → HasLine line lines → SaysLines run asked lines → SaysLine run asked line
 says_line (before, after, is) says = search rules
 
-pub one_line : (Line : List ℕ → Type 0) (line : List ℕ) → Line line → All Line (line ∷ [])
+pub one_line : (Line : Message → Type 0) (line : Message) → Line line → All Line (line ∷ [])
 one_line Line line is = All-cons Line line [] is (All-nil Line)
 
 -- Files that are open or closed, and not broken
@@ -215,27 +220,27 @@ csplit_living style operands = record {
 -- What a run over inputs makes of them
 
 -- one of the lines is such a line
-abbrev pub HasSome : (List ℕ → Type 0) → List (List ℕ) → Type 0
-HasSome Line lines = (line : List ℕ) × Line line × HasLine line lines
+abbrev pub HasSome : (Message → Type 0) → List Message → Type 0
+HasSome Line lines = (line : Message) × Line line × HasLine line lines
 
 -- The messages of an outcome are such lines, and there are some just where a fault was met. Only after one are files
 -- removed, of a tool that removes them. The files are live.
-pub record Fits (Line : List ℕ → Type 0) (clears : Bool) (made : Outcome) : Type 0 where
+pub record Fits (Line : Message → Type 0) (clears : Bool) (made : Outcome) : Type 0 where
   pub are : All Line made.messages
   pub tells : made.failed ≡ true → HasSome Line made.messages
   pub quiet : made.failed ≡ false → made.messages ≡ []
   pub sweeps : made.sweeps ≡ true → (clears ≡ true) × (made.failed ≡ true)
   pub live : AreLive made.part.files
 
-pub fits_well : {Line : List ℕ → Type 0} {clears : Bool} (part : Part) (sweeps : Bool) → sweeps ≡ false → AreLive part.files → Fits Line clears (record { part = part; messages = []; failed = false; sweeps = sweeps })
+pub fits_well : {Line : Message → Type 0} {clears : Bool} (part : Part) (sweeps : Bool) → sweeps ≡ false → AreLive part.files → Fits Line clears (record { part = part; messages = []; failed = false; sweeps = sweeps })
 fits_well {Line} part sweeps none live = grind (arith, common_steps)
 
-pub fits_fault : {Line : List ℕ → Type 0} {clears : Bool} {line : List ℕ} (part : Part) (sweeps : Bool) → Line line → (sweeps ≡ true → clears ≡ true) → AreLive part.files
+pub fits_fault : {Line : Message → Type 0} {clears : Bool} {line : Message} (part : Part) (sweeps : Bool) → Line line → (sweeps ≡ true → clears ≡ true) → AreLive part.files
     → Fits Line clears (record { part = part; messages = line ∷ []; failed = true; sweeps = sweeps })
 fits_fault {Line} {line} part sweeps tells clears live =
     record { are = one_line Line line tells; tells = λ is. (line, tells, ([], [], refl)); quiet = λ is. absurd (false≢true (sym is)); sweeps = λ is. (clears is, refl); live = live }
 
-fits_joined : {Line : List ℕ → Type 0} {clears : Bool} (first next : Outcome) → Fits Line clears first → Fits Line clears next → Fits Line clears (joined first next)
+fits_joined : {Line : Message → Type 0} {clears : Bool} (first next : Outcome) → Fits Line clears first → Fits Line clears next → Fits Line clears (joined first next)
 fits_joined {Line} first next one other = record {
   are = All-append Line _ _ one.are other.are;
   tells = λ is. elim (or_cases first.failed next.failed is) [
@@ -251,15 +256,15 @@ fits_joined {Line} first next one other = record {
 }
 
 -- the lines that tell what is wrong with an input are such ones
-pub record TellsInput (Line : List ℕ → Type 0) (task : Task) (work : Work) (name : List ℕ) (there : Option Content) : Type 0 where
-  pub missing : there ≡ None → Line (message_of task.tool (CannotOpen 0) name)
-  pub broken_off : (content : Content) → there ≡ Some content → is_enough work content ≡ false → Line (message_of task.tool (Read 0) name)
-  pub judged : (content : Content) (verdict : Verdict) → there ≡ Some content → is_enough work content ≡ true → Judges work content.bytes verdict → Line (message_of task.tool (fault_is.Verdict verdict) (task.subject verdict))
+pub record TellsInput (Line : Message → Type 0) (task : Task) (work : Work) (name : List ℕ) (there : Option Content) : Type 0 where
+  pub missing : there ≡ None → Line (message_of (CannotOpen 0) name)
+  pub broken_off : (content : Content) → there ≡ Some content → is_enough work content ≡ false → Line (message_of (Read 0) name)
+  pub judged : (content : Content) (verdict : Verdict) → there ≡ Some content → is_enough work content ≡ true → Judges work content.bytes verdict → Line (message_of (fault_is.Verdict verdict) (task.subject verdict))
 
-given_fits : {Line : List ℕ → Type 0} (task : Task) (work : Work) (header name bytes : List ℕ) (enough : Bool) (verdict : Option Verdict)
-    → (enough ≡ false → Line (message_of task.tool (Read 0) name)) → ((given : Verdict) → enough ≡ true → verdict ≡ Some given → Line (message_of task.tool (fault_is.Verdict given) (task.subject given))) → IsLiving work → Fits Line work.clears (record {
+given_fits : {Line : Message → Type 0} (task : Task) (work : Work) (header name bytes : List ℕ) (enough : Bool) (verdict : Option Verdict)
+    → (enough ≡ false → Line (message_of (Read 0) name)) → ((given : Verdict) → enough ≡ true → verdict ≡ Some given → Line (message_of (fault_is.Verdict given) (task.subject given))) → IsLiving work → Fits Line work.clears (record {
       part = after_part (only_out header) (cond enough (work.whole bytes) (work.settled bytes));
-      messages = cond enough (verdict_messages task verdict) (message_of task.tool (Read 0) name ∷ []);
+      messages = cond enough (verdict_messages task verdict) (message_of (Read 0) name ∷ []);
       failed = cond enough (is_some verdict) true;
       sweeps = work.clears && cond enough (is_some verdict) true;
     })
@@ -270,16 +275,16 @@ given_fits task work header name bytes false verdict breaks judges living = fits
 breaks_short : (work : Work) (content : Content) → is_enough work content ≡ false → content.breaks_off ≡ true
 breaks_short work content short = not-false content.breaks_off (or_parts (not content.breaks_off) (work.is_complete content.bytes) short).0
 
-content_fits : {Line : List ℕ → Type 0} (task : Task) (work : Work) (is_first : Bool) (name : List ℕ) (there : Option Content) → TellsInput Line task work name there → IsLiving work → Fits Line work.clears (of_content task work is_first name there)
+content_fits : {Line : Message → Type 0} (task : Task) (work : Work) (is_first : Bool) (name : List ℕ) (there : Option Content) → TellsInput Line task work name there → IsLiving work → Fits Line work.clears (of_content task work is_first name there)
 content_fits task work is_first name None tells living = fits_fault nothing false (tells.missing refl) (λ is. absurd (false≢true is)) no_live
 content_fits task work is_first name (Some content) tells living =
     given_fits task work (header_text task.with_header is_first name) name content.bytes (is_enough work content) (work.verdict content.bytes)
     (λ short. tells.broken_off content refl short) (λ verdict enough is. tells.judged content verdict refl enough is) living
 
-abbrev pub TellsAt : (List ℕ → Type 0) → Task → Input → Type 0
+abbrev pub TellsAt : (Message → Type 0) → Task → Input → Type 0
 TellsAt Line task input = TellsInput Line task (task.work input.coming) input.name input.content
 
-abbrev pub TellsAll : (List ℕ → Type 0) → Task → List Input → Type 0
+abbrev pub TellsAll : (Message → Type 0) → Task → List Input → Type 0
 TellsAll Line task inputs = All (TellsAt Line task) inputs
 
 -- whatever length an input says, files are live, and are removed or kept alike
@@ -287,7 +292,7 @@ pub record AreLiving (work : ℕ → Work) (clears : Bool) : Type 0 where
   pub each : (coming : ℕ) → IsLiving (work coming)
   pub clears_all : (coming : ℕ) → (work coming).clears ≡ clears
 
-pub inputs_fit : {Line : List ℕ → Type 0} {clears : Bool} (task : Task) (is_first : Bool) (inputs : List Input) → TellsAll Line task inputs → AreLiving task.work clears → Fits Line clears (of_inputs task is_first inputs)
+pub inputs_fit : {Line : Message → Type 0} {clears : Bool} (task : Task) (is_first : Bool) (inputs : List Input) → TellsAll Line task inputs → AreLiving task.work clears → Fits Line clears (of_inputs task is_first inputs)
 inputs_fit task is_first [] tells living = search rules
 inputs_fit {Line} task is_first (input ∷ inputs) tells living =
     let P = TellsAt Line task in
@@ -297,34 +302,31 @@ inputs_fit {Line} task is_first (input ∷ inputs) tells living =
 
 -- what a run found is told so
 
-pub tool_is : (asked : Settings) (task : Task) → IsTask asked task → task.tool ≡ tool_of asked
-tool_is (Head asked) task is = ap (λ (task : Task). task.tool) is
-tool_is (Tail asked) task is = ap (λ (task : Task). task.tool) is
-tool_is (Split asked) task is = ap (λ (task : Task). task.tool) is
-tool_is (Csplit asked) task (operands, asks, is) = ap (λ (task : Task). task.tool) is
-tool_is (Tee asked) task is = absurd is
-tool_is (About which topic) task is = absurd is
+pub speaker_is : (calling : Calling) (asked : Settings) (task : Task) → IsTask calling asked task → task.speaker ≡ speaker_of calling asked
+speaker_is calling (Head asked) task is = ap (λ (task : Task). task.speaker) is
+speaker_is calling (Tail asked) task is = ap (λ (task : Task). task.speaker) is
+speaker_is calling (Split asked) task is = ap (λ (task : Task). task.speaker) is
+speaker_is calling (Csplit asked) task (operands, asks, is) = ap (λ (task : Task). task.speaker) is
+speaker_is calling (Tee asked) task is = absurd is
+speaker_is calling (About which topic) task is = absurd is
 
-pub met_line : {run : Run} (asked : Settings) (task : Task) (fault : Fault) (name : List ℕ) → IsTask asked task → IsMet run asked fault name → TellsMet run asked (message_of task.tool fault name)
-met_line asked task fault name of met = (fault, name, met, ap (λ which. message_of which fault name) (tool_is asked task of))
+one_task : (calling : Calling) (asked : Settings) (one other : Task) → IsTask calling asked one → IsTask calling asked other → one ≡ other
+one_task calling (Csplit asked) one other (operands, asks, is) (operands_too, asks_too, is_too) = rw (is, asks_once asked.operands operands operands_too asks asks_too, is_too)
+one_task calling (Head asked) one other is is_too = is ∙ sym is_too
+one_task calling (Tail asked) one other is is_too = is ∙ sym is_too
+one_task calling (Split asked) one other is is_too = is ∙ sym is_too
+one_task calling (Tee asked) one other is is_too = absurd is
+one_task calling (About which topic) one other is is_too = absurd is
 
-one_task : (asked : Settings) (one other : Task) → IsTask asked one → IsTask asked other → one ≡ other
-one_task (Csplit asked) one other (operands, asks, is) (operands_too, asks_too, is_too) = rw (is, asks_once asked.operands operands operands_too asks asks_too, is_too)
-one_task (Head asked) one other is is_too = is ∙ sym is_too
-one_task (Tail asked) one other is is_too = is ∙ sym is_too
-one_task (Split asked) one other is is_too = is ∙ sym is_too
-one_task (Tee asked) one other is is_too = absurd is
-one_task (About which topic) one other is is_too = absurd is
-
-found_tells : {run : Run} (asked : Settings) {task : Task} (input : Input) → IsTask asked task → IsFound run asked input → TellsAt (TellsMet run asked) task input
-found_tells asked {task} input of found = record {
-  missing = λ none. met_line asked task (CannotOpen 0) input.name of (inr (missing input found none));
-  broken_off = λ content is short. met_line asked task (Read 0) input.name of (inr (broken_off input content found is (breaks_short (task.work input.coming) content short) (λ other of_too. rw (one_task asked other task of_too of) short)));
-  judged = λ content verdict is enough judges. met_line asked task (fault_is.Verdict verdict) (task.subject verdict) of (inr (judged input content task verdict found is of enough judges));
+found_tells : {run : Run} (asked : Settings) {task : Task} (input : Input) → IsTask run.calling asked task → IsFound run asked input → TellsAt (TellsMet run asked) task input
+found_tells {run} asked {task} input of found = record {
+  missing = λ none. (CannotOpen 0, input.name, inr (missing input found none), refl);
+  broken_off = λ content is short. (Read 0, input.name, inr (broken_off input content found is (breaks_short (task.work input.coming) content short) (λ other of_too. rw (one_task run.calling asked other task of_too of) short)), refl);
+  judged = λ content verdict is enough judges. (fault_is.Verdict verdict, task.subject verdict, inr (judged input content task verdict found is of enough judges), refl);
 }
 
 -- these inputs, which the run found after others and before others
-pub all_tell : (run : Run) (asked : Settings) (task : Task) (done inputs after : List Input) → IsTask asked task → inputs_at run.world (names_of asked) ≡ done ++ (inputs ++ after) → TellsAll (TellsMet run asked) task inputs
+pub all_tell : (run : Run) (asked : Settings) (task : Task) (done inputs after : List Input) → IsTask run.calling asked task → inputs_at run.world (names_of asked) ≡ done ++ (inputs ++ after) → TellsAll (TellsMet run asked) task inputs
 all_tell run asked task done [] after of are = All-nil (TellsAt (TellsMet run asked) task)
 all_tell run asked task done (input ∷ inputs) after of are =
     All-cons (TellsAt (TellsMet run asked) task) input inputs (found_tells asked input of (done, inputs ++ after, are))
@@ -342,7 +344,7 @@ pub step_live : {told : Bool} {task : Task} {work : Work} {before : Part} {heade
 step_live living live (unopened content place at past) = live
 step_live living live (unheaded content headed leaves) = live
 step_live {before} living live (heading content headed leaves) = search rules
-step_live {before} living live (calling content call is leaves) = live_both (before.files ++ []) call.high.files (live_both before.files [] live no_live) (call_live living is)
+step_live {before} living live (call_step content call is leaves) = live_both (before.files ++ []) call.high.files (live_both before.files [] live no_live) (call_live living is)
 
 -- The outputs of a part, beside any standard error
 
@@ -453,17 +455,17 @@ swept_count true old new swept = swept.size
 
 -- What a run leaves by its outcome
 
-pub record IsLeft (which : Tool) (made : Outcome) (new : List Slot) (status : ℕ) : Type 0 where
+pub record IsLeft (which : Speaker) (made : Outcome) (new : List Slot) (status : ℕ) : Type 0 where
   pub error : Slot
   pub says : SaysAll true which made.messages standard_error error
   pub swept : Swept made.sweeps 2 (outputs_of made.part error) new
   pub is : status ≡ status_of made
 
-pub left_at : {which : Tool} {made : Outcome} {new : List Slot} {status : ℕ} → IsLeft which made new status → (place : ℕ) → (place ≡ 1 → ⊥) → Kept made.sweeps place (slot_at (slots_of made.part) place) (slot_at new place)
+pub left_at : {which : Speaker} {made : Outcome} {new : List Slot} {status : ℕ} → IsLeft which made new status → (place : ℕ) → (place ≡ 1 → ⊥) → Kept made.sweeps place (slot_at (slots_of made.part) place) (slot_at new place)
 left_at {made} {new} left place differs =
     rw (beside_error (adds made.part.out standard_output) left.error standard_error _ place differs) at (swept_kept made.sweeps _ new left.swept place)
 
-pub left_says : {run : Run} {asked : Settings} {clears : Bool} {made : Outcome} → Fits (TellsMet run asked) clears made → IsLeft (tool_of asked) made run.outputs run.status → SaysLines run asked made.messages
+pub left_says : {run : Run} {asked : Settings} {clears : Bool} {made : Outcome} → Fits (TellsMet run asked) clears made → IsLeft (speaker_of run.calling asked) made run.outputs run.status → SaysLines run asked made.messages
 left_says {run} {made} fits left =
     record { are = fits.are; said = rw (swept_error made.sweeps (outputs_of made.part left.error) run.outputs (omega arith) left.swept) left.says }
 
@@ -475,7 +477,7 @@ pub record IsWhole (made : Outcome) (new : List Slot) : Type 0 where
   pub sound : made.failed ≡ false
   pub slots : new ≡ slots_of made.part
 
-pub left_whole : {Line : List ℕ → Type 0} {which : Tool} {clears : Bool} {made : Outcome} {new : List Slot} {status : ℕ} → Fits Line clears made → IsLeft which made new status → status ≡ 0 → IsWhole made new
+pub left_whole : {Line : Message → Type 0} {which : Speaker} {clears : Bool} {made : Outcome} {new : List Slot} {status : ℕ} → Fits Line clears made → IsLeft which made new status → status ≡ 0 → IsWhole made new
 left_whole {made} fits left well =
     let sound = unfailed made.failed (sym well ∙ left.is) in
     let stay : made.sweeps ≡ false = elim (cases_Bool made.sweeps) [ inl is ↦ absurd (false≢true (sym sound ∙ (fits.sweeps is).1)) | inr is ↦ is ] in record {
@@ -506,12 +508,12 @@ pub copies_are : (mode : Mode) (bytes : List ℕ) (names : List (List ℕ)) → 
 copies_are mode bytes [] = refl
 copies_are mode bytes (name ∷ names) = rw (copies_are mode bytes names)
 
-tee_fits : {Line : List ℕ → Type 0} (asked : TeeAsked) (bytes : List ℕ) (breaks_off : Bool) → (breaks_off ≡ true → Line (message_of tool.Tee (Read 0) (codes "standard input"))) → Fits Line false (tee_made asked (record { bytes = bytes; breaks_off = breaks_off }))
+tee_fits : {Line : Message → Type 0} (asked : TeeAsked) (bytes : List ℕ) (breaks_off : Bool) → (breaks_off ≡ true → Line (message_of (Read 0) (codes "standard input"))) → Fits Line false (tee_made asked (record { bytes = bytes; breaks_off = breaks_off }))
 tee_fits {Line} asked bytes breaks_off tells = by breaks_off tells where
   live : AreLive (map (λ name. file_of (copy asked.mode bytes name)) asked.names)
   live = All-map (λ (file : File). IsLive (slot_of file)) (λ name. file_of (copy asked.mode bytes name)) asked.names (λ k name within. (refl, refl))
 
-  by : (breaks_off : Bool) → (breaks_off ≡ true → Line (message_of tool.Tee (Read 0) (codes "standard input"))) → Fits Line false (tee_made asked (record { bytes = bytes; breaks_off = breaks_off }))
+  by : (breaks_off : Bool) → (breaks_off ≡ true → Line (message_of (Read 0) (codes "standard input"))) → Fits Line false (tee_made asked (record { bytes = bytes; breaks_off = breaks_off }))
   by true tells = fits_fault _ false (tells refl) (λ is. is) live
   by false tells = fits_well _ false refl live
 
@@ -526,17 +528,29 @@ met_status : (breaks_off : Bool) → ◌≡◌ {A = ℕ} (cond (is_none (met_by 
 met_status true = refl
 met_status false = refl
 
-pub quiet_outputs : (names : List (List ℕ)) (broke : List (Option ℕ)) (pieces : ℕ) (fault : Option Fault) → are_sound broke ≡ true → messages_of names broke pieces fault ≡ said_of_input fault
-quiet_outputs names broke pieces fault sound = search (rules, nothing_before, nothing_in)
+pub quiet_outputs : (on_broken : OnBroken) (names : List (List ℕ)) (broke : List (Option Break)) (pieces : ℕ) (fault : Option Fault) → are_sound broke ≡ true → messages_of on_broken names broke pieces fault ≡ said_of_input fault
+quiet_outputs on_broken names broke pieces fault sound = search (rules, nothing_before, nothing_in)
 
-pub tee_left : {asked : TeeAsked} {content : Content} {source : Source} {new : List Slot} {status : ℕ} (ends : tee.EndsAs true true asked.mode asked.on_broken asked.names content source new status) → IsCopied ends → IsLeft tool.Tee (tee_made asked content) new status
-tee_left {asked} {content} (tee.copied pieces fault first broke output error files comes some left rest says slots is) (sound, all) =
+-- where none broke, the status tells whether the reading ended well
+none_lost : (one : Standing) → tee.is_same Sound one ≡ false → (broke : List (Option Break)) → are_sound broke ≡ true → tee.any_is one (map tee.standing_of broke) ≡ false
+none_lost one differs [] sound = refl
+none_lost one differs (None ∷ broke) sound = rw differs (none_lost one differs broke sound)
+none_lost one differs (Some other ∷ broke) sound = absurd (false≢true sound)
+
+pub sound_status : (on_broken : OnBroken) (broke : List (Option Break)) (fault : Option Fault) → are_sound broke ≡ true → tee.status_of on_broken broke fault ≡ cond (is_none fault) 0 1
+sound_status on_broken broke fault sound = rw (none_lost Gone refl broke sound, none_lost Broken refl broke sound) (by (is_none fault)) where
+  by : (ended : Bool) → ◌≡◌ {A = ℕ} (cond (not ended || false) 1 0) (cond ended 0 1)
+  by true = refl
+  by false = refl
+
+pub tee_left : {breaks_for : ℕ → Reason → Bool} {calling : Calling} {asked : TeeAsked} {content : Content} {source : Source} {new : List Slot} {status : ℕ} (ends : tee.EndsAs true true breaks_for calling asked.mode asked.on_broken asked.names content source new status) → IsCopied ends → IsLeft (tee_called calling) (tee_made asked content) new status
+tee_left {asked} {content} (tee.copied pieces fault first broke output error files comes some left rest stand says slots is) (sound, all) =
     let sounds = sound_first first (are_sound broke) sound in
     let met = met_is _ (sound_goes_on asked.on_broken (suc (length pieces)) first broke sound) all comes.few comes.read in record {
       error = error;
-      says = rw (quiet_outputs asked.names (first ∷ broke) (length pieces) fault sound ∙ ap said_of_input met) at says;
+      says = rw (quiet_outputs asked.on_broken asked.names (first ∷ broke) (length pieces) fault sound ∙ ap said_of_input met) at says;
       swept = rw (slots, whole_output true pieces first output sounds.0 left, whole_files true asked.mode pieces asked.names broke files sounds.1 rest, all, copies_are asked.mode content.bytes asked.names);
-      is = rw (is, sound, met, met_status content.breaks_off);
+      is = is ∙ sound_status asked.on_broken (first ∷ broke) fault sound ∙ ap (λ those. cond (is_none those) 0 1) met ∙ met_status content.breaks_off;
     }
 tee_left (tee.no_room error says unread slots is) copied = absurd copied
 
@@ -545,19 +559,26 @@ tee_left (tee.no_room error says unread slots is) copied = absurd copied
 abbrev pub text_made : List ℕ → Outcome
 text_made text = record { part = only_out text; messages = []; failed = false; sweeps = false }
 
-text_left : {which : Tool} {text : List ℕ} {new : List Slot} {status : ℕ} → TellsText true which text new status → status ≡ 0 → IsLeft which (text_made text) new status
+-- after a fault the status isn't 0
+pub status_some : (fault : Fault) (calling : Calling) (why : Reason) → status_after fault calling why ≡ 0 → ⊥
+status_some fault calling why = by_quiet (is_quiet fault calling why) where
+  by_quiet : (quiet : Bool) → ◌≡◌ {A = ℕ} (cond quiet 141 1) 0 → ⊥
+  by_quiet true is = omega (arith, is)
+  by_quiet false is = omega (arith, is)
+
+text_left : {breaks_for : ℕ → Reason → Bool} {which : Speaker} {text : List ℕ} {new : List Slot} {status : ℕ} → TellsText true breaks_for which text new status → status ≡ 0 → IsLeft which (text_made text) new status
 text_left (text_whole slots is) well = record { error = standard_error; says = refl; swept = rw slots refl; is = is }
-text_left (text_cut n short error says slots is) well = absurd (omega (arith, is, well))
+text_left (text_cut n short why error is_why says slots is) well = absurd (status_some (Write 0) _ why (sym is ∙ well))
 text_left (no_text error says slots is) well = absurd (omega (arith, is, well))
 
 -- All tools
 
 -- what is asked for makes this of its inputs
 abbrev pub Makes : Settings → List Input → Outcome → Type 0
-Makes (Head asked) inputs made = made ≡ made_by (head_task asked) inputs
-Makes (Tail asked) inputs made = made ≡ made_by (tail_task asked.ends) inputs
-Makes (Split asked) inputs made = made ≡ made_by (split_task asked) inputs
-Makes (Csplit asked) inputs made = (operands : List Operand) × Asks asked.operands operands × (made ≡ made_by (csplit_task asked operands) inputs)
+Makes (Head asked) inputs made = made ≡ made_by (head_task Cutters asked) inputs
+Makes (Tail asked) inputs made = made ≡ made_by (tail_task Cutters asked.ends) inputs
+Makes (Split asked) inputs made = made ≡ made_by (split_task Cutters asked) inputs
+Makes (Csplit asked) inputs made = (operands : List Operand) × Asks asked.operands operands × (made ≡ made_by (csplit_task Cutters asked operands) inputs)
 Makes (Tee asked) inputs made = (content : Content) × (inputs ≡ standard_input content ∷ []) × (made ≡ tee_made asked content)
 Makes (About which topic) inputs made = made ≡ text_made (text_about which topic)
 
@@ -577,36 +598,45 @@ pub record LeftBy (run : Run) (asked : Settings) : Type 0 where
   pub made : Outcome
   pub of : Makes asked (inputs_at run.world (names_of asked)) made
   pub fits : Fits (TellsMet run asked) (removes_files asked) made
-  pub left : IsLeft (tool_of asked) made run.outputs run.status
+  pub left : IsLeft (speaker_of run.calling asked) made run.outputs run.status
 
 -- what each tool does with its inputs is so
-pub task_lives : (asked : Settings) (task : Task) → IsTask asked task → AreLiving task.work (removes_files asked)
-task_lives (Head asked) task is = rw is (record { each = λ coming. head_living asked.delim asked.unit (is_minus asked.count.sign) asked.count.amount; clears_all = λ coming. refl })
-task_lives (Tail asked) task is = rw is (record { each = λ coming. tail_living asked.ends.delim asked.ends.unit (is_plus asked.ends.count.sign) asked.ends.count.amount; clears_all = λ coming. refl })
-task_lives (Split asked) task is = rw is (record {
+pub task_lives : (calling : Calling) (asked : Settings) (task : Task) → IsTask calling asked task → AreLiving task.work (removes_files asked)
+task_lives calling (Head asked) task is = rw is (record { each = λ coming. head_living asked.delim asked.unit (is_minus asked.count.sign) asked.count.amount; clears_all = λ coming. refl })
+task_lives calling (Tail asked) task is = rw is (record { each = λ coming. tail_living asked.ends.delim asked.ends.unit (is_plus asked.ends.count.sign) asked.ends.count.amount; clears_all = λ coming. refl })
+task_lives calling (Split asked) task is = rw is (record {
   each = λ coming. way_living asked.way asked.elide (filing_of asked) (said_by asked.input coming);
   clears_all = λ coming. way_clears asked.way asked.elide (filing_of asked) (said_by asked.input coming);
 })
-task_lives (Csplit asked) task (operands, asks, is) = rw is (record { each = λ coming. csplit_living asked.style operands; clears_all = λ coming. refl })
-task_lives (Tee asked) task is = absurd is
-task_lives (About which topic) task is = absurd is
+task_lives calling (Csplit asked) task (operands, asks, is) = rw is (record { each = λ coming. csplit_living asked.style operands; clears_all = λ coming. refl })
+task_lives calling (Tee asked) task is = absurd is
+task_lives calling (About which topic) task is = absurd is
 
-ends_left : {run : Run} {asked : Settings} {task : Task} → IsTask asked task → Makes asked (inputs_at run.world (names_of asked)) (made_by task (inputs_at run.world (names_of asked)))
-    → (ends : EndsAs true true task (inputs_at run.world (names_of asked)) run.inputs run.outputs run.status) → IsUnstopped ends → LeftBy run asked
+ends_left : {run : Run} {asked : Settings} {task : Task} → IsTask run.calling asked task → Makes asked (inputs_at run.world (names_of asked)) (made_by task (inputs_at run.world (names_of asked)))
+    → (ends : EndsAs true true run.breaks_for task (inputs_at run.world (names_of asked)) run.inputs run.outputs run.status) → IsUnstopped ends → LeftBy run asked
 ends_left {run} {asked} {task} of makes (as_defined error reached says outputs swept done is) unstopped =
     let found = inputs_at run.world (names_of asked) in record {
       made = made_by task found;
       of = makes;
-      fits = inputs_fit task true found (all_tell run asked task [] found [] of (sym (append-nil found))) (task_lives asked task of);
-      left = record { error = error; says = subst (λ which. SaysAll true which (made_by task found).messages standard_error error) (tool_is asked task of) says; swept = rw (slots_at outputs) at swept; is = is };
+      fits = inputs_fit task true found (all_tell run asked task [] found [] of (sym (append-nil found))) (task_lives run.calling asked task of);
+      left = record { error = error; says = subst (λ which. SaysAll true which (made_by task found).messages standard_error error) (speaker_is run.calling asked task of) says; swept = rw (slots_at outputs) at swept; is = is };
     }
 ends_left of makes ends unstopped = absurd unstopped
 
-does_left : (run : Run) (asked : Settings) (does : DoesAsked true true asked (inputs_at run.world (names_of asked)) run.inputs run.outputs run.status) → Unstopped asked (inputs_at run.world (names_of asked)) run.inputs run.outputs run.status does → LeftBy run asked
-does_left run (Head asked) does unstopped = ends_left {asked = Head asked} refl refl does unstopped
-does_left run (Tail asked) does unstopped = ends_left {asked = Tail asked} refl refl does unstopped
-does_left run (Split asked) does unstopped = ends_left {asked = Split asked} refl refl does unstopped
-does_left run (Csplit asked) does unstopped = ends_left {asked = Csplit asked} (does.operands, does.asks, refl) (does.operands, does.asks, refl) does.ends unstopped
+-- how the program was called is no part of what is made of inputs
+made_alike : (task : Task) (speaker : Speaker) (is_first : Bool) (inputs : List Input) → of_inputs task is_first inputs ≡ of_inputs (record task { speaker = speaker }) is_first inputs
+made_alike task speaker is_first [] = refl
+made_alike task speaker is_first (input ∷ inputs) =
+    ap (joined (of_input task is_first input)) (made_alike task speaker (is_first && is_missing input.content) inputs)
+
+made_so : (run : Run) (task : Task) (names : List (List ℕ)) → made_by task (inputs_at run.world names) ≡ made_by (record task { speaker = by Cutters task.speaker.tool }) (inputs_at run.world names)
+made_so run task names = made_alike task (by Cutters task.speaker.tool) true (inputs_at run.world names)
+
+does_left : (run : Run) (asked : Settings) (does : DoesAsked run.calling true true run.breaks_for asked (inputs_at run.world (names_of asked)) run.inputs run.outputs run.status) → Unstopped run.breaks_for run.calling asked (inputs_at run.world (names_of asked)) run.inputs run.outputs run.status does → LeftBy run asked
+does_left run (Head asked) does unstopped = ends_left {asked = Head asked} refl (made_so run (head_task run.calling asked) asked.names) does unstopped
+does_left run (Tail asked) does unstopped = ends_left {asked = Tail asked} refl (made_so run (tail_task run.calling asked.ends) asked.ends.names) does unstopped
+does_left run (Split asked) does unstopped = ends_left {asked = Split asked} refl (made_so run (split_task run.calling asked) (asked.input ∷ [])) does unstopped
+does_left run (Csplit asked) does unstopped = ends_left {asked = Csplit asked} (does.operands, does.asks, refl) (does.operands, does.asks, made_so run (csplit_task run.calling asked does.operands) (asked.input ∷ [])) does.ends unstopped
 does_left run (Tee asked) does unstopped = record {
   made = tee_made asked does.content;
   of = (does.content, does.input, refl);
@@ -625,18 +655,18 @@ not_refused : {A B C : Type 0} → A ⊎ (B × C) → A ⊎ C
 not_refused (inl did) = inl did
 not_refused (inr (same, refuses)) = inr refuses
 
-pub ran_over : {run : Run} {asked : Settings} → Ran run asked → DoesAsked true true asked (inputs_at run.world (names_of asked)) run.inputs run.outputs run.status ⊎ RefusesOperands true run.words asked run.outputs run.status
+pub ran_over : {run : Run} {asked : Settings} → Ran run asked → DoesAsked run.calling true true run.breaks_for asked (inputs_at run.world (names_of asked)) run.inputs run.outputs run.status ⊎ RefusesOperands true run.words asked run.outputs run.status
 ran_over ran =
     let (found, finds, ends) = ran.ends in
     not_refused (rw ran.read at (rw (finds.there refl) at ends))
 
 -- Two runs that were asked for the same, over the same inputs
 
-found_same : (one other : Run) {asked : Settings} → settings_of one.words ≡ Ok asked → settings_of other.words ≡ Ok asked → FindAlike one other → inputs_at one.world (names_of asked) ≡ inputs_at other.world (names_of asked)
+found_same : (one other : Run) {asked : Settings} → settings_of one.calling one.words ≡ Ok asked → settings_of other.calling other.words ≡ Ok asked → FindAlike one other → inputs_at one.world (names_of asked) ≡ inputs_at other.world (names_of asked)
 found_same one other read read_too same = cc (read, same, read_too)
 
 -- what the one made is what the other does
-pub same_made : (one other : Run) {asked : Settings} {made made_too : Outcome} → settings_of one.words ≡ Ok asked → settings_of other.words ≡ Ok asked → FindAlike one other
+pub same_made : (one other : Run) {asked : Settings} {made made_too : Outcome} → settings_of one.calling one.words ≡ Ok asked → settings_of other.calling other.words ≡ Ok asked → FindAlike one other
     → Makes asked (inputs_at one.world (names_of asked)) made → Makes asked (inputs_at other.world (names_of asked)) made_too → made_too ≡ made
 same_made one other {asked} read read_too same makes makes_too = one_made asked _ makes_too (rw (found_same one other read read_too same) at makes)
 

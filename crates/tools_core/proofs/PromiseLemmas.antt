@@ -2,6 +2,7 @@
 -- `tee` leave of one input, and that what any run leaves is a beginning of it.
 use Rattle.std.proofs.lemmas.Grind.{common_steps}
 use Rattle.std.proofs.Common.{◌≡◌, ℕ, Bool, true, false, if◌then◌else◌, List, [], ◌∷◌, Option, Some, None, inl, inr, refl, sym, ◌∙◌, ap, arith, ◌+◌, ◌-◌, ◌++◌, length, map, drop, subst}
+use Rattle.ports_core.specs.declared.reason.Reason.{Reason}
 use Rattle.ports_core.specs.Slot.{Slot, slot_at}
 use Rattle.run_core.specs.Input.{Input, World, coming_of, input_of, inputs_at, is_dash}
 use Rattle.run_core.specs.Task.{Outcome, Task, made_by}
@@ -10,7 +11,7 @@ use Rattle.tools_core.specs.Tasks.{filing_of, names_of, is_minus, is_plus, said_
 use Rattle.tools_core.specs.Promises.{Completes, Does, FindAlike, HasInput, Ran, Run, IsHead, IsTail, IsBare, CountAlike, output_of, AreCopies, IsSound, files_of, BeginsAs, BeginsEach}
 use Rattle.tools_core.proofs.BeginLemmas.{all_have_names, ending, is_way, part_of, bare_begins, begins_kept, begins_whole, lawful_grows, way_grows, still_begins, tee_begins, text_begins}
 use Rattle.tools_core.proofs.LeftLemmas.{Makes, completes_left, left_whole, same_made, slots_of, copies_are, copy, tee_made, left_at, ran_over}
-use Rattle.tools_core.proofs.StoppedPromises.{completes_or}
+use Rattle.tools_core.proofs.StoppedPromises.{completes_or, silent_completes}
 use Rattle.seg_core.specs.declared.count.Sign.{Sign}
 use Rattle.seg_core.specs.declared.count.Sign.TheVariants.{Plain, Minus, Plus}
 use Rattle.ends_core.specs.Ends.{head_of, tail_of, after_of, first_of}
@@ -24,13 +25,15 @@ use Rattle.words_core.specs.TeeWords.{TeeAsked}
 use Rattle.ends_core.specs.laws.WorkLaws.{head_lawful, tail_lawful}
 use Rattle.csplit_core.specs.laws.InputLaws as csplit_law
 use Rattle.words_core.specs.Words.{CanRun}
+use Rattle.ports_core.specs.declared.calling.Calling.{Calling}
 use Rattle.tools_core.specs.Outcome.{DoesAsked, names_at}
 use Rattle.tools_core.proofs.RunLemmas.{can_run}
 
 completes : {run : Run} {asked : Settings} → Does run asked → Completes run asked
 completes {run} {asked} does = elim (completes_or run asked does.ran) [
   | inl whole ↦ whole
-  | inr stopped ↦ absurd (omega (arith, does.well, stopped.failed))
+  | inr (inl stopped) ↦ absurd (omega (arith, does.well, stopped.failed))
+  | inr (inr silent) ↦ silent_completes asked does silent
 ]
 
 pub leave_same : (one other : Run) (asked : Settings) → Does one asked → Does other asked → FindAlike one other → one.outputs ≡ other.outputs
@@ -140,20 +143,20 @@ is_copied {asked} {input} does has =
 abbrev BeginsMade : Settings → List Input → List Slot → Type 0
 BeginsMade asked inputs new = (made : Outcome) × Makes asked inputs made × ((place : ℕ) → (place ≡ 1 → ⊥) → BeginsAs (slot_at new place) (slot_at (slots_of made.part) place))
 
-begins_made : (asked : Settings) (inputs : List Input) (sources : List Source) (new : List Slot) (status : ℕ) → CanRun asked → DoesAsked true true asked inputs sources new status → BeginsMade asked inputs new
-begins_made (Head asked) inputs sources new status can does = (_, refl, λ place differs. begins_whole (λ coming. lawful_grows (head_lawful _ _ _ _)) differs does)
-begins_made (Tail asked) inputs sources new status can does = (_, refl, λ place differs. begins_whole (λ coming. lawful_grows (tail_lawful _ _ _ _)) differs does)
-begins_made (Split asked) inputs sources new status can does = (_, refl, λ place differs. begins_whole (λ coming. way_grows asked.way asked.elide (filing_of asked) (said_by asked.input coming) (is_way asked can) (all_have_names asked can.named)) differs does)
-begins_made (Csplit asked) inputs sources new status can does = (_, (does.operands, does.asks, refl), λ place differs. begins_whole (λ coming. lawful_grows (csplit_law.lawful asked.style does.operands)) differs does.ends)
-begins_made (Tee asked) inputs sources new status can does = (_, (does.content, does.input, refl), λ place differs. tee_begins place differs does.ends)
-begins_made (About which topic) inputs sources new status can does = (_, refl, λ place differs. text_begins place differs does)
+begins_made : (breaks_for : ℕ → Reason → Bool) (calling : Calling) (asked : Settings) (inputs : List Input) (sources : List Source) (new : List Slot) (status : ℕ) → CanRun asked → DoesAsked calling true true breaks_for asked inputs sources new status → BeginsMade asked inputs new
+begins_made breaks_for calling (Head asked) inputs sources new status can does = (_, refl, λ place differs. begins_whole (λ coming. lawful_grows (head_lawful _ _ _ _)) differs does)
+begins_made breaks_for calling (Tail asked) inputs sources new status can does = (_, refl, λ place differs. begins_whole (λ coming. lawful_grows (tail_lawful _ _ _ _)) differs does)
+begins_made breaks_for calling (Split asked) inputs sources new status can does = (_, refl, λ place differs. begins_whole (λ coming. way_grows asked.way asked.elide (filing_of asked) (said_by asked.input coming) (is_way asked can) (all_have_names asked can.named)) differs does)
+begins_made breaks_for calling (Csplit asked) inputs sources new status can does = (_, (does.operands, does.asks, refl), λ place differs. begins_whole (λ coming. lawful_grows (csplit_law.lawful asked.style does.operands)) differs does.ends)
+begins_made breaks_for calling (Tee asked) inputs sources new status can does = (_, (does.content, does.input, refl), λ place differs. tee_begins place differs does.ends)
+begins_made breaks_for calling (About which topic) inputs sources new status can does = (_, refl, λ place differs. text_begins place differs does)
 
 pub begins_each : (run well : Run) (asked : Settings) → Ran run asked → Completes well asked → FindAlike run well → BeginsEach run well
 begins_each run well asked ran whole same =
     let all = completes_left whole in
     elim (ran_over ran) [
       | inl does ↦ λ place differs.
-          let (made, makes, begins) = begins_made asked _ run.inputs run.outputs run.status (can_run run.words ran.read) does in
+          let (made, makes, begins) = begins_made run.breaks_for run.calling asked _ run.inputs run.outputs run.status (can_run run.calling run.words ran.read) does in
           let same_too = same_made run well ran.read whole.read same makes all.of in
           begins_kept (left_at all.left place differs) (subst (λ (those : Outcome). BeginsAs (slot_at run.outputs place) (slot_at (slots_of those.part) place)) (sym same_too) (begins place differs))
       | inr (fault, bad, refuses) ↦ λ place differs. still_begins place refuses.slots (bare_begins refuses.error place differs)

@@ -54,6 +54,7 @@ use Rattle.split_core.proofs.RoundLemmas.{joined_files, joined_some, named_fewer
 use Rattle.split_core.proofs.SectionLemmas.{line_at, all_dealt, first_files, joined_parts, part_lines, part_bytes, lines_count, bytes_count, line_bytes_are_parts, line_bytes_once, line_bytes_within}
 use Rattle.words_core.specs.declared.settings.Settings.TheVariants.{Split}
 use Rattle.words_core.specs.SplitWords.{SplitAsked, AreNamed as HasNumbers, CanSplit, IsInLimits}
+use Rattle.ports_core.specs.declared.calling.Calling.TheVariants.{Cutters}
 use Rattle.tools_core.specs.Tasks.{filing_of, naming_of, said_by, split_task}
 use Rattle.tools_core.proofs.BeginLemmas.{all_have_names}
 use Rattle.tools_core.proofs.RunLemmas.{can_run}
@@ -157,7 +158,7 @@ ends_cut chunks said x some long = ap (λ size. chunks_of chunks size x) long
 
 -- what the work makes of the whole
 module _ (asked : SplitAsked) (x : List ℕ) (coming : ℕ) (is : coming ≡ length x) (can : CanSplit asked)
-    (well : ((split_task asked).work coming).verdict x ≡ None) where
+    (well : ((split_task Cutters asked).work coming).verdict x ≡ None) where
   whole_is : (way : Way) → IsInLimits way → makes_files way ≡ true
       → (way_work way asked.elide (filing_of asked) (said_by asked.input coming)).whole x
       ≡ part_of (manner_of (filing_of asked)) (map (share Closed) (pieces_by way asked.elide x))
@@ -240,11 +241,11 @@ is_split {run} {asked} {input} does has = by (makes_files asked.way) refl where
   one : DidOne run (Split asked) input
   one = did_one does has
 
-  made : IsMade (split_task asked) one.input.coming one.input.name input run.outputs
-  made = one_made one (split_task asked) one.makes
+  made : IsMade (split_task Cutters asked) one.input.coming one.input.name input run.outputs
+  made = one_made one (split_task Cutters asked) one.makes
 
   can : CanSplit asked
-  can = can_run run.words does.ran.read
+  can = can_run run.calling run.words does.ran.read
 
   by : (makes : Bool) → makes_files asked.way ≡ makes → IsSplit run asked input
   by true makes =

@@ -1,30 +1,41 @@
 -- A run that a fault stopped told it, and which outputs are broken then.
 use Rattle.std.proofs.lemmas.Grind.{common_steps}
-use Rattle.std.proofs.Common.{◌≡◌, ℕ, ◌^◌, ◌≤◌, suc, Bool, true, false, ◌&&◌, cond, is_none, List, [], ◌∷◌, ◌++◌, length, length-append, Option, Some, codes, inl, inr, ◌⊎◌, refl, sym, ◌∙◌, ap, subst, arith, take, zero, rules}
+use Rattle.std.proofs.Common.{None, ◌≡◌, ℕ, ◌^◌, ◌≤◌, suc, Bool, true, false, cond, is_none, List, [], not, ◌||◌, map, ◌∷◌, ◌++◌, length, length-append, Option, Some, codes, inl, inr, ◌⊎◌, refl, sym, ◌∙◌, ap, subst, arith, take, zero, rules, get_or, IsTrue}
 use Rattle.std.specs.List.{concat}
 use Rattle.std.proofs.lemmas.Bool.{cases_Bool, false≢true}
+use Rattle.std.proofs.Math.Seq.{get_or-append_seam}
 use Rattle.std.proofs.lemmas.List.{get_or_push}
 use Rattle.std.proofs.lemmas.List.Elements.{All-append}
-use Rattle.ports_core.specs.Message.{Says, SaysAll, output_named}
+use Rattle.ports_core.specs.Message.{IsWhy, Says, SaysAll, TellsIf, output_named}
+use Rattle.ports_core.proofs.MessageLemmas.{says_more}
+use Rattle.ports_core.specs.declared.calling.Calling.{Calling}
+use Rattle.ports_core.specs.declared.calling.Calling.TheVariants.{Cutters, OwnName}
+use Rattle.ports_core.specs.declared.calling.Speaker.{Speaker}
+use Rattle.ports_core.specs.declared.fault.UsageKind.{UsageKind}
+use Rattle.ports_core.specs.declared.on_broken.OnBroken.TheVariants.{Warn, Exit, WarnNoPipe, ExitNoPipe, Signal}
 use Rattle.ports_core.specs.Part.{Output, IsAt, IsNext, Marks, Part, StoppedBetween}
 use Rattle.ports_core.specs.Slot.{Slot, adds, breaks, no_slot, slot_at, unopened}
 use Rattle.ports_core.specs.Source.{Content, Source}
 use Rattle.ports_core.specs.Streams.{standard_error, standard_output, streams_with}
 use Rattle.ports_core.specs.Swept.{Swept}
-use Rattle.ports_core.specs.Text.{message_of}
+use Rattle.ports_core.specs.Text.{Message, is_quiet, message_of}
 use Rattle.ports_core.specs.Work.{Needs, Work}
 use Rattle.ports_core.specs.declared.fault.Fault.{Fault}
-use Rattle.ports_core.specs.declared.fault.Fault.TheVariants.{Memory, Write, Open, Read, TooLong}
+use Rattle.ports_core.specs.declared.fault.Fault.TheVariants.{Memory, Write, Open, Read, TooLong, Usage}
 use Rattle.ports_core.specs.declared.on_broken.OnBroken.{OnBroken}
+use Rattle.ports_core.specs.declared.reason.Reason.{Reason}
+use Rattle.ports_core.specs.declared.reason.Reason.TheVariants as reason
 use Rattle.ports_core.specs.declared.slot.Mode.{Mode}
 use Rattle.ports_core.specs.declared.slot.State.TheVariants as state
 use Rattle.run_core.specs.Feeding.{IsCall, Step, Stops, closes as ends_call, enough, feeds, opens, to_end}
 use Rattle.run_core.specs.Input.{inputs_at, standard_input}
-use Rattle.run_core.specs.RunEnds.{EndsAs, RunStep, as_defined, calling, no_room, stopped}
+use Rattle.run_core.specs.RunEnds.{EndsAs, RunStep, as_defined, calling as call_step, no_room, stopped}
 use Rattle.run_core.specs.Task.{Task, made_by}
-use Rattle.tee_core.specs.Run.{FilesLeft, IsRead, OutputLeft, are_sound, messages_of, output_names, said_before, said_in}
+use Rattle.tee_core.specs.Run.{Break, FilesLeft, IsRead, OutputLeft, are_sound, messages_of, output_names, said_before, said_in}
 use Rattle.tee_core.specs.Run as tee
-use Rattle.tee_core.proofs.EndLemmas.{sound_goes_on}
+use Rattle.tee_core.specs.declared.standing.Standing.{Standing}
+use Rattle.tee_core.specs.declared.standing.Standing.TheVariants.{Sound, Broken, Gone}
+use Rattle.tee_core.proofs.EndLemmas.{sound_goes_on, sound_if, status_zero}
 use Rattle.words_core.specs.Words.{HasBadOperands}
 use Rattle.words_core.specs.TeeWords.{TeeAsked}
 use Rattle.words_core.specs.declared.settings.Settings.{Settings}
@@ -33,12 +44,12 @@ use Rattle.words_core.specs.declared.settings.Topic.{Topic}
 use Rattle.words_core.specs.Help.{text_about}
 use Rattle.ports_core.specs.declared.tool.Tool.{Tool}
 use Rattle.tools_core.specs.About.{TellsText, no_text, text_cut, text_whole}
-use Rattle.tools_core.specs.Outcome.{DoesAsked, word_of}
-use Rattle.tools_core.specs.Tasks.{names_of, tool_of}
-use Rattle.tools_core.specs.Promises.{BrokeAt, Completes, HasLong, IsCalled, IsCopied, IsGone, IsStopped, IsTask, IsUnstopped, Ran, Run, SaysLines, SaysWhy, StopsRun, Tells, TellsMet, Unstopped, WhyBroken, broken_off, failing, named, removes_files}
-use Rattle.tools_core.proofs.BeginLemmas.{IsMarked, TellsOfInput, failing_stops, marked_at, tee_lines, tee_tells, unsound_broke}
-use Rattle.tools_core.proofs.LeftLemmas.{LeftBy, all_tell, completes_left, left_at, left_says, one_line, ran_over, slots_at, swept_gone, swept_kept, tool_is, AreLive, IsSoundAt, has_after, has_before, inputs_fit, live_begin, outputs_live, says_line, step_live, task_lives}
-use Rattle.tools_core.proofs.RunLemmas.{runs_as_named}
+use Rattle.tools_core.specs.Outcome.{DoesAsked, refuser, speaker, word_of}
+use Rattle.tools_core.specs.Tasks.{by, names_of, speaker_of, tool_of}
+use Rattle.tools_core.specs.Promises.{BrokeAt, Completes, Does, HasGone, HasLong, IsCalled, IsCopied, IsGone, IsSilent, IsStopped, IsTask, IsUnstopped, Ran, Run, SaysLines, SaysWhy, StopsRun, Tells, TellsMet, Unstopped, WhyBroken, broken_off, failing, named, removes_files}
+use Rattle.tools_core.proofs.BeginLemmas.{broken_tells, IsLoud, IsMarked, TellsOfInput, failing_stops, marked_at, tee_lines, tee_tells, unsound_broke}
+use Rattle.tools_core.proofs.LeftLemmas.{HasLine, LeftBy, sound_status, all_tell, completes_left, left_at, left_says, one_line, ran_over, slots_at, swept_gone, swept_kept, speaker_is, AreLive, IsSoundAt, has_after, has_before, inputs_fit, live_begin, outputs_live, says_line, step_live, task_lives}
+use Rattle.tools_core.proofs.RunLemmas.{memory_by, runs_as_named}
 
 -- What was read of an input is a beginning of it.
 
@@ -52,7 +63,7 @@ abbrev IsLong : Option Content → Type 0
 IsLong there = (content : Content) × (there ≡ Some content) × (2 ^ 63 ≤ length content.bytes)
 
 step_long : {task : Task} {work : Work} {most : ℕ} {so_far : Part} {header : List ℕ} {slot : Option ℕ} {sources : List Source} {there : Option Content} {step : Step} → RunStep true task work most so_far header slot sources there step → 2 ^ 63 ≤ length step.read → IsLong there
-step_long (calling content call is leaves) long = (content, refl, call_long is long)
+step_long (call_step content call is leaves) long = (content, refl, call_long is long)
 step_long at long = search rules
 
 -- Of a run over inputs: the output that the fault marked is the one that its line names.
@@ -115,14 +126,14 @@ streams_sound : (place : ℕ) (error : Slot) → (place ≡ 1 → ⊥) → (slot
 streams_sound (suc zero) error differs = absurd (differs refl)
 streams_sound place error differs = refl
 
-stop_early : {clears : Bool} {run : Run} {asked : Settings} (fault : Fault) (name : List ℕ) {error : Slot} → StopsRun run asked name fault → SaysAll true (tool_of asked) (message_of (tool_of asked) fault name ∷ []) standard_error error → run.outputs ≡ streams_with error → run.status ≡ 1
+stop_early : {clears : Bool} {run : Run} {asked : Settings} (fault : Fault) (name : List ℕ) {error : Slot} → StopsRun run asked name fault → SaysAll true (speaker_of run.calling asked) (message_of fault name ∷ []) standard_error error → run.outputs ≡ streams_with error → run.status ≡ 1
     → IsStop clears run asked
 stop_early {run = run} {asked = asked} fault name {error} stops says slots is = record {
   failed = is;
   why = fault;
   name = name;
   stops = stops;
-  line = ([], [], record { are = one_line (TellsMet run asked) (message_of (tool_of asked) fault name) (fault, name, inl stops, refl); said = rw slots says });
+  line = ([], [], record { are = one_line (TellsMet run asked) (message_of fault name) (fault, name, inl stops, refl); said = rw slots says });
   broke = λ place differs broken.
       absurd (false≢true (sym (streams_sound place error differs) ∙ sym (ap (λ those. (slot_at those place).is_broken) slots) ∙ broken));
 }
@@ -137,8 +148,8 @@ sound_before : {output : Output} {error : Slot} {low high : Part} {fault : Fault
 sound_before {error} {high} live between place differs =
     subst (λ slots. IsSoundAt slots place) (sym (slots_at between.outputs)) (outputs_live between.part error place (live_begin between.part.files high.files between.below.files live) differs)
 
-stopped_broke : {output : Output} {clears : Bool} {run : Run} (asked : Settings) {error : Slot} {low high : Part} {fault : Fault} {reached : List Slot} (lines : List (List ℕ)) → AreLive high.files → StoppedBetween output true (streams_with error) low high fault reached → Swept clears 2 reached run.outputs
-    → SaysLines run asked (lines ++ message_of (tool_of asked) fault (output_named run.outputs fault) ∷ []) → (place : ℕ) → (place ≡ 1 → ⊥) → (slot_at run.outputs place).is_broken ≡ true → IsToldOf run asked place ⊎ IsStuck clears run.outputs place
+stopped_broke : {output : Output} {clears : Bool} {run : Run} (asked : Settings) {error : Slot} {low high : Part} {fault : Fault} {reached : List Slot} (lines : List Message) → AreLive high.files → StoppedBetween output true (streams_with error) low high fault reached → Swept clears 2 reached run.outputs
+    → SaysLines run asked (lines ++ message_of fault (output_named run.outputs fault) ∷ []) → (place : ℕ) → (place ≡ 1 → ⊥) → (slot_at run.outputs place).is_broken ≡ true → IsToldOf run asked place ⊎ IsStuck clears run.outputs place
 stopped_broke {clears} {run} asked {error} {high} {fault} {reached} lines live between swept says place differs broken =
     let new = run.outputs in
     let kept = swept_kept clears reached new swept place in
@@ -146,13 +157,41 @@ stopped_broke {clears} {run} asked {error} {high} {fault} {reached} lines live b
     elim (cases_Bool (slot_at reached place).is_broken) [
       | inr was ↦ let (is, closed) = kept.broke was broken in inr (is, closed, swept_gone clears reached new is swept)
       | inl was ↦ let why = blamed fault place between.reached sound (marked_here (IsNext between.part high) place between.reached reached was sound fault between.marks) in
-          inl ((slot_at new place).name, inl refl, (lines, [], rw (ap (λ what. message_of (tool_of asked) what (slot_at new place).name) (kept.fails place ∙ why.is) ∙ ap (message_of (tool_of asked) fault) (why.named new)) says))
+          inl ((slot_at new place).name, inl refl, (lines, [], rw (ap (λ what. message_of what (slot_at new place).name) (kept.fails place ∙ why.is) ∙ ap (message_of fault) (why.named new)) says))
     ]
 
-ends_or : {run : Run} {asked : Settings} {task : Task} → IsTask asked task → (ends : EndsAs true true task (inputs_at run.world (names_of asked)) run.inputs run.outputs run.status) → IsUnstopped ends ⊎ IsStop (removes_files asked) run asked
+-- nothing is said by a tool's own name alone
+quiet_own : (fault : Fault) (calling : Calling) (why : Reason) → is_quiet fault calling why ≡ true → calling ≡ OwnName
+quiet_own fault OwnName why is = refl
+quiet_own (Write slot) Cutters why is = absurd (false≢true is)
+quiet_own fault Cutters why is = absurd (false≢true is)
+
+-- of a reader that is gone
+quiet_gone : (breaks_for : ℕ → Reason → Bool) (fault : Fault) (calling : Calling) (why : Reason) → is_quiet fault calling why ≡ true → IsWhy breaks_for fault why → (place : ℕ) × IsTrue (breaks_for place reason.Gone)
+quiet_gone breaks_for (Write slot) OwnName reason.Gone is can = (slot, can)
+quiet_gone breaks_for (Write slot) OwnName why is can = absurd (false≢true is)
+quiet_gone breaks_for fault calling why is can = absurd (false≢true is)
+
+called_so : (run : Run) (task : Task) (asked : Settings) → IsTask run.calling asked task → task.speaker.calling ≡ OwnName → run.calling ≡ OwnName
+called_so run task asked of own = ap (λ (speaker : Speaker). speaker.calling) (sym (speaker_is run.calling asked task of)) ∙ own
+
+-- a run that ended by a reader that is gone, and said nothing of it
+silent_by : (run : Run) (task : Task) (asked : Settings) → IsTask run.calling asked task → task.speaker.calling ≡ OwnName → HasGone run → run.status ≡ 141 → IsSilent run asked
+silent_by run task (Tee asked) of own gone is = absurd of
+silent_by run task (About which topic) of own gone is = absurd of
+silent_by run task (Head asked) of own gone is = (called_so run task (Head asked) of own, gone, is)
+silent_by run task (Tail asked) of own gone is = (called_so run task (Tail asked) of own, gone, is)
+silent_by run task (Split asked) of own gone is = (called_so run task (Split asked) of own, gone, is)
+silent_by run task (Csplit asked) of own gone is = (called_so run task (Csplit asked) of own, gone, is)
+
+-- nothing stopped it, or something did, or nothing is said
+abbrev Unless : Run → Settings → Type 0 → Type 0
+Unless run asked Whole = Whole ⊎ IsStop (removes_files asked) run asked ⊎ IsSilent run asked
+
+ends_or : {run : Run} {asked : Settings} {task : Task} → IsTask run.calling asked task → (ends : EndsAs true true run.breaks_for task (inputs_at run.world (names_of asked)) run.inputs run.outputs run.status) → Unless run asked (IsUnstopped ends)
 ends_or of (as_defined error reached says outputs swept done is) = inl tt
-ends_or {run} {asked} {task} of (stopped fault before input after error step reached are done untouched at stops between swept_as says is) =
-    let living = task_lives asked task of in
+ends_or {run} {asked} {task} of (stopped fault why before input after said error step reached are done untouched at stops between swept_as says is_why tells is) =
+    let living = task_lives run.calling asked task of in
     let swept = rw (living.clears_all input.coming) at swept_as in
     let slots = ap length (slots_at between.outputs) in
     let lines = (made_by task before).messages in
@@ -161,16 +200,24 @@ ends_or {run} {asked} {task} of (stopped fault before input after error step rea
     let live = step_live (living.each input.coming) fits.live at in
     let stop = stops_run run asked (IsNext between.part step.high) step (removes_files asked) between.place (length between.part.files) between.reached reached fault
     (λ many. let (content, there, long) = step_long at many in (input, content, (before, after, are), there, long)) (sound_before live between) (omega (arith, slots)) between.from stops between.marks swept in
-    let told : SaysLines run asked (lines ++ message_of (tool_of asked) fault name ∷ []) =
-    record { are = All-append (TellsMet run asked) lines _ fits.are (one_line (TellsMet run asked) (message_of (tool_of asked) fault name) (fault, name, inl stop, refl)); said = rw (stopped_error (removes_files asked) run.outputs between swept) (subst (λ which. SaysAll true which (lines ++ message_of which fault name ∷ []) standard_error error) (tool_is asked task of) says) } in inr (record {
-      failed = is;
+    by (is_quiet fault task.speaker.calling why) refl tells is (λ told_so ends.
+    let all = says_more true task.speaker lines (message_of fault name) standard_error said error says (why, told_so) in
+    let told : SaysLines run asked (lines ++ message_of fault name ∷ []) =
+    record { are = All-append (TellsMet run asked) lines _ fits.are (one_line (TellsMet run asked) (message_of fault name) (fault, name, inl stop, refl)); said = rw (stopped_error (removes_files asked) run.outputs between swept) (subst (λ which. SaysAll true which (lines ++ message_of fault name ∷ []) standard_error error) (speaker_is run.calling asked task of) all) } in record {
+      failed = ends;
       why = fault;
       name = name;
       stops = stop;
       line = (lines, [], told);
       broke = stopped_broke asked lines live between swept told;
-    })
-ends_or {asked = asked} {task = task} of (no_room error says slots untouched count is) = inr (stop_early Memory [] tt (subst (λ which. SaysAll true which (message_of which Memory [] ∷ []) standard_error error) (tool_is asked task of) says) slots is)
+    }) where
+      Loud : Type 0
+      Loud = TellsIf false true task.speaker why (message_of fault (output_named run.outputs fault)) said error → run.status ≡ 1 → IsStop (removes_files asked) run asked
+
+      by : (quiet : Bool) → quiet ≡ is_quiet fault task.speaker.calling why → TellsIf quiet true task.speaker why (message_of fault (output_named run.outputs fault)) said error → run.status ≡ cond quiet 141 1 → Loud → Unless run asked (IsUnstopped (stopped fault why before input after said error step reached are done untouched at stops between swept_as says is_why tells is))
+      by true own same ends loud = inr (inr (silent_by run task asked of (quiet_own fault task.speaker.calling why (sym own)) (quiet_gone run.breaks_for fault task.speaker.calling why (sym own) is_why) ends))
+      by false own told_so ends loud = inr (inl (loud told_so ends))
+ends_or {run} {asked} {task} of (no_room error says slots untouched count is) = inr (inl (stop_early Memory [] tt (subst (λ which. SaysAll true which (message_of Memory [] ∷ []) standard_error error) (speaker_is run.calling asked task of) says) slots is))
 
 -- `tee`
 
@@ -180,16 +227,16 @@ read_or Leaves left (tee.to_break x is breaks leaves) = inl (sym is)
 read_or Leaves left (tee.to_limit x piece rest is many within leaves) = let size = ap length is in let all = length-append (x ++ piece) rest in inr (refl, omega (arith, size, all, many))
 read_or Leaves left (tee.to_broken_output x rest is leaves) = absurd (false≢true (sym left))
 
-tee_stop : {run : Run} {asked : TeeAsked} {mode : Mode} {pieces names : List (List ℕ)} {first : Option ℕ} {broke : List (Option ℕ)} {output error : Slot} {files : List Slot} (fault : Option Fault) → OutputLeft true pieces first output → FilesLeft true mode pieces names broke files
-    → SaysLines run (Tee asked) (messages_of names (first ∷ broke) (length pieces) fault) → run.outputs ≡ output ∷ error ∷ files → run.status ≡ 1 → (why : Fault) (name : List ℕ) → StopsRun run (Tee asked) name why → Tells run (Tee asked) why name
+tee_stop : {run : Run} {asked : TeeAsked} (on_broken : OnBroken) {mode : Mode} {pieces names : List (List ℕ)} {first : Option Break} {broke : List (Option Break)} {output error : Slot} {files : List Slot} (fault : Option Fault) → IsLoud on_broken (first ∷ broke) → OutputLeft true pieces first output → FilesLeft true mode pieces names broke files
+    → SaysLines run (Tee asked) (messages_of on_broken names (first ∷ broke) (length pieces) fault) → run.outputs ≡ output ∷ error ∷ files → run.status ≡ 1 → (why : Fault) (name : List ℕ) → StopsRun run (Tee asked) name why → Tells run (Tee asked) why name
     → IsStop false run (Tee asked)
-tee_stop {run} {asked} {error = error} fault left rest says slots failed why name stops line = record {
+tee_stop {run} {asked} on_broken {error = error} fault loud left rest says slots failed why name stops line = record {
   failed = failed;
   why = why;
   name = name;
   stops = stops;
   line = line;
-  broke = λ place differs broken. let (name, called, has) = tee_tells error fault place left rest differs (rw slots at broken) in
+  broke = λ place differs broken. let (name, called, has) = tee_tells on_broken error fault place loud left rest differs (rw slots at broken) in
       inl (subst (λ those. (name : List ℕ) × IsCalled (slot_at those place) name × Tells run (Tee asked) (failing place (slot_at those place).state) name) (sym slots) (name, called, says_line has says));
 }
 
@@ -202,31 +249,68 @@ input_tells run asked {content} Leaves only (tee.to_limit x piece rest is many w
     (TooLong, codes "standard input", inl (standard_input content, content, ([], [], only), refl, omega (arith, size, all, many)), refl)
 input_tells run asked Leaves only (tee.to_broken_output x rest is leaves) = tt
 
-tee_by : {run : Run} {asked : TeeAsked} {mode : Mode} {content : Content} (Leaves : List ℕ → Type 0) {is_vain : Bool} {pieces names : List (List ℕ)} {first : Option ℕ} {broke : List (Option ℕ)} {output error : Slot} {files : List Slot} (fault : Option Fault) (sound : Bool) → are_sound (first ∷ broke) ≡ sound
+-- where nothing is kept back, the status is that of any fault
+loud_status : (on_broken : OnBroken) (broke : List (Option Break)) (fault : Option Fault) → IsLoud on_broken broke → are_sound broke ≡ false → tee.status_of on_broken broke fault ≡ 1
+loud_status on_broken broke fault loud unsound = by (tee.any_is Gone (map tee.standing_of broke)) (tee.any_is Broken (map tee.standing_of broke)) (is_none fault) refl refl where
+  gone_one : (on_broken : OnBroken) (failed : Bool) → tee.is_quiet on_broken ≡ false → tee.gone_status on_broken failed ≡ 1
+  gone_one Warn failed loud = refl
+  gone_one Exit failed loud = refl
+  gone_one on_broken failed loud = absurd (false≢true (sym loud))
+
+  by : (gone broken ended : Bool) → tee.any_is Gone (map tee.standing_of broke) ≡ gone → tee.any_is Broken (map tee.standing_of broke) ≡ broken
+      → cond gone (tee.gone_status on_broken (not ended || broken)) (cond (not ended || broken) 1 0) ≡ 1
+  by true broken ended is_gone is_broken = elim loud [ inl loudly ↦ gone_one on_broken (not ended || broken) loudly | inr none ↦ absurd (false≢true (sym none ∙ is_gone)) ]
+  by false true true is_gone is_broken = refl
+  by false true false is_gone is_broken = refl
+  by false false false is_gone is_broken = refl
+  by false false true is_gone is_broken = absurd (false≢true (sym unsound ∙ sound_if broke is_broken is_gone))
+
+tee_by : {run : Run} {asked : TeeAsked} (on_broken : OnBroken) {mode : Mode} {content : Content} (Leaves : List ℕ → Type 0) {is_vain : Bool} {pieces names : List (List ℕ)} {first : Option Break} {broke : List (Option Break)} {output error : Slot} {files : List Slot} (fault : Option Fault) (sound : Bool) → IsLoud on_broken (first ∷ broke) → are_sound (first ∷ broke) ≡ sound
     → (2 ^ 63 ≤ length content.bytes → HasLong run (Tee asked)) → (are_sound (first ∷ broke) ≡ true → is_vain ≡ false) → IsRead content Leaves is_vain (concat pieces) fault → OutputLeft true pieces first output → FilesLeft true mode pieces names broke files
-    → SaysLines run (Tee asked) (messages_of names (first ∷ broke) (length pieces) fault) → run.outputs ≡ output ∷ error ∷ files → run.status ≡ cond (are_sound (first ∷ broke) && is_none fault) 0 1
+    → SaysLines run (Tee asked) (messages_of on_broken names (first ∷ broke) (length pieces) fault) → run.outputs ≡ output ∷ error ∷ files → run.status ≡ tee.status_of on_broken (first ∷ broke) fault
     → ((are_sound (first ∷ broke) ≡ true) × (concat pieces ≡ content.bytes)) ⊎ IsStop false run (Tee asked)
-tee_by {run} {asked} Leaves {output} {error} {files} fault false sound long vain reads left rest says slots is =
+tee_by {run} {asked} on_broken Leaves {first = first} {broke} {output} {error} {files} fault false loud sound long vain reads left rest says slots is =
     let (place, differs, broken) = unsound_broke left rest sound in
-    let (name, called, has) = tee_tells error fault place left rest differs broken in
-    inr (tee_stop fault left rest says slots (is ∙ ap (λ flag. cond (flag && is_none fault) 0 1) sound) (failing place (slot_at (output ∷ error ∷ files) place).state) name
+    let (name, called, has) = tee_tells on_broken error fault place loud left rest differs broken in
+    inr (tee_stop on_broken fault loud left rest says slots (is ∙ loud_status on_broken (first ∷ broke) fault loud sound) (failing place (slot_at (output ∷ error ∷ files) place).state) name
     (failing_stops run (Tee asked) (slot_at (output ∷ error ∷ files) place).state (rw slots (differs, called, broken, refl))) (says_line has says))
-tee_by Leaves {pieces} {names} {first} {broke} fault true sound long vain reads left rest says slots is = elim (read_or Leaves (vain sound) reads) [
+tee_by on_broken Leaves {pieces = pieces} {names} {first} {broke} fault true loud sound long vain reads left rest says slots is = elim (read_or Leaves (vain sound) reads) [
   | inl all ↦ inl (sound, all)
-  | inr (met, many) ↦ inr (tee_stop fault left rest says slots (is ∙ ap (λ flag. cond (flag && is_none fault) 0 1) sound ∙ ap (λ why. cond (is_none why) 0 1) met) TooLong (codes "standard input") (long many)
-      (says_line (has_before (said_in (suc (length pieces)) (output_names names) (first ∷ broke)) (has_after (said_before (suc (length pieces)) (output_names names) (first ∷ broke)) ([], [], refl))) (rw met at says)))
+  | inr (met, many) ↦ inr (tee_stop on_broken fault loud left rest says slots (is ∙ sound_status on_broken (first ∷ broke) fault sound ∙ ap (λ why. cond (is_none why) 0 1) met) TooLong (codes "standard input") (long many)
+      (says_line (has_before (said_in on_broken (suc (length pieces)) (output_names names) (first ∷ broke)) (has_after (said_before on_broken (suc (length pieces)) (output_names names) (first ∷ broke)) ([], [], refl))) (rw met at says)))
 ]
 
-tee_or : {run : Run} (asked : TeeAsked) {mode : Mode} {on_broken : OnBroken} {names : List (List ℕ)} {content : Content} {source : Source} → inputs_at run.world (names_of (Tee asked)) ≡ standard_input content ∷ [] → (ends : tee.EndsAs true true mode on_broken names content source run.outputs run.status)
-    → IsCopied ends ⊎ IsStop false run (Tee asked)
-tee_or {run} asked {on_broken} {content} only (tee.copied pieces fault first broke output error files comes some left rest says slots is) =
-    tee_by _ fault (are_sound (first ∷ broke)) refl (λ many. (standard_input content, content, ([], [], only), refl, many)) (sound_goes_on on_broken (suc (length pieces)) first broke) comes.read left rest
-    (tee_lines asked fault slots left rest (input_tells run asked _ only comes.read) says) slots is
-tee_or asked only (tee.no_room error says unread slots is) = inr (stop_early Memory [] tt says slots is)
+-- an output that is gone can be
+gone_why : (why : Reason) → Gone ≡ tee.lost_for why → why ≡ reason.Gone
+gone_why reason.Gone is = refl
+gone_why why is = absurd (cc)
+
+any_gone : (may : ℕ → Reason → Bool) (standings : List Standing) → tee.any_is Gone standings ≡ true → ((n : ℕ) → tee.StandsFor (may n) (get_or standings n Sound)) → (n : ℕ) × IsTrue (may n reason.Gone)
+any_gone may [] gone stand = absurd (false≢true gone)
+any_gone may (Gone ∷ standings) gone stand = let (why, can, is) = stand 0 in (0, subst (λ those. IsTrue (may 0 those)) (gone_why why is) can)
+any_gone may (Sound ∷ standings) gone stand = let (n, can) = any_gone (λ n. may (suc n)) standings gone (λ n. stand (suc n)) in (suc n, can)
+any_gone may (Broken ∷ standings) gone stand = let (n, can) = any_gone (λ n. may (suc n)) standings gone (λ n. stand (suc n)) in (suc n, can)
+
+tee_or : {run : Run} (asked : TeeAsked) {mode : Mode} {names : List (List ℕ)} {content : Content} {source : Source} → inputs_at run.world (names_of (Tee asked)) ≡ standard_input content ∷ [] → (ends : tee.EndsAs true true run.breaks_for run.calling mode asked.on_broken names content source run.outputs run.status)
+    → Unless run (Tee asked) (IsCopied ends)
+tee_or {run} asked {content = content} only (tee.copied pieces fault first broke output error files comes some left rest stand says slots is) = elim (cases_Bool (tee.is_quiet asked.on_broken)) [
+  | inl quiet ↦ elim (cases_Bool (tee.any_is Gone (map tee.standing_of (first ∷ broke)))) [
+    | inl gone ↦ inr (inr (quiet, let (n, can) = any_gone (λ n. run.breaks_for (tee.output_slot n)) (map tee.standing_of (first ∷ broke)) gone stand in (tee.output_slot n, can)))
+    | inr none ↦ loudly (inr none)
+  ]
+  | inr loud ↦ loudly (inl loud)
+] where
+  loudly : IsLoud asked.on_broken (first ∷ broke) → Unless run (Tee asked) ((are_sound (first ∷ broke) ≡ true) × (concat pieces ≡ content.bytes))
+  loudly loud = elim (tee_by asked.on_broken _ fault (are_sound (first ∷ broke)) loud refl (λ many. (standard_input content, content, ([], [], only), refl, many)) (sound_goes_on asked.on_broken (suc (length pieces)) first broke) comes.read left rest
+      (tee_lines asked asked.on_broken fault slots left rest (input_tells run asked _ only comes.read) says) slots is) [
+        | inl whole ↦ inl whole
+        | inr stop ↦ inr (inl stop)
+      ]
+tee_or asked only (tee.no_room error says unread slots is) = inr (inl (stop_early Memory [] tt says slots is))
 
 -- a text about a tool
 
-text_stops : {run : Run} {which : Tool} {topic : Topic} (n : ℕ) {error : Slot} → Says true which (message_of which (Write 0) (codes "standard output")) standard_error error
+text_stops : {run : Run} {which : Tool} {topic : Topic} (n : ℕ) {error : Slot} → Says true (by run.calling which) (message_of (Write 0) (codes "standard output")) standard_error error
     → run.outputs ≡ breaks (adds (take n (text_about which topic)) standard_output) ∷ error ∷ [] → run.status ≡ 1 → IsStop false run (About which topic)
 text_stops {run} {which} {topic} n {error} says slots is = record {
   failed = is;
@@ -240,22 +324,25 @@ text_stops {run} {which} {topic} n {error} says slots is = record {
   stops = rw slots (λ is. absurd (cc), inl refl, refl, refl)
 
   line : Tells run (About which topic) (Write 0) (codes "standard output")
-  line = ([], [], record { are = one_line (TellsMet run (About which topic)) (message_of which (Write 0) (codes "standard output")) (Write 0, codes "standard output", inl stops, refl); said = rw slots (error, says, refl) })
+  line = ([], [], record { are = one_line (TellsMet run (About which topic)) (message_of (Write 0) (codes "standard output")) (Write 0, codes "standard output", inl stops, refl); said = rw slots (error, says, refl) })
 
   broke : (place : ℕ) → (place ≡ 1 → ⊥) → (slot_at run.outputs place).is_broken ≡ true → IsToldOf run (About which topic) place ⊎ IsStuck false run.outputs place
   broke zero differs broken = inl (subst (λ those. (name : List ℕ) × IsCalled (slot_at those 0) name × Tells run (About which topic) (failing 0 (slot_at those 0).state) name) (sym slots) (codes "standard output", inl refl, line))
   broke (suc zero) differs broken = absurd (differs refl)
   broke (suc (suc place)) differs broken = absurd (false≢true (rw slots at broken))
 
-about_or : {run : Run} {which : Tool} {topic : Topic} → TellsText true which (text_about which topic) run.outputs run.status → (run.status ≡ 0) ⊎ IsStop false run (About which topic)
+about_or : {run : Run} {which : Tool} {topic : Topic} → TellsText true run.breaks_for (by run.calling which) (text_about which topic) run.outputs run.status → Unless run (About which topic) (run.status ≡ 0)
 about_or (text_whole slots is) = inl is
-about_or (text_cut n short error says slots is) = inr (text_stops n says slots is)
-about_or (no_text error says slots is) = inr (stop_early Memory [] tt (error, says, refl) slots is)
+about_or {run} {which} {topic} (text_cut n short why error is_why tells slots is) = ends (is_quiet (Write 0) run.calling why) refl tells is where
+  ends : (quiet : Bool) → quiet ≡ is_quiet (Write 0) run.calling why → TellsIf quiet true (by run.calling which) why (message_of (Write 0) (codes "standard output")) standard_error error → run.status ≡ cond quiet 141 1 → Unless run (About which topic) (run.status ≡ 0)
+  ends true own same is = inr (inr (quiet_own (Write 0) run.calling why (sym own), quiet_gone run.breaks_for (Write 0) run.calling why (sym own) is_why, is))
+  ends false own says is = inr (inl (text_stops n (why, says) slots is))
+about_or (no_text error says slots is) = inr (inl (stop_early Memory [] tt (error, says, refl) slots is))
 
 -- All tools
 
-does_or : {run : Run} (asked : Settings) (does : DoesAsked true true asked (inputs_at run.world (names_of asked)) run.inputs run.outputs run.status)
-    → Unstopped asked (inputs_at run.world (names_of asked)) run.inputs run.outputs run.status does ⊎ IsStop (removes_files asked) run asked
+does_or : {run : Run} (asked : Settings) (does : DoesAsked run.calling true true run.breaks_for asked (inputs_at run.world (names_of asked)) run.inputs run.outputs run.status)
+    → Unless run asked (Unstopped run.breaks_for run.calling asked (inputs_at run.world (names_of asked)) run.inputs run.outputs run.status does)
 does_or (Head asked) does = ends_or {asked = Head asked} refl does
 does_or (Tail asked) does = ends_or {asked = Tail asked} refl does
 does_or (Split asked) does = ends_or {asked = Split asked} refl does
@@ -269,29 +356,121 @@ bad_stops : (run : Run) (asked : Settings) (fault : Fault) → HasBadOperands as
 bad_stops run (Csplit asked) fault bad = grind (arith, common_steps)
 bad_stops run asked fault bad = absurd bad
 
-ran_so : {run : Run} {asked : Settings} → Ran run asked → Completes run asked ⊎ IsStop (removes_files asked) run asked
+-- no reason stands in its line, so it is the same however the program was called
+usage_by : {old new : Slot} (calling : Calling) {which tool : Tool} (kind : UsageKind) (place : ℕ) (name : List ℕ) → which ≡ tool → Says true (by Cutters which) (message_of (Usage kind place) name) old new → Says true (by calling tool) (message_of (Usage kind place) name) old new
+usage_by {old} {new} calling {which} kind place name is (why, says) =
+    let spoken : Says true (by calling which) (message_of (Usage kind place) name) old new = (why, record { said = says.said; is = says.is; printed = says.printed }) in rw is at spoken
+
+refused_by : {old new : Slot} (run : Run) (asked : Settings) (fault : Fault) → HasBadOperands asked fault → speaker run.words ≡ tool_of asked → Says true (refuser run.words) (message_of fault (word_of run.words fault)) old new → Says true (speaker_of run.calling asked) (message_of fault (word_of run.words fault)) old new
+refused_by run asked Memory bad is says = memory_by run.calling is says
+refused_by run asked (Usage kind place) bad is says = usage_by run.calling kind place (word_of run.words (Usage kind place)) is says
+refused_by run (Csplit asked) fault bad is says = grind (arith, common_steps)
+refused_by run asked fault bad is says = absurd bad
+
+ran_so : {run : Run} {asked : Settings} → Ran run asked → Unless run asked (Completes run asked)
 ran_so {run} {asked} ran = elim (ran_over ran) [
   | inl does ↦ elim (does_or asked does) [
     | inl unstopped ↦ inl (record { read = ran.read; does = does; unstopped = unstopped })
     | inr stop ↦ inr stop
   ]
-  | inr (fault, bad, refuses) ↦ inr (stop_early fault (word_of run.words fault) (bad_stops run asked fault bad)
-      (rw (← (runs_as_named run.words ran.read)) (refuses.error, refuses.says, refl)) refuses.slots refuses.failed)
+  | inr (fault, bad, refuses) ↦ inr (inl (stop_early fault (word_of run.words fault) (bad_stops run asked fault bad)
+      (refuses.error, refused_by run asked fault bad (runs_as_named run.calling run.words ran.read) refuses.says, refl) refuses.slots refuses.failed))
 ]
 
-pub completes_or : (run : Run) (asked : Settings) → Ran run asked → Completes run asked ⊎ IsStopped run asked
+-- a `tee` that met no fault has copied all, where nothing is said of what is gone
+
+none_failed : (ended : Bool) → ◌≡◌ {A = ℕ} (cond ended 0 1) 0 → ended ≡ true
+none_failed true is = refl
+none_failed false is = absurd (omega (arith, is))
+
+whole_copied : (run : Run) (asked : TeeAsked) {content : Content} {source : Source} (ends : tee.EndsAs true true run.breaks_for run.calling asked.mode asked.on_broken asked.names content source run.outputs run.status)
+    → run.status ≡ 0 → (tee.forgives asked.on_broken ≡ true → (place : ℕ) → (place ≡ 1 → ⊥) → (slot_at run.outputs place).is_broken ≡ false) → IsCopied ends
+whole_copied run asked {content} (tee.copied pieces fault first broke output error files comes some left rest stand says slots is) well unforgiven =
+    let all = sound (cases_Bool (are_sound (first ∷ broke))) in
+    let ended = none_failed (is_none fault) (sym (sound_status asked.on_broken (first ∷ broke) fault all) ∙ sym is ∙ well) in (
+      all,
+      elim (read_or _ (sound_goes_on asked.on_broken (suc (length pieces)) first broke all) comes.read) [
+        | inl same ↦ same
+        | inr (met, many) ↦ absurd (false≢true (ap is_none (sym met) ∙ ended))
+      ],
+    ) where
+      sound : (are_sound (first ∷ broke) ≡ true) ⊎ (are_sound (first ∷ broke) ≡ false) → are_sound (first ∷ broke) ≡ true
+      sound (inl is) = is
+      sound (inr unsound) =
+          let (place, differs, broken) = unsound_broke {error = error} left rest unsound in
+          elim (cases_Bool (tee.forgives asked.on_broken)) [
+            | inl forgiving ↦ absurd (false≢true (sym (unforgiven forgiving place differs) ∙ rw slots broken))
+            | inr strict ↦ (status_zero asked.on_broken (first ∷ broke) fault strict (sym is ∙ well)).1
+          ]
+whole_copied run asked (tee.no_room error says unread slots is) well unforgiven = absurd (omega (arith, is, well))
+
+pub silent_completes : {run : Run} (asked : Settings) → Does run asked → IsSilent run asked → Completes run asked
+silent_completes {run} (Tee asked) does silent = elim (ran_over does.ran) [
+  | inl did ↦ record { read = does.ran.read; does = did; unstopped = whole_copied run asked did.ends does.well does.unforgiven }
+  | inr (fault, bad, refuses) ↦ absurd bad
+]
+silent_completes (Head asked) does silent = absurd (omega (arith, does.well, silent.2))
+silent_completes (Tail asked) does silent = absurd (omega (arith, does.well, silent.2))
+silent_completes (Split asked) does silent = absurd (omega (arith, does.well, silent.2))
+silent_completes (Csplit asked) does silent = absurd (omega (arith, does.well, silent.2))
+silent_completes (About which topic) does silent = absurd (omega (arith, does.well, silent.2))
+
+pub completes_or : (run : Run) (asked : Settings) → Ran run asked → Completes run asked ⊎ IsStopped run asked ⊎ IsSilent run asked
 completes_or run asked ran = grind (arith, common_steps, ran_so)
 
 has_failed : (failed : Bool) {status : ℕ} → status ≡ cond failed 1 0 → status ≡ 1 → failed ≡ true
 has_failed true is one = refl
 has_failed false is one = cc
 
+-- one of the lines tells a fault that the run met
+told_one : {run : Run} {asked : Settings} {line : Message} {lines : List Message} → SaysLines run asked lines → HasLine line lines → SaysWhy run asked
+told_one {run} {asked} {line} {lines} says (before, after, is) =
+    let has : HasLine line lines = (before, after, is) in
+    let (fault, name, met, same) = subst (TellsMet run asked) (ap (λ those. get_or those (length before) line) is ∙ get_or-append_seam before line after line) (says.are (length before) line (omega (arith, ap length is, length-append before (line ∷ after)))) in
+    (fault, name, met, says_line (rw same at has) says)
+
+-- a `tee` that keeps back what is gone tells what else failed
+quiet_line : (on_broken : OnBroken) {mode : Mode} {pieces names : List (List ℕ)} {first : Option Break} {broke : List (Option Break)} {output : Slot} {files : List Slot} (fault : Option Fault) → OutputLeft true pieces first output → FilesLeft true mode pieces names broke files
+    → tee.is_quiet on_broken ≡ true → tee.status_of on_broken (first ∷ broke) fault ≡ 1 → (line : Message) × HasLine line (messages_of on_broken names (first ∷ broke) (length pieces) fault)
+quiet_line on_broken {pieces = pieces} {names} {first} {broke} (Some fault) left rest quiet one =
+    (message_of fault (codes "standard input"), has_before (said_in on_broken (suc (length pieces)) (output_names names) (first ∷ broke)) (has_after (said_before on_broken (suc (length pieces)) (output_names names) (first ∷ broke)) ([], [], refl)))
+quiet_line on_broken {names = names} {first} {broke} None left rest quiet one = elim (cases_Bool (tee.any_is Broken (map tee.standing_of (first ∷ broke)))) [
+  | inl broken ↦ broken_tells on_broken None left rest broken
+  | inr unbroken ↦ absurd (by on_broken (tee.any_is Gone (map tee.standing_of (first ∷ broke))) quiet (subst (λ some. cond (tee.any_is Gone (map tee.standing_of (first ∷ broke))) (tee.gone_status on_broken some) (cond some 1 0) ≡ 1) unbroken one))
+] where
+  by : (on_broken : OnBroken) (gone : Bool) → tee.is_quiet on_broken ≡ true → cond gone (tee.gone_status on_broken false) 0 ≡ 1 → ⊥
+  by on_broken false quiet one = omega (arith, one)
+  by Warn true quiet one = false≢true quiet
+  by Exit true quiet one = false≢true quiet
+  by WarnNoPipe true quiet one = omega (arith, one)
+  by ExitNoPipe true quiet one = omega (arith, one)
+  by Signal true quiet one = omega (arith, one)
+
+tee_why : (run : Run) (asked : TeeAsked) {mode : Mode} {names : List (List ℕ)} {content : Content} {source : Source} → inputs_at run.world (names_of (Tee asked)) ≡ standard_input content ∷ [] → tee.is_quiet asked.on_broken ≡ true
+    → tee.EndsAs true true run.breaks_for run.calling mode asked.on_broken names content source run.outputs run.status → run.status ≡ 1 → SaysWhy run (Tee asked)
+tee_why run asked only quiet (tee.copied pieces fault first broke output error files comes some left rest stand says slots is) one =
+    let (line, has) = quiet_line asked.on_broken fault left rest quiet (sym is ∙ one) in told_one (tee_lines asked asked.on_broken fault slots left rest (input_tells run asked _ only comes.read) says) has
+tee_why run asked only quiet (tee.no_room error says unread slots is) one =
+    let stop : IsStop false run (Tee asked) = stop_early Memory [] tt says slots is in (stop.why, stop.name, inl stop.stops, stop.line)
+
+silent_says : (run : Run) (asked : Settings) → Ran run asked → IsSilent run asked → run.status ≡ 1 → SaysWhy run asked
+silent_says run (Tee asked) ran silent one = elim (ran_over ran) [
+  | inl did ↦ tee_why run asked did.input silent.0 did.ends one
+  | inr (fault, bad, refuses) ↦ absurd bad
+]
+silent_says run (Head asked) ran silent one = absurd (omega (arith, one, silent.2))
+silent_says run (Tail asked) ran silent one = absurd (omega (arith, one, silent.2))
+silent_says run (Split asked) ran silent one = absurd (omega (arith, one, silent.2))
+silent_says run (Csplit asked) ran silent one = absurd (omega (arith, one, silent.2))
+silent_says run (About which topic) ran silent one = absurd (omega (arith, one, silent.2))
+
 pub says_why : (run : Run) (asked : Settings) → Ran run asked → run.status ≡ 1 → SaysWhy run asked
 says_why run asked ran one = elim (ran_so ran) [
   | inl whole ↦
       let all = completes_left whole in
       let (line, (fault, name, met, is), has) = all.fits.tells (has_failed all.made.failed all.left.is one) in (fault, name, met, says_line (rw is at has) (left_says all.fits all.left))
-  | inr stop ↦ (stop.why, stop.name, inl stop.stops, stop.line)
+  | inr (inl stop) ↦ (stop.why, stop.name, inl stop.stops, stop.line)
+  | inr (inr silent) ↦ silent_says run asked ran silent one
 ]
 
 -- where no fault stopped the run, only files that were to be removed are broken
@@ -305,8 +484,9 @@ why_broken : {run : Run} {asked : Settings} {place : ℕ} → IsToldOf run asked
 why_broken (inl (name, called, line)) = named name called line
 why_broken (inr (removes, closed, gone)) = search rules
 
-pub is_broken : (run : Run) (asked : Settings) (place : ℕ) → Ran run asked → (place ≡ 1 → ⊥) → (slot_at run.outputs place).is_broken ≡ true → (run.status ≡ 1) × WhyBroken run asked place
+pub is_broken : (run : Run) (asked : Settings) (place : ℕ) → Ran run asked → (place ≡ 1 → ⊥) → (slot_at run.outputs place).is_broken ≡ true → ((run.status ≡ 1) × WhyBroken run asked place) ⊎ IsSilent run asked
 is_broken run asked place ran differs broken = elim (ran_so ran) [
-  | inl whole ↦ let (failed, stuck) = left_broke run asked (completes_left whole) differs broken in (failed, why_broken (inr stuck))
-  | inr stop ↦ (stop.failed, why_broken (stop.broke place differs broken))
+  | inl whole ↦ let (failed, stuck) = left_broke run asked (completes_left whole) differs broken in inl (failed, why_broken (inr stuck))
+  | inr (inl stop) ↦ inl (stop.failed, why_broken (stop.broke place differs broken))
+  | inr (inr silent) ↦ inr silent
 ]

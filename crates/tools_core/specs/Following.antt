@@ -2,13 +2,15 @@
 -- followed are GNU's.
 use Rattle.std.specs.Prelude.{◌≡◌, ℕ, Bool, true, false, List, [], Option, Some, None, Result, Ok, Err, ◌⊎◌}
 use Rattle.ports_core.specs.Slot.{Slot, streams}
+use Rattle.ports_core.specs.declared.calling.Calling.{Calling}
+use Rattle.ports_core.specs.declared.reason.Reason.{Reason}
 use Rattle.ports_core.specs.declared.fault.Fault.{Fault}
 use Rattle.ports_core.specs.declared.fault.Fault.TheVariants.{Usage}
 use Rattle.ports_core.specs.declared.fault.UsageKind.TheVariants.{BadFollow}
 use Rattle.watch_core.specs.Snapshot.{Snapshot}
 use Rattle.watch_core.specs.Watched.{Watched}
 use Rattle.follow_core.specs.declared.start.Start.{Start}
-use Rattle.follow_core.specs.Ending.{FollowEndsBy}
+use Rattle.follow_core.specs.Ending.{FollowEndsBy, shows_by}
 use Rattle.follow_core.specs.Look.{ways_of}
 use Rattle.words_core.specs.declared.settings.Settings.{Settings}
 use Rattle.words_core.specs.declared.tail_words.TailSettings.{TailSettings}
@@ -34,12 +36,14 @@ is_name Descriptor = false
 is_name Name = true
 
 -- these files are followed, in as many looks or until this process is gone, and the run ends so that it gave exactly
--- what these looks give
-abbrev pub FollowsAs : (told_in told : Bool) → EndsAsked → Followed → (process : Option ℕ) → (looks : ℕ)
+-- what these looks give; by its own name `tail` that follows names takes one that can't be read for one that is missing
+abbrev pub FollowsAs : Calling → (told_in told : Bool) → (ℕ → Reason → Bool) → EndsAsked → Followed
+    → (process : Option ℕ) → (looks : ℕ)
     → (ℕ → Snapshot) → List Snapshot → List Watched → List Slot → (status : ℕ) → Type 0
-FollowsAs told_in told asked followed process looks shows seen watched new status =
-    FollowEndsBy process told_in told (ways_of 0 (is_name followed) (start_of asked))
-    (has_headers asked.headers asked.names) asked.names looks shows streams seen watched new status
+FollowsAs calling told_in told breaks_for asked followed process looks shows seen watched new status =
+    FollowEndsBy process told_in told breaks_for calling (ways_of 0 (is_name followed) (start_of asked))
+    (has_headers asked.headers asked.names) asked.names looks (shows_by calling (is_name followed) shows) streams seen
+    watched new status
 
 -- the words are refused for this, and no name was watched and no look made
 abbrev pub RefusesUnseen : Bool → List (List ℕ) → Fault → List Snapshot → List Watched → List Slot → ℕ → Type 0
@@ -51,28 +55,32 @@ abbrev pub RefusesToFollow : Bool → List (List ℕ) → List Snapshot → List
 RefusesToFollow told words seen watched new status =
     RefusesUnseen told words (Usage BadFollow 0) seen watched new status
 
-abbrev pub FollowsTail : (told_in told : Bool) → List (List ℕ) → TailSettings → Option Followed → ℕ
+abbrev pub FollowsTail : Calling → (told_in told : Bool) → (ℕ → Reason → Bool) → List (List ℕ) → TailSettings
+    → Option Followed → ℕ
     → (ℕ → Snapshot) → List Snapshot → List Watched → List Slot → ℕ → Type 0
-FollowsTail told_in told words asked (Some followed) looks shows seen watched new status =
-    FollowsAs told_in told asked.ends followed asked.process looks shows seen watched new status
-FollowsTail told_in told words asked None looks shows seen watched new status =
+FollowsTail calling told_in told breaks_for words asked (Some followed) looks shows seen watched new status =
+    FollowsAs calling told_in told breaks_for asked.ends followed asked.process looks shows seen watched new status
+FollowsTail calling told_in told breaks_for words asked None looks shows seen watched new status =
     RefusesToFollow told words seen watched new status
 
 -- What was asked for was followed; or the words were refused: for operands that can't be read, where they have such
 -- ones, and else since they follow nothing.
-abbrev pub FollowingEndsAt : (told_in told : Bool) → List (List ℕ) → ℕ → (ℕ → Snapshot) → List Snapshot → List Watched
+abbrev pub FollowingEndsAt : Calling → (told_in told : Bool) → (ℕ → Reason → Bool) → List (List ℕ) → ℕ → (ℕ → Snapshot)
+    → List Snapshot → List Watched
     → List Slot → ℕ → Result Settings Fault → Type 0
-FollowingEndsAt told_in told words looks shows seen watched new status (Ok (Tail asked)) =
-    FollowsTail told_in told words asked asked.followed looks shows seen watched new status
-FollowingEndsAt told_in told words looks shows seen watched new status (Ok settings) =
+FollowingEndsAt calling told_in told breaks_for words looks shows seen watched new status (Ok (Tail asked)) =
+    FollowsTail calling told_in told breaks_for words asked asked.followed looks shows seen watched new status
+FollowingEndsAt calling told_in told breaks_for words looks shows seen watched new status (Ok settings) =
     (HasOperands settings × RefusesToFollow told words seen watched new status)
     ⊎ ((seen ≡ []) × (watched ≡ []) × RefusesOperands told words settings new status)
-FollowingEndsAt told_in told words looks shows seen watched new status (Err fault) =
+FollowingEndsAt calling told_in told breaks_for words looks shows seen watched new status (Err fault) =
     RefusesUnseen told words fault seen watched new status
 
 -- a run of these words, over looks that would see this and of which these were made, left the outputs so, and returned
 -- this status
-abbrev pub FollowingEnds : (told_in told : Bool) → List (List ℕ) → ℕ → (ℕ → Snapshot) → List Snapshot → List Watched
+abbrev pub FollowingEnds : Calling → (told_in told : Bool) → (ℕ → Reason → Bool) → List (List ℕ) → ℕ → (ℕ → Snapshot)
+    → List Snapshot → List Watched
     → List Slot → ℕ → Type 0
-FollowingEnds told_in told words looks shows seen watched new status =
-    FollowingEndsAt told_in told words looks shows seen watched new status (settings_of words)
+FollowingEnds calling told_in told breaks_for words looks shows seen watched new status =
+    FollowingEndsAt calling told_in told breaks_for words looks shows seen watched new status
+    (settings_of calling words)

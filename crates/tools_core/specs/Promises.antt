@@ -1,6 +1,6 @@
 -- What people rest on, in a manual's words: what a run leaves, over inputs and outputs that tell their bytes, as those
 -- in memory do.
-use Rattle.std.specs.Prelude.{◌≡◌, ℕ, ◌+◌, ◌^◌, ◌/◌, ◌%◌, ◌<◌, ◌≤◌, ◌==◌, suc, nat_lt, Bool, true, false, not, List, [], ◌∷◌, ◌++◌, length, map, drop, All, slice_index_or, ◌⊎◌, Option, Some, None, Ok, if◌then◌else◌}
+use Rattle.std.specs.Prelude.{◌≡◌, ℕ, ◌+◌, ◌^◌, ◌/◌, ◌%◌, ◌<◌, ◌≤◌, ◌==◌, suc, nat_lt, Bool, true, false, not, List, [], ◌∷◌, ◌++◌, length, map, drop, All, slice_index_or, ◌⊎◌, Option, Some, None, Ok, if◌then◌else◌, IsTrue}
 use Rattle.std.specs.List.{concat, flat_map}
 use Rattle.std.specs.declared.cmp.Ordering.TheVariants.{Less}
 use Rattle.std.specs.Ordering.{nat_cmp}
@@ -14,7 +14,11 @@ use Rattle.ports_core.specs.Part.{IsBeginning}
 use Rattle.ports_core.specs.Slot.{Slot, has_file, slot_at}
 use Rattle.ports_core.specs.Source.{Content, Source, source_at, source_of}
 use Rattle.ports_core.specs.Streams.{standard_error}
-use Rattle.ports_core.specs.Text.{message_of}
+use Rattle.ports_core.specs.Text.{Message, message_of}
+use Rattle.ports_core.specs.declared.calling.Calling.{Calling}
+use Rattle.ports_core.specs.declared.reason.Reason.{Reason}
+use Rattle.ports_core.specs.declared.reason.Reason.TheVariants as reason
+use Rattle.ports_core.specs.declared.calling.Calling.TheVariants.{OwnName}
 use Rattle.ports_core.specs.Work.{Judges}
 use Rattle.ports_core.specs.declared.fault.Fault.{Fault}
 use Rattle.ports_core.specs.declared.verdict.Verdict.{Verdict}
@@ -40,7 +44,7 @@ use Rattle.run_core.specs.Feeding.{is_enough}
 use Rattle.run_core.specs.Input.{Input, World, inputs_at, is_dash}
 use Rattle.run_core.specs.RunEnds.{EndsAs, RunsOver, as_defined, no_room, stopped}
 use Rattle.run_core.specs.Task.{Task}
-use Rattle.tee_core.specs.Run.{EndsAs as TeeCopies, are_sound, copied, no_room as no_memory}
+use Rattle.tee_core.specs.Run.{EndsAs as TeeCopies, are_sound, copied, forgives, is_quiet, no_room as no_memory}
 use Rattle.words_core.specs.declared.settings.Settings.{Settings}
 use Rattle.words_core.specs.declared.settings.Settings.TheVariants.{Head, Tail, Split, Csplit, Tee, About}
 use Rattle.words_core.specs.EndsWords.{EndsAsked}
@@ -52,16 +56,21 @@ use Rattle.split_core.specs.ChunkWork.{kept}
 use Rattle.words_core.specs.SplitWords.{SplitAsked}
 use Rattle.words_core.specs.Words.{HasBadOperands, settings_of}
 use Rattle.watch_core.specs.Snapshot.{Snapshot}
+use Rattle.follow_core.specs.Ending.{shows_by}
 use Rattle.watch_core.specs.Watched.{Watched}
-use Rattle.tools_core.specs.Following.{FollowingEnds}
+use Rattle.tools_core.specs.Following.{FollowingEnds, is_name}
 use Rattle.tools_core.specs.Outcome.{DoesAsked, RunEnds, names_read}
 use Rattle.tools_core.specs.Program.{ProgramEnds}
-use Rattle.tools_core.specs.Tasks.{csplit_task, has_headers, head_task, names_of, naming_of, split_task, tail_task, tool_of}
+use Rattle.tools_core.specs.Tasks.{csplit_task, has_headers, head_task, names_of, naming_of, speaker_of, split_task, tail_task}
 
 -- One run of the program: its words, what it found, and what it left.
 pub record Run : Type 0 where
+  -- how the program was called
+  pub calling : Calling
   -- the first is the tool's name
   pub words : List (List ℕ)
+  -- for which reasons each output can break
+  pub breaks_for : ℕ → Reason → Bool
   -- what standard input holds, and what lies at each name
   pub world : World
   -- what each look would see, where words ask `tail` to follow files
@@ -78,21 +87,30 @@ pub record Run : Type 0 where
 -- It began with standard input unread and no name watched, and it ended as `run_words` ensures, which the program calls.
 abbrev pub IsOfProgram : Run → Type 0
 IsOfProgram run =
-    ProgramEnds true true true run.words run.world.laid (source_of run.world.standard ∷ []) run.inputs run.shows
-    run.seen run.watched run.outputs run.status
+    ProgramEnds run.calling true true true run.breaks_for run.words run.world.laid (source_of run.world.standard ∷ [])
+    run.inputs
+    run.shows run.seen run.watched run.outputs run.status
 
 -- Its words are read as these settings, it began with standard input unread, and it ended as `run` ensures, whether it
 -- met a fault or not.
 pub record Ran (run : Run) (asked : Settings) : Type 0 where
-  pub read : settings_of run.words ≡ Ok asked
-  pub ends : RunsOver true run.world (names_read run.words)
-      (λ found. RunEnds true true run.words found (source_of run.world.standard ∷ []) run.inputs run.outputs
+  pub read : settings_of run.calling run.words ≡ Ok asked
+  pub ends : RunsOver true run.world (names_read run.calling run.words)
+      (λ found. RunEnds run.calling true true run.breaks_for run.words found (source_of run.world.standard ∷ [])
+      run.inputs run.outputs
       run.status)
 
--- and it met no fault
+-- an output whose reader is gone is no fault: of `tee`, where its words say so
+abbrev pub forgives_gone : Settings → Bool
+forgives_gone (Tee asked) = forgives asked.on_broken
+forgives_gone asked = false
+
+-- and it met no fault, nor a reader that was gone
 pub record Does (run : Run) (asked : Settings) : Type 0 where
   pub ran : Ran run asked
   pub well : run.status ≡ 0
+  pub unforgiven : forgives_gone asked ≡ true
+      → (place : ℕ) → (place ≡ 1 → ⊥) → (slot_at run.outputs place).is_broken ≡ false
 
 -- What lies at a name that is the only one: at `-` standard input, at any other a file, which is opened as input 1.
 abbrev pub lying_at : World → List ℕ → Option Content
@@ -101,13 +119,14 @@ lying_at world name = if is_dash name then Some world.standard else world.laid 1
 -- the run has one input, which has these bytes and ends after them
 pub record HasInput (run : Run) (bytes : List ℕ) : Type 0 where
   pub name : List ℕ
-  pub only : names_read run.words ≡ name ∷ []
+  pub only : names_read run.calling run.words ≡ name ∷ []
   pub holds : lying_at run.world name ≡ Some (record { bytes = bytes; breaks_off = false })
 
 -- Two runs read inputs of the same names, in order, and find the same under each: the same bytes, which end or break
 -- off alike, or nothing. In how many reads bytes come is no part of what lies there.
 abbrev pub FindAlike : Run → Run → Type 0
-FindAlike one other = inputs_at one.world (names_read one.words) ≡ inputs_at other.world (names_read other.words)
+FindAlike one other = inputs_at one.world (names_read one.calling one.words)
+    ≡ inputs_at other.world (names_read other.calling other.words)
 
 -- what is on standard output
 abbrev pub output_of : Run → List ℕ
@@ -358,19 +377,20 @@ StopsRun run asked name (fault.Open place) = BrokeAt run place name (fault.Open 
 StopsRun run asked name why = ⊥
 
 -- what a tool does with each of its inputs; `tee` has no such task, nor have help and the version
-abbrev pub IsTask : Settings → Task → Type 0
-IsTask (Head asked) task = task ≡ head_task asked
-IsTask (Tail asked) task = task ≡ tail_task asked.ends
-IsTask (Split asked) task = task ≡ split_task asked
-IsTask (Csplit asked) task = (operands : List Operand) × Asks asked.operands operands
-    × (task ≡ csplit_task asked operands)
-IsTask (Tee asked) task = ⊥
-IsTask (About tool topic) task = ⊥
+abbrev pub IsTask : Calling → Settings → Task → Type 0
+IsTask calling (Head asked) task = task ≡ head_task calling asked
+IsTask calling (Tail asked) task = task ≡ tail_task calling asked.ends
+IsTask calling (Split asked) task = task ≡ split_task calling asked
+IsTask calling (Csplit asked) task = (operands : List Operand) × Asks asked.operands operands
+    × (task ≡ csplit_task calling asked operands)
+IsTask calling (Tee asked) task = ⊥
+IsTask calling (About tool topic) task = ⊥
 
 -- the tool has not enough of what an input gives, which says that it has this many bytes, before it breaks off, and
 -- `tee` never has
-abbrev pub WantsMore : Settings → ℕ → Content → Type 0
-WantsMore asked coming content = (task : Task) → IsTask asked task → is_enough (task.work coming) content ≡ false
+abbrev pub WantsMore : Calling → Settings → ℕ → Content → Type 0
+WantsMore calling asked coming content =
+    (task : Task) → IsTask calling asked task → is_enough (task.work coming) content ≡ false
 
 -- A fault after which a run goes on, and the name that its line has: an input of this name is missing, or breaks off
 -- before the tool has enough of it; or the tool has, and its own work over that input ends with this verdict, as where
@@ -379,10 +399,10 @@ pub data GoesOnAfter (run : Run) (asked : Settings) : Fault → List ℕ → Typ
   missing : (input : Input) → IsFound run asked input → input.content ≡ None
       → GoesOnAfter run asked (fault.Open 0) input.name
   broken_off : (input : Input) (content : Content) → IsFound run asked input → input.content ≡ Some content
-      → content.breaks_off ≡ true → WantsMore asked input.coming content
+      → content.breaks_off ≡ true → WantsMore run.calling asked input.coming content
       → GoesOnAfter run asked (fault.Read 0) input.name
   judged : (input : Input) (content : Content) (task : Task) (verdict : Verdict) → IsFound run asked input
-      → input.content ≡ Some content → IsTask asked task → is_enough (task.work input.coming) content ≡ true
+      → input.content ≡ Some content → IsTask run.calling asked task → is_enough (task.work input.coming) content ≡ true
       → Judges (task.work input.coming) content.bytes verdict
       → GoesOnAfter run asked (fault.Verdict verdict) (task.subject verdict)
 
@@ -390,21 +410,31 @@ pub data GoesOnAfter (run : Run) (asked : Settings) : Fault → List ℕ → Typ
 abbrev pub IsMet : Run → Settings → Fault → List ℕ → Type 0
 IsMet run asked fault name = StopsRun run asked name fault ⊎ GoesOnAfter run asked fault name
 
--- the line that tells such a fault
-abbrev pub TellsMet : Run → Settings → List ℕ → Type 0
-TellsMet run asked line = (fault : Fault) × (name : List ℕ) × IsMet run asked fault name
-    × (line ≡ message_of (tool_of asked) fault name)
+-- the message that tells such a fault
+abbrev pub TellsMet : Run → Settings → Message → Type 0
+TellsMet run asked message = (fault : Fault) × (name : List ℕ) × IsMet run asked fault name
+    × (message ≡ message_of fault name)
 
--- Standard error got these lines, of which each tells a fault that the run met: as far as it takes lines, and where
--- there was no memory for one, the line that says so stands in its place.
-pub record SaysLines (run : Run) (asked : Settings) (lines : List (List ℕ)) : Type 0 where
+-- Standard error got the lines of these messages, of which each tells a fault that the run met: as far as it takes
+-- lines, and where there was no memory for one, the line that says so stands in its place.
+pub record SaysLines (run : Run) (asked : Settings) (lines : List Message) : Type 0 where
   pub are : All (TellsMet run asked) lines
-  pub said : SaysAll true (tool_of asked) lines standard_error (slot_at run.outputs 1)
+  pub said : SaysAll true (speaker_of run.calling asked) lines standard_error (slot_at run.outputs 1)
 
 -- the run told this fault by a line that has this name, perhaps among others
 abbrev pub Tells : Run → Settings → Fault → List ℕ → Type 0
-Tells run asked fault name = (before : List (List ℕ)) × (after : List (List ℕ))
-    × SaysLines run asked (before ++ message_of (tool_of asked) fault name ∷ after)
+Tells run asked fault name = (before : List Message) × (after : List Message)
+    × SaysLines run asked (before ++ message_of fault name ∷ after)
+
+-- an output can break since nobody reads it any more
+abbrev pub HasGone : Run → Type 0
+HasGone run = (place : ℕ) × IsTrue (run.breaks_for place reason.Gone)
+
+-- A reader may be gone of which nothing is said, by a tool's own name: the status tells it. `tee` may go on without it,
+-- where its words or how it was called ask for that.
+abbrev pub IsSilent : Run → Settings → Type 0
+IsSilent run (Tee asked) = (is_quiet asked.on_broken ≡ true) × HasGone run
+IsSilent run asked = (run.calling ≡ OwnName) × HasGone run × (run.status ≡ 141)
 
 -- it says why it failed: it told a fault that it met
 abbrev pub SaysWhy : Run → Settings → Type 0
@@ -435,36 +465,42 @@ pub data WhyBroken (run : Run) (asked : Settings) (place : ℕ) : Type 0 where
 -- A run over its inputs ended in the first of the three ways in which one can (`EndsAs`): it did all that it had to do,
 -- and no fault stopped it. It went on where an input was missing or broke off, and where the tool's own work ended with a
 -- fault: no match, a line out of range, names that ran out. These are told, and its status is 1.
-abbrev pub IsUnstopped : {told_in told : Bool} {task : Task} {inputs : List Input} {sources : List Source}
-    {new : List Slot} {status : ℕ} → EndsAs told_in told task inputs sources new status → Type 0
+abbrev pub IsUnstopped : {told_in told : Bool} {breaks_for : ℕ → Reason → Bool} {task : Task} {inputs : List Input}
+    {sources : List Source} {new : List Slot} {status : ℕ} → EndsAs told_in told breaks_for task inputs sources new
+    status → Type 0
 IsUnstopped (as_defined error reached says outputs swept done is) = Unit {0}
-IsUnstopped (stopped fault before input after error step reached are done untouched at stops between swept says is) = ⊥
+IsUnstopped (stopped fault why before input after said error step reached are done untouched at stops between swept
+    says is_why tells is) = ⊥
 IsUnstopped (no_room error says slots untouched count is) = ⊥
 
 -- `tee` copied all that its input has, and none of its outputs broke. A run in which one broke counts as one that a
 -- fault stopped, also where it went on with the others.
-abbrev pub IsCopied : {told_in told : Bool} {mode : Mode} {on_broken : OnBroken} {names : List (List ℕ)}
-    {content : Content} {source : Source} {new : List Slot} {status : ℕ}
-    → TeeCopies told_in told mode on_broken names content source new status → Type 0
-IsCopied {content = content} (copied pieces fault first broke output error files comes left out_left files_left says
-    slots is) = (are_sound (first ∷ broke) ≡ true) × (concat pieces ≡ content.bytes)
+abbrev pub IsCopied : {told_in told : Bool} {breaks_for : ℕ → Reason → Bool} {calling : Calling} {mode : Mode}
+    {on_broken : OnBroken} {names : List (List ℕ)} {content : Content} {source : Source} {new : List Slot} {status : ℕ}
+    → TeeCopies told_in told breaks_for calling mode on_broken names content source new status → Type 0
+IsCopied {content = content} (copied pieces fault first broke output error files comes left out_left files_left stand
+    says slots is) = (are_sound (first ∷ broke) ≡ true) × (concat pieces ≡ content.bytes)
 IsCopied (no_memory error says unread slots is) = ⊥
 
 -- no fault stopped what was asked for
-abbrev pub Unstopped : (asked : Settings) (inputs : List Input) (sources : List Source) (new : List Slot) (status : ℕ)
-    → DoesAsked true true asked inputs sources new status → Type 0
-Unstopped (Head asked) inputs sources new status does = IsUnstopped does
-Unstopped (Tail asked) inputs sources new status does = IsUnstopped does
-Unstopped (Split asked) inputs sources new status does = IsUnstopped does
-Unstopped (Csplit asked) inputs sources new status does = IsUnstopped does.ends
-Unstopped (Tee asked) inputs sources new status does = IsCopied does.ends
-Unstopped (About tool topic) inputs sources new status does = status ≡ 0
+abbrev pub Unstopped : (breaks_for : ℕ → Reason → Bool) (calling : Calling) (asked : Settings) (inputs : List Input)
+    (sources : List Source) (new : List Slot) (status : ℕ)
+    → DoesAsked calling true true breaks_for asked inputs sources new status → Type 0
+Unstopped breaks_for calling (Head asked) inputs sources new status does = IsUnstopped does
+Unstopped breaks_for calling (Tail asked) inputs sources new status does = IsUnstopped does
+Unstopped breaks_for calling (Split asked) inputs sources new status does = IsUnstopped does
+Unstopped breaks_for calling (Csplit asked) inputs sources new status does = IsUnstopped does.ends
+Unstopped breaks_for calling (Tee asked) inputs sources new status does = IsCopied does.ends
+Unstopped breaks_for calling (About tool topic) inputs sources new status does = status ≡ 0
 
 -- The run did what was asked for, over what it found, and no fault stopped it, whatever its status.
 pub record Completes (run : Run) (asked : Settings) : Type 0 where
-  pub read : settings_of run.words ≡ Ok asked
-  pub does : DoesAsked true true asked (inputs_at run.world (names_of asked)) run.inputs run.outputs run.status
-  pub unstopped : Unstopped asked (inputs_at run.world (names_of asked)) run.inputs run.outputs run.status does
+  pub read : settings_of run.calling run.words ≡ Ok asked
+  pub does : DoesAsked run.calling true true run.breaks_for asked (inputs_at run.world (names_of asked)) run.inputs
+      run.outputs run.status
+  pub unstopped : Unstopped run.breaks_for run.calling asked (inputs_at run.world (names_of asked)) run.inputs
+      run.outputs
+      run.status does
 
 -- Such a fault stopped the run, which told it; or, of `tee`, an output broke: it went on with the others or ended with
 -- that, and no more is said here of that run.
@@ -485,7 +521,7 @@ pub record IsAlike (output other : Slot) : Type 0 where
 
 -- two runs said the same lines on standard error, as far as that took them in each
 abbrev pub SayAlike : Settings → Run → Run → Type 0
-SayAlike asked one other = (lines : List (List ℕ)) × SaysLines one asked lines × SaysLines other asked lines
+SayAlike asked one other = (lines : List Message) × SaysLines one asked lines × SaysLines other asked lines
 
 -- two runs left the same status, as many outputs, the same in each, and said the same
 pub record LeaveAlike (asked : Settings) (one other : Run) : Type 0 where
@@ -520,7 +556,7 @@ pub record EndsWithBreak (run : Run) (asked : Settings) : Type 0 where
 
 -- its words ask `tail` to follow files so, in this many looks, whatever pauses they ask for, and name no process
 abbrev pub AsksToFollow : Run → EndsAsked → Followed → (looks : ℕ) → Type 0
-AsksToFollow run options followed looks = (pause : ℕ) × (settings_of run.words
+AsksToFollow run options followed looks = (pause : ℕ) × (settings_of run.calling run.words
     ≡ Ok (Tail (record { ends = options; followed = Some followed; looks = looks; pause = pause; process = None })))
 
 -- It followed what its words ask for, in as many looks as its caller asks for, ended as `run_follow` ensures, and met no
@@ -528,8 +564,13 @@ AsksToFollow run options followed looks = (pause : ℕ) × (settings_of run.word
 pub record Follows (run : Run) (count : ℕ) (options : EndsAsked) (followed : Followed) : Type 0 where
   pub looks : ℕ
   pub read : AsksToFollow run options followed looks
-  pub ends : FollowingEnds true true run.words count run.shows run.seen run.watched run.outputs run.status
+  pub ends : FollowingEnds run.calling true true run.breaks_for run.words count run.shows run.seen run.watched
+      run.outputs run.status
   pub well : run.status ≡ 0
+
+-- what each look of it shows where it follows its names so
+abbrev pub showing : Run → Followed → ℕ → Snapshot
+showing run followed = shows_by run.calling (is_name followed) run.shows
 
 -- at each of the first `count` looks the name leads to this file, which has all that it had at the look before, and
 -- perhaps more after it

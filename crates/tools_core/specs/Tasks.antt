@@ -6,6 +6,8 @@ use Rattle.std.specs.Prelude.{ℕ, ◌==◌, ◌||◌, nat_lt, Bool, true, false
 use Rattle.ports_core.specs.Name.{Naming, numbering_of}
 use Rattle.ports_core.specs.declared.verdict.Verdict.{Verdict}
 use Rattle.ports_core.specs.declared.verdict.Verdict.TheVariants.{Changed, NoMatch, Range}
+use Rattle.ports_core.specs.declared.calling.Calling.{Calling}
+use Rattle.ports_core.specs.declared.calling.Speaker.{Speaker}
 use Rattle.ports_core.specs.declared.tool.Tool.{Tool}
 use Rattle.ports_core.specs.declared.tool.Tool.TheVariants as tool
 use Rattle.seg_core.specs.declared.count.Sign.{Sign}
@@ -46,10 +48,14 @@ has_headers Always names = true
 abbrev pub of_nothing : Verdict → List ℕ
 of_nothing verdict = []
 
+-- a tool, called so
+abbrev pub by : Calling → Tool → Speaker
+by calling tool = record { calling = calling; tool = tool }
+
 -- `head`: the first lines or bytes, and with `-` before the count all but the last
-abbrev pub head_task : EndsAsked → Task
-head_task asked = record {
-  tool = tool.Head;
+abbrev pub head_task : Calling → EndsAsked → Task
+head_task calling asked = record {
+  speaker = by calling tool.Head;
   work = λ coming. head_work asked.delim asked.unit (is_minus asked.count.sign) asked.count.amount;
   opening = record { memory = is_minus asked.count.sign; files = false };
   subject = of_nothing;
@@ -57,9 +63,9 @@ head_task asked = record {
 }
 
 -- `tail`: the last lines or bytes, with `+` before the count all from that one on
-abbrev pub tail_task : EndsAsked → Task
-tail_task asked = record {
-  tool = tool.Tail;
+abbrev pub tail_task : Calling → EndsAsked → Task
+tail_task calling asked = record {
+  speaker = by calling tool.Tail;
   work = λ coming. tail_work asked.delim asked.unit (is_plus asked.count.sign) asked.count.amount;
   opening = record { memory = not (is_plus asked.count.sign); files = false };
   subject = of_nothing;
@@ -89,9 +95,9 @@ changed_of input Changed = input
 changed_of input verdict = []
 
 -- `split`: the input cut into files, or what one of them would have
-abbrev pub split_task : SplitAsked → Task
-split_task asked = record {
-  tool = tool.Split;
+abbrev pub split_task : Calling → SplitAsked → Task
+split_task calling asked = record {
+  speaker = by calling tool.Split;
   work = λ coming. way_work asked.way asked.elide (filing_of asked) (said_by asked.input coming);
   opening = record { memory = true; files = true };
   subject = changed_of asked.input;
@@ -105,9 +111,9 @@ operand_of operands (Range operand repetition) = slice_index_or operands operand
 operand_of operands verdict = []
 
 -- `csplit`: the input cut into files where these operands, which its words ask for, find lines
-abbrev pub csplit_task : CsplitAsked → List Operand → Task
-csplit_task asked operands = record {
-  tool = tool.Csplit;
+abbrev pub csplit_task : Calling → CsplitAsked → List Operand → Task
+csplit_task calling asked operands = record {
+  speaker = by calling tool.Csplit;
   work = λ coming. csplit_work asked.style operands;
   opening = record { memory = true; files = true };
   subject = operand_of asked.operands;
@@ -132,3 +138,7 @@ tool_of (Split asked) = tool.Split
 tool_of (Csplit asked) = tool.Csplit
 tool_of (Tee asked) = tool.Tee
 tool_of (About tool topic) = tool
+
+-- who speaks in a run of them
+abbrev pub speaker_of : Calling → Settings → Speaker
+speaker_of calling settings = by calling (tool_of settings)

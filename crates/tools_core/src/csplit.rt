@@ -1,8 +1,9 @@
 //! `csplit`: an input cut into files where its lines match (POSIX.1-2017, XCU csplit).
 ghost use Rattle.tools_core.specs.Tasks.{csplit_task};
 
+use crate::run::by;
 use csplit_core::{Csplitter, Operands};
-use ports_core::{Fault, Guarded, Outs, Tool, Verdict};
+use ports_core::{Calling, Fault, Guarded, Outs, Speaker, Tool, Verdict};
 use run_core::Adapter;
 use std::alloc::Global;
 use words_core::CsplitSettings;
@@ -10,6 +11,8 @@ use words_core::CsplitSettings;
 /// What a run knows of `csplit`.
 #[derive(Clone, Copy)]
 pub struct CsplitAdapter<'a, 'b> {
+    /// How it was called.
+    pub calling: Calling,
     /// What the words ask of it.
     pub settings: &'a CsplitSettings<'b>,
     /// The operands that they spell.
@@ -19,10 +22,10 @@ pub struct CsplitAdapter<'a, 'b> {
 impl<'a, 'b> Adapter for CsplitAdapter<'a, 'b> {
     type Driven = Csplitter<'a>;
 
-    ghost task = { λ adapter. csplit_task adapter.settings.now adapter.operands.now };
+    ghost task = { λ adapter. csplit_task adapter.calling adapter.settings.now adapter.operands.now };
 
-    fn tool(&self) -> Tool {
-        Tool::Csplit
+    fn speaker(&self) -> Speaker {
+        by(self.calling, Tool::Csplit)
     }
 
     fn with_header(&self) -> bool {

@@ -3,8 +3,9 @@
 ghost use Rattle.std.specs.Prelude.{◌≡◌, map};
 ghost use Rattle.tools_core.specs.Tasks.{has_headers, head_task, is_minus, is_plus, tail_task};
 
+use crate::run::by;
 use ends_core::{Ends, Head, Tail};
-use ports_core::{Fault, Guarded, Outs, Tool, Verdict};
+use ports_core::{Calling, Fault, Guarded, Outs, Speaker, Tool, Verdict};
 use run_core::Adapter;
 use seg_core::count::{Count, Sign};
 use std::alloc::Global;
@@ -13,6 +14,8 @@ use words_core::{EndsSettings, Headers};
 /// What a run knows of `head`.
 #[derive(Clone, Copy)]
 pub struct HeadAdapter<'a, 'b> {
+    /// How it was called.
+    pub calling: Calling,
     /// What the words ask of it.
     pub settings: &'a EndsSettings<'b>,
 }
@@ -20,6 +23,8 @@ pub struct HeadAdapter<'a, 'b> {
 /// What a run knows of `tail`.
 #[derive(Clone, Copy)]
 pub struct TailAdapter<'a, 'b> {
+    /// How it was called.
+    pub calling: Calling,
     /// What the words ask of it.
     pub settings: &'a EndsSettings<'b>,
 }
@@ -27,10 +32,10 @@ pub struct TailAdapter<'a, 'b> {
 impl<'a, 'b> Adapter for HeadAdapter<'a, 'b> {
     type Driven = Ends;
 
-    ghost task = { λ adapter. head_task adapter.settings.now };
+    ghost task = { λ adapter. head_task adapter.calling adapter.settings.now };
 
-    fn tool(&self) -> Tool {
-        Tool::Head
+    fn speaker(&self) -> Speaker {
+        by(self.calling, Tool::Head)
     }
 
     fn with_header(&self) -> bool {
@@ -59,10 +64,10 @@ impl<'a, 'b> Adapter for HeadAdapter<'a, 'b> {
 impl<'a, 'b> Adapter for TailAdapter<'a, 'b> {
     type Driven = Ends;
 
-    ghost task = { λ adapter. tail_task adapter.settings.now };
+    ghost task = { λ adapter. tail_task adapter.calling adapter.settings.now };
 
-    fn tool(&self) -> Tool {
-        Tool::Tail
+    fn speaker(&self) -> Speaker {
+        by(self.calling, Tool::Tail)
     }
 
     fn with_header(&self) -> bool {

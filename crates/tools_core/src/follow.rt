@@ -7,7 +7,7 @@ ghost use Rattle.tools_core.specs.Following.{FollowingEnds, FollowingEndsAt, Fol
 use crate::ends::{has_headers, is_plus};
 use crate::run::refuse_words;
 use follow_core::{Limits, Start, follow_files};
-use ports_core::{Fault, Outs, UsageKind};
+use ports_core::{Calling, Fault, Outs, UsageKind};
 use std::alloc::Global;
 use watch_core::Watch;
 use words_core::{EndsSettings, Followed, Settings, read_words};
@@ -16,9 +16,9 @@ use words_core::{EndsSettings, Followed, Settings, read_words};
 const NOT_FOLLOWED: Fault = Fault::Usage(UsageKind::BadFollow, 0);
 
 /// Runs `tail` over the files that the words name, and follows them: `looks` looks, one directly after another, or fewer where
-/// after one nothing more can come, or where the words name a process that is gone. It writes what each look finds, and says what changed or went wrong on standard error. It
-/// returns the status: 0, or 1 where there was any fault. Words that follow nothing are refused. It takes memory for what the
-/// words ask for, for the names and a buffer of 64 KiB, and for headers and messages.
+/// after one nothing more can come, or where the words name a process that is gone. It writes what each look finds, and says what
+/// changed or went wrong on standard error. It returns the status: 0, or 1 where there was any fault. Words that follow nothing
+/// are refused. It takes memory for what the words ask for, for the names and a buffer of 64 KiB, and for headers and messages.
 pub fn run_follow<W: Watch, O: Outs>(
     alloc: Global,
     words: &[&str],
@@ -29,11 +29,20 @@ pub fn run_follow<W: Watch, O: Outs>(
     requires unseen { W.seen watch.old ≡ [] }
     requires unwatched { W.watched watch.old ≡ [] }
     requires outputs { O.slots outs.old ≡ streams }
-    ensures { FollowingEnds W.told O.told (map (λ word. word.now) words.now) looks (W.shows watch.old)
+    ensures { FollowingEnds Calling.Cutters W.told O.told O.breaks_for (map (λ word. word.now) words.now) looks
+        (W.shows watch.old)
         (W.seen watch.new) (W.watched watch.new) (O.slots outs.new) result }
 {
-    match read_words(alloc, words) {
-        Ok(settings) => follow_asked(alloc, words, &settings, watch, outs, looks),
+    match read_words(alloc, Calling::Cutters, words) {
+        Ok(settings) => follow_asked(
+            alloc,
+            Calling::Cutters,
+            words,
+            &settings,
+            watch,
+            outs,
+            looks,
+        ),
         Err(fault) => refuse_words(alloc, words, &fault, outs),
     }
 }
@@ -41,6 +50,7 @@ pub fn run_follow<W: Watch, O: Outs>(
 /// Follows what the settings, which the words spell, ask `tail` to follow; words that follow nothing are refused.
 pub(crate) fn follow_asked<W: Watch, O: Outs>(
     alloc: Global,
+    calling: Calling,
     words: &[&str],
     settings: &Settings<'_>,
     watch: &mut W,
@@ -51,7 +61,8 @@ pub(crate) fn follow_asked<W: Watch, O: Outs>(
     requires unwatched { W.watched watch.old ≡ [] }
     requires outputs { O.slots outs.old ≡ streams }
     requires operands { HasOperands settings.now }
-    ensures { FollowingEndsAt W.told O.told (map (λ word. word.now) words.now) looks (W.shows watch.old)
+    ensures { FollowingEndsAt calling W.told O.told O.breaks_for (map (λ word. word.now) words.now) looks
+        (W.shows watch.old)
         (W.seen watch.new) (W.watched watch.new) (O.slots outs.new) result (Ok settings.now) }
 {
     match settings {
@@ -62,7 +73,7 @@ pub(crate) fn follow_asked<W: Watch, O: Outs>(
                     looks,
                     process: tail.process,
                 };
-                follow_tail(alloc, &tail.ends, followed, limits, watch, outs)
+                follow_tail(alloc, calling, &tail.ends, followed, limits, watch, outs)
             }
             None => refuse_words(alloc, words, &NOT_FOLLOWED, outs),
         },
@@ -73,6 +84,7 @@ pub(crate) fn follow_asked<W: Watch, O: Outs>(
 /// Follows the files that are asked for, by name or by descriptor.
 fn follow_tail<W: Watch, O: Outs>(
     alloc: Global,
+    calling: Calling,
     settings: &EndsSettings<'_>,
     followed: Followed,
     limits: Limits,
@@ -82,11 +94,13 @@ fn follow_tail<W: Watch, O: Outs>(
     requires unseen { W.seen watch.old ≡ [] }
     requires unwatched { W.watched watch.old ≡ [] }
     requires outputs { O.slots outs.old ≡ streams }
-    ensures { FollowsAs W.told O.told settings.now followed limits.process limits.looks (W.shows watch.old)
+    ensures { FollowsAs calling W.told O.told O.breaks_for settings.now followed limits.process limits.looks
+        (W.shows watch.old)
         (W.seen watch.new) (W.watched watch.new) (O.slots outs.new) result }
 {
     follow_files(
         alloc,
+        calling,
         &settings.names,
         start_of(settings),
         is_name(followed),

@@ -10,15 +10,17 @@ ghost use Rattle.tools_core.specs.Program.{ProgramEnds};
 
 use crate::follow::follow_asked;
 use crate::run::{refuse_words, run_tool};
-use ports_core::{Inputs, Outs};
+use ports_core::{Calling, Inputs, Outs};
 use std::alloc::Global;
 use watch_core::Watch;
 use words_core::read_words;
 
-/// Runs what the words ask for, which are read once: `tail` that follows files as `run_follow` does, in as many looks as its words
-/// say, and all else as `run` does. Where files are followed no input is opened, and else no file is watched. It returns the status.
+/// Runs what the words ask for, which are read once, as the program is called so: `tail` that follows files as `run_follow` does, in
+/// as many looks as its words say, and all else as `run` does. Where files are followed no input is opened, and else no file is
+/// watched. It returns the status.
 pub fn run_words<I: Inputs, W: Watch, O: Outs>(
     alloc: Global,
+    calling: Calling,
     words: &[&str],
     inputs: &mut I,
     watch: &mut W,
@@ -28,22 +30,32 @@ pub fn run_words<I: Inputs, W: Watch, O: Outs>(
     requires unseen { W.seen watch.old ≡ [] }
     requires unwatched { W.watched watch.old ≡ [] }
     requires outputs { O.slots outs.old ≡ streams }
-    ensures ends { ProgramEnds I.told W.told O.told (map (λ word. word.now) words.now) (I.laid inputs.old)
+    ensures ends { ProgramEnds calling I.told W.told O.told O.breaks_for (map (λ word. word.now) words.now)
+        (I.laid inputs.old)
         (I.sources inputs.old) (I.sources inputs.new) (W.shows watch.old) (W.seen watch.new) (W.watched watch.new)
         (O.slots outs.new) result }
-    ensures opened { length (I.sources inputs.new) ≤ count_after 1 (names_read (map (λ word. word.now) words.now)) }
+    ensures opened { length (I.sources inputs.new) ≤ count_after 1
+        (names_read calling (map (λ word. word.now) words.now)) }
     ensures asked { AsksAtMost largest_piece (I.sources inputs.new) }
-    ensures unopened { names_read (map (λ word. word.now) words.now) ≡ []
+    ensures unopened { names_read calling (map (λ word. word.now) words.now) ≡ []
         → I.sources inputs.new ≡ I.sources inputs.old }
-    ensures untouched { has_dash (names_read (map (λ word. word.now) words.now)) ≡ false
+    ensures untouched { has_dash (names_read calling (map (λ word. word.now) words.now)) ≡ false
         → source_at (I.sources inputs.new) 0 ≡ source_at (I.sources inputs.old) 0 }
 {
-    match read_words(alloc, words) {
+    match read_words(alloc, calling, words) {
         Ok(settings) => {
             if settings.follows() {
-                follow_asked(alloc, words, &settings, watch, outs, settings.looks())
+                follow_asked(
+                    alloc,
+                    calling,
+                    words,
+                    &settings,
+                    watch,
+                    outs,
+                    settings.looks(),
+                )
             } else {
-                run_tool(alloc, &settings, inputs, outs)
+                run_tool(alloc, calling, &settings, inputs, outs)
             }
         }
         Err(fault) => refuse_words(alloc, words, &fault, outs),

@@ -6,7 +6,7 @@ ghost use Rattle.ends_core.specs.Ends.{tail_of};
 ghost use Rattle.follow_core.specs.Run.{AreKept, name_text};
 ghost use Rattle.follow_core.specs.Version.{entries_of};
 ghost use Rattle.ports_core.specs.Slot.{slot_at};
-ghost use Rattle.ports_core.specs.declared.on_broken.OnBroken.TheVariants.{Stop};
+ghost use Rattle.ports_core.specs.declared.on_broken.OnBroken.TheVariants.{Exit};
 ghost use Rattle.ports_core.specs.Source.{source_of};
 ghost use Rattle.seg_core.specs.Line.{joined, line_count, lines_of};
 ghost use Rattle.seg_core.specs.declared.count.Sign.TheVariants.{Minus, Plain, Plus};
@@ -21,7 +21,7 @@ ghost use Rattle.split_core.specs.Chunks.{chunks_in};
 ghost use Rattle.operand_core.specs.Reading.{Asks};
 ghost use Rattle.operand_core.specs.declared.operand.Operand.{Operand};
 ghost use Rattle.tools_core.specs.Following.{is_name};
-ghost use Rattle.tools_core.specs.Promises.{AreChunks, AreCopies, AreDealt, AreEven, AreLinePieces, AreListed, AreNumbered, ArePieces, AreSections, AreUncut, BeginInChunks, BeginsEach, Completes, CountAlike, Does, AsksToFollow, EndsWithBreak, FindAlike, Follows, HasInput, HasLong, IsBare, IsHead, IsOfProgram, IsStopped, IsTail, KeepLines, SaysWhy, LeaveAlike, OnlyGrows, Ran, Run, SkipNothing, Splits, WhyBroken, contents_of, files_of, lines_telling, makes_files, output_of, text_at};
+ghost use Rattle.tools_core.specs.Promises.{AreChunks, AreCopies, AreDealt, AreEven, AreLinePieces, AreListed, AreNumbered, ArePieces, AreSections, AreUncut, BeginInChunks, BeginsEach, Completes, CountAlike, Does, AsksToFollow, EndsWithBreak, FindAlike, Follows, HasInput, HasLong, IsBare, IsHead, IsOfProgram, IsSilent, IsStopped, IsTail, KeepLines, SaysWhy, LeaveAlike, OnlyGrows, Ran, Run, SkipNothing, Splits, WhyBroken, contents_of, files_of, lines_telling, makes_files, output_of, showing, text_at};
 ghost use Rattle.tools_core.specs.Tasks.{is_plus};
 ghost use Rattle.words_core.specs.CsplitWords.{CsplitAsked};
 ghost use Rattle.words_core.specs.EndsWords.{EndsAsked};
@@ -36,7 +36,7 @@ ghost use Rattle.words_core.specs.declared.value.Followed.{Followed};
 /// be followed, it ended as `run` ensures, and no file was watched. Where they ask `tail` to follow files, it ended as `run_follow`
 /// ensures, in as many looks as the words ask for, and no input was opened or read.
 pub fn program_makes_these_runs()
-    ensures runs { (run : Run) (asked : Settings) → IsOfProgram run → settings_of run.words ≡ Ok asked
+    ensures runs { (run : Run) (asked : Settings) → IsOfProgram run → settings_of run.calling run.words ≡ Ok asked
         → follows asked ≡ false → Ran run asked × (run.seen ≡ []) × (run.watched ≡ []) }
     ensures followed { (run : Run) (options : EndsAsked) (followed : Followed) (looks : ℕ) → IsOfProgram run
         → AsksToFollow run options followed looks → run.status ≡ 0 → Follows run looks options followed
@@ -57,15 +57,15 @@ pub fn head_and_tail_meet()
 {}
 
 /// After `tee` standard output and each file that is named once have the input's bytes; with `-a` each file has them after
-/// those that it had. With `--output-error=exit` a run, whatever its status, ends with the piece in which the first output
-/// breaks: each output that is sound has all that was read, each that is broken all but a part of that piece, and what comes
-/// after it is left in the input.
+/// those that it had. With `--output-error=exit` a run, whatever its status, leaves input unread only where an output broke, or
+/// where there was no memory, which is told. Then each output that is sound has all that was read, and each that is broken all
+/// but a part of its last 65,536 bytes at most.
 pub fn tee_copies()
     ensures output { (tee : Run) (asked : TeeAsked) (input : List ℕ) → Does tee (Tee asked) → HasInput tee input
         → output_of tee ≡ input }
     ensures files { (tee : Run) (asked : TeeAsked) (input : List ℕ) → Does tee (Tee asked) → HasInput tee input
         → AreCopies asked.mode asked.names input (files_of tee) }
-    ensures stops { (tee : Run) (asked : TeeAsked) → Ran tee (Tee asked) → asked.on_broken ≡ Stop
+    ensures stops { (tee : Run) (asked : TeeAsked) → Ran tee (Tee asked) → asked.on_broken ≡ Exit
         → length tee.world.standard.bytes < 2 ^ 63 → EndsWithBreak tee (Tee asked) }
 {}
 
@@ -75,11 +75,13 @@ pub fn tee_copies()
 /// status too, and the same bytes under the same names, and say the same lines; but a file that was to be removed may stay in
 /// one of them. A fault that stops a run is told, as far as standard error takes lines, and the status is 1: no memory, too
 /// much input, operands of `csplit` that are wrong, or an output that broke, by its name. Where an output of `tee` breaks, it
-/// goes on with the others, or ends with that; then that is told, and this law says no more of that run.
+/// goes on with the others, or ends with that; then that is told, and this law says no more of that run. Of a reader that is
+/// gone nothing is said by a tool's own name, and the status is 141; nor by `tee` where its words or its own name ask for that.
 pub fn cutting_changes_nothing()
     ensures same { (one other : Run) (asked : Settings) → Does one asked → Does other asked → FindAlike one other
         → one.outputs ≡ other.outputs }
-    ensures ended { (run : Run) (asked : Settings) → Ran run asked → Completes run asked ⊎ IsStopped run asked }
+    ensures ended { (run : Run) (asked : Settings) → Ran run asked
+        → Completes run asked ⊎ IsStopped run asked ⊎ IsSilent run asked }
     ensures alike { (one other : Run) (asked : Settings) → Completes one asked → Completes other asked
         → FindAlike one other → LeaveAlike asked one other }
 {}
@@ -146,9 +148,10 @@ pub fn split_loses_nothing()
 {}
 
 /// `csplit` loses nothing. Its files are numbered in their order, and no two have one name. Their order is that of their names,
-/// byte by byte, while no number has more digits than its precision says (`-n`), or a width that zeros fill, and no `#` marks them. Where no section is skipped (`%`) and no line is left out at a cut
-/// (`--suppress-matched`), they are joined the input. In any case each line is in just one section, in the order of the input,
-/// or is left out at a cut, and the files have just the sections that are kept; with `-z` an empty one has no file.
+/// byte by byte, while no number has more digits than its precision says (`-n`), or a width that zeros fill, and no `#` marks
+/// them. Where no section is skipped (`%`) and no line is left out at a cut (`--suppress-matched`), they are joined the input. In
+/// any case each line is in just one section, in the order of the input, or is left out at a cut, and the files have just the
+/// sections that are kept; with `-z` an empty one has no file.
 pub fn csplit_loses_nothing()
     ensures numbered { (csplit : Run) (asked : CsplitAsked) (input : List ℕ) → Does csplit (Csplit asked)
         → HasInput csplit input → AreNumbered asked.style (files_of csplit) }
@@ -164,8 +167,9 @@ pub fn csplit_loses_nothing()
 /// what they have after a run that no fault stopped, which is asked for the same, over the same inputs. There is such a run,
 /// unless operands of `csplit` are wrong or an input has more than any tool takes. A run whose status is 1 told a fault that it
 /// met, as far as standard error takes lines, and each line tells one. So it did where standard output or a file broke: that it
-/// can't be written, or not be opened, is told by its name. That a file of `csplit` couldn't be removed need not be told, nor
-/// then what broke it before; each other file of that run is gone, or broken too.
+/// can't be written, or not be opened, is told by its name, unless the run is silent on a reader that is gone. That a file of
+/// `csplit` couldn't be removed need not be told, nor then what broke it before; each other file of that run is gone, or broken
+/// too.
 pub fn faults_leave_a_beginning()
     ensures begins { (run well : Run) (asked : Settings) → Ran run asked → Completes well asked → FindAlike run well
         → BeginsEach run well }
@@ -173,7 +177,8 @@ pub fn faults_leave_a_beginning()
         → (well : Run) × FindAlike run well × Completes well asked }
     ensures says { (run : Run) (asked : Settings) → Ran run asked → run.status ≡ 1 → SaysWhy run asked }
     ensures broken { (run : Run) (asked : Settings) (place : ℕ) → Ran run asked → (place ≡ 1 → ⊥)
-        → (slot_at run.outputs place).is_broken ≡ true → (run.status ≡ 1) × WhyBroken run asked place }
+        → (slot_at run.outputs place).is_broken ≡ true → ((run.status ≡ 1) × WhyBroken run asked place)
+        ⊎ IsSilent run asked }
 {}
 
 /// `tail -f` tells all, once. Of one file that only grows, where no header is written, it writes the last lines or bytes that
@@ -181,14 +186,15 @@ pub fn faults_leave_a_beginning()
 /// twice. It does so in as many looks as it is asked for, by descriptor and by name. Of a file that is truncated or replaced
 /// too, where one that is not seen shorter has kept its bytes, it writes the text of its name: that of each stretch of looks in
 /// which it only grew, and from the second stretch on all that it came to have. What the file is at looks that were not made is
-/// no matter.
+/// no matter. Where it was called by its own name and follows names, one that can't be read at a look is missing then.
 pub fn tail_follows()
     ensures grows { (run : Run) (options : EndsAsked) (followed : Followed) (name came : List ℕ) (file n : ℕ)
         → Follows run (n + 1) options followed → IsBare options → options.names ≡ name ∷ []
-        → OnlyGrows (length run.seen) run.shows name file → (run.shows n).holds file ≡ (run.shows 0).holds file ++ came
+        → OnlyGrows (length run.seen) (showing run followed) name file
+        → (showing run followed n).holds file ≡ (showing run followed 0).holds file ++ came
         → (slot_at run.outputs 0).written
         ≡ tail_of options.delim options.unit (is_plus options.count.sign) options.count.amount
-        ((run.shows 0).holds file) ++ came }
+        ((showing run followed 0).holds file) ++ came }
     ensures text { (run : Run) (count : ℕ) (options : EndsAsked) (followed : Followed) (name : List ℕ)
         → Follows run count options followed → IsBare options → options.names ≡ name ∷ []
         → AreKept (entries_of (is_name followed) name run.seen)

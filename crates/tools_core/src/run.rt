@@ -7,15 +7,15 @@ ghost use Rattle.run_core.specs.Reading.{count_after};
 ghost use Rattle.ports_core.specs.Inputs.{AsksAtMost, largest_piece};
 ghost use Rattle.run_core.specs.RunEnds.{RunsOver};
 ghost use Rattle.run_core.specs.RunSteps.{world_of};
-ghost use Rattle.tools_core.specs.Outcome.{DoesAsked, RefusesFor, RunEnds, names_read, speaker, word_of};
-ghost use Rattle.tools_core.specs.Tasks.{names_of};
+ghost use Rattle.tools_core.specs.Outcome.{DoesAsked, RefusesFor, RunEnds, names_read, refuser, speaker, word_of};
+ghost use Rattle.tools_core.specs.Tasks.{by, names_of};
 ghost use Rattle.words_core.specs.Words.{CanRun};
 
 use crate::about::tell_about;
 use crate::csplit::CsplitAdapter;
 use crate::ends::{HeadAdapter, TailAdapter};
 use crate::split::SplitAdapter;
-use ports_core::{Fault, Inputs, Outs, Tool, say};
+use ports_core::{Calling, Fault, Inputs, Outs, Reason, Speaker, Tool, say};
 use run_core::run_inputs;
 use std::alloc::Global;
 use tee_core::run_tee;
@@ -25,22 +25,25 @@ use words_core::{Settings, find_tool, read_words};
 /// what the tool makes of them, and says what went wrong on standard error. Words that ask for help or the version read
 /// none: that text is written. It returns the status: 0, or 1 where there was any fault. It takes memory for what the words
 /// ask for, for a buffer of 64 KiB, and for what the tool's engine, headers and messages need.
+///
+/// This is how the program runs them where it is called `cutters`; `run_words` is told how it was called.
 pub fn run<I: Inputs, O: Outs>(alloc: Global, words: &[&str], inputs: &mut I, outs: &mut O) -> u8
     requires inputs { IsFresh (I.sources inputs.old) }
     requires outputs { O.slots outs.old ≡ streams }
     ensures ends { RunsOver I.told (world_of (I.laid inputs.old) (I.sources inputs.old))
-        (names_read (map (λ word. word.now) words.now))
-        (λ found. RunEnds I.told O.told (map (λ word. word.now) words.now) found (I.sources inputs.old)
-        (I.sources inputs.new) (O.slots outs.new) result) }
-    ensures opened { length (I.sources inputs.new) ≤ count_after 1 (names_read (map (λ word. word.now) words.now)) }
+        (names_read Calling.Cutters (map (λ word. word.now) words.now))
+        (λ found. RunEnds Calling.Cutters I.told O.told O.breaks_for (map (λ word. word.now) words.now) found
+        (I.sources inputs.old) (I.sources inputs.new) (O.slots outs.new) result) }
+    ensures opened { length (I.sources inputs.new) ≤ count_after 1
+        (names_read Calling.Cutters (map (λ word. word.now) words.now)) }
     ensures asked { AsksAtMost largest_piece (I.sources inputs.new) }
-    ensures unopened { names_read (map (λ word. word.now) words.now) ≡ []
+    ensures unopened { names_read Calling.Cutters (map (λ word. word.now) words.now) ≡ []
         → I.sources inputs.new ≡ I.sources inputs.old }
-    ensures untouched { has_dash (names_read (map (λ word. word.now) words.now)) ≡ false
+    ensures untouched { has_dash (names_read Calling.Cutters (map (λ word. word.now) words.now)) ≡ false
         → source_at (I.sources inputs.new) 0 ≡ source_at (I.sources inputs.old) 0 }
 {
-    match read_words(alloc, words) {
-        Ok(settings) => run_tool(alloc, &settings, inputs, outs),
+    match read_words(alloc, Calling::Cutters, words) {
+        Ok(settings) => run_tool(alloc, Calling::Cutters, &settings, inputs, outs),
         Err(fault) => refuse_words(alloc, words, &fault, outs),
     }
 }
@@ -55,13 +58,22 @@ pub(crate) fn refuse_words<O: Outs>(
     requires { O.slots outs.old ≡ streams }
     ensures { RefusesFor O.told (map (λ word. word.now) words.now) fault.now (O.slots outs.new) result }
 {
-    say(alloc, speaker(words), fault, word_of(words, fault), outs);
+    say(
+        alloc,
+        refuser(words),
+        Reason::Other,
+        fault,
+        word_of(words, fault),
+        outs,
+    );
     1
 }
 
-/// Does what the settings ask for, over the inputs that they name, or tells what they ask about. `tail` takes what is there of each, and follows nothing.
+/// Does what the settings ask for, over the inputs that they name, or tells what they ask about. `tail` takes what is there of
+/// each, and follows nothing.
 pub(crate) fn run_tool<I: Inputs, O: Outs>(
     alloc: Global,
+    calling: Calling,
     settings: &Settings<'_>,
     inputs: &mut I,
     outs: &mut O,
@@ -70,7 +82,8 @@ pub(crate) fn run_tool<I: Inputs, O: Outs>(
     requires outputs { O.slots outs.old ≡ streams }
     requires can { CanRun settings.now }
     ensures ends { RunsOver I.told (world_of (I.laid inputs.old) (I.sources inputs.old)) (names_of settings.now)
-        (λ found. DoesAsked I.told O.told settings.now found (I.sources inputs.new) (O.slots outs.new) result) }
+        (λ found. DoesAsked calling I.told O.told O.breaks_for settings.now found (I.sources inputs.new)
+        (O.slots outs.new) result) }
     ensures opened { length (I.sources inputs.new) ≤ count_after 1 (names_of settings.now) }
     ensures asked { AsksAtMost largest_piece (I.sources inputs.new) }
     ensures untouched { has_dash (names_of settings.now) ≡ false
@@ -79,7 +92,7 @@ pub(crate) fn run_tool<I: Inputs, O: Outs>(
     match settings {
         Settings::Head(settings) => run_inputs(
             alloc,
-            &HeadAdapter { settings },
+            &HeadAdapter { calling, settings },
             &settings.names,
             inputs,
             outs,
@@ -88,7 +101,10 @@ pub(crate) fn run_tool<I: Inputs, O: Outs>(
             let ends = &settings.ends;
             run_inputs(
                 alloc,
-                &TailAdapter { settings: ends },
+                &TailAdapter {
+                    calling,
+                    settings: ends,
+                },
                 &ends.names,
                 inputs,
                 outs,
@@ -96,7 +112,7 @@ pub(crate) fn run_tool<I: Inputs, O: Outs>(
         }
         Settings::Split(settings) => run_inputs(
             alloc,
-            &SplitAdapter { settings },
+            &SplitAdapter { calling, settings },
             &[settings.input],
             inputs,
             outs,
@@ -104,6 +120,7 @@ pub(crate) fn run_tool<I: Inputs, O: Outs>(
         Settings::Csplit(asked) => run_inputs(
             alloc,
             &CsplitAdapter {
+                calling,
                 settings: asked,
                 operands: asked.operands(),
             },
@@ -113,14 +130,29 @@ pub(crate) fn run_tool<I: Inputs, O: Outs>(
         ),
         Settings::Tee(settings) => run_tee(
             alloc,
+            calling,
             &settings.names,
             settings.mode,
             settings.on_broken,
             inputs,
             outs,
         ),
-        Settings::About(tool, topic) => tell_about(alloc, *tool, *topic, outs),
+        Settings::About(tool, topic) => tell_about(alloc, calling, *tool, *topic, outs),
     }
+}
+
+/// A tool, called so.
+pub(crate) fn by(calling: Calling, tool: Tool) -> Speaker
+    ensures { result ≡ by calling tool }
+{
+    Speaker { calling, tool }
+}
+
+/// Who speaks where words are refused.
+fn refuser(words: &[&str]) -> Speaker
+    ensures { result ≡ refuser (map (λ word. word.now) words.now) }
+{
+    by(Calling::Cutters, speaker(words))
 }
 
 /// Who refuses words: the tool that they name, or the program where they name none.

@@ -5,7 +5,8 @@ ghost use Rattle.tools_core.specs.laws.Props.{CanSplit-prop};
 ghost use Rattle.tools_core.specs.Tasks.{naming_of, said_by, split_task};
 ghost use Rattle.words_core.specs.SplitWords.{CanSplit, IsWidth};
 
-use ports_core::{Fault, Guarded, Naming, Numbering, Outs, Tells, Tool, Verdict};
+use crate::run::by;
+use ports_core::{Calling, Fault, Guarded, Naming, Numbering, Outs, Speaker, Tells, Tool, Verdict};
 use run_core::{Adapter, is_dash};
 use split_core::Splitter;
 use std::alloc::Global;
@@ -14,6 +15,8 @@ use words_core::SplitSettings;
 /// What a run knows of `split`.
 #[derive(Clone, Copy)]
 pub struct SplitAdapter<'a, 'b> {
+    /// How it was called.
+    pub calling: Calling,
     /// What the words ask of it.
     pub settings: &'a SplitSettings<'b>,
     ghost can: { CanSplit settings.now } by { CanSplit-prop settings.now },
@@ -22,10 +25,10 @@ pub struct SplitAdapter<'a, 'b> {
 impl<'a, 'b> Adapter for SplitAdapter<'a, 'b> {
     type Driven = Splitter;
 
-    ghost task = { λ adapter. split_task adapter.settings.now };
+    ghost task = { λ adapter. split_task adapter.calling adapter.settings.now };
 
-    fn tool(&self) -> Tool {
-        Tool::Split
+    fn speaker(&self) -> Speaker {
+        by(self.calling, Tool::Split)
     }
 
     fn with_header(&self) -> bool {

@@ -2,7 +2,7 @@
 use Rattle.std.proofs.Common.{◌≡◌, ℕ, ◌<◌, ◌≤◌, zero, suc, List, [], ◌∷◌, ◌++◌, length, Option, Some, None, refl, sym, ◌∙◌, ap, arith, ◌⊎◌, inl, inr, slice_index_or, get_or, set}
 use Rattle.ports_core.proofs.SlotLemmas.{set-changed}
 use Rattle.ports_core.specs.Slot.{changed_at}
-use Rattle.watch_core.specs.Edits.{append, Link, World, led_to, with_file, edited, seen_in}
+use Rattle.watch_core.specs.Edits.{append, Bar, Link, World, led_to, with_file, edited, seen_in}
 
 -- no name leads elsewhere
 changed_leads : (world : World) (file : Option ℕ) (change : List ℕ → List ℕ) → (with_file file change world).links ≡ world.links
@@ -42,9 +42,9 @@ pub file_stays : (world : World) (led : Option ℕ) (file : ℕ) (change : List 
 file_stays world led file change is beyond = rw is (ap (λ files. record world { files = files }) (sym (changed_nowhere world.files file change beyond)))
 
 -- a file is replaced by its change
-pub file_changed : (world : World) (links : List Link) (files : List (List ℕ)) (ended : List ℕ) (led : Option ℕ) (file : ℕ) (change : List ℕ → List ℕ) (held new : List ℕ)
-    → record { links = links; files = files; ended = ended } ≡ world → led ≡ Some file → file < length files → held ≡ get_or files file held → new ≡ change held
-    → record { links = links; files = set files file new; ended = ended } ≡ with_file led change world
-file_changed world links files ended led file change held new is leads within there changed =
-    ap (λ those. record { links = links; files = those; ended = ended }) (ap (set files file) changed ∙ set-changed files file change held within there)
+pub file_changed : (world : World) (links : List Link) (files : List (List ℕ)) (ended : List ℕ) (bars : List Bar) (led : Option ℕ) (file : ℕ) (change : List ℕ → List ℕ) (held new : List ℕ)
+    → record { links = links; files = files; ended = ended; bars = bars } ≡ world → led ≡ Some file → file < length files → held ≡ get_or files file held → new ≡ change held
+    → record { links = links; files = set files file new; ended = ended; bars = bars } ≡ with_file led change world
+file_changed world links files ended bars led file change held new is leads within there changed =
+    ap (λ those. record { links = links; files = those; ended = ended; bars = bars }) (ap (set files file) changed ∙ set-changed files file change held within there)
     ∙ ap (with_file (Some file) change) is ∙ ap (λ those. with_file those change world) (sym leads)

@@ -1,5 +1,5 @@
 -- Files under edits, and processes that end. Of a name that leads nowhere only a replacement does anything, and it makes a file that was not
--- there before. A file to which no name leads any more keeps what it holds.
+-- there before; whether a name can be read doesn't depend on where it leads. A file to which no name leads any more keeps what it holds.
 use Rattle.std.specs.Prelude.{ℕ, ◌==◌, ◌||◌, Bool, true, false, List, [], ◌∷◌, ◌++◌, length, map, take, Option, Some, None, slice_index_or, bytes_eq, if◌then◌else◌}
 use Rattle.ports_core.specs.Slot.{changed_at}
 use Rattle.watch_core.specs.Snapshot.{Snapshot}
@@ -15,24 +15,37 @@ pub data Edit : Type 0 where
   remove : List ℕ → Edit
   -- the process of this number ends
   end : ℕ → Edit
+  -- from now on the name can't be opened or read, where this is true, and it can again where it is false
+  bar : List ℕ → Bool → Edit
 
 pub record Link : Type 0 where
   pub name : List ℕ
   pub file : Option ℕ
 
--- the files, each at its identity, and where the names lead: of one name the first link counts; and the processes that
--- ended
+-- whether a name can't be opened or read
+pub record Bar : Type 0 where
+  pub name : List ℕ
+  pub is_barred : Bool
+
+-- the files, each at its identity, and where the names lead: of one name the first link counts; the processes that
+-- ended; and which names can't be read: of one name the first bar counts
 pub record World : Type 0 where
   pub links : List Link
   pub files : List (List ℕ)
   pub ended : List ℕ
+  pub bars : List Bar
 
 abbrev pub empty_world : World
-empty_world = record { links = []; files = []; ended = [] }
+empty_world = record { links = []; files = []; ended = []; bars = [] }
 
 abbrev pub led_to : List Link → List ℕ → Option ℕ
 led_to [] name = None
 led_to (link ∷ links) name = if bytes_eq link.name name then link.file else led_to links name
+
+-- this name can't be opened or read
+abbrev pub is_barred_in : List Bar → List ℕ → Bool
+is_barred_in [] name = false
+is_barred_in (one ∷ bars) name = if bytes_eq one.name name then one.is_barred else is_barred_in bars name
 
 -- what a file holds
 abbrev pub held_in : List (List ℕ) → ℕ → List ℕ
@@ -52,6 +65,7 @@ edited (replace name bytes) world = record world {
 }
 edited (remove name) world = record world { links = record { name = name; file = None } ∷ world.links }
 edited (end process) world = record world { ended = process ∷ world.ended }
+edited (bar name is) world = record world { bars = record { name = name; is_barred = is } ∷ world.bars }
 
 abbrev pub edited_by : List Edit → World → World
 edited_by [] world = world
@@ -68,6 +82,8 @@ seen_in world = record {
   leads = led_to world.links;
   holds = held_in world.files;
   finds = λ name finding. true;
+  barred = is_barred_in world.bars;
+  breaks = true;
   lacks = λ process. is_one process world.ended;
 }
 

@@ -1,5 +1,6 @@
--- What one look can see: which file each name leads to, what each file holds, and which processes are gone.
-use Rattle.std.specs.Prelude.{◌≡◌, ℕ, Bool, true, false, List, [], ◌∷◌, Option, None}
+-- What one look can see: which file each name leads to, what each file holds, and which processes are gone; and how it
+-- is where a name that can't be read counts as missing.
+use Rattle.std.specs.Prelude.{◌≡◌, ℕ, Bool, true, false, List, [], ◌∷◌, Option, None, if◌then◌else◌}
 
 -- what a call on a name finds
 pub data Finding : Type 0 where
@@ -19,12 +20,30 @@ pub record Snapshot : Type 0 where
   pub holds : ℕ → List ℕ
   -- A call on this name can find this. Of any watch it is known of what its calls found, and of nothing else.
   pub finds : List ℕ → Finding → Bool
+  -- this name is there, and can't be opened or read
+  pub barred : List ℕ → Bool
+  -- a call on a name can fail in this look
+  pub breaks : Bool
   -- Before the look it can be found that no process of this number runs. Of any watch it is known of those that were
   -- found to be gone, and of no others.
   pub lacks : ℕ → Bool
 
 abbrev pub no_files : Snapshot
-no_files = record { leads = λ name. None; holds = λ file. []; finds = λ name finding. true; lacks = λ process. false }
+no_files = record {
+  leads = λ name. None;
+  holds = λ file. [];
+  finds = λ name finding. true;
+  barred = λ name. false;
+  breaks = true;
+  lacks = λ process. false;
+}
+
+-- this look where it forgives: a name that can't be read counts as missing, and no call fails
+abbrev pub forgiving : Snapshot → Snapshot
+forgiving snapshot = record snapshot {
+  leads = λ name. if snapshot.barred name then None else snapshot.leads name;
+  breaks = false;
+}
 
 -- a call on this name found this
 abbrev pub Found : Snapshot → List ℕ → Finding → Type 0

@@ -1,7 +1,7 @@
-ghost use Rattle.std.specs.Prelude.{◌≡◌, ◌≤◌, ◌<◌, ◌+◌, ◌^◌, false, length, IfSome, IsTrue};
+ghost use Rattle.std.specs.Prelude.{◌≡◌, ◌≤◌, ◌<◌, ◌+◌, ◌^◌, false, length, IfOk, IfSome, IsTrue};
 ghost use Rattle.std.proofs.Props.{props};
 
-use ports_core::{MOST_BYTES, PIECE};
+use ports_core::{MOST_BYTES, PIECE, Reason};
 use std::alloc::Global;
 use std::fs::{File, Metadata};
 use std::io;
@@ -30,14 +30,29 @@ impl DirFile {
         Ok(DirFile::Stream(Stream::new(alloc, file)?))
     }
 
-    /// How many bytes it had when changes were last looked for; of a stream those that were taken. None where that couldn't be
-    /// told, or where it is more than a watch tells.
-    pub(crate) fn len(&mut self) -> Option<u64>
-        ensures { IfSome result (λ len. len < 2 ^ 63) }
+    /// How many bytes it had when changes were last looked for; of a stream those that were taken.
+    ///
+    /// # Errors
+    ///
+    /// Why that couldn't be told; `Other` where it is more than a watch tells.
+    pub(crate) fn len(&mut self) -> Result<u64, Reason>
+        ensures { IfOk result (λ len. len < 2 ^ 63) }
     {
         match self {
             DirFile::Placed(file) => file.len(),
             DirFile::Stream(stream) => stream.len(),
+        }
+    }
+
+    /// Why it can't be read; none where it can. Of a regular file that is tried with its first byte; of a stream nothing is read for
+    /// it, since what comes first was taken as it was opened.
+    pub(crate) fn failure(&self) -> Option<Reason> {
+        match self {
+            DirFile::Placed(placed) => match read_some_at(&placed.file, 0, &mut [0u8; 1]) {
+                Ok(_) => None,
+                Err(why) => Some(why),
+            },
+            DirFile::Stream(stream) => stream.broken,
         }
     }
 
@@ -51,9 +66,13 @@ impl DirFile {
         }
     }
 
-    /// Reads from a place on, and returns how many bytes that gave. None where it fails.
-    pub(crate) fn read_at(&self, from: u64, buffer: &mut [u8]) -> Option<usize>
-        ensures { IfSome result (λ n. n ≤ length buffer.old) }
+    /// Reads from a place on, and returns how many bytes that gave.
+    ///
+    /// # Errors
+    ///
+    /// Why it failed.
+    pub(crate) fn read_at(&self, from: u64, buffer: &mut [u8]) -> Result<usize, Reason>
+        ensures { IfOk result (λ n. n ≤ length buffer.old) }
     {
         match self {
             DirFile::Placed(placed) => read_some_at(&placed.file, from, buffer),
@@ -84,20 +103,20 @@ impl Placed {
         }
     }
 
-    fn len(&mut self) -> Option<u64>
-        ensures { IfSome result (λ len. len < 2 ^ 63) }
+    fn len(&mut self) -> Result<u64, Reason>
+        ensures { IfOk result (λ len. len < 2 ^ 63) }
     {
-        let len = self.told?;
-        if len > MOST_BYTES {
-            return None;
+        match self.told {
+            Some(0) => {}
+            Some(len) if len <= MOST_BYTES => return Ok(len),
+            _ => return Err(Reason::Other),
         }
-        if len > 0 {
-            return Some(len);
+        if let Some(len) = self.counted {
+            return Ok(len);
         }
-        if self.counted.is_none() {
-            self.counted = count(&self.file);
-        }
-        self.counted
+        let len = count(&self.file)?;
+        self.counted = Some(len);
+        Ok(len)
     }
 
     fn has_changed(&mut self, told: Option<u64>, is_at_rest: bool) -> bool {
@@ -132,8 +151,8 @@ pub(crate) struct Stream {
     before: u64,
     /// How many wait, at the front of the buffer.
     waiting: usize,
-    /// A read failed.
-    is_broken: bool,
+    /// Why a read failed, if one did.
+    broken: Option<Reason>,
     ghost room: { waiting ≤ length buffer.items },
     ghost bound: { before + waiting < 2 ^ 63 },
 }
@@ -146,7 +165,7 @@ impl Stream {
             buffer: vec![in alloc; 0u8; PIECE]?,
             before: 0,
             waiting: 0,
-            is_broken: false,
+            broken: None,
         };
         stream.take();
         Ok(stream)
@@ -160,39 +179,43 @@ impl Stream {
         self.before += self.waiting as u64;
         self.waiting = 0;
         match read_some(&mut self.file, &mut self.buffer) {
-            Some(n) if n as u64 <= MOST_BYTES - self.before => {
+            Ok(n) if n as u64 <= MOST_BYTES - self.before => {
                 self.waiting = n;
                 n > 0
             }
-            _ => {
-                self.is_broken = true;
+            Ok(_) => {
+                self.broken = Some(Reason::Other);
+                false
+            }
+            Err(why) => {
+                self.broken = Some(why);
                 false
             }
         }
     }
 
-    fn len(&self) -> Option<u64>
-        ensures { IfSome result (λ len. len ≡ self.now.before + self.now.waiting) }
+    fn len(&self) -> Result<u64, Reason>
+        ensures { IfOk result (λ len. len ≡ self.now.before + self.now.waiting) }
     {
-        if self.is_broken {
-            return None;
+        match self.broken {
+            None => Ok(self.before + self.waiting as u64),
+            Some(why) => Err(why),
         }
-        Some(self.before + self.waiting as u64)
     }
 
     /// Gives bytes that wait, from a place on; none of a place at which none waits.
-    fn read_at(&self, from: u64, buffer: &mut [u8]) -> Option<usize>
-        ensures { IfSome result (λ n. n ≤ length buffer.old) }
+    fn read_at(&self, from: u64, buffer: &mut [u8]) -> Result<usize, Reason>
+        ensures { IfOk result (λ n. n ≤ length buffer.old) }
     {
-        if self.is_broken {
-            return None;
+        if let Some(why) = self.broken {
+            return Err(why);
         }
         let Some(skipped) = place_in(from, self.before, self.waiting) else {
-            return Some(0);
+            return Ok(0);
         };
         let n = buffer.len().min(self.waiting - skipped);
         buffer[..n].copy_from_slice(&self.buffer[skipped..skipped + n]);
-        Some(n)
+        Ok(n)
     }
 }
 
@@ -208,49 +231,57 @@ fn place_in(from: u64, before: u64, waiting: usize) -> Option<usize>
     Some(place)
 }
 
-/// How many bytes reads of a file give. None where one fails, or where they are more than a watch tells.
-fn count(file: &File) -> Option<u64>
-    ensures { IfSome result (λ len. len < 2 ^ 63) }
+/// How many bytes reads of a file give.
+///
+/// # Errors
+///
+/// Why one failed; `Other` where they are more than a watch tells.
+fn count(file: &File) -> Result<u64, Reason>
+    ensures { IfOk result (λ len. len < 2 ^ 63) }
 {
     let mut piece = [0u8; COUNTED];
     let mut len = 0u64;
     for _ in 0..u64::MAX {
         let n = read_some_at(file, len, &mut piece)? as u64;
         if n == 0 {
-            return Some(len);
+            return Ok(len);
         }
         if n > MOST_BYTES - len {
-            return None;
+            return Err(Reason::Other);
         }
         len += n;
     }
-    None
+    Err(Reason::Other)
 }
 
-/// Reads once, and again where the read was interrupted, and returns how many bytes that gave. None where it fails.
-fn read_some(file: &mut File, buffer: &mut [u8]) -> Option<usize>
-    ensures { IfSome result (λ n. n ≤ length buffer.old) }
+/// Reads once, and again where the read was interrupted, and returns how many bytes that gave.
+///
+/// # Errors
+///
+/// Why it failed.
+fn read_some(file: &mut File, buffer: &mut [u8]) -> Result<usize, Reason>
+    ensures { IfOk result (λ n. n ≤ length buffer.old) }
 {
     for _ in 0..u64::MAX {
         match file.read(buffer) {
-            Ok(n) => return Some(n),
+            Ok(n) => return Ok(n),
             Err(error) if error.kind() == ErrorKind::Interrupted => {}
-            Err(_) => return None,
+            Err(error) => return Err(Reason::of(&error)),
         }
     }
-    None
+    Err(Reason::Other)
 }
 
 /// The same from a place on.
-fn read_some_at(file: &File, from: u64, buffer: &mut [u8]) -> Option<usize>
-    ensures { IfSome result (λ n. n ≤ length buffer.old) }
+fn read_some_at(file: &File, from: u64, buffer: &mut [u8]) -> Result<usize, Reason>
+    ensures { IfOk result (λ n. n ≤ length buffer.old) }
 {
     for _ in 0..u64::MAX {
         match file.read_at(buffer, from) {
-            Ok(n) => return Some(n),
+            Ok(n) => return Ok(n),
             Err(error) if error.kind() == ErrorKind::Interrupted => {}
-            Err(_) => return None,
+            Err(error) => return Err(Reason::of(&error)),
         }
     }
-    None
+    Err(Reason::Other)
 }

@@ -4,7 +4,7 @@ ghost use Rattle.watch_core.specs.Watched.{Watched, added, breaks, opens};
 use crate::dir_file::DirFile;
 use crate::pace::Pace;
 use crate::{Broken, Seen};
-use ports_core::{MOST_BYTES, id_of};
+use ports_core::{MOST_BYTES, Reason, id_of};
 use std::alloc::{AllocError, Global};
 use std::fs::{File, Metadata};
 use std::io::ErrorKind;
@@ -20,6 +20,17 @@ pub(crate) struct DirName {
     opened: Option<u128>,
     /// The open file. None where none is open, and once the name is broken, so that the system has it back.
     file: Option<DirFile>,
+    /// Where a name that can't be read counts as missing: another file than the open one to which it leads, which was opened so that
+    /// it is known to be readable, and is the one that is opened next.
+    next: Option<Opened>,
+    /// A name that can't be read counts as missing.
+    forgives: bool,
+    /// A call on the open file failed, which was forgiven: the name counts as missing.
+    is_unreadable: bool,
+    /// How long the open file was told to be last.
+    last_len: u64,
+    /// Why the last call failed that did, or found none.
+    why: Reason,
     /// The call by which it broke.
     failed: Option<Broken>,
     /// A look found nothing, and changes weren't looked for since.
@@ -36,17 +47,24 @@ impl Model for DirName {
 
     ghost view = { λ n. record { name = string_bytes n.name; opened = n.opened; failed = n.failed } };
 
-    ghost invariant = { λ n. IfSome n.led_to (λ found. IfSome found (λ file. file.len < 2 ^ 63)) };
+    ghost invariant = { λ n. IfSome n.led_to (λ found. IfSome found (λ file. file.len < 2 ^ 63))
+        × (n.last_len < 2 ^ 63) };
 }
 
 impl DirName {
-    pub(crate) fn new(alloc: Global, name: &str) -> Result<Self, AllocError>
+    /// A name that was not looked at yet. `forgives` is whether it counts as missing where it can't be read.
+    pub(crate) fn new(alloc: Global, name: &str, forgives: bool) -> Result<Self, AllocError>
         ensures { IfOk result (λ watched. watched ≡ added name.now) }
     {
         Ok(DirName {
             name: String::from_str(alloc, name)?,
             opened: None,
             file: None,
+            next: None,
+            forgives,
+            is_unreadable: false,
+            last_len: 0,
+            why: Reason::Other,
             failed: None,
             is_gone: false,
             led_to: None,
@@ -60,6 +78,11 @@ impl DirName {
         ensures { result ≡ self.now.opened }
     {
         self.opened
+    }
+
+    /// Why the last call failed that did, or found none.
+    pub(crate) fn reason(&self) -> Reason {
+        self.why
     }
 
     /// The file that the name leads to; none where it leads nowhere. It is what was found when changes were last looked for, if that
@@ -78,13 +101,91 @@ impl DirName {
             Ok(found) => {
                 self.is_gone = found.is_none();
                 self.led_to = Some(found);
+                self.why = Reason::Missing;
                 Ok(found)
             }
             Err(error) => {
+                self.why = Reason::of(&error);
                 self.break_off(Broken::Look);
                 Err(error)
             }
         }
+    }
+
+    /// The same where a name that can't be read counts as missing: none also where it leads to another file than the open one that
+    /// can't be opened or read, or where a call on the open one failed since it was opened.
+    pub(crate) fn look_forgiving(
+        &mut self,
+        alloc: Global,
+        files: &impl Files<File = File>,
+    ) -> Option<Seen>
+        ensures bound { IfSome result (λ file. file.len < 2 ^ 63) }
+        ensures same { self.new ≡ self.old }
+    {
+        self.lens = 0;
+        let found = self.readable_now(alloc, files);
+        self.is_gone = found.is_none();
+        self.led_to = Some(found);
+        found
+    }
+
+    /// What such a look finds: what was found when changes were last looked for, if that was asked.
+    fn readable_now(&mut self, alloc: Global, files: &impl Files<File = File>) -> Option<Seen>
+        ensures bound { IfSome result (λ file. file.len < 2 ^ 63) }
+        ensures same { self.new ≡ self.old }
+    {
+        if self.is_unreadable {
+            return None;
+        }
+        match self.led_to {
+            Some(found) => found,
+            None => self.find_readable(alloc, files),
+        }
+    }
+
+    /// The file that the name leads to, where it can be read. Another one than the open one is opened to know that, and kept for
+    /// `open_forgiving`.
+    fn find_readable(&mut self, alloc: Global, files: &impl Files<File = File>) -> Option<Seen>
+        ensures bound { IfSome result (λ file. file.len < 2 ^ 63) }
+        ensures same { self.new ≡ self.old }
+    {
+        self.next = None;
+        match find(files, self.name.as_str()) {
+            Ok(Some(seen)) if self.opened == Some(seen.id) => return Some(seen),
+            Ok(Some(_)) => {}
+            Ok(None) => {
+                self.why = Reason::Missing;
+                return None;
+            }
+            Err(error) => {
+                self.why = Reason::of(&error);
+                return None;
+            }
+        }
+        let opened = self.open_readable(alloc, files)?;
+        let seen = opened.seen;
+        self.next = Some(opened);
+        Some(seen)
+    }
+
+    /// Opens the file that the name leads to, where it can be read. None where there is no such file, for whatever reason.
+    fn open_readable(&mut self, alloc: Global, files: &impl Files<File = File>) -> Option<Opened>
+        ensures { self.new ≡ self.old }
+    {
+        match open_readable(alloc, files, self.name.as_str()) {
+            Ok(opened) => Some(opened),
+            Err(why) => {
+                self.why = why;
+                None
+            }
+        }
+    }
+
+    /// Has it count as missing from now on where it can't be read.
+    pub(crate) fn forgive(&mut self)
+        ensures { self.new ≡ self.old }
+    {
+        self.forgives = true;
     }
 
     /// Opens the file that the name leads to, in place of the one that was open, and returns whether there is one. Where there
@@ -113,9 +214,11 @@ impl DirName {
             Ok(None) => {
                 self.opened = None;
                 self.led_to = Some(None);
+                self.why = Reason::Missing;
                 Ok(false)
             }
             Err(error) => {
+                self.why = Reason::of(&error);
                 self.break_off(Broken::Open);
                 Err(error)
             }
@@ -134,20 +237,106 @@ impl DirName {
         open_file(alloc, files, self.name.as_str())
     }
 
+    /// The same where a name that can't be read counts as missing: false also where the file can't be opened or read. It is the one that
+    /// this turn's look opened to know that, and is opened now where no look came before.
+    pub(crate) fn open_forgiving(&mut self, alloc: Global, files: &impl Files<File = File>) -> bool
+        ensures opened { self.new ≡ opens self.new.opened self.old }
+        ensures found { is_some self.new.opened ≡ result }
+    {
+        self.file = None;
+        self.is_unreadable = false;
+        self.last_len = 0;
+        self.lens = 0;
+        self.pace.hurry();
+        match self.take_next(alloc, files) {
+            Some(opened) => {
+                self.opened = Some(opened.seen.id);
+                self.led_to = Some(Some(opened.seen));
+                self.file = Some(opened.file);
+                true
+            }
+            None => {
+                self.opened = None;
+                self.led_to = Some(None);
+                false
+            }
+        }
+    }
+
+    /// The file that is opened next. None where there is none that can be read, or where this turn's look found none.
+    fn take_next(&mut self, alloc: Global, files: &impl Files<File = File>) -> Option<Opened>
+        ensures { self.new ≡ self.old }
+    {
+        let next = self.next.take();
+        if self.is_gone {
+            return None;
+        }
+        match next {
+            Some(opened) => Some(opened),
+            None => self.open_readable(alloc, files),
+        }
+    }
+
     /// How many bytes the open file held when changes were last looked for. Where that can't be told, the name is broken.
     pub(crate) fn len(&mut self) -> Option<u64>
         ensures bound { IfSome result (λ len. len < 2 ^ 63) }
         ensures same { OnSome result (self.new ≡ self.old) }
         ensures broke { IfNone result (self.new ≡ breaks (λ file. Broken.Len file) self.old) }
     {
-        self.lens = self.lens.saturating_add(1);
-        if let Some(file) = &mut self.file {
-            if let Some(len) = file.len() {
-                return Some(len);
+        match self.count() {
+            Ok(len) => Some(len),
+            Err(why) => {
+                self.why = why;
+                self.break_off(Broken::Len(self.opened));
+                None
             }
         }
-        self.break_off(Broken::Len(self.opened));
-        None
+    }
+
+    /// The same where a name that can't be read counts as missing: where it can't be told, the length that was told last, 0 where none
+    /// was, and from now on the name counts as missing.
+    pub(crate) fn len_forgiving(&mut self) -> u64
+        ensures bound { result < 2 ^ 63 }
+        ensures same { self.new ≡ self.old }
+    {
+        match self.count() {
+            Ok(len) => self.last_len = len,
+            Err(why) => {
+                self.why = why;
+                self.is_unreadable = true;
+            }
+        }
+        self.last_len
+    }
+
+    /// How many bytes the open file held when changes were last looked for.
+    ///
+    /// # Errors
+    ///
+    /// Why that can't be told.
+    fn count(&mut self) -> Result<u64, Reason>
+        ensures bound { IfOk result (λ len. len < 2 ^ 63) }
+        ensures same { self.new ≡ self.old }
+    {
+        self.lens = self.lens.saturating_add(1);
+        match &mut self.file {
+            Some(file) => file.len(),
+            None => Err(Reason::Other),
+        }
+    }
+
+    /// Reads the open file once from a place on, and returns how many bytes that gave.
+    ///
+    /// # Errors
+    ///
+    /// Why it failed.
+    fn read(&self, from: u64, buffer: &mut [u8]) -> Result<usize, Reason>
+        ensures { IfOk result (λ n. n ≤ length buffer.old) }
+    {
+        match &self.file {
+            Some(file) => file.read_at(from, buffer),
+            None => Err(Reason::Other),
+        }
     }
 
     /// Reads the open file once from a place on, and returns how many bytes that gave. Where it fails, the name is broken.
@@ -156,13 +345,29 @@ impl DirName {
         ensures same { OnSome result (self.new ≡ self.old) }
         ensures broke { IfNone result (self.new ≡ breaks (λ file. Broken.Read file from) self.old) }
     {
-        if let Some(file) = &self.file {
-            if let Some(n) = file.read_at(from, buffer) {
-                return Some(n);
+        match self.read(from, buffer) {
+            Ok(n) => Some(n),
+            Err(why) => {
+                self.why = why;
+                self.break_off(Broken::Read(self.opened, from));
+                None
             }
         }
-        self.break_off(Broken::Read(self.opened, from));
-        None
+    }
+
+    /// The same where a name that can't be read counts as missing: 0 where it fails, and from now on the name counts as missing.
+    pub(crate) fn read_forgiving(&mut self, from: u64, buffer: &mut [u8]) -> usize
+        ensures bound { result ≤ length buffer.old }
+        ensures same { self.new ≡ self.old }
+    {
+        match self.read(from, buffer) {
+            Ok(n) => n,
+            Err(why) => {
+                self.why = why;
+                self.is_unreadable = true;
+                0
+            }
+        }
     }
 
     fn break_off(&mut self, how: Broken)
@@ -189,17 +394,22 @@ impl DirName {
     }
 
     /// Looks for changes where that is due at this time, and returns whether there is one: the name leads elsewhere than looks were
-    /// told, or its file or the open one has another length, or something came of a stream. What a look found before doesn't count
-    /// from here on.
-    pub(crate) fn has_changed(&mut self, files: &impl Files, now: u64) -> bool
+    /// told, or its file or the open one has another length, or something came of a stream, or a call that failed was forgiven. What a
+    /// look found before doesn't count from here on.
+    pub(crate) fn has_changed(
+        &mut self,
+        alloc: Global,
+        files: &impl Files<File = File>,
+        now: u64,
+    ) -> bool
         ensures { self.new ≡ self.old }
     {
         self.is_gone = false;
         if now < self.pace.due() {
             return false;
         }
-        let is_elsewhere = self.leads_elsewhere(files);
-        let changed = self.has_grown(now) || is_elsewhere;
+        let is_elsewhere = self.leads_elsewhere(alloc, files);
+        let changed = self.has_grown(now) || is_elsewhere || self.is_unreadable;
         self.pace.go_on(now, changed);
         if changed && matches!(&self.file, Some(DirFile::Stream(_))) {
             // More may be there already, and its writer isn't to wait.
@@ -210,7 +420,7 @@ impl DirName {
 
     /// Whether the name leads elsewhere than looks were told, or its file has another length. Where looks ask the open file alone,
     /// the system isn't asked.
-    fn leads_elsewhere(&mut self, files: &impl Files) -> bool
+    fn leads_elsewhere(&mut self, alloc: Global, files: &impl Files<File = File>) -> bool
         ensures { self.new ≡ self.old }
     {
         let told = self.led_to;
@@ -219,8 +429,19 @@ impl DirName {
             self.led_to = None;
             return false;
         }
-        self.led_to = find(files, self.name.as_str()).ok();
+        self.led_to = self.ask(alloc, files);
         told.is_some() && self.led_to != told
+    }
+
+    /// Where the name leads, as the system says now. None where it can't be told.
+    fn ask(&mut self, alloc: Global, files: &impl Files<File = File>) -> Option<Option<Seen>>
+        ensures bound { IfSome result (λ found. IfSome found (λ file. file.len < 2 ^ 63)) }
+        ensures same { self.new ≡ self.old }
+    {
+        if self.forgives {
+            return Some(self.find_readable(alloc, files));
+        }
+        find(files, self.name.as_str()).ok()
     }
 
     /// Whether the open file has another length than looks were told, or something came of it, where it is a stream. Where the name
@@ -290,5 +511,25 @@ fn open_file(
         }
         Err(error) if error.kind() == ErrorKind::NotFound => Ok(None),
         Err(error) => Err(error),
+    }
+}
+
+/// The same where it can be read.
+///
+/// # Errors
+///
+/// Why it can't be opened or read.
+fn open_readable(
+    alloc: Global,
+    files: &impl Files<File = File>,
+    name: &str,
+) -> Result<Opened, Reason> {
+    match open_file(alloc, files, name) {
+        Ok(Some(opened)) => match opened.file.failure() {
+            None => Ok(opened),
+            Some(why) => Err(why),
+        },
+        Ok(None) => Err(Reason::Missing),
+        Err(error) => Err(Reason::of(&error)),
     }
 }

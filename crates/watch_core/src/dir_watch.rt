@@ -1,11 +1,11 @@
-ghost use Rattle.std.specs.Prelude.{◌≡◌, ◌∷◌, ◌++◌, [], ℕ, false, length, IsTrue, IfOk};
-ghost use Rattle.watch_core.specs.DirWatchState.{DirWatchState, any_files, seen};
+ghost use Rattle.std.specs.Prelude.{◌≡◌, ◌∷◌, ◌++◌, [], ℕ, true, false, length, IsTrue, IfOk};
+ghost use Rattle.watch_core.specs.DirWatchState.{DirWatchState, files_by, seen};
 ghost use Rattle.watch_core.specs.inner.DirWatchState.{no_turns};
 
 use crate::dir_name::DirName;
 use crate::process::Process;
 use crate::{Seen, Watch};
-use ports_core::Fault;
+use ports_core::{Fault, Reason};
 use std::alloc::Global;
 use std::fs::File;
 use std::marker::Model;
@@ -29,9 +29,9 @@ const SECOND: u64 = 1000;
 /// without either after a second, or what `wait_at_most` said. A change is another length of a file that is open or that a name
 /// leads to, or a name that comes to lead elsewhere. Each name is asked at a pace of its own, at multiples of 5 ms: at the next one
 /// after it changed, and then after twice as long each time, 50 ms at the most. What comes to a regular file t milliseconds after its
-/// last change is to be seen within t + 5, and within 50. Where a process was asked for, waiting ends at once where that is gone, and within 50 ms where that
-/// comes to be so: where the system lists its processes, and lists none of this number. The next look after that sees all that the
-/// process wrote. Waiting takes no memory, and no thread waits on another.
+/// last change is to be seen within t + 5, and within 50. Where a process was asked for, waiting ends at once where that is gone,
+/// and within 50 ms where that comes to be so: where the system lists its processes, and lists none of this number. The next look
+/// after that sees all that the process wrote. Waiting takes no memory, and no thread waits on another.
 ///
 /// A look is told what was found when its name was asked last, so it asks the system nothing of a name that didn't change. Where
 /// a name leads is one question to the system, which tells the length too where it leads to the open file; where looks ask open
@@ -48,6 +48,12 @@ const SECOND: u64 = 1000;
 ///
 /// At most one file of a name is open; it is given back once another is opened or the name is broken, and all are when this is
 /// dropped.
+///
+/// Where it forgives, a look of a name that leads to another file than the open one opens that, and reads a byte at most, to know that
+/// it can be read; `reopen` takes that file. So two files of a name are open for a moment. Where it can't be opened or read, or the system
+/// can't tell where the name leads, the look finds none, as of a folder, and tries again when the name is asked next, every 50 ms at the
+/// least. A read of the open file that fails gives nothing, and the look that follows finds none; a file that is open and can be read is
+/// read on, whatever becomes of its permissions.
 #[derive(Drop)]
 pub struct DirWatch<R: Files<File = File> + Clock + Drop> {
     runtime: R,
@@ -59,12 +65,14 @@ pub struct DirWatch<R: Files<File = File> + Clock + Drop> {
     names: Vec<DirName>,
     /// The process whose end is waited for.
     process: Option<Process>,
+    /// A name that can't be read counts as missing.
+    forgives: bool,
 }
 
 impl<R: Files<File = File> + Clock + Drop> Model for DirWatch<R> {
     ghost Value = { DirWatchState };
 
-    ghost view = { λ w. record { turns = w.turns; watched = w.names.items } };
+    ghost view = { λ w. record { turns = w.turns; watched = w.names.items; forgives = w.forgives } };
 }
 
 impl<R: Files<File = File> + Clock + Drop> DirWatch<R> {
@@ -79,20 +87,26 @@ impl<R: Files<File = File> + Clock + Drop> DirWatch<R> {
             most: SECOND,
             names: Vec::new(alloc),
             process: None,
+            forgives: false,
         }
     }
 }
 
 /// Looks for changes of the names for which that is due at this time. Returns when the next one is due, at the most 50 ms from then;
 /// none where one has changed.
-fn next_due(files: &impl Files, names: &mut Vec<DirName>, now: u64) -> Option<u64>
+fn next_due(
+    alloc: Global,
+    files: &impl Files<File = File>,
+    names: &mut Vec<DirName>,
+    now: u64,
+) -> Option<u64>
     ensures { names.new.items ≡ names.old.items }
 {
     let mut changed = false;
     let mut due = now.saturating_add(LONGEST);
     for place in 0..names.len() {
         // Each that is due is asked, so that a change ends no second waiting and a stream needn't wait for the others to be silent.
-        if names[place].has_changed(files, now) {
+        if names[place].has_changed(alloc, files, now) {
             changed = true;
         }
         due = due.min(names[place].due());
@@ -112,9 +126,19 @@ fn hurry_all(names: &mut Vec<DirName>)
     }
 }
 
+/// Has all names count as missing from now on where they can't be read.
+fn forgive_all(names: &mut Vec<DirName>)
+    ensures { names.new.items ≡ names.old.items }
+{
+    for place in 0..names.len() {
+        names[place].forgive();
+    }
+}
+
 /// Waits until a name has changed, something came of a stream or this process is gone, `most` milliseconds at most where no stream is
 /// waited for.
-fn wait<R: Files + Clock>(
+fn wait<R: Files<File = File> + Clock>(
+    alloc: Global,
     runtime: &R,
     names: &mut Vec<DirName>,
     process: &Option<Process>,
@@ -125,7 +149,7 @@ fn wait<R: Files + Clock>(
     let mut left = most;
     while left > 0 {
         let now = time_of(runtime);
-        let Some(due) = next_due(runtime, names, now) else {
+        let Some(due) = next_due(alloc, runtime, names, now) else {
             return;
         };
         if has_ended(runtime, process) {
@@ -135,7 +159,7 @@ fn wait<R: Files + Clock>(
         thread::sleep(runtime, Duration::from_millis(pause));
         left -= pause;
     }
-    next_due(runtime, names, time_of(runtime));
+    next_due(alloc, runtime, names, time_of(runtime));
 }
 
 /// What the clock tells, in milliseconds. Where it tells nothing, 0: then each name is always due.
@@ -173,9 +197,11 @@ fn keep(names: &mut Vec<DirName>, name: DirName) -> bool
 impl<R: Files<File = File> + Clock + Drop> Watch for DirWatch<R> {
     ghost seen = { λ watch. seen watch };
 
-    ghost shows = { λ watch n. any_files };
+    ghost shows = { λ watch n. files_by watch.forgives };
 
     ghost watched = { λ watch. watch.watched };
+
+    ghost fails_for = { λ watch place why. true };
 
     ghost told = { false };
 
@@ -184,7 +210,13 @@ impl<R: Files<File = File> + Clock + Drop> Watch for DirWatch<R> {
             return Err(Fault::Memory);
         };
         if self.turns > 0 {
-            wait(&self.runtime, &mut self.names, &self.process, self.most);
+            wait(
+                self.alloc,
+                &self.runtime,
+                &mut self.names,
+                &self.process,
+                self.most,
+            );
         }
         self.turns = turns;
         Ok(())
@@ -209,9 +241,14 @@ impl<R: Files<File = File> + Clock + Drop> Watch for DirWatch<R> {
         self.most = milliseconds.max(SHORTEST);
     }
 
+    fn forgive(&mut self) {
+        self.forgives = true;
+        forgive_all(&mut self.names);
+    }
+
     fn add(&mut self, name: &str) -> Result<usize, Fault> {
         let place = self.names.len();
-        let name = DirName::new(self.alloc, name)?;
+        let name = DirName::new(self.alloc, name, self.forgives)?;
         if keep(&mut self.names, name) {
             return Ok(place);
         }
@@ -219,6 +256,9 @@ impl<R: Files<File = File> + Clock + Drop> Watch for DirWatch<R> {
     }
 
     fn look(&mut self, place: usize) -> Result<Option<Seen>, Fault> {
+        if self.forgives {
+            return Ok(self.names[place].look_forgiving(self.alloc, &self.runtime));
+        }
         let Ok(found) = self.names[place].look(&self.runtime) else {
             return Err(Fault::Open(place));
         };
@@ -226,10 +266,20 @@ impl<R: Files<File = File> + Clock + Drop> Watch for DirWatch<R> {
     }
 
     fn reopen(&mut self, place: usize) -> Result<bool, Fault> {
+        if self.forgives {
+            return Ok(self.names[place].open_forgiving(self.alloc, &self.runtime));
+        }
         let Ok(is_there) = self.names[place].open(self.alloc, &self.runtime) else {
             return Err(Fault::Open(place));
         };
         Ok(is_there)
+    }
+
+    fn reason(&self, place: usize) -> Reason {
+        match self.names.get(place) {
+            Some(name) => name.reason(),
+            None => Reason::Other,
+        }
     }
 
     fn open_id(&self, place: usize) -> Option<u128> {
@@ -240,6 +290,9 @@ impl<R: Files<File = File> + Clock + Drop> Watch for DirWatch<R> {
     }
 
     fn open_len(&mut self, place: usize) -> Result<u64, Fault> {
+        if self.forgives {
+            return Ok(self.names[place].len_forgiving());
+        }
         let Some(len) = self.names[place].len() else {
             return Err(Fault::Read(place));
         };
@@ -247,6 +300,9 @@ impl<R: Files<File = File> + Clock + Drop> Watch for DirWatch<R> {
     }
 
     fn read_at(&mut self, place: usize, from: u64, buffer: &mut [u8]) -> Result<usize, Fault> {
+        if self.forgives {
+            return Ok(self.names[place].read_forgiving(from, buffer));
+        }
         let Some(n) = self.names[place].read_at(from, buffer) else {
             return Err(Fault::Read(place));
         };

@@ -1,9 +1,10 @@
 ghost use Rattle.std.specs.Prelude.{◌≡◌, ◌≤◌, ◌<◌, ◌^◌, ◌++◌, ◌∷◌, [], ℕ, List, Bool, true, length, option_map, take, IfOk, IfErr, OnOk, IfSome, IsTrue};
 ghost use Rattle.ports_core.specs.Slot.{changed_at};
-ghost use Rattle.watch_core.specs.Snapshot.{Snapshot, Found, holds_many, latest, leads_to, reads_as};
+ghost use Rattle.ports_core.specs.declared.reason.Reason.{Reason};
+ghost use Rattle.watch_core.specs.Snapshot.{Snapshot, Found, forgiving, holds_many, latest, leads_to, reads_as};
 ghost use Rattle.watch_core.specs.Watched.{Watched, Reopens, Finds, GaveFrom, watched_at, added, breaks, is_watchable, is_readable, open_contents};
 
-use ports_core::Fault;
+use ports_core::{Fault, Reason};
 
 /// The file that a name leads to.
 #[derive(Clone, Copy, Debug, PartialEq, Eq)]
@@ -30,6 +31,7 @@ pub enum Broken {
 /// Names that are watched in looks, each by its number, from 0 in the order in which they were added. What the names lead to and
 /// what the files hold changes only as a look begins, with `turn`. Of each name one file may be open, which stays what it is when
 /// the name comes to lead elsewhere. A name breaks at its first call that fails, and stays broken: no file of it is open from then on.
+/// A watch that forgives has no call that fails: a name that is there, but can't be opened or read, counts as missing.
 pub trait Watch {
     /// What each look so far could see, in order.
     ghost seen: { Self → List Snapshot };
@@ -39,6 +41,10 @@ pub trait Watch {
 
     /// The names that were added, in order.
     ghost watched: { Self → List Watched };
+
+    /// Whether a name may have failed, or been found to lead nowhere, for this reason, as far as is known: where files are the system's, of
+    /// any reason nothing more is known than that it was said.
+    ghost fails_for: { Self → ℕ → Reason → Bool };
 
     /// Whether the files tell their bytes. Where they don't, nothing is said of what is found and read but that it was found.
     ghost told: { Bool };
@@ -70,6 +76,14 @@ pub trait Watch {
         ensures seen { seen self.new ≡ seen self.old }
         ensures shows { shows self.new ≡ shows self.old };
 
+    /// From now on a name that is there but can't be opened or read counts as missing, and no call on a name fails. Called before the
+    /// first look.
+    fn forgive(&mut self)
+        requires { seen self.old ≡ [] }
+        ensures shows { shows self.new ≡ (λ n. forgiving (shows self.old n)) }
+        ensures watched { watched self.new ≡ watched self.old }
+        ensures seen { seen self.new ≡ seen self.old };
+
     /// Adds a name, and gives its number. No file of it is open.
     ///
     /// # Errors
@@ -86,7 +100,7 @@ pub trait Watch {
     ///
     /// # Errors
     ///
-    /// `Open` where that can't be told: the name is broken.
+    /// `Open` where that can't be told: the name is broken. Not where the watch forgives; nor do the calls below fail there.
     fn look(&mut self, place: usize) -> Result<Option<Seen>, Fault>
         requires { IsTrue (is_watchable (watched self.old) place) }
         ensures ok { IfOk result (λ found. told ≡ true
@@ -98,6 +112,7 @@ pub trait Watch {
         ensures err { IfErr result
             (λ fault. (fault ≡ Fault.Open place)
             × (watched self.new ≡ changed_at place (breaks (λ file. Broken.Look)) (watched self.old))) }
+        ensures breaks { IfErr result (λ _. (latest (seen self.old)).breaks ≡ true) }
         ensures seen { seen self.new ≡ seen self.old }
         ensures shows { shows self.new ≡ shows self.old };
 
@@ -113,8 +128,14 @@ pub trait Watch {
         ensures err { IfErr result
             (λ fault. (fault ≡ Fault.Open place)
             × (watched self.new ≡ changed_at place (breaks (λ file. Broken.Open)) (watched self.old))) }
+        ensures breaks { IfErr result (λ _. (latest (seen self.old)).breaks ≡ true) }
         ensures seen { seen self.new ≡ seen self.old }
         ensures shows { shows self.new ≡ shows self.old };
+
+    /// Why the last call on the name failed that did, or found that it leads nowhere, also where that was forgiven. `Other` where that
+    /// isn't known.
+    fn reason(&self, place: usize) -> Reason
+        ensures { IsTrue (fails_for self.now place result) };
 
     /// The identity of the open file; none where none is open.
     fn open_id(&self, place: usize) -> Option<u128>
@@ -136,11 +157,12 @@ pub trait Watch {
         ensures err { IfErr result
             (λ fault. (fault ≡ Fault.Read place)
             × (watched self.new ≡ changed_at place (breaks (λ file. Broken.Len file)) (watched self.old))) }
+        ensures breaks { IfErr result (λ _. (latest (seen self.old)).breaks ≡ true) }
         ensures seen { seen self.new ≡ seen self.old }
         ensures shows { shows self.new ≡ shows self.old };
 
     /// Fills a beginning of the buffer with the open file's bytes from a place on, and returns how many there are: 0 only from
-    /// its end on, or for an empty buffer, by which nothing is found.
+    /// its end on, or for an empty buffer, by which nothing is found; or where a real file can't be read, and the watch forgives.
     ///
     /// # Errors
     ///
@@ -159,6 +181,7 @@ pub trait Watch {
         ensures err { IfErr result
             (λ fault. (fault ≡ Fault.Read place)
             × (watched self.new ≡ changed_at place (breaks (λ file. Broken.Read file from)) (watched self.old))) }
+        ensures breaks { IfErr result (λ _. (latest (seen self.old)).breaks ≡ true) }
         ensures seen { seen self.new ≡ seen self.old }
         ensures shows { shows self.new ≡ shows self.old };
 }

@@ -3,6 +3,7 @@ use Rattle.std.proofs.lemmas.Grind.{common_steps}
 use Rattle.std.proofs.Common.{◌≡◌, ◌≤◌, ◌↔◌, ℕ, Bool, true, false, ◌||◌, arith, List, [], ◌∷◌, ◌++◌, length, Option, Some, None, Result, Ok, Err, refl, ◌∙◌, ap, is_some, if◌then◌else◌, filter, IsOk, rules}
 use Rattle.std.specs.Option.{unwrap_or}
 use Rattle.std.proofs.lemmas.Bool.{or_parts}
+use Rattle.ports_core.specs.declared.calling.Calling.{Calling}
 use Rattle.ports_core.specs.declared.fault.Fault.{Fault}
 use Rattle.ports_core.specs.declared.fault.Fault.TheVariants.{Usage}
 use Rattle.ports_core.specs.declared.fault.UsageKind.TheVariants.{TwoWays}
@@ -139,13 +140,13 @@ module _ (before after : List Chosen) (word : ℕ) where
     from [] = refl
     from (option ∷ front) = ap (λ those. if is_way option then option ∷ those else those) (from front)
 
-  no_work : (which : Tool) (operands : List GivenOperand) → work_for which (record { options = with_it; operands = operands }) ≡ work_for which (record { options = before ++ after; operands = operands })
-  no_work tool.Head operands = rw (left_out ends_by (ten_lines (names_asked operands)) (λ asked. refl)) refl
-  no_work tool.Tail operands = rw (left_out tail_by (unfollowed (ten_lines (names_asked operands))) (λ asked. refl), left_out retry_by false (λ asked. refl)) refl
-  no_work tool.Split operands = rw (no_way, left_out delim_by 10 (λ asked. refl), left_out split_by no_options (λ asked. refl)) refl
-  no_work tool.Csplit operands = rw (left_out csplit_by plain (λ asked. refl)) refl
-  no_work tool.Tee operands = rw (left_out tee_by (fresh (texts_of operands)) (λ asked. refl)) refl
-  no_work tool.Cutters operands = refl
+  no_work : (calling : Calling) (which : Tool) (operands : List GivenOperand) → work_for calling which (record { options = with_it; operands = operands }) ≡ work_for calling which (record { options = before ++ after; operands = operands })
+  no_work calling tool.Head operands = rw (left_out ends_by (ten_lines (names_asked operands)) (λ asked. refl)) refl
+  no_work calling tool.Tail operands = rw (left_out tail_by (unfollowed (ten_lines (names_asked operands))) (λ asked. refl), left_out retry_by false (λ asked. refl)) refl
+  no_work calling tool.Split operands = rw (no_way, left_out delim_by 10 (λ asked. refl), left_out split_by no_options (λ asked. refl)) refl
+  no_work calling tool.Csplit operands = rw (left_out csplit_by plain (λ asked. refl)) refl
+  no_work calling tool.Tee operands = rw (left_out tee_by (fresh calling (texts_of operands)) (λ asked. refl)) refl
+  no_work calling tool.Cutters operands = refl
 
   no_topic : topic_in with_it ≡ topic_in (before ++ after)
   no_topic = from before where
@@ -153,10 +154,10 @@ module _ (before after : List Chosen) (word : ℕ) where
     from [] = refl
     from (option ∷ front) = ap (or_later (topic_of option.choice)) (from front)
 
-  pub no_effect : (which : Tool) (operands : List GivenOperand) → settings_for which (record { options = with_it; operands = operands }) ≡ settings_for which (record { options = before ++ after; operands = operands })
-  no_effect which operands =
-      ap (λ topic. about_or which topic (work_for which (record { options = with_it; operands = operands }))) no_topic
-      ∙ ap (about_or which (topic_in (before ++ after))) (no_work which operands)
+  pub no_effect : (calling : Calling) (which : Tool) (operands : List GivenOperand) → settings_for calling which (record { options = with_it; operands = operands }) ≡ settings_for calling which (record { options = before ++ after; operands = operands })
+  no_effect calling which operands =
+      ap (λ topic. about_or which topic (work_for calling which (record { options = with_it; operands = operands }))) no_topic
+      ∙ ap (about_or which (topic_in (before ++ after))) (no_work calling which operands)
 
 -- what an option without a value asks is so where it is given
 

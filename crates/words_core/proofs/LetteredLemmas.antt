@@ -1,33 +1,34 @@
 -- Lemmas on a first word of a hyphen, digits and letters.
 use Rattle.std.proofs.lemmas.Grind.{common_steps}
 use Rattle.std.proofs.lemmas.Bool.Decides.{nat_tests}
-use Rattle.std.proofs.lemmas.Bool.{and_parts}
+use Rattle.std.proofs.lemmas.Bool.{and_parts, lt-ltb}
 use Rattle.std.proofs.Math.Seq.{drop-append_seam, take-append_seam}
 use Rattle.std.specs.Char.{is_ascii_digit}
-use Rattle.std.specs.List.{list_all, prefix_len}
+use Rattle.std.specs.List.{AllByRecursion, list_all, prefix_len}
+use Rattle.std.proofs.lemmas.List.Elements.{recursion_from_All}
 use Rattle.std.specs.Prelude.{nat_lt, bytes_eq, ⊤}
-use Rattle.std.proofs.Common.{◌≡◌, ◌⊎◌, inl, inr, refl, ℕ, ◌≤◌, ◌==◌, Bool, true, false, if◌then◌else◌, arith, List, [], ◌∷◌, ◌++◌, ◌*◌, length, Some, None, Result, Ok, Err, sym, ◌∙◌, rules}
+use Rattle.std.proofs.Common.{◌≡◌, ◌⊎◌, inl, inr, refl, ℕ, ◌≤◌, ◌==◌, Bool, true, false, if◌then◌else◌, arith, List, [], ◌∷◌, ◌++◌, ◌*◌, length, Some, None, Result, Ok, Err, sym, ap, ◌∙◌, rules}
 use Rattle.seg_core.specs.declared.count.Count.{Count}
-use Rattle.seg_core.specs.Count.{after_digits, is_number, leading_digits, sized, value_of}
+use Rattle.seg_core.specs.Count.{after_digits, is_number, leading_digits, sized}
 use Rattle.ports_core.specs.declared.fault.Fault.{Fault}
 use Rattle.ports_core.specs.declared.fault.Fault.TheVariants.{Usage}
 use Rattle.ports_core.specs.declared.fault.UsageKind.TheVariants.{UnknownOption}
 use Rattle.words_core.specs.declared.table.Letters.TheVariants.{OfHead, OfTail}
 use Rattle.ports_core.specs.declared.fault.UsageKind.{UsageKind}
 use Rattle.words_core.specs.declared.spelling.State.{State}
-use Rattle.seg_core.specs.declared.count.Sign.TheVariants.{Plain}
+use Rattle.seg_core.specs.declared.count.Sign.{Sign}
 use Rattle.seg_core.specs.declared.unit.Unit.{Unit as Measured}
 use Rattle.seg_core.specs.declared.unit.Unit.TheVariants.{Lines}
 use Rattle.words_core.specs.declared.choice.Choice.{Choice}
 use Rattle.words_core.specs.declared.choice.Choice.TheVariants.{Amount}
 use Rattle.words_core.specs.declared.table.Takes.{Takes}
 use Rattle.words_core.specs.declared.table.Takes.TheVariants as takes
-use Rattle.words_core.specs.Laws.{IsSwitch}
-use Rattle.words_core.specs.Given.{Given, bare, joined, one_option}
+use Rattle.words_core.specs.Laws.{HasLetters, IsSwitch, how_many, of_lines, of_unit}
+use Rattle.words_core.specs.Given.{Given, joined, nothing, one_option}
 use Rattle.words_core.specs.Lettered.{counted_with, is_lettered, unit_of, switched, switches, without_digits, times, unit_in, with_letters}
-use Rattle.words_core.specs.Spelling.{given_at, mixed, option_lettered, reading}
+use Rattle.words_core.specs.Spelling.{Meaning, cluster, given_at, lettered, mixed, option_lettered, reading}
 use Rattle.words_core.specs.Table.{OptionRow, alone, head_table, is_among, tail_table}
-use Rattle.words_core.specs.Value.{counted}
+use Rattle.words_core.specs.Value.{counted, then_check}
 use Rattle.words_core.specs.inner.Spelling.{Adds}
 
 adds_both : (old one more : Given) (new : Given) (result : Result State Fault) → Adds (reading more) (joined old one) new result → Adds (reading (joined one more)) old new result
@@ -35,11 +36,11 @@ adds_both old one more new (Ok next) is = grind (arith, common_steps)
 adds_both old one more new (Err fault) is = search rules
 
 -- the count was added, and then the options
-pub adds_count : (rows : List OptionRow) (place : ℕ) (text : List ℕ) (unit : Measured × ℕ) (counted : Result Count UsageKind) {count : Count} (old mid new : Given) (result : Result State Fault)
-    → unit ≡ unit_in (after_digits text) → counted ≡ times (leading_digits text) unit.1 → counted ≡ Ok count → mid ≡ joined old (one_option (Amount unit.0 count) place)
-    → Adds (reading (switches rows place (after_digits text))) mid new result → Adds (given_at place (with_letters rows place text)) old new result
-adds_count rows place text unit counted {count} old mid new result which many is met adds =
-    let told : times (leading_digits text) (unit_in (after_digits text)).1 ≡ Ok count = rw (← which) (sym many ∙ is) in
+pub adds_count : (rows : List OptionRow) (sign : Sign) (place : ℕ) (text : List ℕ) (unit : Measured × ℕ) (counted : Result Count UsageKind) {count : Count} (old mid new : Given) (result : Result State Fault)
+    → unit ≡ unit_in (after_digits text) → counted ≡ times sign (leading_digits text) unit.1 → counted ≡ Ok count → mid ≡ joined old (one_option (Amount unit.0 count) place)
+    → Adds (reading (switches rows place (after_digits text))) mid new result → Adds (given_at place (with_letters rows sign place text)) old new result
+adds_count rows sign place text unit counted {count} old mid new result which many is met adds =
+    let told : times sign (leading_digits text) (unit_in (after_digits text)).1 ≡ Ok count = rw (← which) (sym many ∙ is) in
     rw told (rw (← which) (adds_both old (one_option (Amount unit.0 count) place) _ new result (rw met at adds)))
 
 -- such a word means nothing else
@@ -62,11 +63,11 @@ found_by : (P : List ℕ → Type 0) (known text : List ℕ) (names : List (List
 found_by P known text names true same is first more = search rules
 found_by P known text names false other is first more = more is
 
-abbrev AreAll : (List ℕ → Type 0) → List (List ℕ) → Type 0
+abbrev pub AreAll : (List ℕ → Type 0) → List (List ℕ) → Type 0
 AreAll P [] = ⊤
 AreAll P (name ∷ names) = P name × AreAll P names
 
-begins_with_unit : (P : List ℕ → Type 0) (names : List (List ℕ)) (text : List ℕ) → is_among names text ≡ true → AreAll P names → P text
+pub begins_with_unit : (P : List ℕ → Type 0) (names : List (List ℕ)) (text : List ℕ) → is_among names text ≡ true → AreAll P names → P text
 begins_with_unit P [] text is all = absurd (cc)
 begins_with_unit P (known ∷ names) text is all = found_by P known text names (bytes_eq known text) refl is all.0 (λ among. begins_with_unit P names text among all.1)
 
@@ -81,33 +82,101 @@ tail_letters text place is =
 
 -- what the letters after digits ask
 
-digits_in : (digits rest : List ℕ) → list_all is_ascii_digit digits ≡ true → prefix_len is_ascii_digit rest ≡ 0 → prefix_len is_ascii_digit (digits ++ rest) ≡ length digits
+pub digits_in : (digits rest : List ℕ) → list_all is_ascii_digit digits ≡ true → prefix_len is_ascii_digit rest ≡ 0 → prefix_len is_ascii_digit (digits ++ rest) ≡ length digits
 digits_in [] rest all none = none
 digits_in (digit ∷ digits) rest all none =
     let both = and_parts (is_ascii_digit digit) _ all in
     let more = digits_in digits rest both.1 none in
     rw (both.0) (omega (arith, more))
 
-pub one_letter : (rows : List OptionRow) (digits : List ℕ) (letter place : ℕ) → is_number digits ≡ true → is_ascii_digit letter ≡ false
-    → with_letters rows place (digits ++ letter ∷ []) ≡ counted_with (unit_in (letter ∷ [])).0 place (switches rows place (letter ∷ [])) (times digits (unit_in (letter ∷ [])).1)
-one_letter rows digits letter place number other = search (rules, digits_in, nat_tests, common_steps, take-append_seam, drop-append_seam)
-
-not_empty : (digits : List ℕ) → is_number digits ≡ true → (length digits == 0) ≡ false
+pub not_empty : (digits : List ℕ) → is_number digits ≡ true → (length digits == 0) ≡ false
 not_empty [] is = absurd (cc)
 not_empty (digit ∷ digits) is = grind (arith, nat_tests)
 
 unit_is_no_digit : (letter : ℕ) {unit : Measured × ℕ} → unit_of letter ≡ Some unit → is_ascii_digit letter ≡ false
 unit_is_no_digit letter is = search rules
 
-pub unit_asks : (rows : List OptionRow) (digits : List ℕ) (letter place : ℕ) (unit : Measured × ℕ) (count : Count) → is_number digits ≡ true → unit_of letter ≡ Some unit → counted (sized Plain (value_of digits * unit.1)) ≡ Ok count
-    → with_letters rows place (digits ++ letter ∷ []) ≡ Ok (one_option (Amount unit.0 count) place)
-unit_asks rows digits letter place unit count number is many = grind (arith, common_steps, one_letter, unit_is_no_digit, not_empty)
+-- the digits and the letters of such a text
 
-switched_so : (place : ℕ) (takes : Takes) {choice : Choice} → alone takes ≡ Some choice → switched place (Some takes) ≡ bare choice place
-switched_so place (takes.Nothing choice) is = cc
-switched_so place (takes.Optional choice kind) is = cc
-switched_so place other is = absurd (cc)
+abbrev pub HasParts : (text digits letters : List ℕ) → Type 0
+HasParts text digits letters = (leading_digits text ≡ digits) × (after_digits text ≡ letters)
 
-pub option_asks : (rows : List OptionRow) (digits : List ℕ) (letter place : ℕ) (choice : Choice) (count : Count) → is_number digits ≡ true → unit_of letter ≡ None → is_ascii_digit letter ≡ false → IsSwitch rows letter choice
-    → counted (sized Plain (value_of digits)) ≡ Ok count → with_letters rows place (digits ++ letter ∷ []) ≡ Ok (joined (one_option (Amount Lines count) place) (bare choice place))
-option_asks rows digits letter place choice count number is other switch many = grind (arith, common_steps, one_letter, not_empty, switched_so)
+pub parts : (digits letters : List ℕ) → list_all is_ascii_digit digits ≡ true → prefix_len is_ascii_digit letters ≡ 0 → HasParts (digits ++ letters) digits letters
+parts digits letters all none =
+    let count : prefix_len is_ascii_digit (digits ++ letters) ≡ length digits = digits_in digits letters all none in
+    (rw count (take-append_seam digits letters), rw count (drop-append_seam digits letters))
+
+lettered_so : (place : ℕ) (rest : List ℕ) (takes : Takes) (given : Given) {choice : Choice} → alone takes ≡ Some choice → lettered place rest (reading given) (Some takes) ≡ reading (joined (switched place (Some takes)) given)
+lettered_so place rest (takes.Nothing choice) given is = refl
+lettered_so place rest (takes.Optional choice kind) given is = refl
+lettered_so place rest other given is = absurd (cc)
+
+abbrev given_in : Result Meaning Fault → Given
+given_in (Ok meaning) = meaning.given
+given_in (Err fault) = nothing
+
+same_given : {one other : Given} → reading one ≡ reading other → one ≡ other
+same_given is = ap given_in is
+
+module _ (rows : List OptionRow) where
+  -- letters of options
+
+  abbrev pub IsOther : ℕ → Type 0
+  IsOther letter = (unit_of letter ≡ None) × (is_ascii_digit letter ≡ false) × (choice : Choice) × IsSwitch rows letter choice
+
+  abbrev pub AreOthers : List ℕ → Type 0
+  AreOthers letters = AllByRecursion IsOther letters
+
+  pub no_digit : (letters : List ℕ) → AreOthers letters → prefix_len is_ascii_digit letters ≡ 0
+  no_digit [] are = refl
+  no_digit (letter ∷ letters) are = rw are.0.1 refl
+
+  no_unit : (letters : List ℕ) → AreOthers letters → unit_in letters ≡ (Lines, 1)
+  no_unit [] are = refl
+  no_unit (letter ∷ letters) are = rw (are.0.0, no_unit letters are.1) refl
+
+  as_cluster : (place : ℕ) (letters : List ℕ) → AreOthers letters → cluster rows place letters ≡ reading (switches rows place letters)
+  as_cluster place [] are = refl
+  as_cluster place (letter ∷ letters) are =
+      let switch = are.0.3 in
+      let found : option_lettered rows letter ≡ Some switch.takes = rw (lt-ltb letter 128 switch.ascii) switch.named in
+      rw (as_cluster place letters are.1, found, switch.named, are.0.0) (lettered_so place letters switch.takes (switches rows place letters) switch.alone)
+
+  -- one letter among them says what is counted
+
+  pub no_digit_first : (before : List ℕ) (letter : ℕ) (after : List ℕ) {unit : Measured × ℕ} → unit_of letter ≡ Some unit → AreOthers (before ++ after) → prefix_len is_ascii_digit (before ++ letter ∷ after) ≡ 0
+  no_digit_first [] letter after is are = rw (unit_is_no_digit letter is) refl
+  no_digit_first (one ∷ before) letter after is are = rw are.0.1 refl
+
+  the_unit : (before : List ℕ) (letter : ℕ) (after : List ℕ) {unit : Measured × ℕ} → unit_of letter ≡ Some unit → AreOthers (before ++ after) → unit_in (before ++ letter ∷ after) ≡ unit
+  the_unit [] letter after is are = rw is refl
+  the_unit (one ∷ before) letter after is are = rw are.0.0 (the_unit before letter after is are.1)
+
+  their_switches : (place : ℕ) (before : List ℕ) (letter : ℕ) (after : List ℕ) {unit : Measured × ℕ} → unit_of letter ≡ Some unit → switches rows place (before ++ letter ∷ after) ≡ switches rows place (before ++ after)
+  their_switches place [] letter after is = rw is refl
+  their_switches place (one ∷ before) letter after is = rw (their_switches place before letter after is) refl
+
+  -- what such a text asks
+
+  checked : (unit : Measured) (place : ℕ) (given : Given) (count : Result Count UsageKind) → counted_with unit place given count ≡ then_check count (λ count. Ok (joined (one_option (Amount unit count) place) given))
+  checked unit place given (Ok count) = refl
+  checked unit place given (Err fault) = refl
+
+  asked_by_parts : (sign : Sign) (text : List ℕ) {digits letters : List ℕ} {unit : Measured × ℕ} (place : ℕ) {given : Given} → HasParts text digits letters → unit_in letters ≡ unit → switches rows place letters ≡ given
+      → with_letters rows sign place text ≡ then_check (counted (sized sign (how_many digits * unit.1))) (λ count. Ok (joined (one_option (Amount unit.0 count) place) given))
+  asked_by_parts sign text {digits = digits} {unit = unit} place {given} has unit_is given_is =
+      rw (has.0, has.1, unit_is, given_is) (checked unit.0 place given (counted (sized sign (how_many digits * unit.1))))
+
+  given_so : (place : ℕ) (options : List ℕ) {given : Given} → AreOthers options → cluster rows place options ≡ reading given → switches rows place options ≡ given
+  given_so place options are is = same_given (sym (as_cluster place options are) ∙ is)
+
+  pub letters_ask : (sign : Sign) (text digits options : List ℕ) (unit : Measured × ℕ) (place : ℕ) (given : Given) → HasLetters rows text digits options unit → cluster rows place options ≡ reading given
+      → with_letters rows sign place text ≡ then_check (counted (sized sign (how_many digits * unit.1))) (λ count. Ok (joined (one_option (Amount unit.0 count) place) given))
+  letters_ask sign text digits options unit place given (of_lines is all are) gives =
+      let others = recursion_from_All IsOther options are in
+      asked_by_parts sign text {letters = options} place (rw is (parts digits options all (no_digit options others))) (no_unit options others) (given_so place options others gives)
+  letters_ask sign text digits options unit place given (of_unit before letter after says is options_are all are) gives =
+      let others : AreOthers (before ++ after) = rw options_are at (recursion_from_All IsOther options are) in
+      asked_by_parts sign text {letters = before ++ letter ∷ after} place (rw is (parts digits (before ++ letter ∷ after) all (no_digit_first before letter after says others)))
+      (the_unit before letter after says others)
+      (their_switches place before letter after says ∙ given_so place (before ++ after) others (rw options_are at gives))

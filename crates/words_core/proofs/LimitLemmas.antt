@@ -3,6 +3,7 @@ use Rattle.std.proofs.lemmas.Grind.{common_steps}
 use Rattle.std.proofs.Common.{◌≡◌, ℕ, zero, suc, ◌+◌, ◌-◌, ◌^◌, ◌≤◌, false, arith, List, [], ◌∷◌, ◌++◌, Option, Some, None, Result, Ok, Err, IfOk, inl, inr, ◌⊎◌, rules}
 use Rattle.std.proofs.lemmas.Bool.{cond_both}
 use Rattle.std.specs.Prelude.{⊤, IfSome, filter, ◌==◌}
+use Rattle.ports_core.specs.declared.calling.Calling.{Calling}
 use Rattle.ports_core.specs.declared.fault.Fault.{Fault}
 use Rattle.ports_core.specs.declared.alphabet.Alphabet.{Alphabet}
 use Rattle.ports_core.specs.declared.alphabet.Alphabet.TheVariants.{Letters, Digits, Hex, Capitals, Octal}
@@ -158,18 +159,18 @@ asked-can given sound =
     then_check-kept (λ _. ⊤) CanSplit (files_in given.operands) _ (anything (files_in given.operands)) (λ files _.
     record { way = is; width = those.1; named = those.0 })))
 
-work-can : (which : Tool) (given : Given) → AreSound given.options → IfOk (work_for which given) CanRun
-work-can tool.Tail given sound = search rules
-work-can tool.Split given sound = then_check-kept CanSplit CanRun (split_asked given) _ (asked-can given sound) (λ asked is. is)
-work-can tool.Csplit given sound = grind (arith, common_steps)
-work-can which given sound = tt
+work-can : (calling : Calling) (which : Tool) (given : Given) → AreSound given.options → IfOk (work_for calling which given) CanRun
+work-can calling tool.Tail given sound = search rules
+work-can calling tool.Split given sound = then_check-kept CanSplit CanRun (split_asked given) _ (asked-can given sound) (λ asked is. is)
+work-can calling tool.Csplit given sound = grind (arith, common_steps)
+work-can calling which given sound = tt
 
 about-can : (which : Tool) (topic : Option Topic) (work : Result Settings Fault) → IfOk work CanRun → IfOk (about_or which topic work) CanRun
 about-can which (Some topic) work can = tt
 about-can which None work can = can
 
-settled-can : (which : Tool) (given : Given) → AreSound given.options → IfOk (settings_for which given) CanRun
-settled-can which given sound = about-can which (topic_in given.options) (work_for which given) (work-can which given sound)
+settled-can : (calling : Calling) (which : Tool) (given : Given) → AreSound given.options → IfOk (settings_for calling which given) CanRun
+settled-can calling which given sound = about-can which (topic_in given.options) (work_for calling which given) (work-can calling which given sound)
 
 -- what the tools' options ask for without a value is within the limits
 tools-safe : (name : List ℕ) → IfSome (row_named tools name) (λ row. AreSafe row.options)
@@ -177,10 +178,10 @@ unfolding tools
 tools-safe name = search rules
 
 -- what was read of words can be done
-pub read-can : (name : List ℕ) {rows : List ToolRow} {row : ToolRow} (words : List (List ℕ)) {given : Given} (result : Result Settings Fault) → rows ≡ tools → Some row ≡ row_named rows name → given_by row words ≡ Ok given → IfOk result (λ settings. settings_for row.tool given ≡ Ok settings)
+pub read-can : (calling : Calling) (name : List ℕ) {rows : List ToolRow} {row : ToolRow} (words : List (List ℕ)) {given : Given} (result : Result Settings Fault) → rows ≡ tools → Some row ≡ row_named rows name → given_by calling row words ≡ Ok given → IfOk result (λ settings. settings_for calling row.tool given ≡ Ok settings)
     → IfOk result CanRun
-read-can name {row = row} words {given} (Ok settings) all named read is =
+read-can calling name {row = row} words {given} (Ok settings) all named read is =
     let known : Some row ≡ row_named tools name = rw all at named in
     let safe : AreSafe row.options = rw (← known) at (tools-safe name) in
-    rw is at (settled-can row.tool given ((gives row.options words 1 (start_of row.number) given read).0 safe))
-read-can name words (Err fault) all named read is = tt
+    rw is at (settled-can calling row.tool given ((gives row.options words 1 (start_of calling row.number) given read).0 safe))
+read-can calling name words (Err fault) all named read is = tt

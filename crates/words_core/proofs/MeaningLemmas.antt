@@ -4,6 +4,8 @@ use Rattle.std.proofs.Common.{◌≡◌, refl, ℕ, ◌-◌, ◌^◌, ◌==◌, 
 use Rattle.std.specs.Prelude.{⊤, IfSome, nat_lt}
 use Rattle.seg_core.specs.Count.{after_digits, is_number, leading_digits}
 use Rattle.seg_core.specs.declared.count.Count.{Count}
+use Rattle.seg_core.specs.declared.count.Sign.{Sign}
+use Rattle.seg_core.specs.declared.count.Sign.TheVariants.{Plain, Plus}
 use Rattle.seg_core.specs.declared.unit.Unit.{Unit as Measured}
 use Rattle.ports_core.specs.declared.fault.Fault.{Fault}
 use Rattle.ports_core.specs.declared.fault.UsageKind.{UsageKind}
@@ -22,7 +24,7 @@ use Rattle.words_core.specs.Division.{all_in, division_in, numbers_in}
 use Rattle.words_core.specs.declared.division.Dealing.{Dealing}
 use Rattle.words_core.specs.SplitWords.{AreFew}
 use Rattle.words_core.specs.Given.{Given, GivenOperand, bare, joined}
-use Rattle.words_core.specs.Lettered.{counted_with, is_lettered, is_unit, letter_named, switched, switches, times, unit_in, with_letters}
+use Rattle.words_core.specs.Lettered.{counted_with, is_lettered, is_start, is_unit, letter_named, switched, switches, times, unit_in, with_letters}
 use Rattle.words_core.specs.Spelling.{Meaning, before, said, valued, lettered, option_lettered, cluster, after_equals, named, dashed, foremost, given_at, mixed, meaning_of}
 use Rattle.ports_core.specs.declared.fault.Fault.TheVariants.{Usage}
 use Rattle.words_core.proofs.SpellingLemmas.{either}
@@ -196,8 +198,8 @@ module _ (rows : List OptionRow) (place : ℕ) where
   counted-gives unit options (Ok count) is = (λ safe. (tt, is.0 safe), is.1, tt)
   counted-gives unit options (Err fault) is = omega arith
 
-  numbered-gives : (text : List ℕ) → GivesOptions rows place (given_at place (with_letters rows place text))
-  numbered-gives text = counted-gives (unit_in (after_digits text)).0 _ (times (leading_digits text) (unit_in (after_digits text)).1) (switches-give (after_digits text))
+  numbered-gives : (sign : Sign) (text : List ℕ) → GivesOptions rows place (given_at place (with_letters rows sign place text))
+  numbered-gives sign text = counted-gives (unit_in (after_digits text)).0 _ (times sign (leading_digits text) (unit_in (after_digits text)).1) (switches-give (after_digits text))
 
   dashed-gives : (rest : List ℕ) → GivesOptions rows place (dashed rows place rest)
   dashed-gives [] = (λ _. tt, refl, tt)
@@ -213,12 +215,14 @@ module _ (rows : List OptionRow) (place : ℕ) where
 
   pub meaning-gives : (state : State) (word : List ℕ) → GivesItself rows place word (meaning_of rows state place word)
   unfolding foremost
-  meaning-gives (First kind letters) [] = (λ _. tt, inr refl, tt)
-  meaning-gives (First kind letters) (byte ∷ text) =
+  meaning-gives (First calling kind letters) [] = (λ _. tt, inr refl, tt)
+  meaning-gives (First calling kind letters) (byte ∷ text) =
       either (GivesItself rows place (byte ∷ text)) (byte == 45 && is_number text) _ _
       (options_alone (byte ∷ text) _ (valued-gives kind place text))
       (either (GivesItself rows place (byte ∷ text)) (byte == 45 && is_lettered rows letters text) _ _
-      (options_alone (byte ∷ text) _ (numbered-gives text)) (mixed-gives (byte ∷ text)))
+      (options_alone (byte ∷ text) _ (numbered-gives Plain text))
+      (either (GivesItself rows place (byte ∷ text)) (byte == 43 && is_start calling rows letters text) _ _
+      (options_alone (byte ∷ text) _ (numbered-gives Plus text)) (mixed-gives (byte ∷ text))))
   meaning-gives Reading word = mixed-gives word
   meaning-gives (Awaiting kind option) word = options_alone word _ (valued-gives kind option word)
   meaning-gives OnlyOperands word = (λ _. tt, inr refl, tt)

@@ -1,19 +1,20 @@
 -- Lemmas on the ways in which the value of an option is spelled.
 use Rattle.std.proofs.lemmas.Grind.{common_steps}
-use Rattle.std.proofs.Common.{◌≡◌, ◌≢◌, ℕ, ◌+◌, ◌==◌, not, false, arith, List, [], ◌∷◌, ◌++◌, length, Option, Some, None, Ok, cond, refl, ap, ◌∙◌, append-nil, rules}
+use Rattle.std.proofs.Common.{◌≡◌, ◌≢◌, ℕ, ◌+◌, ◌==◌, not, false, arith, List, [], ◌∷◌, ◌++◌, length, Option, Some, None, Result, Ok, cond, refl, ap, ◌∙◌, append-nil, rules}
 use Rattle.std.specs.List.{list_any, position_or_len, before_first}
 use Rattle.std.proofs.lemmas.Bool.{cond-false, cond-true, eq-eqb, ne_eqb, or_parts}
 use Rattle.std.proofs.Math.Seq.{take-append_seam, drop-append-add, take-length}
 use Rattle.words_core.specs.declared.choice.Choice.{Choice}
 use Rattle.words_core.specs.declared.choice.Kind.{Kind}
+use Rattle.ports_core.specs.declared.fault.UsageKind.{UsageKind}
 use Rattle.words_core.specs.declared.table.Takes.{Takes}
 use Rattle.words_core.specs.declared.table.Takes.TheVariants as takes
 use Rattle.words_core.specs.declared.spelling.State.TheVariants.{Reading}
-use Rattle.words_core.specs.Table.{OptionRow, option_named}
+use Rattle.words_core.specs.Table.{OptionRow, alone, option_called}
 use Rattle.words_core.specs.Choice.{choice_in}
-use Rattle.words_core.specs.declared.settings.Topic.{Topic}
-use Rattle.words_core.specs.Spelling.{after_equals, awaiting, ending, is_equals, long, mixed, named, spelled}
-use Rattle.words_core.specs.Laws.{Gives, IsLast, IsLetter, IsName}
+use Rattle.words_core.specs.Given.{bare}
+use Rattle.words_core.specs.Spelling.{after_equals, awaiting, given_before, is_equals, long, mixed, named, reading, spelled, valued}
+use Rattle.words_core.specs.Laws.{Gives, IsLetter, IsLong, kind_of}
 
 -- a letter
 
@@ -62,36 +63,44 @@ no_equals_in front none = grind (arith, common_steps, cond-true, eq-eqb, no_plac
 all_name : (front : List ℕ) → list_any is_equals front ≡ false → before_first is_equals front ≡ front
 all_name front none = rw (no_place front none, take-length front)
 
-by_its_name : (rows : List OptionRow) (place : ℕ) (word : List ℕ) {name : List ℕ} {option : Takes} {value : Option (List ℕ)} → before_first is_equals word ≡ name → after_equals word ≡ value → option_named rows name ≡ Some option
-    → long rows place word ≡ named place (Ok option) value
+by_its_name : (rows : List OptionRow) (place : ℕ) (word : List ℕ) {name : List ℕ} {meant : Result Takes UsageKind} {value : Option (List ℕ)} → before_first is_equals word ≡ name → after_equals word ≡ value → option_called rows name ≡ meant
+    → long rows place word ≡ named place meant value
 by_its_name rows place word front rest is = rw (rest, front, is)
 
-long_value : {rows : List OptionRow} (name : List ℕ) {kind : Kind} (value : List ℕ) (place : ℕ) → IsName rows name kind
-    → mixed rows place (45 ∷ 45 ∷ name ++ 61 ∷ value) ≡ named place (Ok (takes.Value kind)) (Some value)
-long_value [] value place is = absurd (is.some refl)
-long_value {rows} (byte ∷ name) value place is =
+long_equals : {rows : List OptionRow} (name : List ℕ) {meant : Result Takes UsageKind} (value : List ℕ) (place : ℕ) → IsLong rows name meant
+    → mixed rows place (45 ∷ 45 ∷ name ++ 61 ∷ value) ≡ named place meant (Some value)
+long_equals [] value place is = absurd (is.some refl)
+long_equals {rows} (byte ∷ name) value place is =
     let front : List ℕ = 45 ∷ 45 ∷ byte ∷ name in
-    by_its_name rows place (front ++ 61 ∷ value) (name_in front value is.no_equals) (equals_in front is.no_equals) is.named
+    by_its_name rows place (front ++ 61 ∷ value) (name_in front value is.no_equals) (equals_in front is.no_equals) is.called
 
-long_name : {rows : List OptionRow} (name : List ℕ) {kind : Kind} (place : ℕ) → IsName rows name kind
-    → mixed rows place (45 ∷ 45 ∷ name) ≡ awaiting kind place
+pub long_name : {rows : List OptionRow} (name : List ℕ) {meant : Result Takes UsageKind} (place : ℕ) → IsLong rows name meant
+    → mixed rows place (45 ∷ 45 ∷ name) ≡ named place meant None
 long_name [] place is = absurd (is.some refl)
 long_name {rows} (byte ∷ name) place is =
     let front : List ℕ = 45 ∷ 45 ∷ byte ∷ name in
-    by_its_name rows place front (all_name front is.no_equals) (no_equals_in front is.no_equals) is.named
+    by_its_name rows place front (all_name front is.no_equals) (no_equals_in front is.no_equals) is.called
 
-pub last_name : {rows : List OptionRow} (name : List ℕ) {topic : Topic} (place : ℕ) → IsLast rows name topic → mixed rows place (45 ∷ 45 ∷ name) ≡ ending topic place
-last_name [] place is = absurd (is.some refl)
-last_name {rows} (byte ∷ name) place is =
-    let front : List ℕ = 45 ∷ 45 ∷ byte ∷ name in
-    by_its_name rows place front (all_name front is.no_equals) (no_equals_in front is.no_equals) is.named
+with_value : (takes : Takes) {kind : Kind} (place : ℕ) (value : List ℕ) → kind_of takes ≡ Some kind → named place (Ok takes) (Some value) ≡ valued kind place place value
+with_value (takes.Value kind) place value is = cc
+with_value (takes.Optional choice kind) place value is = cc
+with_value other place value is = absurd (cc)
 
-pub value_after_equals : (rows : List OptionRow) (name : List ℕ) (kind : Kind) (value : List ℕ) (choice : Choice) (words : List (List ℕ)) (place : ℕ)
-    → IsName rows name kind → choice_in kind value ≡ Ok choice
+pub value_after_equals : (rows : List OptionRow) (name : List ℕ) (takes : Takes) (kind : Kind) (value : List ℕ) (choice : Choice) (words : List (List ℕ)) (place : ℕ)
+    → IsLong rows name (Ok takes) → kind_of takes ≡ Some kind → choice_in kind value ≡ Ok choice
     → Gives rows ((45 ∷ 45 ∷ name ++ 61 ∷ value) ∷ words) place choice (spelled rows words (place + 1) Reading)
-value_after_equals rows name kind value choice words place is reads = rw (long_value name value place is, reads)
+value_after_equals rows name takes kind value choice words place is takes_one reads = rw (long_equals name value place is, with_value takes place value takes_one, reads)
 
 pub value_after_name : (rows : List OptionRow) (name : List ℕ) (kind : Kind) (value : List ℕ) (choice : Choice) (words : List (List ℕ)) (place : ℕ)
-    → IsName rows name kind → choice_in kind value ≡ Ok choice
+    → IsLong rows name (Ok (takes.Value kind)) → choice_in kind value ≡ Ok choice
     → Gives rows ((45 ∷ 45 ∷ name) ∷ value ∷ words) place choice (spelled rows words (place + 1 + 1) Reading)
 value_after_name rows name kind value choice words place is reads = awaited rows kind (45 ∷ 45 ∷ name) value words (long_name name place is) reads
+
+without_value : (takes : Takes) {choice : Choice} (place : ℕ) → alone takes ≡ Some choice → named place (Ok takes) None ≡ reading (bare choice place)
+without_value (takes.Nothing choice) place is = cc
+without_value (takes.Optional choice kind) place is = cc
+without_value other place is = absurd (cc)
+
+pub long_alone : (rows : List OptionRow) (name : List ℕ) (takes : Takes) (choice : Choice) (words : List (List ℕ)) (place : ℕ) → IsLong rows name (Ok takes) → alone takes ≡ Some choice
+    → spelled rows ((45 ∷ 45 ∷ name) ∷ words) place Reading ≡ given_before (bare choice place) (spelled rows words (place + 1) Reading)
+long_alone rows name takes choice words place is takes_none = rw (long_name name place is, without_value takes place takes_none)

@@ -1,6 +1,7 @@
 -- Lemmas on what all words ask for, the first of which names the tool.
 use Rattle.std.proofs.lemmas.Grind.{common_steps}
 use Rattle.std.proofs.Common.{◌≡◌, ℕ, ◌-◌, ◌≤◌, Bor, get_or, take, drop, length, map, List, Some, Result, Ok, IfOk, IfErr, arith}
+use Rattle.ports_core.specs.declared.calling.Calling.{Calling}
 use Rattle.ports_core.specs.declared.fault.Fault.{Fault}
 use Rattle.words_core.specs.declared.settings.Settings.{Settings}
 use Rattle.words_core.specs.Given.{Given}
@@ -17,8 +18,8 @@ after_first words = texts (take (length words - 1) (drop 1 words))
 
 -- what the words after it ask of the tool in this row
 
-pub returned : (words : List (Bor (List ℕ))) (none : Bor (List ℕ)) {rows : List ToolRow} {row : ToolRow} {given : Given} (result : Result Settings Fault)
-    → 1 ≤ length words → rows ≡ tools → Some row ≡ row_named rows (get_or words 0 none).now → given_by row (after_first words) ≡ Ok given
-    → IfOk result (λ settings. settings_for row.tool given ≡ Ok settings) → IfErr result (IsRefused HasBadOperands (settings_for row.tool given))
-    → IfOk result (λ settings. settings_of (texts words) ≡ Ok settings) × IfErr result (IsRefused HasBadOperands (settings_of (texts words)))
-returned words none {row} {given} result some are named read is bad = grind (arith, common_steps)
+pub returned : (calling : Calling) (words : List (Bor (List ℕ))) (none : Bor (List ℕ)) {rows : List ToolRow} {row : ToolRow} {given : Given} (result : Result Settings Fault)
+    → 1 ≤ length words → rows ≡ tools → Some row ≡ row_named rows (get_or words 0 none).now → given_by calling row (after_first words) ≡ Ok given
+    → IfOk result (λ settings. settings_for calling row.tool given ≡ Ok settings) → IfErr result (IsRefused HasBadOperands (settings_for calling row.tool given))
+    → IfOk result (λ settings. settings_of calling (texts words) ≡ Ok settings) × IfErr result (IsRefused HasBadOperands (settings_of calling (texts words)))
+returned calling words none {row} {given} result some are named read is bad = grind (arith, common_steps)

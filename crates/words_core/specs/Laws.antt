@@ -1,15 +1,26 @@
 -- The words of the laws: which options ask for what, and the operands among words.
-use Rattle.std.specs.Prelude.{◌≡◌, ◌≢◌, ℕ, ◌+◌, ◌<◌, ◌==◌, not, Bool, true, false, List, [], ◌∷◌, ◌++◌, length, codes, Some, Result, Ok, Err, ◌⊎◌}
-use Rattle.std.specs.List.{list_any}
+use Rattle.std.specs.Prelude.{◌≡◌, ◌≢◌, ℕ, ◌+◌, ◌<◌, ◌==◌, not, ◌&&◌, Bool, true, false, List, [], ◌∷◌, ◌++◌, All, length, codes, if◌then◌else◌, Option, Some, None, Result, Ok, Err, ◌⊎◌}
+use Rattle.std.specs.Char.{is_ascii_digit}
+use Rattle.std.specs.List.{Contains, list_all, list_any}
+use Rattle.seg_core.specs.Count.{value_of}
 use Rattle.seg_core.specs.declared.count.Count.{Count}
+use Rattle.seg_core.specs.declared.count.Sign.{Sign}
+use Rattle.seg_core.specs.declared.count.Sign.TheVariants.{Plain, Plus}
 use Rattle.seg_core.specs.declared.unit.Unit.{Unit as Measured}
+use Rattle.seg_core.specs.declared.unit.Unit.TheVariants.{Lines}
+use Rattle.ports_core.specs.declared.calling.Calling.{Calling}
+use Rattle.ports_core.specs.declared.calling.Calling.TheVariants.{Cutters, OwnName}
 use Rattle.ports_core.specs.declared.fault.Fault.{Fault}
+use Rattle.ports_core.specs.declared.fault.UsageKind.{UsageKind}
+use Rattle.ports_core.specs.declared.tool.Tool.{Tool}
+use Rattle.ports_core.specs.declared.on_broken.OnBroken.{OnBroken}
 use Rattle.operand_core.specs.Style.{Style}
 use Rattle.words_core.specs.declared.choice.Choice.{Choice}
 use Rattle.words_core.specs.declared.choice.Choice.TheVariants as choice
 use Rattle.words_core.specs.declared.choice.Kind.{Kind}
-use Rattle.words_core.specs.declared.settings.Settings.TheVariants.{Head, Tail, Split, Csplit, Tee}
-use Rattle.words_core.specs.declared.settings.Topic.{Topic}
+use Rattle.words_core.specs.declared.settings.Settings.TheVariants.{Head, Tail, Split, Csplit, Tee, About}
+use Rattle.words_core.specs.declared.settings.Topic.TheVariants.{Help, Version}
+use Rattle.words_core.specs.declared.table.Letters.TheVariants.{OfTail}
 use Rattle.words_core.specs.declared.spelled.Chosen.{Chosen}
 use Rattle.words_core.specs.declared.table.Takes.{Takes}
 use Rattle.words_core.specs.declared.table.Takes.TheVariants as takes
@@ -21,8 +32,9 @@ use Rattle.words_core.specs.EndsWords.{EndsAsked, ten_lines}
 use Rattle.words_core.specs.SplitWords.{SplitAsked, no_options}
 use Rattle.words_core.specs.declared.tail_words.TailSettings.{TailSettings}
 use Rattle.words_core.specs.Given.{Given, GivenOperand, one_option}
+use Rattle.words_core.specs.Lettered.{is_start, unit_of}
 use Rattle.words_core.specs.Spelling.{given_before, is_equals, spelled}
-use Rattle.words_core.specs.Table.{OptionRow, alone, option_named}
+use Rattle.words_core.specs.Table.{OptionRow, alone, option_called, option_named, tail_table, tee_table}
 use Rattle.words_core.specs.TailWords.{unfollowed}
 use Rattle.words_core.specs.TeeWords.{TeeAsked, fresh}
 use Rattle.words_core.specs.Words.{settings_of}
@@ -162,23 +174,29 @@ abbrev pub Gives : List OptionRow → List (List ℕ) → ℕ → Choice → Res
 Gives rows words place choice rest =
     spelled rows words place Reading ≡ given_before (one_option choice place) rest
 
--- a letter, and a name after two hyphens, that name an option of a tool which takes a value of this kind
-
+-- a letter that names an option of a tool which takes a value of this kind
 pub record IsLetter (rows : List OptionRow) (letter : ℕ) (kind : Kind) : Type 0 where
   pub named : option_named rows (codes "-" ++ letter ∷ []) ≡ Some (takes.Value kind)
   pub ascii : letter < 128
   pub no_hyphen : letter ≢ 45
 
-pub record IsName (rows : List OptionRow) (name : List ℕ) (kind : Kind) : Type 0 where
-  pub named : option_named rows (codes "--" ++ name) ≡ Some (takes.Value kind)
+-- a name after two hyphens, in full or cut short: what its option takes, or what is wrong with it
+pub record IsLong (rows : List OptionRow) (name : List ℕ) (meant : Result Takes UsageKind) : Type 0 where
+  pub called : option_called rows (codes "--" ++ name) ≡ meant
   pub some : name ≢ []
   pub no_equals : list_any is_equals name ≡ false
 
--- a name after two hyphens that names an option after which no word is read
-pub record IsLast (rows : List OptionRow) (name : List ℕ) (topic : Topic) : Type 0 where
-  pub named : option_named rows (codes "--" ++ name) ≡ Some (takes.Last topic)
-  pub some : name ≢ []
-  pub no_equals : list_any is_equals name ≡ false
+-- of which kind a value after `=` is
+abbrev pub kind_of : Takes → Option Kind
+kind_of (takes.Value kind) = Some kind
+kind_of (takes.Optional choice kind) = Some kind
+kind_of takes = None
+
+-- each two of these names mean the same, whatever follows
+abbrev pub AreAlike : List OptionRow → List (List ℕ) → Type 0
+AreAlike rows names = (one other : List ℕ) (words : List (List ℕ)) (place : ℕ) → Contains names one
+    → Contains names other
+    → spelled rows (one ∷ words) place Reading ≡ spelled rows (other ∷ words) place Reading
 
 -- the first words have a fault, whatever follows them; or they give this and leave this state, whatever follows
 abbrev pub LeaveTheRest : List OptionRow → List (List ℕ) → ℕ → State → Type 0
@@ -195,27 +213,100 @@ pub record IsSwitch (rows : List OptionRow) (letter : ℕ) (choice : Choice) : T
   pub ascii : letter < 128
   pub no_hyphen : letter ≢ 45
 
+-- letters of options to which no value belongs, which say nothing of what is counted
+abbrev pub AreSwitches : List OptionRow → List ℕ → Type 0
+AreSwitches rows letters = All (λ letter. (unit_of letter ≡ None) × (is_ascii_digit letter ≡ false)
+    × (choice : Choice) × IsSwitch rows letter choice) letters
+
+-- A text has these digits, or none, and after them letters of these options and at most one that says what is counted:
+-- this, or lines where none does.
+pub data HasLetters (rows : List OptionRow) (text digits options : List ℕ) : Measured × ℕ → Type 0 where
+  of_lines : text ≡ digits ++ options → list_all is_ascii_digit digits ≡ true → AreSwitches rows options
+      → HasLetters rows text digits options (Lines, 1)
+  of_unit : (before : List ℕ) (letter : ℕ) (after : List ℕ) {unit : Measured × ℕ} → unit_of letter ≡ Some unit
+      → text ≡ digits ++ (before ++ letter ∷ after) → options ≡ before ++ after
+      → list_all is_ascii_digit digits ≡ true → AreSwitches rows options → HasLetters rows text digits options unit
+
+abbrev pub IsNumberWithLetters : List OptionRow → List ℕ → Type 0
+IsNumberWithLetters rows text = (digits options : List ℕ) × (unit : Measured × ℕ)
+    × HasLetters rows text digits options unit
+
+-- how many of it: as many as the digits write, ten without digits
+abbrev pub how_many : List ℕ → ℕ
+how_many digits = if length digits == 0 then 10 else value_of digits
+
 -- a word is an operand wherever options may stand: it doesn't begin with a hyphen, or is one alone
 abbrev pub is_plain : List ℕ → Bool
 is_plain [] = true
 is_plain (byte ∷ []) = true
 is_plain (byte ∷ next ∷ rest) = not (byte == 45)
 
--- What options ask for, given alone: of `head` and `tail` alike, of `split`, and of `csplit` with the operand `1`, for
--- standard input; of `tail` that follows the file `f`, and of `tee` for it.
+-- What changes with how the program is called.
+
+abbrev pub MeanTheSame : List (List ℕ) → Type 0
+MeanTheSame words = settings_of OwnName words ≡ settings_of Cutters words
+
+-- the first of these words of `tail` says where it begins (43 is a `+`)
+abbrev pub begin_with_start : List (List ℕ) → Bool
+begin_with_start ((byte ∷ text) ∷ words) = byte == 43 && is_start OwnName tail_table OfTail text
+begin_with_start words = false
+
+-- these words of `tee` don't say what is done once an output is broken
+abbrev pub say_nothing : Result Given Fault → Bool
+say_nothing (Ok given) = not (has says_on_broken given.options)
+say_nothing (Err fault) = false
+
+abbrev pub leave_open : List (List ℕ) → Bool
+leave_open words = say_nothing (spelled tee_table words 1 Reading)
+
+-- What options ask for, given alone, however the program is called: of `head` and `tail` alike, of `split`, and of
+-- `csplit` with the operand `1`, for standard input; of `tail` that follows the file `f`, and of `tee` for it.
+
+-- of a tool of this name help and the version
+abbrev pub IsTold : List ℕ → Tool → Type 0
+IsTold name tool = (calling : Calling) (words : List (List ℕ))
+    → (settings_of calling (name ∷ codes "--help" ∷ words) ≡ Ok (About tool Help))
+    × (settings_of calling (name ∷ codes "--version" ∷ words) ≡ Ok (About tool Version))
 
 abbrev pub ten_of_input : EndsAsked
 ten_of_input = ten_lines (codes "-" ∷ [])
 
 abbrev pub EndsAsk : List (List ℕ) → EndsAsked → Type 0
-EndsAsk words asked = (settings_of (codes "head" ∷ words) ≡ Ok (Head asked))
-    × (settings_of (codes "tail" ∷ words) ≡ Ok (Tail (unfollowed asked)))
+EndsAsk words asked = (calling : Calling) → (settings_of calling (codes "head" ∷ words) ≡ Ok (Head asked))
+    × (settings_of calling (codes "tail" ∷ words) ≡ Ok (Tail (unfollowed asked)))
 
 abbrev pub following : TailSettings
 following = record (unfollowed (ten_lines (codes "f" ∷ []))) { followed = Some Descriptor }
 
 abbrev pub FollowAsks : List (List ℕ) → TailSettings → Type 0
-FollowAsks words asked = settings_of (codes "tail" ∷ words ++ codes "f" ∷ []) ≡ Ok (Tail asked)
+FollowAsks words asked = (calling : Calling)
+    → settings_of calling (codes "tail" ∷ words ++ codes "f" ∷ []) ≡ Ok (Tail asked)
+
+-- of `tail` so many lines or bytes of the file `f`, the last ones or all from that one on
+abbrev pub of_file : Sign → Measured → ℕ → TailSettings
+of_file sign unit amount = unfollowed (record (ten_lines (codes "f" ∷ [])) {
+  unit = unit;
+  count = record { sign = sign; amount = amount };
+})
+
+-- This first word asks `tail` for it, and with an `f` at its end to follow the file too. A text does so after a hyphen,
+-- however the program is called, and after a `+` where it is called by the tool's own name.
+
+abbrev pub WordAsks : Calling → List ℕ → TailSettings → Type 0
+WordAsks calling word asked = (settings_of calling (codes "tail" ∷ word ∷ codes "f" ∷ []) ≡ Ok (Tail asked))
+    × (settings_of calling (codes "tail" ∷ (word ++ codes "f") ∷ codes "f" ∷ [])
+    ≡ Ok (Tail (record asked { followed = Some Descriptor })))
+
+abbrev pub StartAsks : List ℕ → Measured → ℕ → Type 0
+StartAsks text unit amount = WordAsks OwnName (codes "+" ++ text) (of_file Plus unit amount)
+
+abbrev pub NumberAsks : List ℕ → Measured → ℕ → Type 0
+NumberAsks text unit amount = ((calling : Calling) → WordAsks calling (codes "-" ++ text) (of_file Plain unit amount))
+    × StartAsks text unit amount
+
+-- and ten lines of these files
+abbrev pub AreNames : List (List ℕ) → List (List ℕ) → Type 0
+AreNames words names = settings_of OwnName (codes "tail" ∷ words) ≡ Ok (Tail (unfollowed (ten_lines names)))
 
 -- files of 1,000 lines, with names that widen from two letters on
 abbrev pub thousands : SplitAsked
@@ -226,11 +317,11 @@ abbrev pub as_wide : ℕ → SplitAsked
 as_wide width = record no_options { width = width }
 
 abbrev pub SplitAsks : List (List ℕ) → SplitAsked → Type 0
-SplitAsks words asked = settings_of (codes "split" ∷ words) ≡ Ok (Split asked)
+SplitAsks words asked = (calling : Calling) → settings_of calling (codes "split" ∷ words) ≡ Ok (Split asked)
 
 abbrev pub CsplitAsks : List (List ℕ) → Style → Type 0
-CsplitAsks words style = settings_of (codes "csplit" ∷ words ++ codes "-" ∷ codes "1" ∷ [])
-    ≡ Ok (Csplit (record {
+CsplitAsks words style = (calling : Calling)
+    → settings_of calling (codes "csplit" ∷ words ++ codes "-" ∷ codes "1" ∷ []) ≡ Ok (Csplit (record {
       style = style;
       input = codes "-";
       operands = codes "1" ∷ [];
@@ -238,11 +329,16 @@ CsplitAsks words style = settings_of (codes "csplit" ∷ words ++ codes "-" ∷ 
     }))
 
 -- the file `f`, which begins empty
-abbrev pub fresh_file : TeeAsked
-fresh_file = fresh (codes "f" ∷ [])
+abbrev pub fresh_file : Calling → TeeAsked
+fresh_file calling = fresh calling (codes "f" ∷ [])
 
-abbrev pub TeeAsks : List (List ℕ) → TeeAsked → Type 0
-TeeAsks words asked = settings_of (codes "tee" ∷ words ++ codes "f" ∷ []) ≡ Ok (Tee asked)
+abbrev pub TeeAsks : Calling → List (List ℕ) → TeeAsked → Type 0
+TeeAsks calling words asked = settings_of calling (codes "tee" ∷ words ++ codes "f" ∷ []) ≡ Ok (Tee asked)
+
+-- with an option that says what is done once an output is broken
+abbrev pub OnBrokenAsks : List (List ℕ) → OnBroken → Type 0
+OnBrokenAsks words on_broken = (calling : Calling)
+    → TeeAsks calling words (record (fresh_file calling) { on_broken = on_broken })
 
 -- files as they are made without options
 abbrev pub plain_style : Style

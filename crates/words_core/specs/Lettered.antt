@@ -1,9 +1,11 @@
--- A first word of a hyphen, digits and letters, as `-5c` of `head` and `-20f` of `tail`: GNU's, from before POSIX. What
--- follows the hyphen is the text. 45 is a hyphen.
+-- A first word of a hyphen, digits and letters, as `-5c` of `head` and `-20f` of `tail`, and one of a `+`, as `+5` of
+-- `tail`: GNU's, from before POSIX. What follows the hyphen or the `+` is the text. 45 is a hyphen.
 use Rattle.std.specs.Prelude.{ℕ, ◌*◌, ◌^◌, ◌==◌, ◌&&◌, ◌||◌, nat_lt, Bool, true, false, List, [], ◌∷◌, length, filter, codes, is_some, Option, Some, None, Result, Ok, Err, if◌then◌else◌}
-use Rattle.seg_core.specs.Count.{after_digits, leading_digits, sized, value_of}
+use Rattle.seg_core.specs.Count.{after_digits, is_number, leading_digits, sized, value_of}
 use Rattle.seg_core.specs.declared.count.Count.{Count}
-use Rattle.seg_core.specs.declared.count.Sign.TheVariants.{Plain}
+use Rattle.seg_core.specs.declared.count.Sign.{Sign}
+use Rattle.ports_core.specs.declared.calling.Calling.{Calling}
+use Rattle.ports_core.specs.declared.calling.Calling.TheVariants.{OwnName}
 use Rattle.ports_core.specs.declared.fault.UsageKind.{UsageKind}
 use Rattle.seg_core.specs.declared.unit.Unit.{Unit as Measured}
 use Rattle.seg_core.specs.declared.unit.Unit.TheVariants.{Bytes, Lines}
@@ -77,11 +79,18 @@ is_lettered rows OfHead text = nat_lt 0 (length (leading_digits text))
 is_lettered rows OfTail text = are_of_tail (after_digits text) && (nat_lt 0 (length (leading_digits text))
     || is_among without_digits text)
 
+-- Whether a text after a `+` is such a word. It is one of `tail` alone, called by its own name: digits, or what may follow
+-- a hyphen, or `c` and `cf`, which mean something else after a hyphen.
+abbrev pub is_start : Calling → List OptionRow → Letters → List ℕ → Bool
+is_start OwnName rows OfTail text =
+    is_number text || (is_lettered rows OfTail text || is_among (codes "c" ∷ codes "cf" ∷ []) text)
+is_start calling rows letters text = false
+
 -- What it says.
 
 -- as many as these digits write, or 10 without digits, each of them this large
-abbrev pub times : List ℕ → ℕ → Result Count UsageKind
-times digits each = counted (sized Plain ((if length digits == 0 then 10 else value_of digits) * each))
+abbrev pub times : Sign → List ℕ → ℕ → Result Count UsageKind
+times sign digits each = counted (sized sign ((if length digits == 0 then 10 else value_of digits) * each))
 
 -- each letter that is no unit is an option
 abbrev pub switched : ℕ → Option Takes → Given
@@ -100,7 +109,7 @@ abbrev pub counted_with : Measured → ℕ → Given → Result Count UsageKind 
 counted_with unit place options (Ok count) = Ok (joined (one_option (Amount unit count) place) options)
 counted_with unit place options (Err fault) = Err fault
 
-abbrev pub with_letters : List OptionRow → ℕ → List ℕ → Result Given UsageKind
-with_letters rows place text = counted_with (unit_in (after_digits text)).0 place
+abbrev pub with_letters : List OptionRow → Sign → ℕ → List ℕ → Result Given UsageKind
+with_letters rows sign place text = counted_with (unit_in (after_digits text)).0 place
     (switches rows place (after_digits text))
-    (times (leading_digits text) (unit_in (after_digits text)).1)
+    (times sign (leading_digits text) (unit_in (after_digits text)).1)

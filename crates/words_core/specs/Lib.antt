@@ -1,3 +1,4 @@
+pub mod Called
 pub mod Choice
 pub mod CsplitWords
 pub mod Division

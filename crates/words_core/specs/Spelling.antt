@@ -1,8 +1,10 @@
 -- What the words after a tool's name spell: options with their values, and operands. What a word means depends on what
--- the words before it left. 45 is a hyphen, 61 `=`.
+-- the words before it left. 43 is a `+`, 45 a hyphen, 61 `=`.
 use Rattle.std.specs.Prelude.{◌≡◌, ℕ, ◌+◌, ◌==◌, ◌&&◌, nat_lt, Bool, List, [], ◌∷◌, length, ◌⊎◌, Option, Some, None, Result, Ok, Err, if◌then◌else◌}
 use Rattle.std.specs.List.{before_first, after_first, position_or_len}
 use Rattle.seg_core.specs.Count.{is_number}
+use Rattle.seg_core.specs.declared.count.Sign.TheVariants.{Plain, Plus}
+use Rattle.ports_core.specs.declared.calling.Calling.{Calling}
 use Rattle.ports_core.specs.declared.fault.Fault.{Fault}
 use Rattle.ports_core.specs.declared.fault.Fault.TheVariants.{Usage, Memory}
 use Rattle.ports_core.specs.declared.fault.UsageKind.{UsageKind}
@@ -19,7 +21,7 @@ use Rattle.words_core.specs.declared.spelling.State.TheVariants.{First, Reading,
 use Rattle.words_core.specs.Table.{OptionRow, ToolRow, option_called, option_named}
 use Rattle.words_core.specs.Choice.{choice_in}
 use Rattle.words_core.specs.Value.{then_check}
-use Rattle.words_core.specs.Lettered.{is_lettered, with_letters}
+use Rattle.words_core.specs.Lettered.{is_lettered, is_start, with_letters}
 use Rattle.words_core.specs.Given.{Given, nothing, bare, one_option, one_operand, joined}
 
 -- what a word, or some of its letters, gives, and what it leaves to the next word
@@ -108,16 +110,18 @@ given_at place (Ok given) = reading given
 given_at place (Err fault) = Err (Usage fault place)
 
 -- The first word may be a hyphen and digits, which are the value of an option of this kind then; letters may follow these.
-unfoldable pub foremost : List OptionRow → Kind → Letters → ℕ → List ℕ → Result Meaning Fault
-foremost rows kind letters place [] = mixed rows place []
-foremost rows kind letters place (byte ∷ text) =
+-- After a `+` they may say where `tail` begins.
+unfoldable pub foremost : Calling → List OptionRow → Kind → Letters → ℕ → List ℕ → Result Meaning Fault
+foremost calling rows kind letters place [] = mixed rows place []
+foremost calling rows kind letters place (byte ∷ text) =
     if byte == 45 && is_number text then valued kind place place text
-    else (if byte == 45 && is_lettered rows letters text then given_at place (with_letters rows place text)
-    else mixed rows place (byte ∷ text))
+    else (if byte == 45 && is_lettered rows letters text then given_at place (with_letters rows Plain place text)
+    else (if byte == 43 && is_start calling rows letters text then given_at place (with_letters rows Plus place text)
+    else mixed rows place (byte ∷ text)))
 
 -- a word at this place; one that an option awaits is its value, whatever it begins with
 abbrev pub meaning_of : List OptionRow → State → ℕ → List ℕ → Result Meaning Fault
-meaning_of rows (First kind letters) place word = foremost rows kind letters place word
+meaning_of rows (First calling kind letters) place word = foremost calling rows kind letters place word
 meaning_of rows Reading place word = mixed rows place word
 meaning_of rows (Awaiting kind option) place word = valued kind option place word
 meaning_of rows OnlyOperands place word = Ok (record { given = one_operand word place; next = OnlyOperands })
@@ -140,12 +144,12 @@ spelled rows [] place state = ended state
 spelled rows (word ∷ words) place state = onward (spelled rows words (place + 1)) (meaning_of rows state place word)
 
 -- the words after a tool's name; they are counted from 1
-abbrev pub start_of : Option (Kind × Letters) → State
-start_of None = Reading
-start_of (Some number) = First number.0 number.1
+abbrev pub start_of : Calling → Option (Kind × Letters) → State
+start_of calling None = Reading
+start_of calling (Some number) = First calling number.0 number.1
 
-abbrev pub given_by : ToolRow → List (List ℕ) → Result Given Fault
-given_by tool words = spelled tool.options words 1 (start_of tool.number)
+abbrev pub given_by : Calling → ToolRow → List (List ℕ) → Result Given Fault
+given_by calling tool words = spelled tool.options words 1 (start_of calling tool.number)
 
 -- What a call returns is what was meant; or memory was refused.
 abbrev pub Reads : {A : Type 0} → Result A Fault → Result A Fault → Type 0

@@ -10,7 +10,7 @@ use Rattle.ports_core.specs.declared.fault.UsageKind.TheVariants.{UnknownOption,
 use Rattle.ports_core.specs.declared.tool.Tool.{Tool}
 use Rattle.ports_core.specs.declared.tool.Tool.TheVariants.{Head, Tail, Split, Csplit, Tee}
 use Rattle.ports_core.specs.declared.alphabet.Alphabet.TheVariants.{Digits as Decimal, Hex as Hexadecimal}
-use Rattle.ports_core.specs.declared.on_broken.OnBroken.TheVariants.{GoOn}
+use Rattle.ports_core.specs.declared.on_broken.OnBroken.TheVariants.{WarnNoPipe}
 use Rattle.seg_core.specs.declared.unit.Unit.TheVariants.{Lines, Bytes}
 use Rattle.words_core.specs.declared.choice.Choice.{Choice}
 use Rattle.words_core.specs.declared.choice.Choice.TheVariants as asks
@@ -177,7 +177,7 @@ abbrev pub tee_table : List OptionRow
 tee_table =
     option (codes "-a" ∷ codes "--append" ∷ []) (Nothing asks.Append) []
     (codes "append to the files")
-    ∷ option (codes "-p" ∷ codes "--output-error" ∷ []) (Optional (asks.OnBroken GoOn) OnBroken) (codes "MODE")
+    ∷ option (codes "-p" ∷ codes "--output-error" ∷ []) (Optional (asks.OnBroken WarnNoPipe) OnBroken) (codes "MODE")
     (codes "go on (warn) or exit once an output is broken")
     ∷ help_row
     ∷ version_row

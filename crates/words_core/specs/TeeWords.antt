@@ -1,5 +1,7 @@
 -- What options and operands ask of `tee`.
-use Rattle.ports_core.specs.declared.on_broken.OnBroken.TheVariants.{GoOn}
+use Rattle.ports_core.specs.declared.calling.Calling.{Calling}
+use Rattle.ports_core.specs.declared.calling.Calling.TheVariants.{Cutters, OwnName}
+use Rattle.ports_core.specs.declared.on_broken.OnBroken.TheVariants.{Warn, Signal}
 use Rattle.std.specs.Prelude.{ℕ, List}
 use Rattle.ports_core.specs.declared.slot.Mode.TheVariants.{Fresh, Append}
 use Rattle.words_core.specs.declared.choice.Choice.{Choice}
@@ -18,9 +20,15 @@ pub record TeeAsked : Type 0 where
   -- the names of the files
   pub names : List (List ℕ)
 
--- without an option these files begin empty, and a run goes on with the outputs that are left
-abbrev pub fresh : List (List ℕ) → TeeAsked
-fresh names = record { mode = Fresh; on_broken = GoOn; names = names }
+-- Without an option a run goes on with the outputs that are left; called by its own name it ends with the first whose
+-- reader is gone.
+abbrev pub unless_said : Calling → OnBroken
+unless_said Cutters = Warn
+unless_said OwnName = Signal
+
+-- without an option these files begin empty
+abbrev pub fresh : Calling → List (List ℕ) → TeeAsked
+fresh calling names = record { mode = Fresh; on_broken = unless_said calling; names = names }
 
 -- with one more option: the last that says what is done once an output is broken decides
 
@@ -30,9 +38,9 @@ tee_by asked (choice.OnBroken on_broken) = record asked { on_broken = on_broken 
 tee_by asked choice = asked
 
 -- what options ask, of these files
-abbrev pub tee_of : List (List ℕ) → List Chosen → TeeAsked
-tee_of names options = asked_by tee_by (fresh names) options
+abbrev pub tee_of : Calling → List (List ℕ) → List Chosen → TeeAsked
+tee_of calling names options = asked_by tee_by (fresh calling names) options
 
 -- the operands are the files' names, and `-` is a name as any other
-abbrev pub tee_asked : Given → TeeAsked
-tee_asked given = tee_of (texts_of given.operands) given.options
+abbrev pub tee_asked : Calling → Given → TeeAsked
+tee_asked calling given = tee_of calling (texts_of given.operands) given.options

@@ -1,6 +1,6 @@
 -- What the value of an option says, or what is wrong with it. A value that isn't of its form is told before one that is
 -- too large, and that before 0.
-use Rattle.std.specs.Prelude.{ℕ, ◌+◌, ◌-◌, ◌*◌, ◌/◌, ◌^◌, ◌==◌, ◌&&◌, ◌||◌, Bool, nat_lt, nat_le, min, codes, length, List, [], ◌∷◌, Option, Some, None, Result, Ok, Err, if◌then◌else◌, bytes_eq}
+use Rattle.std.specs.Prelude.{ℕ, ◌+◌, ◌-◌, ◌*◌, ◌/◌, ◌^◌, ◌==◌, ◌&&◌, Bool, nat_lt, nat_le, min, codes, length, List, [], ◌∷◌, Option, Some, None, Result, Ok, Err, if◌then◌else◌, bytes_eq}
 use Rattle.std.specs.Char.{is_ascii_digit, is_digit}
 use Rattle.std.specs.List.{list_all, list_any}
 use Rattle.std.specs.Str.Parse.{digits_value}
@@ -50,9 +50,11 @@ followed_in text =
 -- what is done once an output is broken
 abbrev pub on_broken_in : List ℕ → Result OnBroken UsageKind
 on_broken_in text =
-    if bytes_eq text (codes "warn") || bytes_eq text (codes "warn-nopipe") then Ok on_broken.GoOn
-    else (if bytes_eq text (codes "exit") || bytes_eq text (codes "exit-nopipe") then Ok on_broken.Stop
-    else Err BadMode)
+    if bytes_eq text (codes "warn") then Ok on_broken.Warn
+    else (if bytes_eq text (codes "exit") then Ok on_broken.Exit
+    else (if bytes_eq text (codes "warn-nopipe") then Ok on_broken.WarnNoPipe
+    else (if bytes_eq text (codes "exit-nopipe") then Ok on_broken.ExitNoPipe
+    else Err BadMode)))
 
 -- the number of a process
 abbrev pub process_in : List ℕ → Result ℕ UsageKind

@@ -1,5 +1,7 @@
--- What a list of words asks for. The first word is the tool's name, and words are counted from there, from 0.
+-- What a list of words asks for, by how the program was called. The first word is the tool's name, and words are counted
+-- from there, from 0.
 use Rattle.std.specs.Prelude.{ℕ, ◌-◌, ◌^◌, Bool, true, false, List, [], ◌∷◌, Option, Some, None, option_map, Result, Ok, Err}
+use Rattle.ports_core.specs.declared.calling.Calling.{Calling}
 use Rattle.ports_core.specs.declared.tool.Tool.{Tool}
 use Rattle.ports_core.specs.declared.tool.Tool.TheVariants as tool
 use Rattle.ports_core.specs.declared.fault.Fault.{Fault}
@@ -28,13 +30,13 @@ abbrev pub tool_named : List ℕ → Option Tool
 tool_named name = option_map (λ row. row.tool) (row_named tools name)
 
 -- what options and operands ask of a tool's work
-abbrev pub work_for : Tool → Given → Result Settings Fault
-work_for tool.Head given = Ok (Head (ends_asked given))
-work_for tool.Tail given = then_check (tail_asked given) (λ asked. Ok (Tail asked))
-work_for tool.Split given = then_check (split_asked given) (λ asked. Ok (Split asked))
-work_for tool.Csplit given = then_check (csplit_asked given) (λ asked. Ok (Csplit asked))
-work_for tool.Tee given = Ok (Tee (tee_asked given))
-work_for tool.Cutters given = Err (Usage UnknownTool 0)
+abbrev pub work_for : Calling → Tool → Given → Result Settings Fault
+work_for calling tool.Head given = Ok (Head (ends_asked given))
+work_for calling tool.Tail given = then_check (tail_asked given) (λ asked. Ok (Tail asked))
+work_for calling tool.Split given = then_check (split_asked given) (λ asked. Ok (Split asked))
+work_for calling tool.Csplit given = then_check (csplit_asked given) (λ asked. Ok (Csplit asked))
+work_for calling tool.Tee given = Ok (Tee (tee_asked calling given))
+work_for calling tool.Cutters given = Err (Usage UnknownTool 0)
 
 -- Help and the version. An option that asks for one of these is the last that is read, and the line as a whole isn't
 -- checked.
@@ -55,8 +57,8 @@ abbrev pub about_or : Tool → Option Topic → Result Settings Fault → Result
 about_or tool (Some topic) work = Ok (About tool topic)
 about_or tool None work = work
 
-abbrev pub settings_for : Tool → Given → Result Settings Fault
-settings_for tool given = about_or tool (topic_in given.options) (work_for tool given)
+abbrev pub settings_for : Calling → Tool → Given → Result Settings Fault
+settings_for calling tool given = about_or tool (topic_in given.options) (work_for calling tool given)
 
 -- A word in the place of a tool's name may ask for help or the version of the program.
 
@@ -71,14 +73,14 @@ abbrev pub program_asked : Option Topic → Result Settings Fault
 program_asked topic = about_or tool.Cutters topic (Err (Usage UnknownTool 0))
 
 -- the words after a tool's name: faults of single words come before those of the line as a whole
-abbrev pub tool_settings : List ℕ → List (List ℕ) → Option ToolRow → Result Settings Fault
-tool_settings name words None = program_asked (topic_named name)
-tool_settings name words (Some row) = then_check (given_by row words) (settings_for row.tool)
+abbrev pub tool_settings : Calling → List ℕ → List (List ℕ) → Option ToolRow → Result Settings Fault
+tool_settings calling name words None = program_asked (topic_named name)
+tool_settings calling name words (Some row) = then_check (given_by calling row words) (settings_for calling row.tool)
 
 -- what the words ask for, or what is wrong with them
-abbrev pub settings_of : List (List ℕ) → Result Settings Fault
-settings_of [] = Err (Usage MissingTool 0)
-settings_of (name ∷ words) = tool_settings name words (row_named tools name)
+abbrev pub settings_of : Calling → List (List ℕ) → Result Settings Fault
+settings_of calling [] = Err (Usage MissingTool 0)
+settings_of calling (name ∷ words) = tool_settings calling name words (row_named tools name)
 
 -- whether inputs are followed, and how often they are looked at then
 

@@ -1,13 +1,23 @@
 //! The words that the program was started with. The system gives them as bytes.
 ghost use Rattle.std.specs.Prelude.{◌≡◌, ℕ, List, [], ◌∷◌, ◌++◌, None, map, string_bytes, IfOk, IsUtf8};
 ghost use Rattle.words_core.specs.Words.{tool_named};
-ghost use Rattle.words_core.specs.inner.Called.{last_part, words_called};
+ghost use Rattle.words_core.specs.Called.{IsCalled};
+ghost use Rattle.words_core.specs.inner.Called.{called_by, last_part, words_called};
 
 use crate::words::find_tool;
-use ports_core::Tool;
+use ports_core::{Calling, Tool};
 use std::alloc::{AllocError, Global};
 use std::env::{Env, FillError};
 use std::str;
+
+/// What the program was started with.
+#[derive(Drop)]
+pub struct Args {
+    /// How it was called.
+    pub calling: Calling,
+    /// Its words, from the tool's name on.
+    pub words: Vec<String>,
+}
 
 /// Why there are no words.
 #[derive(Clone, Copy, Debug, PartialEq, Eq)]
@@ -21,20 +31,23 @@ pub enum ArgsFault {
 /// How long a word is first taken to be.
 const SHORT: usize = 256;
 
-/// The program's words, from the tool's name on. Where the program itself is called by a tool's name, as through a link, that name
-/// is the first word. What the system's arguments are no clause of the library says, so none here says more of the words.
+/// How the program was called, and its words, from the tool's name on. Where it is called by a tool's name, as through a link, that
+/// name is the first word. What the system's arguments are no clause of the library says, so none here says more of the
+/// words.
 ///
 /// # Errors
 ///
 /// `NotUtf8`: the first word that isn't text. `Memory` where there is no room for the words.
-pub fn read_args(env: &impl Env, alloc: Global) -> Result<Vec<String>, ArgsFault> {
+pub fn read_args(env: &impl Env, alloc: Global) -> Result<Args, ArgsFault>
+    ensures { IfOk result (λ args. IsCalled args.calling (map string_bytes args.words.items)) }
+{
     let tool = match read_bytes(env, alloc, 0) {
         Ok(Some(name)) => called_tool(&name),
         Ok(None) => None,
         Err(AllocError) => return Err(ArgsFault::Memory),
     };
     match first_words(alloc, tool) {
-        Ok(words) => read_rest(env, alloc, words),
+        Ok(args) => read_rest(env, alloc, args),
         Err(AllocError) => Err(ArgsFault::Memory),
     }
 }
@@ -66,22 +79,31 @@ fn last_part(path: &[u8]) -> &[u8]
 }
 
 /// The words before all others: the name of the tool that is called by it.
-fn first_words(alloc: Global, tool: Option<Tool>) -> Result<Vec<String>, AllocError>
-    ensures { IfOk result (λ words. map string_bytes words.items ≡ words_called tool) }
+fn first_words(alloc: Global, tool: Option<Tool>) -> Result<Args, AllocError>
+    ensures words { IfOk result (λ args. map string_bytes args.words.items ≡ words_called tool) }
+    ensures calling { IfOk result (λ args. args.calling ≡ called_by tool) }
 {
     let mut words = Vec::new(alloc);
-    if let Some(tool) = tool {
-        words.push(String::from_str(alloc, tool.name())?)?;
-    }
-    Ok(words)
+    let Some(tool) = tool else {
+        return Ok(Args {
+            calling: Calling::Cutters,
+            words,
+        });
+    };
+    words.push(String::from_str(alloc, tool.name())?)?;
+    Ok(Args {
+        calling: Calling::OwnName,
+        words,
+    })
 }
 
 /// These words, and after them those that follow the program's own name.
-fn read_rest(env: &impl Env, alloc: Global, first: Vec<String>) -> Result<Vec<String>, ArgsFault>
-    ensures { IfOk result (λ words. (rest : List (List ℕ))
-        × (map string_bytes words.items ≡ map string_bytes first.items ++ rest)) }
+fn read_rest(env: &impl Env, alloc: Global, first: Args) -> Result<Args, ArgsFault>
+    ensures words { IfOk result (λ args. (rest : List (List ℕ))
+        × (map string_bytes args.words.items ≡ map string_bytes first.words.items ++ rest)) }
+    ensures calling { IfOk result (λ args. args.calling ≡ first.calling) }
 {
-    let mut words = first;
+    let mut words = first.words;
     for index in 1..usize::MAX {
         match read_bytes(env, alloc, index) {
             Ok(Some(bytes)) => push_text(&mut words, bytes)?,
@@ -89,7 +111,10 @@ fn read_rest(env: &impl Env, alloc: Global, first: Vec<String>) -> Result<Vec<St
             Err(AllocError) => return Err(ArgsFault::Memory),
         }
     }
-    Ok(words)
+    Ok(Args {
+        calling: first.calling,
+        words,
+    })
 }
 
 /// Puts an argument after the words, where it is text.

@@ -1,8 +1,8 @@
 //! Laws of what words spell and ask for, with no code: each stands on the contract of a function whose body is empty.
 ghost use Rattle.std.specs.Prelude.{◌≡◌, ◌≢◌, ◌↔◌, ◌+◌, ◌-◌, ◌*◌, ◌^◌, ◌≤◌, ◌<◌, ◌++◌, ℕ, List, [], ◌∷◌, All, Option, Some, None, Result, Ok, Err, IsOk, true, false, length, filter, codes, if◌then◌else◌};
-ghost use Rattle.std.specs.List.{list_any};
+ghost use Rattle.std.specs.List.{Contains, list_any};
 ghost use Rattle.ports_core.specs.declared.fault.UsageKind.{UsageKind};
-ghost use Rattle.ports_core.specs.declared.fault.UsageKind.TheVariants.{AmbiguousOption, MissingValue, SuffixTooShort, TwoWays, UnknownOption};
+ghost use Rattle.ports_core.specs.declared.fault.UsageKind.TheVariants.{AmbiguousOption, BadFollow, MissingValue, NumberTooLarge, SuffixTooShort, TwoWays, UnknownOption};
 ghost use Rattle.words_core.specs.declared.spelling.State.TheVariants.{Reading};
 ghost use Rattle.seg_core.specs.declared.unit.Unit.{Unit as Measured};
 ghost use Rattle.seg_core.specs.Count.{count_of, digits_of, is_number, sized, value_of};
@@ -13,17 +13,17 @@ ghost use Rattle.words_core.specs.Choice.{choice_in};
 ghost use Rattle.words_core.specs.CsplitWords.{chosen_by, decimal_form, style_of};
 ghost use Rattle.words_core.specs.declared.format.Format.{Format as Written};
 ghost use Rattle.words_core.specs.Format.{Format, format_in};
-ghost use Rattle.words_core.specs.Laws.{AreAmong, CsplitAsks, EndsAsk, FollowAsks, Gives, IsLast, IsLetter, IsName, IsSwitch, LastDecides, LeaveTheRest, SplitAsks, TeeAsks, amount_of, appends, as_operands, as_wide, counts, counts_looks, counts_pause, drops_sizes, elides_files, ends_with_zero, following, fresh_file, gives_ending, gives_format, has, heads, is_plain, keeps_files, leaves_lines_out, names_prefix, names_process, plain_style, retries, says_followed, says_on_broken, separates, spells, tells_of_files, ten_of_input, thousands, widens};
-ghost use Rattle.words_core.specs.EndsWords.{ends_of};
-ghost use Rattle.words_core.specs.Lettered.{is_lettered, unit_of, with_letters};
+ghost use Rattle.words_core.specs.Laws.{AreAlike, AreAmong, AreNames, CsplitAsks, EndsAsk, FollowAsks, Gives, HasLetters, IsLetter, IsLong, IsNumberWithLetters, IsSwitch, IsTold, LastDecides, LeaveTheRest, MeanTheSame, NumberAsks, OnBrokenAsks, SplitAsks, StartAsks, TeeAsks, amount_of, appends, as_operands, as_wide, begin_with_start, counts, counts_looks, counts_pause, drops_sizes, elides_files, ends_with_zero, following, fresh_file, gives_ending, gives_format, has, heads, how_many, is_plain, keeps_files, kind_of, leave_open, leaves_lines_out, names_prefix, names_process, plain_style, retries, says_followed, says_on_broken, separates, spells, tells_of_files, ten_of_input, thousands, widens};
+ghost use Rattle.words_core.specs.EndsWords.{ends_of, ten_lines};
+ghost use Rattle.words_core.specs.Lettered.{is_lettered, is_start, unit_of, with_letters};
 ghost use Rattle.words_core.specs.SplitWords.{SplitAsked, is_way, least_width, split_asked, split_of, way_in, way_of, separator_in};
-ghost use Rattle.words_core.specs.Spelling.{given_before, mixed, spelled};
-ghost use Rattle.words_core.specs.Table.{OptionRow, beginning, head_table, option_called, option_named, tail_table};
+ghost use Rattle.words_core.specs.Spelling.{cluster, given_at, given_before, mixed, onward, reading, spelled};
+ghost use Rattle.words_core.specs.Table.{OptionRow, alone, beginning, begins_one, head_table, option_called, option_named, tail_table, tools};
 ghost use Rattle.words_core.specs.declared.table.Letters.TheVariants.{OfHead, OfTail};
-ghost use Rattle.words_core.specs.TailWords.{retry_by, tail_of};
+ghost use Rattle.words_core.specs.TailWords.{retry_by, tail_of, unfollowed};
 ghost use Rattle.words_core.specs.TeeWords.{tee_asked, tee_of};
-ghost use Rattle.words_core.specs.Value.{counted, hex_in, size_in, up_to};
-ghost use Rattle.words_core.specs.Words.{settings_for, settings_of};
+ghost use Rattle.words_core.specs.Value.{byte_in, counted, ending_in, hex_in, pause_in, size_in, then_check, up_to};
+ghost use Rattle.words_core.specs.Words.{settings_for, settings_of, tool_named};
 
 use crate::choice::{Choice, Kind};
 use crate::division::Division;
@@ -32,7 +32,7 @@ use crate::spelled::Chosen;
 use crate::spelling::State;
 use crate::table::{Letters, Takes};
 use crate::value::Followed;
-use ports_core::{Alphabet, Base, Fault, Filling, Mode, OnBroken, Tool};
+use ports_core::{Alphabet, Base, Calling, Fault, Filling, Mode, OnBroken, Tool};
 use seg_core::count::{Count, Sign};
 use seg_core::cut::{Cut, Limit, Way};
 use seg_core::unit::Unit;
@@ -90,21 +90,24 @@ pub fn last_of_csplit_decides()
 {}
 
 /// Of several options of `tee` that say what is done once an output is broken the last decides, as if it stood alone, whatever
-/// options stand before it. Without one it goes on with those that are left.
+/// options stand before it. Without one it goes on with those that are left; called by its own name it ends with the first whose
+/// reader is gone.
 pub fn last_of_tee_decides()
     ensures on_broken { (names : List (List ℕ))
-        → LastDecides says_on_broken (λ options. (tee_of names options).on_broken) OnBroken.GoOn }
+        → LastDecides says_on_broken (λ options. (tee_of Calling.Cutters names options).on_broken) OnBroken.Warn }
+    ensures own_name { (names : List (List ℕ))
+        → LastDecides says_on_broken (λ options. (tee_of Calling.OwnName names options).on_broken) OnBroken.Signal }
 {}
 
 /// An option that is taken without effect, with or without a value, changes nothing: the others ask for what they ask for without
 /// it. So it is with `-u` of `split` and `--max-unchanged-stats` of `tail`.
 pub fn some_have_no_effect()
-    ensures { (tool : Tool) (before after : List Chosen) (word : ℕ) (operands : List GivenOperand)
-        → settings_for tool
+    ensures { (calling : Calling) (tool : Tool) (before after : List Chosen) (word : ℕ) (operands : List GivenOperand)
+        → settings_for calling tool
         (record {
           options = before ++ record { choice = Choice.NoEffect; word = word } ∷ after;
           operands = operands;
-        }) ≡ settings_for tool (record { options = before ++ after; operands = operands }) }
+        }) ≡ settings_for calling tool (record { options = before ++ after; operands = operands }) }
 {}
 
 /// What an option without a value asks is asked for exactly where the option is given, wherever it stands and however
@@ -119,7 +122,8 @@ pub fn options_stand_anywhere()
     ensures tell { (options : List Chosen) → (split_of options).verbose ≡ has tells_of_files options }
     ensures zero { (names : List (List ℕ)) (options : List Chosen)
         → (ends_of names options).delim ≡ (if has ends_with_zero options then 0 else 10) }
-    ensures append { (given : Given) → ((tee_asked given).mode ≡ Mode.Append) ↔ (has appends given.options ≡ true) }
+    ensures append { (calling : Calling) (given : Given)
+        → ((tee_asked calling given).mode ≡ Mode.Append) ↔ (has appends given.options ≡ true) }
 {}
 
 /// Options for `split` are accepted exactly where at most one of them is a way to split; files are cut in that way. A
@@ -147,16 +151,31 @@ pub fn operands_follow_the_end()
         ≡ Ok (record { options = []; operands = as_operands (place + 1) words }) }
 {}
 
-/// A long name in full is never read as the beginning of another. Where one is cut short, every option of which a name begins
-/// so is the one that it stands for; where names of two begin so, that is told (GNU's long options).
+/// A long name in full is never read as the beginning of another. One that is cut short is that of the only option of which a
+/// name begins so; where names of two options begin so, that is told by its word, and where none does, the option is unknown. An
+/// option counts once, however many of its names begin so (GNU's long options).
 pub fn beginnings_are_of_one_option()
     ensures full { (rows : List OptionRow) (name : List ℕ) (option : Takes)
         → option_named rows name ≡ Some option → option_called rows name ≡ Ok option }
-    ensures one { (rows : List OptionRow) (name : List ℕ) (option : Takes)
-        → option_called rows name ≡ Ok option → option_named rows name ≡ None
-        → (beginning name rows ≢ []) × All (λ row. row.takes ≡ option) (beginning name rows) }
-    ensures several { (rows : List OptionRow) (name : List ℕ) → option_called rows name ≡ Err AmbiguousOption
-        → 2 ≤ length (beginning name rows) }
+    ensures one { (rows : List OptionRow) (name : List ℕ) (option : Takes) → option_named rows name ≡ None
+        → (option_called rows name ≡ Ok option)
+        ↔ ((row : OptionRow) × (beginning name rows ≡ row ∷ []) × (row.takes ≡ option)) }
+    ensures several { (rows : List OptionRow) (name : List ℕ) → (option_called rows name ≡ Err AmbiguousOption)
+        ↔ ((option_named rows name ≡ None) × (2 ≤ length (beginning name rows))) }
+    ensures unknown { (rows : List OptionRow) (name : List ℕ) → (option_called rows name ≡ Err UnknownOption)
+        ↔ ((option_named rows name ≡ None) × (beginning name rows ≡ [])) }
+    ensures begins { (row : OptionRow) (start : List ℕ) → (begins_one start row.names ≡ true)
+        ↔ ((rest : List ℕ) × Contains row.names (start ++ rest)) }
+    ensures told { (rows : List OptionRow) (name : List ℕ) (kind : UsageKind) (words : List (List ℕ)) (place : ℕ)
+        → IsLong rows name (Err kind)
+        → spelled rows ((codes "--" ++ name) ∷ words) place Reading ≡ Err (Fault.Usage kind place) }
+{}
+
+/// In each tool's table a name is that of its own option and of no other, and all names of an option mean the same.
+pub fn names_mean_the_same()
+    ensures own { All (λ tool. All (λ row. All (λ name. option_named tool.options name ≡ Some row.takes) row.names)
+        tool.options) tools }
+    ensures alike { All (λ tool. All (λ row. AreAlike tool.options row.names) tool.options) tools }
 {}
 
 /// The value of an option, where it isn't empty, is spelled in four ways: right after its letter or in the next word,
@@ -170,19 +189,21 @@ pub fn values_are_spelled_alike()
         (words : List (List ℕ)) (place : ℕ) → IsLetter rows letter kind → choice_in kind value ≡ Ok choice
         → Gives rows ((codes "-" ++ letter ∷ []) ∷ value ∷ words) place choice
         (spelled rows words (place + 1 + 1) Reading) }
-    ensures after_equals { (rows : List OptionRow) (name : List ℕ) (kind : Kind) (value : List ℕ) (choice : Choice)
-        (words : List (List ℕ)) (place : ℕ) → IsName rows name kind → choice_in kind value ≡ Ok choice
+    ensures after_equals { (rows : List OptionRow) (name : List ℕ) (takes : Takes) (kind : Kind) (value : List ℕ)
+        (choice : Choice) (words : List (List ℕ)) (place : ℕ) → IsLong rows name (Ok takes) → kind_of takes ≡ Some kind
+        → choice_in kind value ≡ Ok choice
         → Gives rows ((codes "--" ++ (name ++ (codes "=" ++ value))) ∷ words) place choice
         (spelled rows words (place + 1) Reading) }
     ensures after_name { (rows : List OptionRow) (name : List ℕ) (kind : Kind) (value : List ℕ) (choice : Choice)
-        (words : List (List ℕ)) (place : ℕ) → IsName rows name kind → choice_in kind value ≡ Ok choice
+        (words : List (List ℕ)) (place : ℕ) → IsLong rows name (Ok (Takes.Value kind))
+        → choice_in kind value ≡ Ok choice
         → Gives rows ((codes "--" ++ name) ∷ value ∷ words) place choice
         (spelled rows words (place + 1 + 1) Reading) }
 {}
 
 /// Letters in one word spell what they spell apart (POSIX.1-2017, XBD 12.2, guideline 5). A letter to which no value belongs
 /// gives its option, and what comes after it is read as if it weren't there: the other letters of its word, after a
-/// hyphen, and where it is the only one the words that follow.
+/// hyphen, and where it is the only one the words that follow. So it is with a long name.
 pub fn letters_stand_together()
     ensures together { (rows : List OptionRow) (letter next : ℕ) (choice : Choice) (rest : List ℕ)
         (words : List (List ℕ)) (place : ℕ) → IsSwitch rows letter choice → next ≢ 45
@@ -190,6 +211,10 @@ pub fn letters_stand_together()
         ≡ given_before (bare choice place) (spelled rows ((codes "-" ++ next ∷ rest) ∷ words) place Reading) }
     ensures apart { (rows : List OptionRow) (letter : ℕ) (choice : Choice) (words : List (List ℕ)) (place : ℕ)
         → IsSwitch rows letter choice → spelled rows ((codes "-" ++ letter ∷ []) ∷ words) place Reading
+        ≡ given_before (bare choice place) (spelled rows words (place + 1) Reading) }
+    ensures long { (rows : List OptionRow) (name : List ℕ) (takes : Takes) (choice : Choice) (words : List (List ℕ))
+        (place : ℕ) → IsLong rows name (Ok takes) → alone takes ≡ Some choice
+        → spelled rows ((codes "--" ++ name) ∷ words) place Reading
         ≡ given_before (bare choice place) (spelled rows words (place + 1) Reading) }
 {}
 
@@ -220,20 +245,16 @@ pub fn reading_ends()
     ensures left { (rows : List OptionRow) (first : List (List ℕ)) (place : ℕ) (state : State)
         → LeaveTheRest rows first place state }
     ensures last { (rows : List OptionRow) (name : List ℕ) (topic : Topic) (words : List (List ℕ)) (place : ℕ)
-        → IsLast rows name topic
+        → IsLong rows name (Ok (Takes.Last topic))
         → spelled rows ((codes "--" ++ name) ∷ words) place Reading ≡ Ok (one_option (Choice.About topic) place) }
-    ensures head { (words : List (List ℕ))
-        → settings_of (codes "head" ∷ codes "--help" ∷ words) ≡ Ok (Settings.About Tool.Head Topic.Help) }
-    ensures tail { (words : List (List ℕ))
-        → settings_of (codes "tail" ∷ codes "--help" ∷ words) ≡ Ok (Settings.About Tool.Tail Topic.Help) }
-    ensures split { (words : List (List ℕ))
-        → settings_of (codes "split" ∷ codes "--version" ∷ words) ≡ Ok (Settings.About Tool.Split Topic.Version) }
-    ensures csplit { (words : List (List ℕ))
-        → settings_of (codes "csplit" ∷ codes "--help" ∷ words) ≡ Ok (Settings.About Tool.Csplit Topic.Help) }
-    ensures tee { (words : List (List ℕ))
-        → settings_of (codes "tee" ∷ codes "--version" ∷ words) ≡ Ok (Settings.About Tool.Tee Topic.Version) }
-    ensures program { (words : List (List ℕ))
-        → settings_of (codes "--version" ∷ words) ≡ Ok (Settings.About Tool.Cutters Topic.Version) }
+    ensures head { IsTold (codes "head") Tool.Head }
+    ensures tail { IsTold (codes "tail") Tool.Tail }
+    ensures split { IsTold (codes "split") Tool.Split }
+    ensures csplit { IsTold (codes "csplit") Tool.Csplit }
+    ensures tee { IsTold (codes "tee") Tool.Tee }
+    ensures program { (calling : Calling) (words : List (List ℕ))
+        → (settings_of calling (codes "--help" ∷ words) ≡ Ok (Settings.About Tool.Cutters Topic.Help))
+        × (settings_of calling (codes "--version" ∷ words) ≡ Ok (Settings.About Tool.Cutters Topic.Version)) }
 {}
 
 /// The operands are some of the words, in their order, each with its place.
@@ -242,34 +263,111 @@ pub fn operands_keep_their_order()
         → spelled rows words place state ≡ Ok given → AreAmong given.operands place words }
 {}
 
-/// A first word that isn't a hyphen and digits, and letters where its tool takes some, is read as any other word. One of
-/// digits alone gives the option that its tool has for it, with these digits as the value.
+/// A first word that isn't a hyphen and digits, and letters where its tool takes some, nor a `+` and what its tool takes after
+/// that, is read as any other word. One of digits alone gives the option that its tool has for it, with these digits as the
+/// value; one with letters, or after a `+`, what these ask.
 #[tactic(auto, unfolding(crate::specs::Spelling::foremost))]
 pub fn number_comes_first()
-    ensures other { (rows : List OptionRow) (kind : Kind) (letters : Letters) (byte : ℕ)
+    ensures other { (calling : Calling) (rows : List OptionRow) (kind : Kind) (letters : Letters) (byte : ℕ)
         (rest : List ℕ) (words : List (List ℕ)) (place : ℕ) → is_number rest ≡ false
-        → is_lettered rows letters rest ≡ false
-        → spelled rows ((byte ∷ rest) ∷ words) place (State.First kind letters)
+        → is_lettered rows letters rest ≡ false → (byte ≡ 43 → is_start calling rows letters rest ≡ false)
+        → spelled rows ((byte ∷ rest) ∷ words) place (State.First calling kind letters)
         ≡ spelled rows ((byte ∷ rest) ∷ words) place Reading }
-    ensures number { (rows : List OptionRow) (kind : Kind) (letters : Letters) (digits : List ℕ)
+    ensures number { (calling : Calling) (rows : List OptionRow) (kind : Kind) (letters : Letters) (digits : List ℕ)
         (choice : Choice) (words : List (List ℕ)) (place : ℕ) → is_number digits ≡ true
         → choice_in kind digits ≡ Ok choice
-        → spelled rows ((codes "-" ++ digits) ∷ words) place (State.First kind letters)
+        → spelled rows ((codes "-" ++ digits) ∷ words) place (State.First calling kind letters)
         ≡ given_before (one_option choice place) (spelled rows words (place + 1) Reading) }
+    ensures letters { (calling : Calling) (rows : List OptionRow) (kind : Kind) (letters : Letters) (text : List ℕ)
+        (words : List (List ℕ)) (place : ℕ) → is_number text ≡ false → is_lettered rows letters text ≡ true
+        → spelled rows ((codes "-" ++ text) ∷ words) place (State.First calling kind letters)
+        ≡ onward (spelled rows words (place + 1)) (given_at place (with_letters rows Sign.Plain place text)) }
+    ensures start { (calling : Calling) (rows : List OptionRow) (kind : Kind) (letters : Letters) (text : List ℕ)
+        (words : List (List ℕ)) (place : ℕ) → is_start calling rows letters text ≡ true
+        → spelled rows ((codes "+" ++ text) ∷ words) place (State.First calling kind letters)
+        ≡ onward (spelled rows words (place + 1)) (given_at place (with_letters rows Sign.Plus place text)) }
 {}
 
-/// What a letter after the digits of a first word asks: one that says what is counted, as many of that as the digits write;
-/// one of an option, as many lines and that option.
+/// What digits and letters as a first word ask, also after a `+`: as many as the digits write, or ten without digits, of what one
+/// letter says, lines where none does; and what the other letters ask after a hyphen. Each such word is of this kind, and of
+/// `head` each of this kind with digits is such a word.
+#[tactic(auto, unfolding(crate::specs::Spelling::foremost, crate::specs::Table::tools))]
 pub fn letters_ask()
-    ensures unit { (rows : List OptionRow) (digits : List ℕ) (letter place : ℕ) (unit : Measured × ℕ) (count : Count)
-        → is_number digits ≡ true → unit_of letter ≡ Some unit
-        → counted (sized Sign.Plain (value_of digits * unit.1)) ≡ Ok count
-        → with_letters rows place (digits ++ letter ∷ []) ≡ Ok (one_option (Choice.Amount unit.0 count) place) }
-    ensures option { (rows : List OptionRow) (digits : List ℕ) (letter place : ℕ) (choice : Choice)
-        (count : Count) → is_number digits ≡ true → unit_of letter ≡ None → is_ascii_digit letter ≡ false
-        → IsSwitch rows letter choice → counted (sized Sign.Plain (value_of digits)) ≡ Ok count
-        → with_letters rows place (digits ++ letter ∷ [])
-        ≡ Ok (joined (one_option (Choice.Amount Unit.Lines count) place) (bare choice place)) }
+    ensures asks { (rows : List OptionRow) (sign : Sign) (text digits options : List ℕ) (unit : Measured × ℕ)
+        (place : ℕ) (given : Given) → HasLetters rows text digits options unit
+        → cluster rows place options ≡ reading given
+        → with_letters rows sign place text ≡ then_check (counted (sized sign (how_many digits * unit.1)))
+        (λ count. Ok (joined (one_option (Choice.Amount unit.0 count) place) given)) }
+    ensures head { (text : List ℕ) → (is_lettered head_table OfHead text ≡ true)
+        ↔ ((digits options : List ℕ) × (unit : Measured × ℕ) × (digits ≢ [])
+        × HasLetters head_table text digits options unit) }
+    ensures tail { (text : List ℕ) → is_lettered tail_table OfTail text ≡ true
+        → IsNumberWithLetters tail_table text }
+    ensures start { (text : List ℕ) → is_start Calling.OwnName tail_table OfTail text ≡ true
+        → IsNumberWithLetters tail_table text }
+    ensures several { (calling : Calling) → settings_of calling (codes "head" ∷ codes "-5cq" ∷ [])
+        ≡ Ok (Settings.Head (record ten_of_input {
+          unit = Unit.Bytes;
+          count = record { sign = Sign.Plain; amount = 5 };
+          headers = Headers.Never;
+        })) }
+    ensures followed { (calling : Calling) → settings_of calling (codes "tail" ∷ codes "-20bf" ∷ codes "f" ∷ [])
+        ≡ Ok (Settings.Tail (record following {
+          ends = record following.ends {
+            unit = Unit.Bytes;
+            count = record { sign = Sign.Plain; amount = 10240 };
+          };
+        })) }
+    ensures blocks { (calling : Calling) → settings_of calling (codes "tail" ∷ codes "-b" ∷ [])
+        ≡ Ok (Settings.Tail (unfollowed (record ten_of_input {
+          unit = Unit.Bytes;
+          count = record { sign = Sign.Plain; amount = 5120 };
+        }))) }
+{}
+
+/// What words mean doesn't depend on how the program is called, but for two things: a first word of `tail` that is a `+` and
+/// what may follow it, and what `tee` does once an output is broken where no option says it.
+#[tactic(auto, unfolding(crate::specs::Spelling::foremost, crate::specs::Table::tools))]
+pub fn callings_mean_the_same()
+    ensures none { MeanTheSame [] }
+    ensures unknown { (name : List ℕ) (words : List (List ℕ)) → tool_named name ≡ None → MeanTheSame (name ∷ words) }
+    ensures head { (words : List (List ℕ)) → MeanTheSame (codes "head" ∷ words) }
+    ensures tail { (words : List (List ℕ)) → begin_with_start words ≡ false → MeanTheSame (codes "tail" ∷ words) }
+    ensures split { (words : List (List ℕ)) → MeanTheSame (codes "split" ∷ words) }
+    ensures csplit { (words : List (List ℕ)) → MeanTheSame (codes "csplit" ∷ words) }
+    ensures tee { (words : List (List ℕ)) → leave_open words ≡ false → MeanTheSame (codes "tee" ∷ words) }
+    ensures left_open { (given : Given) → has says_on_broken given.options ≡ false
+        → tee_asked Calling.OwnName given
+        ≡ record (tee_asked Calling.Cutters given) { on_broken = OnBroken.Signal } }
+{}
+
+/// What a first word of digits and letters asks of `tail`: after a hyphen for so many of the last lines or bytes, and after a
+/// `+` for all from that one on, as `-n` and `-c` do with these, in blocks of 512 bytes too; with `f` it follows. Any other
+/// word of a `+` is a name, and so is this one where it isn't the first, or the program is called by its own.
+#[tactic(auto, unfolding(crate::specs::Spelling::foremost, crate::specs::Table::tools))]
+pub fn starts_ask()
+    ensures number { (digits : List ℕ) → is_number digits ≡ true → value_of digits ≤ 2 ^ 63 - 1
+        → NumberAsks digits Unit.Lines (value_of digits) }
+    ensures bytes { (digits : List ℕ) → is_number digits ≡ true → value_of digits ≤ 2 ^ 63 - 1
+        → NumberAsks (digits ++ codes "c") Unit.Bytes (value_of digits) }
+    ensures blocks { (digits : List ℕ) → is_number digits ≡ true → value_of digits * 512 ≤ 2 ^ 63 - 1
+        → NumberAsks (digits ++ codes "b") Unit.Bytes (value_of digits * 512) }
+    ensures lines { (digits : List ℕ) → is_number digits ≡ true → value_of digits ≤ 2 ^ 63 - 1
+        → NumberAsks (digits ++ codes "l") Unit.Lines (value_of digits) }
+    ensures too_large { (digits : List ℕ) (words : List (List ℕ)) → is_number digits ≡ true
+        → 2 ^ 63 - 1 < value_of digits → settings_of Calling.OwnName (codes "tail" ∷ (codes "+" ++ digits) ∷ words)
+        ≡ Err (Fault.Usage NumberTooLarge 1) }
+    ensures five_blocks { NumberAsks (codes "5b") Unit.Bytes 2560 }
+    ensures ten_bytes { StartAsks (codes "c") Unit.Bytes 10 }
+    ensures ten_blocks { NumberAsks (codes "b") Unit.Bytes 5120 }
+    ensures ten_lines { NumberAsks (codes "l") Unit.Lines 10 }
+    ensures path { AreNames (codes "./+2" ∷ []) (codes "./+2" ∷ []) }
+    ensures operand { AreNames (codes "--" ∷ codes "+2" ∷ []) (codes "+2" ∷ []) }
+    ensures second { AreNames (codes "f" ∷ codes "+2" ∷ []) (codes "f" ∷ codes "+2" ∷ []) }
+    ensures plus { AreNames (codes "+" ∷ []) (codes "+" ∷ []) }
+    ensures plus_f { AreNames (codes "+f" ∷ []) (codes "+f" ∷ []) }
+    ensures cutters { (text : List ℕ) → settings_of Calling.Cutters (codes "tail" ∷ (codes "+" ++ text) ∷ [])
+        ≡ Ok (Settings.Tail (unfollowed (ten_lines ((codes "+" ++ text) ∷ [])))) }
 {}
 
 /// A first word that is read as a hyphen, digits and letters means nothing else: read as any other word it is an unknown
@@ -297,14 +395,15 @@ pub fn ends_options_ask()
         → EndsAsk (codes "-c" ∷ value ∷ []) (record ten_of_input { unit = Unit.Bytes; count = count }) }
     ensures quiet { EndsAsk (codes "-q" ∷ []) (record ten_of_input { headers = Headers.Never }) }
     ensures verbose { EndsAsk (codes "-v" ∷ []) (record ten_of_input { headers = Headers.Always }) }
+    ensures zero { EndsAsk (codes "-z" ∷ []) (record ten_of_input { delim = 0 }) }
 {}
 
-/// What the options of `tail` for following ask for, and what is asked for without any: files that are opened once, or names;
-/// as many looks as can be, or this many; pauses of a second at most, or of this many milliseconds (POSIX.1-2017, XCU tail;
-/// GNU coreutils manual).
+/// What the options of `tail` for following ask for, and what is asked for without any: files that are opened once, or names,
+/// and these only with `--retry`; as many looks as can be, or this many; pauses of a second at most, or of this many
+/// milliseconds; the end of this process (POSIX.1-2017, XCU tail; GNU coreutils manual).
 #[tactic(auto, unfolding(crate::specs::Spelling::foremost, crate::specs::Table::tools, seg_core::specs::Count::digits_of))]
 pub fn tail_options_ask()
-    ensures nothing { settings_of (codes "tail" ∷ []) ≡ Ok (Settings.Tail (record {
+    ensures nothing { (calling : Calling) → settings_of calling (codes "tail" ∷ []) ≡ Ok (Settings.Tail (record {
       ends = ten_of_input;
       followed = None;
       looks = 2 ^ 63 - 1;
@@ -317,9 +416,19 @@ pub fn tail_options_ask()
     ensures names { FollowAsks (codes "-F" ∷ []) (record following { followed = Some Followed.Name }) }
     ensures retry { FollowAsks (codes "--follow=name" ∷ codes "--retry" ∷ [])
         (record following { followed = Some Followed.Name }) }
-    ensures looks { FollowAsks (codes "-f" ∷ codes "--looks=3" ∷ []) (record following { looks = 3 }) }
-    ensures pause { FollowAsks (codes "-f" ∷ codes "-s" ∷ codes "2.5" ∷ []) (record following { pause = 2500 }) }
-    ensures process { FollowAsks (codes "-f" ∷ codes "--pid=7" ∷ []) (record following { process = Some 7 }) }
+    ensures names_alone { (calling : Calling)
+        → settings_of calling (codes "tail" ∷ codes "--follow=name" ∷ codes "f" ∷ []) ≡ Err (Fault.Usage BadFollow 0) }
+    ensures retry_alone { (calling : Calling)
+        → settings_of calling (codes "tail" ∷ codes "--retry" ∷ codes "f" ∷ []) ≡ Err (Fault.Usage BadFollow 0) }
+    ensures looks { (value : List ℕ) → is_number value ≡ true → 1 ≤ value_of value → value_of value ≤ 2 ^ 63 - 1
+        → FollowAsks (codes "-f" ∷ codes "--looks" ∷ value ∷ []) (record following { looks = value_of value }) }
+    ensures pause { (value : List ℕ) (pause : ℕ) → pause_in value ≡ Ok pause
+        → FollowAsks (codes "-f" ∷ codes "-s" ∷ value ∷ []) (record following { pause = pause }) }
+    ensures half_seconds { FollowAsks (codes "-f" ∷ codes "-s" ∷ codes "2.5" ∷ []) (record following { pause = 2500 }) }
+    ensures process { (value : List ℕ) → is_number value ≡ true → 1 ≤ value_of value → value_of value ≤ 2 ^ 31 - 1
+        → FollowAsks (codes "-f" ∷ codes "--pid" ∷ value ∷ []) (record following { process = Some (value_of value) }) }
+    ensures unchanged { (value : List ℕ) → is_number value ≡ true → value_of value ≤ 2 ^ 63 - 1
+        → FollowAsks (codes "-f" ∷ codes "--max-unchanged-stats" ∷ value ∷ []) following }
     ensures short_pause { FollowAsks (codes "-f" ∷ codes "--sleep-interval=.0501" ∷ [])
         (record following { pause = 51 }) }
 {}
@@ -361,11 +470,20 @@ pub fn split_options_ask()
         → SplitAsks ((codes "--hex-suffixes=" ++ value) ∷ [])
         (record (as_wide 2) { alphabet = Alphabet.Hex; from = Some from }) }
     ensures too_short { (value : List ℕ) (from : ℕ) → up_to (2 ^ 63 - 1) (digits_of value) ≡ Ok from → 100 ≤ from
-        → settings_of (codes "split" ∷ (codes "--numeric-suffixes=" ++ value) ∷ [])
+        → (calling : Calling) → settings_of calling (codes "split" ∷ (codes "--numeric-suffixes=" ++ value) ∷ [])
         ≡ Err (Fault.Usage SuffixTooShort 0) }
     ensures split_verbose { SplitAsks (codes "--verbose" ∷ []) (record thousands { verbose = true }) }
     ensures elide { SplitAsks (codes "-e" ∷ []) (record thousands { elide = true }) }
-    ensures width { SplitAsks (codes "-a3" ∷ []) (as_wide 3) }
+    ensures width { (value : List ℕ) → is_number value ≡ true → 1 ≤ value_of value → value_of value ≤ 255
+        → SplitAsks (codes "-a" ∷ value ∷ []) (as_wide (value_of value)) }
+    ensures no_width { (value : List ℕ) → is_number value ≡ true → value_of value ≡ 0
+        → SplitAsks (codes "-a" ∷ value ∷ []) thousands }
+    ensures separator { (value : List ℕ) (byte : ℕ) → byte_in value ≡ Ok byte
+        → SplitAsks (codes "-t" ∷ value ∷ [])
+        (record thousands { way = Way.Cut (Cut.Parts (Limit.Lines 1000 byte)) }) }
+    ensures ending { (value ending : List ℕ) → ending_in value ≡ Ok ending
+        → SplitAsks (codes "--additional-suffix" ∷ value ∷ []) (record thousands { ending = ending }) }
+    ensures unbuffered { SplitAsks (codes "-u" ∷ []) thousands }
 {}
 
 /// What the options of `csplit` ask for, each alone, and what is asked for without any (POSIX.1-2017, XCU csplit; GNU
@@ -402,29 +520,34 @@ pub fn csplit_options_ask()
     ensures suppress { CsplitAsks (codes "--suppress-matched" ∷ []) (record plain_style { suppress = true }) }
 {}
 
-/// What `tee` is asked for without options, with `-a`, and with an option that says what is done once an output is broken
-/// (POSIX.1-2017, XCU tee; GNU coreutils manual).
+/// What `tee` is asked for without options, by both ways to call the program, with `-a`, and with an option that says what is
+/// done once an output is broken (POSIX.1-2017, XCU tee; GNU coreutils manual).
 #[tactic(auto, unfolding(crate::specs::Table::tools))]
 pub fn tee_options_ask()
-    ensures nothing { TeeAsks []
-        (record { mode = Mode.Fresh; on_broken = OnBroken.GoOn; names = codes "f" ∷ [] }) }
-    ensures append { TeeAsks (codes "-a" ∷ []) (record fresh_file { mode = Mode.Append }) }
-    ensures warn { TeeAsks (codes "-p" ∷ []) fresh_file }
-    ensures stop { TeeAsks (codes "--output-error=exit" ∷ []) (record fresh_file { on_broken = OnBroken.Stop }) }
-    ensures stop_at_no_pipe { TeeAsks (codes "--output-error=exit-nopipe" ∷ [])
-        (record fresh_file { on_broken = OnBroken.Stop }) }
+    ensures nothing { TeeAsks Calling.Cutters []
+        (record { mode = Mode.Fresh; on_broken = OnBroken.Warn; names = codes "f" ∷ [] }) }
+    ensures own_name { TeeAsks Calling.OwnName []
+        (record { mode = Mode.Fresh; on_broken = OnBroken.Signal; names = codes "f" ∷ [] }) }
+    ensures append { (calling : Calling)
+        → TeeAsks calling (codes "-a" ∷ []) (record (fresh_file calling) { mode = Mode.Append }) }
+    ensures p { OnBrokenAsks (codes "-p" ∷ []) OnBroken.WarnNoPipe }
+    ensures output_error { OnBrokenAsks (codes "--output-error" ∷ []) OnBroken.WarnNoPipe }
+    ensures warn_nopipe { OnBrokenAsks (codes "--output-error=warn-nopipe" ∷ []) OnBroken.WarnNoPipe }
+    ensures warn { OnBrokenAsks (codes "--output-error=warn" ∷ []) OnBroken.Warn }
+    ensures exit { OnBrokenAsks (codes "--output-error=exit" ∷ []) OnBroken.Exit }
+    ensures exit_nopipe { OnBrokenAsks (codes "--output-error=exit-nopipe" ∷ []) OnBroken.ExitNoPipe }
 {}
 
 /// A hyphen and digits as the only word mean what `-n` means with these digits for `head` and `tail`, and what `-l` means for
 /// `split` (GNU coreutils manual).
 pub fn numbers_ask()
-    ensures head { (digits : List ℕ) (count : Count) → is_number digits ≡ true → count_of digits ≡ Ok count
-        → settings_of (codes "head" ∷ (codes "-" ++ digits) ∷ [])
-        ≡ settings_of (codes "head" ∷ codes "-n" ∷ digits ∷ []) }
-    ensures tail { (digits : List ℕ) (count : Count) → is_number digits ≡ true → count_of digits ≡ Ok count
-        → settings_of (codes "tail" ∷ (codes "-" ++ digits) ∷ [])
-        ≡ settings_of (codes "tail" ∷ codes "-n" ∷ digits ∷ []) }
-    ensures split { (digits : List ℕ) (size : ℕ) → is_number digits ≡ true → size_in digits ≡ Ok size
-        → settings_of (codes "split" ∷ (codes "-" ++ digits) ∷ [])
-        ≡ settings_of (codes "split" ∷ codes "-l" ∷ digits ∷ []) }
+    ensures head { (calling : Calling) (digits : List ℕ) (count : Count) → is_number digits ≡ true
+        → count_of digits ≡ Ok count → settings_of calling (codes "head" ∷ (codes "-" ++ digits) ∷ [])
+        ≡ settings_of calling (codes "head" ∷ codes "-n" ∷ digits ∷ []) }
+    ensures tail { (calling : Calling) (digits : List ℕ) (count : Count) → is_number digits ≡ true
+        → count_of digits ≡ Ok count → settings_of calling (codes "tail" ∷ (codes "-" ++ digits) ∷ [])
+        ≡ settings_of calling (codes "tail" ∷ codes "-n" ∷ digits ∷ []) }
+    ensures split { (calling : Calling) (digits : List ℕ) (size : ℕ) → is_number digits ≡ true
+        → size_in digits ≡ Ok size → settings_of calling (codes "split" ∷ (codes "-" ++ digits) ∷ [])
+        ≡ settings_of calling (codes "split" ∷ codes "-l" ∷ digits ∷ []) }
 {}

@@ -1,17 +1,18 @@
-//! A first word of a hyphen, digits and letters, as `-5c` of `head` and `-20f` of `tail` (GNU's, from before POSIX).
+//! A first word of a hyphen, digits and letters, as `-5c` of `head` and `-20f` of `tail`, and one of a `+`, as `+5` of
+//! `tail` (GNU's, from before POSIX).
 ghost use Rattle.std.specs.Prelude.{◌≡◌, ◌+◌, ◌-◌, ◌^◌, ◌==◌, IfErr, IfOk, filter, if◌then◌else◌, length, map, min};
 ghost use Rattle.seg_core.specs.Count.{after_digits, leading_digits, value_of};
 ghost use Rattle.words_core.specs.Given.{joined};
 ghost use Rattle.words_core.specs.inner.Spelling.{Adds};
-ghost use Rattle.words_core.specs.Lettered.{are_known, are_of_tail, is_known, is_lettered, is_switch, is_unit, letter_named, switched, switches, times, unit_in, unit_of, with_letters};
+ghost use Rattle.words_core.specs.Lettered.{are_known, are_of_tail, is_known, is_lettered, is_start, is_switch, is_unit, letter_named, switched, switches, times, unit_in, unit_of, with_letters};
 ghost use Rattle.words_core.specs.Spelling.{given_at, reading};
 ghost use Rattle.words_core.specs.Table.{row_seen};
 
 use crate::choice::Choice;
 use crate::spelled::Spelled;
-use crate::spelling::State;
+use crate::spelling::{State, is_number};
 use crate::table::{Letters, OptionRow, Takes, find_option, is_among};
-use ports_core::{Fault, UsageKind};
+use ports_core::{Calling, Fault, UsageKind};
 use seg_core::count::{Count, Sign};
 use seg_core::digits::{GREATEST, leading_number};
 use seg_core::unit::Unit;
@@ -31,6 +32,18 @@ pub fn is_lettered(rows: &[OptionRow], letters: Letters, text: &[u8]) -> bool
         Letters::OfTail => {
             are_of_tail(rest) && (has_digits || is_among(&["b", "bf", "l", "lf"], text))
         }
+    }
+}
+
+/// Whether a text that follows a `+` says where `tail` begins, where the program is called by its name.
+pub fn is_start(calling: Calling, rows: &[OptionRow], letters: Letters, text: &[u8]) -> bool
+    ensures { result ≡ is_start calling (map row_seen rows.now) letters text.now }
+{
+    match (calling, letters) {
+        (Calling::OwnName, Letters::OfTail) => {
+            is_number(text) || is_lettered(rows, letters, text) || is_among(&["c", "cf"], text)
+        }
+        _ => false,
     }
 }
 
@@ -125,15 +138,12 @@ fn leading_or_ten(text: &[u8]) -> u64
 }
 
 /// As many as the digits that a text begins with write, or ten without digits, each of them this large.
-fn times(text: &[u8], each: u64) -> Result<Count, UsageKind>
-    ensures { result ≡ times (leading_digits text.now) each }
+fn times(sign: Sign, text: &[u8], each: u64) -> Result<Count, UsageKind>
+    ensures { result ≡ times sign (leading_digits text.now) each }
 {
     let amount = leading_or_ten(text).saturating_mul(each);
     if amount <= GREATEST {
-        Ok(Count {
-            sign: Sign::Plain,
-            amount,
-        })
+        Ok(Count { sign, amount })
     } else {
         Err(UsageKind::NumberTooLarge)
     }
@@ -142,16 +152,17 @@ fn times(text: &[u8], each: u64) -> Result<Count, UsageKind>
 /// Reads a number with letters: the count, and an option for each letter that doesn't say what is counted.
 pub fn read_lettered<'a>(
     rows: &[OptionRow],
+    sign: Sign,
     place: usize,
     text: &[u8],
     spelled: &mut Spelled<'a>,
 ) -> Result<State, Fault>
     ensures { Adds (given_at place
-        (with_letters (map row_seen rows.now) place text.now)) spelled.old spelled.new result }
+        (with_letters (map row_seen rows.now) sign place text.now)) spelled.old spelled.new result }
 {
     let letters = after_digits(text);
     let (unit, each) = unit_in(letters);
-    match times(text, each) {
+    match times(sign, text, each) {
         Ok(count) => {
             spelled.add_option(Choice::Amount(unit, count), place)?;
             add_switches(rows, place, letters, spelled)

@@ -21,7 +21,7 @@ mod tee_words;
 mod value;
 mod words;
 
-pub use args::{ArgsFault, read_args};
+pub use args::{Args, ArgsFault, read_args};
 pub use choice::{Choice, Kind};
 pub use csplit_settings::CsplitSettings;
 pub use division::{Dealing, Division};
@@ -29,13 +29,13 @@ pub use ends_words::EndsSettings;
 pub use format::{Format, read_format};
 pub use help::text_about;
 pub use laws::{
-    beginnings_are_of_one_option, csplit_options_ask, ends_options_ask, last_of_csplit_decides,
-    last_of_ends_decides, last_of_split_decides, last_of_tail_decides, last_of_tee_decides,
-    leftmost_fault_decides, letters_ask, letters_stand_together, letters_take_no_option_away,
-    number_comes_first, numbers_ask, numbers_keep_their_width, one_way_at_most,
-    operands_follow_the_end, operands_keep_their_order, operands_may_mix, options_stand_anywhere,
-    reading_ends, some_have_no_effect, split_options_ask, tail_options_ask, tee_options_ask,
-    values_are_spelled_alike,
+    beginnings_are_of_one_option, callings_mean_the_same, csplit_options_ask, ends_options_ask,
+    last_of_csplit_decides, last_of_ends_decides, last_of_split_decides, last_of_tail_decides,
+    last_of_tee_decides, leftmost_fault_decides, letters_ask, letters_stand_together,
+    letters_take_no_option_away, names_mean_the_same, number_comes_first, numbers_ask,
+    numbers_keep_their_width, one_way_at_most, operands_follow_the_end, operands_keep_their_order,
+    operands_may_mix, options_stand_anywhere, reading_ends, some_have_no_effect, split_options_ask,
+    starts_ask, tail_options_ask, tee_options_ask, values_are_spelled_alike,
 };
 pub use settings::{Headers, Settings, Topic};
 pub use spelled::{Chosen, Operand, Spelled};

@@ -8,19 +8,20 @@ ghost use Rattle.words_core.specs.Given.{one_operand};
 ghost use Rattle.words_core.specs.Table.{row_seen, tool_seen};
 
 use crate::choice::{Choice, Kind, read_choice};
-use crate::lettered::{is_lettered, read_lettered};
+use crate::lettered::{is_lettered, is_start, read_lettered};
 use crate::settings::Topic;
 use crate::spelled::Spelled;
 use crate::table::{Letters, OptionRow, Takes, ToolRow, find_called, find_option};
-use ports_core::{Fault, UsageKind};
+use ports_core::{Calling, Fault, UsageKind};
+use seg_core::count::Sign;
 use std::alloc::Global;
 
 /// What may stand in the next word.
 #[derive(Clone, Copy)]
 pub enum State {
     /// Options and operands, or a hyphen and digits, which are then an option's value and may be followed by these
-    /// letters.
-    First(Kind, Letters),
+    /// letters; or a `+` and these, where the program is called so that its tool takes them.
+    First(Calling, Kind, Letters),
     /// Options and operands.
     Reading,
     /// The value of an option. The option stands in the word at this place.
@@ -31,20 +32,21 @@ pub enum State {
     Ended,
 }
 
-/// Reads the words after a tool's name.
+/// Reads the words after a tool's name, by how the program was called.
 ///
 /// # Errors
 ///
 /// `Usage`: the first fault from left to right. `Memory` where there is no room for what they spell.
 pub fn read_given<'a>(
     alloc: Global,
+    calling: Calling,
     tool: &ToolRow,
     words: &[&'a str],
 ) -> Result<Spelled<'a>, Fault>
-    ensures { Reads (given_by (tool_seen tool.now) (map (λ word. word.now) words.now)) result }
+    ensures { Reads (given_by calling (tool_seen tool.now) (map (λ word. word.now) words.now)) result }
 {
     let start = match tool.number {
-        Some((kind, letters)) => State::First(kind, letters),
+        Some((kind, letters)) => State::First(calling, kind, letters),
         None => State::Reading,
     };
     read_items(alloc, tool.options, start, words)
@@ -70,7 +72,7 @@ fn read_items<'a>(
     }
     match state {
         State::Awaiting(_, option) => Err(Fault::Usage(UsageKind::MissingValue, option)),
-        State::First(_, _) | State::Reading | State::OnlyOperands | State::Ended => Ok(spelled),
+        State::First(_, _, _) | State::Reading | State::OnlyOperands | State::Ended => Ok(spelled),
     }
 }
 
@@ -84,7 +86,9 @@ fn read_word<'a>(
     ensures { Adds (meaning_of (map row_seen rows.now) state place word.now) spelled.old spelled.new result }
 {
     match state {
-        State::First(kind, letters) => read_first(rows, kind, letters, place, word, spelled),
+        State::First(calling, kind, letters) => {
+            read_first(calling, rows, kind, letters, place, word, spelled)
+        }
         State::Reading => read_mixed(rows, place, word, spelled),
         State::Awaiting(kind, option) => read_option(kind, option, place, word, spelled),
         State::OnlyOperands => {
@@ -95,9 +99,11 @@ fn read_word<'a>(
     }
 }
 
-/// Reads the word after the tool's name, where a hyphen and digits are an option's value and letters may follow.
+/// Reads the word after the tool's name, where a hyphen and digits are an option's value and letters may follow, and where
+/// these may follow a `+`.
 #[tactic(auto, unfolding(crate::specs::Spelling::foremost))]
 fn read_first<'a>(
+    calling: Calling,
     rows: &[OptionRow],
     kind: Kind,
     letters: Letters,
@@ -105,21 +111,25 @@ fn read_first<'a>(
     word: &'a str,
     spelled: &mut Spelled<'a>,
 ) -> Result<State, Fault>
-    ensures { Adds (foremost (map row_seen rows.now) kind letters place word.now) spelled.old spelled.new result }
+    ensures { Adds (foremost calling (map row_seen rows.now) kind letters place word.now)
+        spelled.old spelled.new result }
 {
     match first_letter(word) {
         Some((b'-', digits)) if is_number(digits.as_bytes()) => {
             read_option(kind, place, place, digits, spelled)
         }
         Some((b'-', text)) if is_lettered(rows, letters, text.as_bytes()) => {
-            read_lettered(rows, place, text.as_bytes(), spelled)
+            read_lettered(rows, Sign::Plain, place, text.as_bytes(), spelled)
+        }
+        Some((b'+', text)) if is_start(calling, rows, letters, text.as_bytes()) => {
+            read_lettered(rows, Sign::Plus, place, text.as_bytes(), spelled)
         }
         _ => read_mixed(rows, place, word, spelled),
     }
 }
 
 /// Whether a text is digits alone.
-fn is_number(text: &[u8]) -> bool
+pub(crate) fn is_number(text: &[u8]) -> bool
     ensures { result ≡ is_number text.now }
 {
     !text.is_empty() && text.iter().all(|byte| byte.is_ascii_digit())

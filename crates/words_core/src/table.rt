@@ -332,7 +332,7 @@ const TEE: &[OptionRow] = &[
     },
     OptionRow {
         names: &["-p", "--output-error"],
-        takes: Takes::Optional(Choice::OnBroken(OnBroken::GoOn), Kind::OnBroken),
+        takes: Takes::Optional(Choice::OnBroken(OnBroken::WarnNoPipe), Kind::OnBroken),
         value: "MODE",
         does: "go on (warn) or exit once an output is broken",
     },

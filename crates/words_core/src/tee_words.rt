@@ -1,11 +1,11 @@
 //! What `tee` is asked for (POSIX.1-2017, XCU tee; `-p` and `--output-error` are GNU's).
 ghost use Rattle.std.specs.Prelude.{◌≡◌, map, IfOk, IfErr};
 ghost use Rattle.words_core.specs.Choice.{seen};
-ghost use Rattle.words_core.specs.TeeWords.{TeeAsked, fresh, tee_asked, tee_by};
+ghost use Rattle.words_core.specs.TeeWords.{TeeAsked, fresh, tee_asked, tee_by, unless_said};
 
 use crate::choice::Choice;
 use crate::spelled::{Spelled, texts_of};
-use ports_core::{Fault, Mode, OnBroken};
+use ports_core::{Calling, Fault, Mode, OnBroken};
 use std::alloc::Global;
 use std::marker::Model;
 
@@ -30,13 +30,23 @@ impl<'a> Model for TeeSettings<'a> {
     } };
 }
 
-/// What is asked for without options: these files, which begin empty, and a run that goes on with the outputs that are left.
-fn fresh(names: Vec<&str>) -> TeeSettings<'_>
-    ensures { result ≡ fresh (map (λ name. name.now) names.entry.items) }
+/// What is done once an output is broken where no option says it.
+fn unless_said(calling: Calling) -> OnBroken
+    ensures { result ≡ unless_said calling }
+{
+    match calling {
+        Calling::Cutters => OnBroken::Warn,
+        Calling::OwnName => OnBroken::Signal,
+    }
+}
+
+/// What is asked for without options: these files, which begin empty.
+fn fresh(calling: Calling, names: Vec<&str>) -> TeeSettings<'_>
+    ensures { result ≡ fresh calling (map (λ name. name.now) names.entry.items) }
 {
     TeeSettings {
         mode: Mode::Fresh,
-        on_broken: OnBroken::GoOn,
+        on_broken: unless_said(calling),
         names,
     }
 }
@@ -54,16 +64,21 @@ impl TeeSettings<'_> {
     }
 }
 
-/// What words ask of `tee`: whether files keep what they hold, and the last that says what is done once an output is broken.
+/// What words ask of `tee`: whether files keep what they hold, and the last that says what is done once an output is broken, or
+/// else how the program was called.
 ///
 /// # Errors
 ///
 /// `Memory` where there is no room for the names.
-pub fn settle_tee<'a>(alloc: Global, spelled: &Spelled<'a>) -> Result<TeeSettings<'a>, Fault>
-    ensures ok { IfOk result (λ settings. settings ≡ tee_asked spelled.now) }
+pub fn settle_tee<'a>(
+    alloc: Global,
+    calling: Calling,
+    spelled: &Spelled<'a>,
+) -> Result<TeeSettings<'a>, Fault>
+    ensures ok { IfOk result (λ settings. settings ≡ tee_asked calling spelled.now) }
     ensures err { IfErr result (λ fault. fault ≡ Fault.Memory) }
 {
-    let mut asked = fresh(texts_of(alloc, &spelled.operands)?);
+    let mut asked = fresh(calling, texts_of(alloc, &spelled.operands)?);
     for option in &spelled.options {
         asked.take(option.choice);
     }

@@ -126,13 +126,13 @@ pub(crate) fn read_followed(text: &str) -> Result<Followed, UsageKind>
 pub(crate) fn read_on_broken(text: &str) -> Result<OnBroken, UsageKind>
     ensures { result ≡ on_broken_in text.now }
 {
-    if text == "warn" || text == "warn-nopipe" {
-        return Ok(OnBroken::GoOn);
+    match text {
+        "warn" => Ok(OnBroken::Warn),
+        "exit" => Ok(OnBroken::Exit),
+        "warn-nopipe" => Ok(OnBroken::WarnNoPipe),
+        "exit-nopipe" => Ok(OnBroken::ExitNoPipe),
+        _ => Err(UsageKind::BadMode),
     }
-    if text == "exit" || text == "exit-nopipe" {
-        return Ok(OnBroken::Stop);
-    }
-    Err(UsageKind::BadMode)
 }
 
 /// Reads seconds: digits, which may have a `.` before, among or after them. Returns them as milliseconds, rounded up, 2^63-1 at

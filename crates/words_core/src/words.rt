@@ -15,19 +15,23 @@ use crate::table::{Takes, all_tools, find_option, find_row, program_options};
 use crate::tail_words::settle_tail;
 use crate::tee_words::settle_tee;
 use crate::value::MOST_LOOKS;
-use ports_core::{Fault, Tool, UsageKind};
+use ports_core::{Calling, Fault, Tool, UsageKind};
 use std::alloc::Global;
 
-/// Reads what the words ask for. The first is the tool's name.
+/// Reads what the words ask for, by how the program was called. The first is the tool's name.
 ///
 /// # Errors
 ///
 /// `Usage`: what is wrong, and with which word; the faults of single words come first, from left to right, then those
 /// of the line as a whole, and then those of `csplit`'s operands, in their order. `Memory` where there is no room for what
 /// they spell.
-pub fn read_words<'a>(alloc: Global, words: &[&'a str]) -> Result<Settings<'a>, Fault>
-    ensures ok { IfOk result (λ settings. settings_of (map (λ word. word.now) words.now) ≡ Ok settings) }
-    ensures err { IfErr result (IsRefused HasBadOperands (settings_of (map (λ word. word.now) words.now))) }
+pub fn read_words<'a>(
+    alloc: Global,
+    calling: Calling,
+    words: &[&'a str],
+) -> Result<Settings<'a>, Fault>
+    ensures ok { IfOk result (λ settings. settings_of calling (map (λ word. word.now) words.now) ≡ Ok settings) }
+    ensures err { IfErr result (IsRefused HasBadOperands (settings_of calling (map (λ word. word.now) words.now))) }
     ensures can { IfOk result CanRun }
     ensures operands { IfOk result HasOperands }
 {
@@ -37,8 +41,8 @@ pub fn read_words<'a>(alloc: Global, words: &[&'a str]) -> Result<Settings<'a>, 
     let Some(row) = find_row(all_tools(), name) else {
         return settle_program(name);
     };
-    let spelled = read_given(alloc, row, words)?;
-    settle(alloc, row.tool, &spelled)
+    let spelled = read_given(alloc, calling, row, words)?;
+    settle(alloc, calling, row.tool, &spelled)
 }
 
 impl Settings<'_> {
@@ -105,21 +109,31 @@ fn topic_in(options: &[Chosen<'_>]) -> Option<Topic>
 }
 
 /// What the words after a tool's name ask of it: a text about it, or its work.
-fn settle<'a>(alloc: Global, tool: Tool, spelled: &Spelled<'a>) -> Result<Settings<'a>, Fault>
-    ensures ok { IfOk result (λ settings. settings_for tool spelled.now ≡ Ok settings) }
-    ensures err { IfErr result (IsRefused HasBadOperands (settings_for tool spelled.now)) }
+fn settle<'a>(
+    alloc: Global,
+    calling: Calling,
+    tool: Tool,
+    spelled: &Spelled<'a>,
+) -> Result<Settings<'a>, Fault>
+    ensures ok { IfOk result (λ settings. settings_for calling tool spelled.now ≡ Ok settings) }
+    ensures err { IfErr result (IsRefused HasBadOperands (settings_for calling tool spelled.now)) }
     ensures operands { IfOk result HasOperands }
 {
     match topic_in(&spelled.options) {
         Some(topic) => Ok(Settings::About(tool, topic)),
-        None => settle_work(alloc, tool, spelled),
+        None => settle_work(alloc, calling, tool, spelled),
     }
 }
 
 /// What options and operands ask of a tool's work.
-fn settle_work<'a>(alloc: Global, tool: Tool, spelled: &Spelled<'a>) -> Result<Settings<'a>, Fault>
-    ensures ok { IfOk result (λ settings. work_for tool spelled.now ≡ Ok settings) }
-    ensures err { IfErr result (IsRefused HasBadOperands (work_for tool spelled.now)) }
+fn settle_work<'a>(
+    alloc: Global,
+    calling: Calling,
+    tool: Tool,
+    spelled: &Spelled<'a>,
+) -> Result<Settings<'a>, Fault>
+    ensures ok { IfOk result (λ settings. work_for calling tool spelled.now ≡ Ok settings) }
+    ensures err { IfErr result (IsRefused HasBadOperands (work_for calling tool spelled.now)) }
     ensures operands { IfOk result HasOperands }
 {
     match tool {
@@ -127,7 +141,7 @@ fn settle_work<'a>(alloc: Global, tool: Tool, spelled: &Spelled<'a>) -> Result<S
         Tool::Tail => Ok(Settings::Tail(settle_tail(alloc, spelled)?)),
         Tool::Split => Ok(Settings::Split(settle_split(spelled)?)),
         Tool::Csplit => Ok(Settings::Csplit(settle_csplit(alloc, spelled)?)),
-        Tool::Tee => Ok(Settings::Tee(settle_tee(alloc, spelled)?)),
+        Tool::Tee => Ok(Settings::Tee(settle_tee(alloc, calling, spelled)?)),
         Tool::Cutters => Err(Fault::Usage(UsageKind::UnknownTool, 0)),
     }
 }

@@ -1,9 +1,10 @@
 //! What the words after `csplit` ask for: rows that no clause shows to be read, since there may be no memory for them.
+use crate::asked::{Asked, check};
 use crate::refused::{Refused, refuse};
 use ports_core::{Base, Filling, Form, UsageKind};
 use std::alloc::Global;
 use std::process::Abort;
-use words_core::{CsplitSettings, Settings, read_words};
+use words_core::{CsplitSettings, Settings};
 
 /// What words are to ask of `csplit`.
 #[derive(Clone, Copy)]
@@ -46,17 +47,12 @@ fn has_words(found: &CsplitSettings<'_>, words: &[&str]) -> bool {
     true
 }
 
-fn check(rt: &impl Abort, alloc: Global, words: &[&str], wanted: Wanted<'_>) {
-    match read_words(alloc, words) {
-        Ok(settings) => check_settings(rt, words, &settings, wanted),
-        Err(fault) => assert!(rt; false, "{fault:?} at {words:?}"),
-    }
-}
-
-fn check_settings(rt: &impl Abort, words: &[&str], settings: &Settings<'_>, wanted: Wanted<'_>) {
-    match settings {
-        Settings::Csplit(found) => assert!(rt; has(found, wanted), "at {words:?}"),
-        _ => assert!(rt; false, "another tool at {words:?}"),
+impl<'a> Asked for Wanted<'a> {
+    fn is_met(&self, settings: &Settings<'_>) -> bool {
+        match settings {
+            Settings::Csplit(found) => has(found, *self),
+            _ => false,
+        }
     }
 }
 
@@ -66,7 +62,7 @@ type NameRow<'a> = (&'a [&'a str], &'a str, u8);
 fn reads_what_names_are_made_of(rt: HostRuntime) {
     for row in NAMES {
         let wanted = Wanted::Names(row.1, decimal(row.2), "");
-        check(&rt, rt.alloc(), row.0, wanted);
+        check(&rt, rt.alloc(), row.0, &wanted);
     }
 }
 
@@ -118,7 +114,7 @@ fn reads_formats(rt: HostRuntime) {
             &rt,
             rt.alloc(),
             &["csplit", "-f", "p", "-b", row.0, "f", "3"],
-            wanted,
+            &wanted,
         );
     }
 }
@@ -259,7 +255,7 @@ const FORMATS: &[FormatRow<'static>] = &[
 fn a_format_has_its_own_digits(rt: HostRuntime) {
     for words in BESIDE {
         let zeros = form((Base::Decimal, false, 4, Filling::Zeros, 1));
-        check(&rt, rt.alloc(), words, Wanted::Names("xx", zeros, "~"));
+        check(&rt, rt.alloc(), words, &Wanted::Names("xx", zeros, "~"));
     }
 }
 
@@ -272,7 +268,12 @@ const BESIDE: &[&[&str]] = &[
 
 fn made_so(rt: &impl Abort, alloc: Global, row: &MadeRow<'_>) {
     let (words, [keep, quiet, elide, suppress]) = *row;
-    check(rt, alloc, words, Wanted::Made(keep, quiet, elide, suppress));
+    check(
+        rt,
+        alloc,
+        words,
+        &Wanted::Made(keep, quiet, elide, suppress),
+    );
 }
 
 type MadeRow<'a> = (&'a [&'a str], [bool; 4]);
@@ -332,7 +333,7 @@ fn reads_operands(rt: HostRuntime) {
             &rt,
             rt.alloc(),
             row.0,
-            Wanted::Operands(row.1, row.2, row.3),
+            &Wanted::Operands(row.1, row.2, row.3),
         );
     }
 }

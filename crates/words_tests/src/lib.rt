@@ -2,9 +2,13 @@
 #![tactic(auto)]
 
 #[cfg(test)]
+mod asked;
+#[cfg(test)]
 mod csplit_tests;
 #[cfg(test)]
 mod growth_tests;
+#[cfg(test)]
+mod many_tests;
 #[cfg(test)]
 mod pages;
 #[cfg(test)]
@@ -13,6 +17,8 @@ mod refused;
 mod short_tests;
 #[cfg(test)]
 mod spelling_tests;
+#[cfg(test)]
+mod split_refused_tests;
 #[cfg(test)]
 mod split_tests;
 #[cfg(test)]

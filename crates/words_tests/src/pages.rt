@@ -2,9 +2,11 @@
 mod followed_words;
 
 use followed_words::follows_files;
+use ports_core::Calling;
 
 #[test]
 fn sees_what_follows(rt: HostRuntime) {
     let words: [&str; 3] = ["tail", "-f", "log"];
-    assert_eq!(rt; follows_files(rt.alloc(), &words), Ok(true));
+    let follows = follows_files(rt.alloc(), Calling::Cutters, &words);
+    assert_eq!(rt; follows, Ok(true));
 }

@@ -1,6 +1,6 @@
-//! Long names that are cut short, and first words of a hyphen, digits and letters: they ask what other words ask.
-use crate::refused::{Refused, refuse};
-use ports_core::UsageKind;
+//! Long names that are cut short, and first words of a hyphen or a `+`, digits and letters: they ask what other words ask.
+use crate::refused::{CALLINGS, Refused, refuse, refuse_called};
+use ports_core::{Calling, UsageKind};
 use std::alloc::Global;
 use std::process::Abort;
 use words_core::{Chosen, Operand, Spelled, all_tools, find_row, read_given};
@@ -10,8 +10,8 @@ type Same<'a> = (&'a str, &'a [&'a str], &'a [&'a str]);
 
 #[test]
 fn short_names_ask_the_same(rt: HostRuntime) {
-    for row in SHORT {
-        same(&rt, rt.alloc(), row);
+    for calling in CALLINGS {
+        same(&rt, rt.alloc(), *calling, SHORT);
     }
 }
 
@@ -61,8 +61,8 @@ const SHORT: &[Same<'static>] = &[
 
 #[test]
 fn numbers_with_letters_ask_the_same(rt: HostRuntime) {
-    for row in LETTERED {
-        same(&rt, rt.alloc(), row);
+    for calling in CALLINGS {
+        same(&rt, rt.alloc(), *calling, LETTERED);
     }
 }
 
@@ -90,23 +90,175 @@ const LETTERED: &[Same<'static>] = &[
     ("tail", &["-bf", "f"], &["-c5120", "-f", "f"]),
     ("tail", &["-l"], &["-n10"]),
     ("tail", &["-lf", "f"], &["-n10", "-f", "f"]),
-    ("tail", &["+5"], &["--", "+5"]),
     ("tail", &["-f", "f"], &["--follow", "f"]),
     ("tail", &["-c", "5"], &["--bytes=5"]),
 ];
 
-/// Checks that both lists of words give the same options and operands.
-fn same(rt: &impl Abort, alloc: Global, row: &Same<'_>) {
+#[test]
+fn starts_ask_the_same_by_the_own_name(rt: HostRuntime) {
+    same(&rt, rt.alloc(), Calling::OwnName, STARTS);
+}
+
+const STARTS: &[Same<'static>] = &[
+    ("tail", &["+5"], &["-n", "+5"]),
+    ("tail", &["+05", "f", "g"], &["-n", "+5", "f", "g"]),
+    ("tail", &["+0"], &["-n", "+0"]),
+    ("tail", &["+5c"], &["-c", "+5"]),
+    ("tail", &["+5b"], &["-c", "+5b"]),
+    ("tail", &["+5b", "f"], &["-c", "+2560", "f"]),
+    ("tail", &["+5l"], &["-n", "+5"]),
+    ("tail", &["+c"], &["-c", "+10"]),
+    ("tail", &["+b"], &["-c", "+5120"]),
+    ("tail", &["+l"], &["-n", "+10"]),
+    ("tail", &["+3f", "f"], &["-n", "+3", "-f", "f"]),
+    ("tail", &["+10cf", "f"], &["-c", "+10", "-f", "f"]),
+    ("tail", &["+2bf", "f"], &["-c", "+1024", "-f", "f"]),
+    ("tail", &["+2lf", "f"], &["-n", "+2", "-f", "f"]),
+    ("tail", &["+cf", "f"], &["-c", "+10", "-f", "f"]),
+    ("tail", &["+bf", "f"], &["-c", "+5120", "-f", "f"]),
+    ("tail", &["+lf", "f"], &["-n", "+10", "-f", "f"]),
+    ("tail", &["+5", "-n", "3"], &["-n", "+5", "-n", "3"]),
+    ("tail", &["+5", "+6"], &["-n", "+5", "--", "+6"]),
+    (
+        "tail",
+        &["+9223372036854775807"],
+        &["-n", "+9223372036854775807"],
+    ),
+    (
+        "tail",
+        &["+18014398509481983b"],
+        &["-c", "+9223372036854775296"],
+    ),
+];
+
+#[test]
+fn starts_are_names_of_cutters(rt: HostRuntime) {
+    for row in STARTS {
+        is_name(&rt, rt.alloc(), Calling::Cutters, row.0, row.1);
+    }
+}
+
+#[test]
+fn other_words_of_a_plus_are_names(rt: HostRuntime) {
+    for calling in CALLINGS {
+        are_names(&rt, rt.alloc(), *calling);
+    }
+}
+
+fn are_names(rt: &impl Abort, alloc: Global, calling: Calling) {
+    for row in NAMES {
+        is_name(rt, alloc, calling, row.0, row.1);
+    }
+}
+
+const NAMES: &[(&str, &[&str])] = &[
+    ("tail", &["+"]),
+    ("tail", &["+f"]),
+    ("tail", &["+x"]),
+    ("tail", &["+k"]),
+    ("tail", &["+5x"]),
+    ("tail", &["+5k"]),
+    ("tail", &["+5q"]),
+    ("tail", &["+5F"]),
+    ("tail", &["+5fc"]),
+    ("tail", &["+5ff"]),
+    ("tail", &["+5bc"]),
+    ("tail", &["+cb"]),
+    ("tail", &["+-5"]),
+    ("tail", &["++5"]),
+    ("tail", &["+5 "]),
+    ("tail", &["+ 5"]),
+    ("tail", &["./+2"]),
+    ("tail", &["2+"]),
+    ("tail", &["f", "+5"]),
+    ("tail", &["", "+5"]),
+    ("tail", &["-", "+5"]),
+    ("head", &["+5"]),
+    ("head", &["+5c"]),
+    ("head", &["+c"]),
+    ("split", &["+5"]),
+    ("split", &["+5b"]),
+    ("csplit", &["+5", "+6"]),
+    ("tee", &["+5"]),
+];
+
+/// Checks that the first of these words is the first operand, and no option.
+fn is_name(rt: &impl Abort, alloc: Global, calling: Calling, name: &str, words: &[&str]) {
+    match given(alloc, calling, name, words) {
+        Some(given) => assert!(rt; begins_with(&given, words), "{calling:?} at {words:?}"),
+        None => assert!(rt; false, "refused: {words:?}"),
+    }
+}
+
+fn begins_with(given: &Spelled<'_>, words: &[&str]) -> bool {
+    match (given.operands.as_slice(), words) {
+        ([operand, ..], [word, ..]) => operand.text == *word && operand.word == 1,
+        _ => false,
+    }
+}
+
+#[test]
+fn starts_in_another_place_are_names(rt: HostRuntime) {
+    same(&rt, rt.alloc(), Calling::OwnName, LATER);
+}
+
+const LATER: &[Same<'static>] = &[
+    ("tail", &["-q", "+5"], &["-q", "--", "+5"]),
+    ("tail", &["-5", "+5"], &["-n5", "--", "+5"]),
+    ("tail", &["-n", "+5"], &["--lines=+5"]),
+    ("tail", &["-f", "+5"], &["--follow", "--", "+5"]),
+];
+
+#[test]
+fn refuses_starts_that_are_too_large(rt: HostRuntime) {
+    refuse_called(&rt, rt.alloc(), Calling::OwnName, LARGE);
+}
+
+const LARGE: &[Refused<'static>] = &[
+    (
+        &["tail", "+9223372036854775808"],
+        UsageKind::NumberTooLarge,
+        1,
+    ),
+    (
+        &["tail", "+99999999999999999999cf", "f"],
+        UsageKind::NumberTooLarge,
+        1,
+    ),
+    (
+        &["tail", "+18014398509481984b"],
+        UsageKind::NumberTooLarge,
+        1,
+    ),
+    (&["tail", "+f", "-x"], UsageKind::UnknownOption, 2),
+];
+
+/// Checks that both lists of words of each row give the same options and operands.
+fn same(rt: &impl Abort, alloc: Global, calling: Calling, rows: &[Same<'_>]) {
+    for row in rows {
+        same_row(rt, alloc, calling, row);
+    }
+}
+
+fn same_row(rt: &impl Abort, alloc: Global, calling: Calling, row: &Same<'_>) {
     let (name, words, others) = *row;
-    match (given(alloc, name, words), given(alloc, name, others)) {
-        (Some(one), Some(other)) => assert!(rt; are_alike(&one, &other), "{words:?}"),
+    let asked = given(alloc, calling, name, words);
+    match (asked, given(alloc, calling, name, others)) {
+        (Some(one), Some(other)) => {
+            assert!(rt; are_alike(&one, &other), "{calling:?} at {words:?}")
+        }
         _ => assert!(rt; false, "refused: {words:?}"),
     }
 }
 
-fn given<'a>(alloc: Global, name: &'a str, words: &[&'a str]) -> Option<Spelled<'a>> {
+fn given<'a>(
+    alloc: Global,
+    calling: Calling,
+    name: &str,
+    words: &[&'a str],
+) -> Option<Spelled<'a>> {
     match find_row(all_tools(), name) {
-        Some(tool) => read_given(alloc, tool, words).ok(),
+        Some(tool) => read_given(alloc, calling, tool, words).ok(),
         None => None,
     }
 }

@@ -1,6 +1,6 @@
 //! Words that are read by a table of the test's own, with a value of each kind.
 use crate::refused::Refused;
-use ports_core::{Fault, Tool, UsageKind};
+use ports_core::{Calling, Fault, Tool, UsageKind};
 use seg_core::count::{Count, Sign};
 use seg_core::unit::Unit;
 use std::alloc::Global;
@@ -52,7 +52,7 @@ const TOOL: ToolRow = ToolRow {
 };
 
 fn read<'a>(alloc: Global, words: &[&'a str]) -> Result<Spelled<'a>, Fault> {
-    read_given(alloc, &TOOL, words)
+    read_given(alloc, Calling::Cutters, &TOOL, words)
 }
 
 #[test]

@@ -1,9 +1,10 @@
 //! What the words after `tail` ask for, where files are followed.
+use crate::asked::{Asked, check};
 use crate::refused::{Refused, refuse};
 use ports_core::UsageKind;
 use std::alloc::Global;
 use std::process::Abort;
-use words_core::{Followed, MOST_LOOKS, Settings, TailSettings, read_words};
+use words_core::{Followed, MOST_LOOKS, Settings, TailSettings};
 
 /// What words are to ask of `tail`.
 #[derive(Clone, Copy)]
@@ -24,17 +25,12 @@ fn has(found: &TailSettings<'_>, wanted: Wanted) -> bool {
     }
 }
 
-fn check(rt: &impl Abort, alloc: Global, words: &[&str], wanted: Wanted) {
-    match read_words(alloc, words) {
-        Ok(settings) => check_settings(rt, words, &settings, wanted),
-        Err(fault) => assert!(rt; false, "{fault:?} at {words:?}"),
-    }
-}
-
-fn check_settings(rt: &impl Abort, words: &[&str], settings: &Settings<'_>, wanted: Wanted) {
-    match settings {
-        Settings::Tail(found) => assert!(rt; has(found, wanted), "at {words:?}"),
-        _ => assert!(rt; false, "another tool at {words:?}"),
+impl Asked for Wanted {
+    fn is_met(&self, settings: &Settings<'_>) -> bool {
+        match settings {
+            Settings::Tail(found) => has(found, *self),
+            _ => false,
+        }
     }
 }
 
@@ -49,7 +45,7 @@ fn reads_what_tail_follows(rt: HostRuntime) {
 
 fn follows(rt: &impl Abort, alloc: Global, row: &Row<'_>) {
     let (words, followed, looks) = *row;
-    check(rt, alloc, words, Wanted::Follows(followed, looks));
+    check(rt, alloc, words, &Wanted::Follows(followed, looks));
 }
 
 const FOLLOWS: &[Row<'static>] = &[
@@ -128,7 +124,7 @@ const FOLLOWS: &[Row<'static>] = &[
 #[test]
 fn reads_which_process_is_waited_for(rt: HostRuntime) {
     for row in PROCESSES {
-        check(&rt, rt.alloc(), row.0, Wanted::Process(row.1));
+        check(&rt, rt.alloc(), row.0, &Wanted::Process(row.1));
     }
 }
 
@@ -146,7 +142,7 @@ const PROCESSES: &[(&[&str], Option<u32>)] = &[
 #[test]
 fn reads_how_long_tail_waits(rt: HostRuntime) {
     for row in WAITS {
-        check(&rt, rt.alloc(), row.0, Wanted::Pause(row.1));
+        check(&rt, rt.alloc(), row.0, &Wanted::Pause(row.1));
     }
 }
 

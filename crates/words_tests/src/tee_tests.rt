@@ -1,9 +1,10 @@
 //! What the words after `tee` ask for.
+use crate::asked::{Asked, check, check_called};
 use crate::refused::{Refused, refuse};
-use ports_core::{Mode, OnBroken, UsageKind};
+use ports_core::{Calling, Mode, OnBroken, UsageKind};
 use std::alloc::Global;
 use std::process::Abort;
-use words_core::{Settings, TeeSettings, read_words};
+use words_core::{Settings, TeeSettings};
 
 /// What words are to ask of `tee`.
 #[derive(Clone, Copy)]
@@ -36,17 +37,12 @@ fn name_at<'a>(found: &TeeSettings<'a>, place: usize) -> &'a str {
     found.names.get(place).copied().unwrap_or("")
 }
 
-fn check(rt: &impl Abort, alloc: Global, words: &[&str], wanted: Wanted<'_>) {
-    match read_words(alloc, words) {
-        Ok(settings) => check_settings(rt, words, &settings, wanted),
-        Err(fault) => assert!(rt; false, "{fault:?} at {words:?}"),
-    }
-}
-
-fn check_settings(rt: &impl Abort, words: &[&str], settings: &Settings<'_>, wanted: Wanted<'_>) {
-    match settings {
-        Settings::Tee(found) => assert!(rt; has(found, wanted), "at {words:?}"),
-        _ => assert!(rt; false, "another tool at {words:?}"),
+impl<'a> Asked for Wanted<'a> {
+    fn is_met(&self, settings: &Settings<'_>) -> bool {
+        match settings {
+            Settings::Tee(found) => has(found, *self),
+            _ => false,
+        }
     }
 }
 
@@ -61,7 +57,7 @@ fn reads_what_tee_writes_to(rt: HostRuntime) {
 
 fn writes_to(rt: &impl Abort, alloc: Global, row: &Row<'_>) {
     let (words, mode, names) = *row;
-    check(rt, alloc, words, Wanted::Files(mode, names));
+    check(rt, alloc, words, &Wanted::Files(mode, names));
 }
 
 const WRITES: &[Row<'static>] = &[
@@ -82,28 +78,58 @@ const WRITES: &[Row<'static>] = &[
 #[test]
 fn reads_what_is_done_once_an_output_is_broken(rt: HostRuntime) {
     for row in BREAKS {
-        check(&rt, rt.alloc(), row.0, Wanted::OnBroken(row.1));
+        check(&rt, rt.alloc(), row.0, &Wanted::OnBroken(row.1));
     }
 }
 
 const BREAKS: &[(&[&str], OnBroken)] = &[
-    (&["tee", "f"], OnBroken::GoOn),
-    (&["tee", "-p", "f"], OnBroken::GoOn),
-    (&["tee", "-pa", "f"], OnBroken::GoOn),
-    (&["tee", "--output-error", "f"], OnBroken::GoOn),
-    (&["tee", "--output-error", "exit"], OnBroken::GoOn),
-    (&["tee", "--output-error=warn"], OnBroken::GoOn),
-    (&["tee", "--output-error=warn-nopipe"], OnBroken::GoOn),
-    (&["tee", "--output-error=exit"], OnBroken::Stop),
-    (&["tee", "f", "--output-error=exit-nopipe"], OnBroken::Stop),
-    (&["tee", "--out=exit"], OnBroken::Stop),
-    (&["tee", "-p", "--output-error=exit", "f"], OnBroken::Stop),
-    (&["tee", "--output-error=exit", "-ap", "f"], OnBroken::GoOn),
+    (&["tee", "-p", "f"], OnBroken::WarnNoPipe),
+    (&["tee", "-pa", "f"], OnBroken::WarnNoPipe),
+    (&["tee", "--output-error", "f"], OnBroken::WarnNoPipe),
+    (&["tee", "--output-error", "exit"], OnBroken::WarnNoPipe),
+    (&["tee", "--output-error=warn"], OnBroken::Warn),
+    (&["tee", "--output-error=warn-nopipe"], OnBroken::WarnNoPipe),
+    (&["tee", "--output-error=exit"], OnBroken::Exit),
+    (
+        &["tee", "f", "--output-error=exit-nopipe"],
+        OnBroken::ExitNoPipe,
+    ),
+    (&["tee", "--out=exit"], OnBroken::Exit),
+    (&["tee", "-p", "--output-error=exit", "f"], OnBroken::Exit),
+    (&["tee", "-p", "--output-error=warn", "f"], OnBroken::Warn),
+    (
+        &["tee", "--output-error=exit", "-ap", "f"],
+        OnBroken::WarnNoPipe,
+    ),
     (
         &["tee", "--output-error=exit", "--output-error"],
-        OnBroken::GoOn,
+        OnBroken::WarnNoPipe,
     ),
-    (&["tee", "--", "--output-error=exit"], OnBroken::GoOn),
+];
+
+#[test]
+fn cutters_goes_on_unless_an_option_says_otherwise(rt: HostRuntime) {
+    leave_open(&rt, rt.alloc(), Calling::Cutters, OnBroken::Warn);
+}
+
+#[test]
+fn own_name_ends_unless_an_option_says_otherwise(rt: HostRuntime) {
+    leave_open(&rt, rt.alloc(), Calling::OwnName, OnBroken::Signal);
+}
+
+/// Checks that this is done once an output is broken where the words don't say it.
+fn leave_open(rt: &impl Abort, alloc: Global, calling: Calling, on_broken: OnBroken) {
+    for words in OPEN {
+        check_called(rt, alloc, calling, words, &Wanted::OnBroken(on_broken));
+    }
+}
+
+const OPEN: &[&[&str]] = &[
+    &["tee"],
+    &["tee", "f"],
+    &["tee", "-a", "f"],
+    &["tee", "--", "-p"],
+    &["tee", "--", "--output-error=exit"],
 ];
 
 #[test]

@@ -3,7 +3,7 @@ ghost use Rattle.ports_core.specs.Slot.{streams};
 
 use ends_core::Unit;
 use follow_core::{Limits, Start, follow_files};
-use ports_core::Outs;
+use ports_core::{Calling, Outs};
 use std::alloc::Global;
 use watch_core::Watch;
 
@@ -30,5 +30,16 @@ pub(crate) fn follow_file<W: Watch, O: Outs>(
         looks,
         process: None,
     };
-    follow_files(alloc, &["log"], LAST_LINE, true, false, limits, watch, outs)
+    let calling = Calling::Cutters;
+    follow_files(
+        alloc,
+        calling,
+        &["log"],
+        LAST_LINE,
+        true,
+        false,
+        limits,
+        watch,
+        outs,
+    )
 }

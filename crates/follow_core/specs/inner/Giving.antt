@@ -38,7 +38,7 @@ pub record Came (told : Bool) (printer : PrinterState) (is_opened : Bool) (name 
     (lines : List (List ℕ)) (old : List Slot) (after : PrinterState) (new : List Slot)
     (over : Option Fault) : Type 0 where
   pub printer_is : over ≡ None → after ≡ printer_under printer is_opened name bytes
-  pub slots : WroteBy told (text_under printer is_opened name bytes) lines old new over
+  pub slots : WroteBy told printer.calling (text_under printer is_opened name bytes) lines old new over
 
 -- a share did
 abbrev pub Shared : Bool → PrinterState → Share → List Slot → PrinterState → List Slot → Option Fault → Type 0
@@ -93,12 +93,12 @@ abbrev pub Noted : (Notice → Type 0) → List Event → Type 0
 Noted Tells events = AllGive Tells (λ bytes. ⊥) events
 
 -- What was given tells what is so, and is what reads gave of files, from such places on; or a beginning of it where
--- following ends.
+-- following ends. A call failed only where this look lets one fail.
 abbrev pub WereFound : (Notice → Type 0) → (Option ℕ → ℕ → Type 0) → Snapshot → List ℕ → Fate → Option Stop
     → List Event → Type 0
 WereFound Tells Starts snapshot name fate None events = AllGive Tells (IsWhole Starts snapshot name sound) events
 WereFound Tells Starts snapshot name fate (Some (Broke why)) events =
-    AllGive Tells (IsWhole Starts snapshot name fate) events
+    (snapshot.breaks ≡ true) × AllGive Tells (IsWhole Starts snapshot name fate) events
 WereFound Tells Starts snapshot name fate (Some (Over why)) events =
     (all : List Event) × Begins events all × AllGive Tells (IsRead Starts snapshot name) all
 

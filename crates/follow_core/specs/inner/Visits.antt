@@ -6,7 +6,9 @@ use Rattle.follow_core.specs.Standing.{NameState, NoneGoesOn, AllStand, CanVisit
 use Rattle.ports_core.specs.Slot.{Slot, changed_at}
 use Rattle.ports_core.specs.Message.{SaysOn}
 use Rattle.ports_core.specs.Text.{message_of}
-use Rattle.ports_core.specs.declared.tool.Tool.TheVariants.{Tail}
+use Rattle.ports_core.specs.declared.calling.Calling.{Calling}
+use Rattle.ports_core.specs.declared.reason.Reason.{Reason}
+use Rattle.follow_core.specs.Telling.{tail_by}
 use Rattle.ports_core.specs.declared.fault.Fault.{Fault}
 use Rattle.watch_core.specs.Snapshot.{Snapshot}
 use Rattle.watch_core.specs.Watched.{Watched, opens, watched_at, added}
@@ -46,10 +48,10 @@ pub record Stopped (told_in told : Bool) (ways : Ways) (before : List Look) (sna
   pub short : Shared told printer share old after new (Some why)
 
 -- A call on the name failed, which was told, so that it is dropped; or following ends, and nothing more was told.
-abbrev pub TellsStop : Bool → List ℕ → List Slot → Standing → List Slot → Stop → Result Bool Fault → Type 0
-TellsStop told name old standing new (Broke why) result = (result ≡ Ok true) × (standing ≡ Left)
-    × SaysOn told Tail (message_of Tail why name) old new
-TellsStop told name old standing new (Over why) result = (result ≡ Err why) × (new ≡ old)
+abbrev pub TellsStop : Bool → Calling → List ℕ → List Slot → Standing → List Slot → Stop → Result Bool Fault → Type 0
+TellsStop told calling name old standing new (Broke why) result = (result ≡ Ok true) × (standing ≡ Left)
+    × ((reason : Reason) × SaysOn told (tail_by calling) reason (message_of why name) old new)
+TellsStop told calling name old standing new (Over why) result = (result ≡ Err why) × (new ≡ old)
 
 -- another file of the name at this place may be open, and no name broke
 abbrev pub Opened : ℕ → List Watched → List Watched → Type 0
@@ -161,10 +163,10 @@ pub record Begins (told_in : Bool) (old : FollowState) (watched : List Watched) 
   pub ready : AllReady new.names new.first watched_new
   pub others : (number : ℕ) → IsOther old watched number
       → IsOther new watched_new number × (watched_at watched_new number ≡ watched_at watched number)
-  pub holds : (told : Bool) (ways : Ways) (headers : Bool) (names : List (List ℕ)) (looks : List Look)
-      (first slots : List Slot)
-      → Holds told_in told ways headers names looks first old watched slots
-      → Holds told_in told ways headers names looks first new watched_new slots
+  pub holds : (told : Bool) (calling : Calling) (ways : Ways) (headers : Bool) (names : List (List ℕ))
+      (looks : List Look) (first slots : List Slot)
+      → Holds told_in told calling ways headers names looks first old watched slots
+      → Holds told_in told calling ways headers names looks first new watched_new slots
 
 -- one more look was made, which saw this, but for whether it failed; or it was stopped
 pub record MakesLook (told_in told : Bool) (snapshot : Snapshot) (seen : List Snapshot) (old : FollowState)
@@ -185,7 +187,8 @@ pub record MakesLook (told_in told : Bool) (snapshot : Snapshot) (seen : List Sn
 
 -- As many looks were made, or those after which nothing more can come, and no others; and the outputs have what they
 -- give.
-pub record LookedAll (told_in told : Bool) (ways : Ways) (headers : Bool) (names : List (List ℕ)) (count : ℕ)
+pub record LookedAll (told_in told : Bool) (calling : Calling) (ways : Ways) (headers : Bool) (names : List (List ℕ))
+    (count : ℕ)
     (shows : ℕ → Snapshot) (first : List Slot) (follow : FollowState) (seen : List Snapshot) (watched : List Watched)
     (slots : List Slot) : Type 0 where
   pub looks : List Look
@@ -194,4 +197,4 @@ pub record LookedAll (told_in told : Bool) (ways : Ways) (headers : Bool) (names
   pub within : length looks ≤ count
   pub over : length looks < count → (0 < length looks) × (told_in ≡ true → is_alive ways names looks ≡ false)
       × NoneGoesOn ways watched
-  pub holds : Holds told_in told ways headers names looks first follow watched slots
+  pub holds : Holds told_in told calling ways headers names looks first follow watched slots

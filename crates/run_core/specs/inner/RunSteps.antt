@@ -61,7 +61,7 @@ pub data TookInput (told_in told : Bool) (task : Task) (most : ℕ) (input : Inp
         failed = failed || outcome.failed;
       }
       → IsDone told_in (task.work input.coming) most input.slot input.content sources
-      → SaysAll told task.tool outcome.messages error after
+      → SaysAll told task.speaker outcome.messages error after
       → OutputsAt told (streams_with after) (after_part so_far outcome.part) reached
       → Swept outcome.sweeps first reached new
       → TookInput told_in told task most input outcome is_first failed was_read so_far error first sources new
@@ -79,7 +79,7 @@ pub data TookInput (told_in told : Bool) (task : Task) (most : ℕ) (input : Inp
 pub data TookAll (told_in told : Bool) (task : Task) (inputs : List Input) (sources : List Source)
     (new : List Slot) : Result Bool Fault → Type 0 where
   all : (failed : Bool) (error : Slot) (reached : List Slot) → failed ≡ (made_by task inputs).failed
-      → SaysAll told task.tool (made_by task inputs).messages standard_error error
+      → SaysAll told task.speaker (made_by task inputs).messages standard_error error
       → OutputsAt told (streams_with error) (made_by task inputs).part reached
       → Swept (made_by task inputs).sweeps 2 reached new
       → AreDone told_in task.work largest_piece inputs sources
@@ -90,7 +90,7 @@ pub data TookAll (told_in told : Bool) (task : Task) (inputs : List Input) (sour
       → AreUntouched after sources
       → RunStep told_in task (task.work input.coming) largest_piece (made_by task before).part
       (header_text task.with_header (are_missing before) input.name) input.slot sources input.content step
-      → Stops step reached fault → SaysAll told task.tool (made_by task before).messages standard_error error
+      → Stops step reached fault → SaysAll told task.speaker (made_by task before).messages standard_error error
       → StoppedBetween step.output told (streams_with error) step.low step.high fault reached
       → Swept (task.work input.coming).clears 2 reached new
       → TookAll told_in told task inputs sources new (Err fault)

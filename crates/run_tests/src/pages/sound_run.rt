@@ -3,7 +3,7 @@ ghost use Rattle.ports_core.specs.Slot.{streams};
 ghost use Rattle.ports_core.specs.Source.{IsFresh};
 ghost use Rattle.tools_core.specs.Outcome.{names_read};
 
-use ports_core::{Inputs, Outs};
+use ports_core::{Calling, Inputs, Outs};
 use std::alloc::Global;
 use tools_core::run::run;
 
@@ -16,7 +16,8 @@ pub(crate) fn runs_well<I: Inputs, O: Outs>(
 ) -> bool
     requires inputs { IsFresh (I.sources inputs.old) }
     requires outputs { O.slots outs.old ≡ streams }
-    ensures unopened { names_read (map (λ word. word.now) words.now) ≡ [] → I.sources inputs.new ≡ I.sources inputs.old }
+    ensures unopened { names_read Calling.Cutters (map (λ word. word.now) words.now) ≡ []
+        → I.sources inputs.new ≡ I.sources inputs.old }
 {
     run(alloc, words, inputs, outs) == 0
 }

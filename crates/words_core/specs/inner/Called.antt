@@ -1,6 +1,8 @@
 -- Which tool a program's own name calls, and with which words its words begin then.
 use Rattle.std.specs.Prelude.{ℕ, ◌==◌, ◌||◌, Bool, false, List, [], ◌∷◌, Option, Some, None, if◌then◌else◌}
 use Rattle.ports_core.specs.Text.{tool_name}
+use Rattle.ports_core.specs.declared.calling.Calling.{Calling}
+use Rattle.ports_core.specs.declared.calling.Calling.TheVariants.{Cutters, OwnName}
 use Rattle.ports_core.specs.declared.tool.Tool.{Tool}
 
 -- whether a `/` is among these bytes
@@ -17,3 +19,8 @@ last_part (byte ∷ rest) = if has_slash (byte ∷ rest) then last_part rest els
 abbrev pub words_called : Option Tool → List (List ℕ)
 words_called (Some tool) = tool_name tool ∷ []
 words_called None = []
+
+-- how it is called then
+abbrev pub called_by : Option Tool → Calling
+called_by (Some tool) = OwnName
+called_by None = Cutters

@@ -2,15 +2,15 @@ ghost use Rattle.std.specs.Prelude.{map, IfErr};
 ghost use Rattle.words_core.specs.Spelling.{IsRefused};
 ghost use Rattle.words_core.specs.Words.{HasBadOperands, settings_of};
 
-use ports_core::Fault;
+use ports_core::{Calling, Fault};
 use std::alloc::Global;
 use words_core::read_words;
 
 /// Whether words ask to follow files.
-pub(crate) fn follows_files(alloc: Global, words: &[&str]) -> Result<bool, Fault>
-    ensures err { IfErr result (IsRefused HasBadOperands (settings_of (map (λ word. word.now) words.now))) }
+pub(crate) fn follows_files(alloc: Global, calling: Calling, words: &[&str]) -> Result<bool, Fault>
+    ensures err { IfErr result (IsRefused HasBadOperands (settings_of calling (map (λ word. word.now) words.now))) }
 {
-    match read_words(alloc, words) {
+    match read_words(alloc, calling, words) {
         Ok(settings) => Ok(settings.follows()),
         Err(fault) => Err(fault),
     }

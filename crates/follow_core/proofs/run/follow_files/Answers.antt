@@ -1,6 +1,6 @@
 use Rattle.ports_core.proofs.Runs.{as_status}
-use Rattle.std.proofs.Common.{Bor, arith, ℕ, List, map, refl, ◌∙◌, ap, sym, if◌then◌else◌}
-use Rattle.follow_core.specs.Ending.{stopped, looked, no_room}
+use Rattle.std.proofs.Common.{Bor, arith, ℕ, List, map, ◌∙◌, ap, sym, if◌then◌else◌}
+use Rattle.follow_core.specs.Ending.{stopped, looked, no_room, shows_by}
 use Rattle.follow_core.specs.Look.{ways_of}
 use Rattle.follow_core.proofs.FollowLemmas.{ends_by, most_made, open_holds, watched_are}
 use Rattle.follow_core.proofs.run.follow_files.Goals as goal
@@ -11,11 +11,11 @@ returns-in-Ok-make_looks g c =
     let ways = ways_of 0 c.args.by_name c.args.start in
     let slots = g.O.Outs.slots c.args.outs.now in
     let (most, are, gave) = c.in-Ok-make_looks.ensures.looked in
-    let all = gave ways c.args.headers names slots (open_holds c.in-Ok.ensures.ok c.requires.unwatched) in
-    ends_by c.args.limits.process most are (looked all.looks all.holds.shares all.observed (watched_are all.holds) all.made all.within all.over all.holds.are all.holds.found (record {
+    let all = gave c.args.calling ways c.args.headers names slots (open_holds c.in-Ok.ensures.ok (c.forgive_by.ensures.watched ∙ c.requires.unwatched)) in
+    rw (← c.forgive_by.ensures.shows) (ends_by c.args.limits.process most are (looked all.looks all.holds.shares all.observed (watched_are all.holds) all.made all.within all.over all.holds.are all.holds.found (record {
       wrote = all.holds.shared.slots;
       status_is = c.from.ensures ∙ as_status c.failed.result ∙ ap (λ those. if those then 1 else 0) (c.failed.ensures ∙ sym all.holds.failed);
-    }))
+    })))
 
 pub returns : goal.returns
 returns g c =
@@ -23,11 +23,12 @@ returns g c =
     let ways = ways_of 0 c.args.by_name c.args.start in
     let slots = g.O.Outs.slots c.args.outs.now in
     let (most, are, stops) = c.in-Err-make_looks.ensures.stopped in
-    ends_by c.args.limits.process most are (stopped (g.O.Outs.slots c.make_looks.new.outs) c.in-Err-make_looks.fault
-    (stops ways c.args.headers names slots (open_holds c.in-Ok.ensures.ok c.requires.unwatched))
-    c.tell-in-Err-make_looks.ensures refl)
+    let (why, is_why, tells, is) = c.tell-in-Err-make_looks.ensures in
+    rw (← c.forgive_by.ensures.shows) (ends_by c.args.limits.process most are (stopped (g.O.Outs.slots c.make_looks.new.outs) c.in-Err-make_looks.fault why
+    (stops c.args.calling ways c.args.headers names slots (open_holds c.in-Ok.ensures.ok (c.forgive_by.ensures.watched ∙ c.requires.unwatched))) is_why tells is))
 
 pub returns-in-Err : goal.returns-in-Err
 returns-in-Err g c =
-    let (most, are, above) = most_made g.W.Watch.told c.args.limits.process (g.W.Watch.shows c.args.watch.now) c.args.limits.looks 0 (omega arith) (λ t. omega arith) in
-    ends_by c.args.limits.process most are (no_room c.requires.unseen c.requires.unwatched (rw c.in-Err.ensures.err at c.tell.ensures) refl)
+    let (most, are, above) = most_made g.W.Watch.told c.args.limits.process (shows_by c.args.calling c.args.by_name (g.W.Watch.shows c.args.watch.now)) c.args.limits.looks 0 (omega arith) (λ t. omega arith) in
+    let (why, is_why, tells, is) = rw c.in-Err.ensures.err at c.tell.ensures in
+    ends_by c.args.limits.process most are (no_room why c.requires.unseen c.requires.unwatched tells is)

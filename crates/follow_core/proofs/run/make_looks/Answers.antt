@@ -10,7 +10,7 @@ loop-made-init g c = record {
   can = c.requires.can;
   error = c.requires.error;
   shows = refl;
-  progress = λ ways headers names first holds. none_made c.requires.unseen holds;
+  progress = λ calling ways headers names first holds. none_made c.requires.unseen holds;
 }
 
 pub returns-in-Err-clause-stopped : goal.returns-in-Err-clause-stopped
@@ -19,7 +19,7 @@ returns-in-Err-clause-stopped g c =
     let below = c.loop-made-test.true in
     let (most, are, above) = most_made g.W.Watch.told c.args.limits.process (g.W.Watch.shows c.args.watch.now) c.args.limits.looks (l.made + 1) (omega (arith, below))
     (λ t. until_some c.args.limits.process (g.W.Watch.shows c.args.watch.now) (l.invariant.left t) below) in
-    (most, are, (λ ways headers names first holds. one_stopped (c.has_ended-is_last.ensures.shows ∙ l.invariant.shows) (still_made c.has_ended-is_last.ensures.watched c.has_ended-is_last.ensures.seen (l.invariant.progress ways headers names first holds)) c.in-Err.ensures.saw (omega (arith, above)) c.in-Err.ensures.stopped))
+    (most, are, (λ calling ways headers names first holds. one_stopped (c.has_ended-is_last.ensures.shows ∙ l.invariant.shows) (still_made c.has_ended-is_last.ensures.watched c.has_ended-is_last.ensures.seen (l.invariant.progress calling ways headers names first holds)) c.in-Err.ensures.saw (omega (arith, above)) c.in-Err.ensures.stopped))
 
 pub returns-then-not-alive-clause-looked : goal.returns-then-not-alive-clause-looked
 returns-then-not-alive-clause-looked g c =
@@ -29,8 +29,8 @@ returns-then-not-alive-clause-looked g c =
     (λ t. until_some c.args.limits.process (g.W.Watch.shows c.args.watch.now) (l.invariant.left t) below) in (
       most,
       are,
-      (λ ways headers names first holds. ended above (λ fewer. (omega arith, c.if-not-alive.true))
-          (one_more {next = l.made + 1} (c.has_ended-is_last.ensures.shows ∙ l.invariant.shows) (still_made c.has_ended-is_last.ensures.watched c.has_ended-is_last.ensures.seen (l.invariant.progress ways headers names first holds)) c.in_default.ensures.looked c.in_default.ensures.seen c.alive.ensures.alive c.alive.ensures.none (omega arith))),
+      (λ calling ways headers names first holds. ended above (λ fewer. (omega arith, c.if-not-alive.true))
+          (one_more {next = l.made + 1} (c.has_ended-is_last.ensures.shows ∙ l.invariant.shows) (still_made c.has_ended-is_last.ensures.watched c.has_ended-is_last.ensures.seen (l.invariant.progress calling ways headers names first holds)) c.in_default.ensures.looked c.in_default.ensures.seen c.alive.ensures.alive c.alive.ensures.none (omega arith))),
     )
 
 pub returns-then-is_last-clause-looked : goal.returns-then-is_last-clause-looked
@@ -39,8 +39,8 @@ returns-then-is_last-clause-looked g c =
     let are = until_last {process = c.args.limits.process} l.invariant.left c.loop-made-test.true c.has_ended-is_last.ensures.found c.if-is_last.true l.invariant.shows l.invariant.count in (
       l.made + 1,
       are,
-      (λ ways headers names first holds. ended (omega arith) (λ fewer. absurd (omega (arith, fewer)))
-          (rw c.if-not-alive.false at (one_more {next = l.made + 1} (c.has_ended-is_last.ensures.shows ∙ l.invariant.shows) (still_made c.has_ended-is_last.ensures.watched c.has_ended-is_last.ensures.seen (l.invariant.progress ways headers names first holds)) c.in_default.ensures.looked c.in_default.ensures.seen c.alive.ensures.alive c.alive.ensures.none (omega arith)))),
+      (λ calling ways headers names first holds. ended (omega arith) (λ fewer. absurd (omega (arith, fewer)))
+          (rw c.if-not-alive.false at (one_more {next = l.made + 1} (c.has_ended-is_last.ensures.shows ∙ l.invariant.shows) (still_made c.has_ended-is_last.ensures.watched c.has_ended-is_last.ensures.seen (l.invariant.progress calling ways headers names first holds)) c.in_default.ensures.looked c.in_default.ensures.seen c.alive.ensures.alive c.alive.ensures.none (omega arith)))),
     )
 
 pub loop-made-preserved : goal.loop-made-preserved
@@ -54,8 +54,8 @@ loop-made-preserved g c =
       can = c.in_default.ensures.can;
       error = c.look.ensures.error l.invariant.error;
       shows = c.look.ensures.shows ∙ c.has_ended-is_last.ensures.shows ∙ l.invariant.shows;
-      progress = λ ways headers names first holds. rw c.if-not-alive.false at (one_more {next = l.made + 1} (c.has_ended-is_last.ensures.shows ∙ l.invariant.shows)
-          (still_made c.has_ended-is_last.ensures.watched c.has_ended-is_last.ensures.seen (l.invariant.progress ways headers names first holds)) c.in_default.ensures.looked c.in_default.ensures.seen c.alive.ensures.alive c.alive.ensures.none (omega arith));
+      progress = λ calling ways headers names first holds. rw c.if-not-alive.false at (one_more {next = l.made + 1} (c.has_ended-is_last.ensures.shows ∙ l.invariant.shows)
+          (still_made c.has_ended-is_last.ensures.watched c.has_ended-is_last.ensures.seen (l.invariant.progress calling ways headers names first holds)) c.in_default.ensures.looked c.in_default.ensures.seen c.alive.ensures.alive c.alive.ensures.none (omega arith));
     }
 
 pub returns-clause-looked : goal.returns-clause-looked
@@ -66,4 +66,4 @@ returns-clause-looked g c =
     let (most, are, above) = most_made g.W.Watch.told c.args.limits.process (g.W.Watch.shows c.args.watch.now) c.args.limits.looks l.made within
     (λ t. let is = l.invariant.left t in omega (arith, is)) in
     let most_within = are.within in
-    (most, are, (λ ways headers names first holds. ended above (λ fewer. absurd (omega (arith, past, fewer, most_within))) (l.invariant.progress ways headers names first holds)))
+    (most, are, (λ calling ways headers names first holds. ended above (λ fewer. absurd (omega (arith, past, fewer, most_within))) (l.invariant.progress calling ways headers names first holds)))

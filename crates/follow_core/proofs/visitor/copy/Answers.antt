@@ -1,5 +1,5 @@
 use Rattle.std.proofs.Common.{arith, false, drop, sym, ap, ◌∙◌, length, inl, inr}
-use Rattle.follow_core.proofs.CallLemmas.{all_taken, copied_more, copied_none, copies_all, copies_part, copies_short, found_at, held_many, opened_is, some_read}
+use Rattle.follow_core.proofs.CallLemmas.{all_taken, breaks_at, copied_more, copied_none, copies_all, copies_part, copies_short, found_at, held_many, opened_is, some_read}
 use Rattle.std.proofs.lemmas.Grind.{common_steps}
 use Rattle.follow_core.proofs.StartLemmas.{contents_same}
 use Rattle.watch_core.specs.Snapshot.{latest}
@@ -25,7 +25,7 @@ loop-at-preserved g c =
     }
 
 pub returns-in-Err-clause-copies : goal.returns-in-Err-clause-copies
-returns-in-Err-clause-copies g c = let l = c.loop-at in copies_part l.at l.invariant.past c.loop-at-test.true c.requires.whole l.invariant.copied l.invariant.watched c.in-Err.ensures.err.0 c.in-Err.ensures.err.1
+returns-in-Err-clause-copies g c = let l = c.loop-at in copies_part l.at l.invariant.past c.loop-at-test.true c.requires.whole l.invariant.copied l.invariant.watched c.in-Err.ensures.err.0 c.in-Err.ensures.err.1 (breaks_at l.invariant.seen c.in-Err.ensures.breaks)
 
 pub returns-in-Err-put-clause-copies : goal.returns-in-Err-put-clause-copies
 returns-in-Err-put-clause-copies g c =

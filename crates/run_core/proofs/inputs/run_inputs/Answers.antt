@@ -9,7 +9,8 @@ pub returns-in_default : goal.returns-in_default
 returns-in_default g c = record {
   untouched = λ none. refl;
   ends = let (found, finds, untouched) = none_touched c.requires.fresh in
-      (found, finds, ran_into (not_begun c.requires.outputs untouched (ap length c.requires.fresh.only)) (rw c.tool.ensures at c.tell.ensures));
+      let (why, is_why, tells, is) = rw c.speaker.ensures at c.tell.ensures in
+      (found, finds, ran_into (not_begun c.requires.outputs untouched (ap length c.requires.fresh.only)) (why, is_why, tells, is));
   opened = fresh_counts (map (λ name. name.now) c.args.names.now) c.requires.fresh;
   asked = fresh_asks _ _ c.requires.fresh;
 }
@@ -21,4 +22,6 @@ pub returns-in-Ok-take_names-clause-ends : goal.returns-in-Ok-take_names-clause-
 returns-in-Ok-take_names-clause-ends g c = let (found, finds, took) = c.in-Ok-take_names.ensures.took in (found, finds, ran_through (c.from.ensures ∙ as_status c.in-Ok-take_names.failed) took)
 
 pub returns-clause-ends : goal.returns-clause-ends
-returns-clause-ends g c = let (found, finds, took) = c.in-Err.ensures.took in (found, finds, ran_into took (rw c.tool-in-Err.ensures at c.tell-in-Err.ensures))
+returns-clause-ends g c =
+    let (found, finds, took) = c.in-Err.ensures.took in
+    let (why, is_why, tells, is) = rw c.speaker-in-Err.ensures at c.tell-in-Err.ensures in (found, finds, ran_into took (why, is_why, tells, is))

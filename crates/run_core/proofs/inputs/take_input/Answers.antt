@@ -7,13 +7,13 @@ use Rattle.run_core.proofs.inputs.take_input.Goals as goal
 pub returns-in_err-put_header-clause-took : goal.returns-in_err-put_header-clause-took
 returns-in_err-put_header-clause-took g c so_far error opened at = (_, c.coming_from-coming.ensures, search (rules, handed_on, unread_source, stopped_in_header))
 
-pub say-requires : goal.say-requires
-say-requires g c =
+pub say_why-requires : goal.say_why-requires
+say_why-requires g c =
     let had = c.requires.outputs in
     from_source _ _ _ _ _ _ (λ content fed done. fed_open _ had.opened (headed _ had.at c.in_ok-put_header.ensures.ok) fed) c.in-Ok-Broken.ensures.fed
 
-pub say-requires-in-Err : goal.say-requires-in-Err
-say-requires-in-Err g c =
+pub say-requires : goal.say-requires
+say-requires g c =
     let had = c.requires.outputs in
     from_source _ _ _ _ _ _ (λ content fed done. fed_open _ had.opened (headed _ had.at c.in_ok-put_header.ensures.ok) fed) c.in-Err.ensures.fed
 
@@ -27,7 +27,7 @@ returns-in-Ok-Enough-clause-took g c so_far error opened at =
 
 pub returns-in-Ok-Broken-clause-took : goal.returns-in-Ok-Broken-clause-took
 returns-in-Ok-Broken-clause-took g c so_far error opened at =
-    (_, c.coming_from-coming.ensures, of_source_too _ _ _ _ _ _ (λ content fed done. took_broken _ _ _ _ _ _ _ _ so_far error _ _ _ _ _ (headed_count g.O.Outs.told _ _ c.in_ok-put_header.ensures.ok) (part_two at) (headed _ at c.in_ok-put_header.ensures.ok) (done refl) c.in-Ok-Broken.field-0-is fed (rw c.tool.ensures at c.say.ensures)) c.in-Ok-Broken.ensures.fed)
+    (_, c.coming_from-coming.ensures, of_source_too _ _ _ _ _ _ (λ content fed done. took_broken _ _ _ _ _ _ _ _ so_far error _ _ _ _ _ (headed_count g.O.Outs.told _ _ c.in_ok-put_header.ensures.ok) (part_two at) (headed _ at c.in_ok-put_header.ensures.ok) (done refl) c.in-Ok-Broken.field-0-is fed c.say_why.ensures.2) c.in-Ok-Broken.ensures.fed)
 
 pub returns-in_default : goal.returns-in_default
 returns-in_default g c = record {
@@ -43,4 +43,4 @@ returns-in_default g c = record {
 
 pub returns-in-Verdict-clause-took : goal.returns-in-Verdict-clause-took
 returns-in-Verdict-clause-took g c so_far error opened at =
-    (_, c.coming_from-coming.ensures, of_source_too _ _ _ _ _ _ (λ content fed done. took_verdict _ _ _ _ _ _ _ _ so_far error _ _ _ _ _ (headed_count g.O.Outs.told _ _ c.in_ok-put_header.ensures.ok) (part_two at) (headed _ at c.in_ok-put_header.ensures.ok) (done (ap (λ fault. is_stop (Err fault)) c.in-Verdict.is)) (rw c.in-Verdict.is at fed) (rw (c.tool-in-Err.ensures, c.subject-subject.ensures) at c.say-in-Err.ensures)) c.in-Err.ensures.fed)
+    (_, c.coming_from-coming.ensures, of_source_too _ _ _ _ _ _ (λ content fed done. took_verdict _ _ _ _ _ _ _ _ so_far error _ _ _ _ _ (headed_count g.O.Outs.told _ _ c.in_ok-put_header.ensures.ok) (part_two at) (headed _ at c.in_ok-put_header.ensures.ok) (done (ap (λ fault. is_stop (Err fault)) c.in-Verdict.is)) (rw c.in-Verdict.is at fed) (rw (c.speaker.ensures, c.subject-subject.ensures) at c.say.ensures)) c.in-Err.ensures.fed)

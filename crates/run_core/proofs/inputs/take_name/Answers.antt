@@ -22,7 +22,7 @@ returns-in-Ok-clause-takes g c = takes_file (sym c.is_dash.ensures ∙ c.if-is_d
 
 pub returns-in-Open-clause-took : goal.returns-in-Open-clause-took
 returns-in-Open-clause-took g c so_far error opened at =
-    of_missing (sym c.is_dash.ensures ∙ c.if-is_dash.false) c.in-Err.ensures.err c.in-Open.is at (rw c.tool.ensures at c.say.ensures)
+    of_missing (sym c.is_dash.ensures ∙ c.if-is_dash.false) c.in-Err.ensures.err c.in-Open.is at c.say_why.ensures
 
 pub returns-in-Open-clause-takes : goal.returns-in-Open-clause-takes
 returns-in-Open-clause-takes g c = takes_missing (sym c.is_dash.ensures ∙ c.if-is_dash.false) c.requires.some c.in-Err.ensures.err

@@ -1,4 +1,4 @@
-use Rattle.std.proofs.Common.{◌≡◌, List, map, drop, Option, Some, None, Result, Ok, Err, refl, ap, sym, ◌∙◌, subst, IfOk, IfSome}
+use Rattle.std.proofs.Common.{◌≡◌, List, drop, Option, Some, None, Result, Ok, Err, refl, ap, sym, ◌∙◌, subst, IfOk, IfSome}
 use Rattle.ports_core.specs.Slot.{Slot, slot_at}
 use Rattle.ports_core.specs.declared.fault.Fault.{Fault}
 use Rattle.words_core.specs.declared.settings.Settings.TheVariants.{Tee}
@@ -11,10 +11,10 @@ weaker (Ok None) P Q more holds = tt
 weaker (Err fault) P Q more holds = tt
 
 pub returns : goal.returns
-returns c asked read =
+returns c asked read strict =
     weaker c.left_of.result _ (λ outs. ((slot_at outs 0).written ≡ c.args.bytes.now) × AreCopies asked.mode asked.names c.args.bytes.now (drop 2 outs))
-    (λ outs (one, does, has, words, same). (
+    (λ outs (one, does, has, called, words, same). (
       ap (λ slots. (slot_at slots 0).written) (sym same) ∙ c.tee_copies.ensures.output one asked c.args.bytes.now does has,
       subst (λ slots. AreCopies asked.mode asked.names c.args.bytes.now (drop 2 slots)) same (c.tee_copies.ensures.files one asked c.args.bytes.now does has),
     ))
-    (c.left_of.ensures (Tee asked) read refl refl)
+    (c.left_of.ensures (Tee asked) read refl refl strict)

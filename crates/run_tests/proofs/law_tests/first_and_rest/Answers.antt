@@ -10,16 +10,17 @@ use Rattle.words_core.specs.Words.{settings_of}
 use Rattle.words_core.specs.declared.settings.Headers.TheVariants.{ForSeveral}
 use Rattle.words_core.specs.declared.settings.Settings.TheVariants.{Head, Tail}
 use Rattle.tools_core.specs.Promises.{counted}
+use Rattle.ports_core.specs.declared.calling.Calling.TheVariants.{Cutters}
 use Rattle.run_tests.proofs.law_tests.first_and_rest.Goals as goal
 
 abbrev options : EndsAsked
 options = record { unit = Lines; count = record { sign = Plain; amount = 10 }; headers = ForSeveral; delim = 10; names = codes "-" ∷ [] }
 
-head_read : settings_of (codes "head" ∷ codes "-n" ∷ codes "2" ∷ []) ≡ Ok (Head (counted options Plain 2))
+head_read : settings_of Cutters (codes "head" ∷ codes "-n" ∷ codes "2" ∷ []) ≡ Ok (Head (counted options Plain 2))
 unfolding tools count_of factor_of foremost
 head_read = refl
 
-tail_read : settings_of (codes "tail" ∷ codes "-n" ∷ codes "+3" ∷ []) ≡ Ok (Tail (record { ends = counted options Plus 3; followed = None; looks = 2 ^ 63 - 1; pause = 1000; process = None }))
+tail_read : settings_of Cutters (codes "tail" ∷ codes "-n" ∷ codes "+3" ∷ []) ≡ Ok (Tail (record { ends = counted options Plus 3; followed = None; looks = 2 ^ 63 - 1; pause = 1000; process = None }))
 unfolding tools count_of factor_of foremost
 tail_read = refl
 

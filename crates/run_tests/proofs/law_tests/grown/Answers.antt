@@ -9,8 +9,9 @@ use Rattle.words_core.specs.Words.{settings_of}
 use Rattle.words_core.specs.declared.settings.Settings.TheVariants.{Tail}
 use Rattle.words_core.specs.declared.value.Followed.{Followed}
 use Rattle.tools_core.specs.Program.{ProgramEnds}
-use Rattle.tools_core.specs.Promises.{AsksToFollow, Follows, IsBare, IsOfProgram, OnlyGrows, Run}
+use Rattle.tools_core.specs.Promises.{AsksToFollow, Follows, IsBare, IsOfProgram, OnlyGrows, Run, showing}
 use Rattle.tools_core.specs.Tasks.{is_plus}
+use Rattle.ports_core.specs.declared.calling.Calling.TheVariants.{Cutters}
 use Rattle.run_tests.proofs.law_tests.grown.Goals as goal
 
 -- both laws, of one run
@@ -19,18 +20,18 @@ abbrev AreRuns : Type 0
 AreRuns = (run : Run) (options : EndsAsked) (followed : Followed) (looks : ℕ) → IsOfProgram run → AsksToFollow run options followed looks → run.status ≡ 0 → Follows run looks options followed × (run.inputs ≡ source_of run.world.standard ∷ [])
 
 abbrev TellAll : Type 0
-TellAll = (run : Run) (options : EndsAsked) (followed : Followed) (name came : List ℕ) (file n : ℕ) → Follows run (n + 1) options followed → IsBare options → options.names ≡ name ∷ [] → OnlyGrows (length run.seen) run.shows name file → (run.shows n).holds file ≡ (run.shows 0).holds file ++ came
-    → (slot_at run.outputs 0).written ≡ tail_of options.delim options.unit (is_plus options.count.sign) options.count.amount ((run.shows 0).holds file) ++ came
+TellAll = (run : Run) (options : EndsAsked) (followed : Followed) (name came : List ℕ) (file n : ℕ) → Follows run (n + 1) options followed → IsBare options → options.names ≡ name ∷ [] → OnlyGrows (length run.seen) (showing run followed) name file → (showing run followed n).holds file ≡ (showing run followed 0).holds file ++ came
+    → (slot_at run.outputs 0).written ≡ tail_of options.delim options.unit (is_plus options.count.sign) options.count.amount ((showing run followed 0).holds file) ++ came
 
 -- what standard output has after a run of these words
 grown_so : AreRuns → TellAll → (words : List (List ℕ)) (laid : ℕ → List ℕ → Option Content) (old sources : List Source) (shows : ℕ → Snapshot) (seen : List Snapshot) (watched : List Watched) (outs : List Slot) (status : ℕ)
-    → old ≡ source_of (record { bytes = []; breaks_off = false }) ∷ [] → ProgramEnds true true true words laid old sources shows seen watched outs status → status ≡ 0
-    → (options : EndsAsked) (followed : Followed) (name came : List ℕ) (file n pause : ℕ) → settings_of words ≡ Ok (Tail (record { ends = options; followed = Some followed; looks = n + 1; pause = pause; process = None })) → IsBare options → options.names ≡ name ∷ []
+    → old ≡ source_of (record { bytes = []; breaks_off = false }) ∷ [] → ProgramEnds Cutters true true true (λ slot why. true) words laid old sources shows seen watched outs status → status ≡ 0
+    → (options : EndsAsked) (followed : Followed) (name came : List ℕ) (file n pause : ℕ) → settings_of Cutters words ≡ Ok (Tail (record { ends = options; followed = Some followed; looks = n + 1; pause = pause; process = None })) → IsBare options → options.names ≡ name ∷ []
     → ((count : ℕ) → OnlyGrows count shows name file) → (shows n).holds file ≡ (shows 0).holds file ++ came
     → (slot_at outs 0).written ≡ tail_of options.delim options.unit (is_plus options.count.sign) options.count.amount ((shows 0).holds file) ++ came
 grown_so law tells words laid old sources shows seen watched outs status fresh ends well options followed name came file n pause read bare named grows held =
-    let run : Run = record { words = words; world = record { laid = laid; standard = record { bytes = []; breaks_off = false } }; shows = shows; inputs = sources; seen = seen; watched = watched; outputs = outs; status = status } in
-    let is_of : IsOfProgram run = subst (λ old. ProgramEnds true true true words laid old sources shows seen watched outs status) fresh ends in
+    let run : Run = record { calling = Cutters; words = words; breaks_for = λ slot why. true; world = record { laid = laid; standard = record { bytes = []; breaks_off = false } }; shows = shows; inputs = sources; seen = seen; watched = watched; outputs = outs; status = status } in
+    let is_of : IsOfProgram run = subst (λ old. ProgramEnds Cutters true true true (λ slot why. true) words laid old sources shows seen watched outs status) fresh ends in
     tells run options followed name came file n (law run options followed (n + 1) is_of (pause, read) well).0 bare named (grows (length seen)) held
 
 pub returns : goal.returns

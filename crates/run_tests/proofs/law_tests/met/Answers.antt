@@ -7,8 +7,8 @@ use Rattle.run_tests.proofs.law_tests.met.Goals as goal
 
 pub returns : goal.returns
 returns c first rest n looks pause read read_too alike only only_too =
-    let (head, does, has, words, outs) = rw c.in-Some.is at (c.in_ok-front.ensures (Head (counted first Plain n)) read only refl) in
-    let (tail, does_too, has_too, words_too, outs_too) = rw c.in-Some-2.is at (c.in_ok-back.ensures (Tail (record { ends = counted rest Plus (n + 1); followed = None; looks = looks; pause = pause; process = None })) read_too only_too refl) in
+    let (head, does, has, called, words, outs) = rw c.in-Some.is at (c.in_ok-front.ensures (Head (counted first Plain n)) read only refl refl) in
+    let (tail, does_too, has_too, called_too, words_too, outs_too) = rw c.in-Some-2.is at (c.in_ok-back.ensures (Tail (record { ends = counted rest Plus (n + 1); followed = None; looks = looks; pause = pause; process = None })) read_too only_too refl refl) in
     c.in_ok-extend_from_slice.ensures.items
     ∙ ap (λ front. front ++ c.bytes-2.result.now) (c.in_ok-all.ensures.items ∙ c.bytes.ensures ∙ ap (λ slots. (slot_at slots 0).written) (sym outs))
     ∙ ap (λ back. output_of head ++ back) (c.bytes-2.ensures ∙ ap (λ slots. (slot_at slots 0).written) (sym outs_too))

@@ -11,21 +11,23 @@ use Rattle.tools_core.specs.Outcome.{names_at}
 use Rattle.tools_core.specs.Program.{ProgramEnds}
 use Rattle.tools_core.specs.Promises.{HasInput, IsOfProgram, Ran, Run}
 use Rattle.tools_core.specs.Tasks.{names_of}
+use Rattle.ports_core.specs.declared.calling.Calling.TheVariants.{Cutters}
 use Rattle.run_tests.proofs.law_tests.ran.Goals as goal
 
 -- the law, of one run
 abbrev AreRuns : Type 0
-AreRuns = (run : Run) (asked : Settings) → IsOfProgram run → settings_of run.words ≡ Ok asked → follows asked ≡ false → Ran run asked × (run.seen ≡ []) × (run.watched ≡ [])
+AreRuns = (run : Run) (asked : Settings) → IsOfProgram run → settings_of run.calling run.words ≡ Ok asked → follows asked ≡ false → Ran run asked × (run.seen ≡ []) × (run.watched ≡ [])
 
 ran_so : AreRuns → (words : List (List ℕ)) (asked : Settings) (bytes : List ℕ) (laid : ℕ → List ℕ → Option Content) (old sources : List Source) (shows : ℕ → Snapshot) (seen : List Snapshot) (watched : List Watched) (outs : List Slot) (status : ℕ)
-    → old ≡ source_of (record { bytes = bytes; breaks_off = false }) ∷ [] → ProgramEnds true true true words laid old sources shows seen watched outs status → settings_of words ≡ Ok asked → names_of asked ≡ codes "-" ∷ [] → follows asked ≡ false
-    → (one : Run) × Ran one asked × HasInput one bytes × (one.words ≡ words) × (one.outputs ≡ outs) × (one.status ≡ status)
+    → old ≡ source_of (record { bytes = bytes; breaks_off = false }) ∷ [] → ProgramEnds Cutters true true true (λ slot why. true) words laid old sources shows seen watched outs status → settings_of Cutters words ≡ Ok asked → names_of asked ≡ codes "-" ∷ [] → follows asked ≡ false
+    → (one : Run) × Ran one asked × HasInput one bytes × (one.calling ≡ Cutters) × (one.words ≡ words) × (one.outputs ≡ outs) × (one.status ≡ status)
 ran_so law words asked bytes laid old sources shows seen watched outs status fresh ends read only none =
-    let one : Run = record { words = words; world = record { laid = laid; standard = record { bytes = bytes; breaks_off = false } }; shows = shows; inputs = sources; seen = seen; watched = watched; outputs = outs; status = status } in
-    let is_of : IsOfProgram one = subst (λ old. ProgramEnds true true true words laid old sources shows seen watched outs status) fresh ends in (
+    let one : Run = record { calling = Cutters; words = words; breaks_for = λ slot why. true; world = record { laid = laid; standard = record { bytes = bytes; breaks_off = false } }; shows = shows; inputs = sources; seen = seen; watched = watched; outputs = outs; status = status } in
+    let is_of : IsOfProgram one = subst (λ old. ProgramEnds Cutters true true true (λ slot why. true) words laid old sources shows seen watched outs status) fresh ends in (
       one,
       (law one asked is_of read none).0,
       record { name = codes "-"; only = ap (λ (meant : Result Settings Fault). names_at meant) read ∙ only; holds = refl },
+      refl,
       refl,
       refl,
       refl,

@@ -13,5 +13,5 @@ weaker (Err fault) P Q more holds = tt
 pub returns : goal.returns
 returns c asked read only kept skips =
     weaker c.left_of.result _ (λ outs. joined (map (λ (file : Slot). file.written) (drop 2 outs)) ≡ c.args.bytes.now)
-    (λ outs (one, does, has, words, same). ap (λ slots. joined (map (λ (file : Slot). file.written) (drop 2 slots))) (sym same) ∙ c.csplit_loses_nothing.ensures.joined one asked c.args.bytes.now does has kept skips)
-    (c.left_of.ensures (Csplit asked) read (ap (λ name. name ∷ []) only) refl)
+    (λ outs (one, does, has, called, words, same). ap (λ slots. joined (map (λ (file : Slot). file.written) (drop 2 slots))) (sym same) ∙ c.csplit_loses_nothing.ensures.joined one asked c.args.bytes.now does has kept skips)
+    (c.left_of.ensures (Csplit asked) read (ap (λ name. name ∷ []) only) refl refl)

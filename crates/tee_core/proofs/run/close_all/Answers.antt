@@ -1,21 +1,22 @@
-use Rattle.std.proofs.Common.{◌+◌, ap, ◌∙◌}
+use Rattle.std.proofs.Common.{◌+◌, ap, ◌∙◌, inr}
 use Rattle.std.proofs.lemmas.List.{length-map}
-use Rattle.tee_core.proofs.CopyLemmas.{after_streams, copies_ready, known_many, closed_next, closing_said}
+use Rattle.tee_core.proofs.CopyLemmas.{copies_ready, known_many, closed_next, closing_said, error_no_output, mid_streams}
 use Rattle.tee_core.proofs.run.close_all.Goals as goal
 
 pub close-requires : goal.close-requires
-close-requires g c = λ live. let (mode, on_broken, pieces, messages, copies) = c.requires.copies in copies_ready _ mode on_broken _ c.requires.tee copies
+close-requires g c = λ live. let (mode, pieces, messages, copies) = c.requires.copies in copies_ready _ _ mode _ _ c.requires.tee copies
 
 pub tell_broken-requires-clause-streams : goal.tell_broken-requires-clause-streams
 tell_broken-requires-clause-streams g c =
-    let (mode, on_broken, pieces, messages, copies) = c.requires.copies in
-    rw (length-map c.args.names.now _) at (after_streams _ mode on_broken _ (closed_next _ mode on_broken _ c.requires.tee copies (c.close.ensures.closes c.requires.tee.live)))
+    let (mode, pieces, messages, copies) = c.requires.copies in
+    let closes = c.close.ensures.closes c.requires.tee.live in
+    rw (length-map c.args.job.now.names.now _) at (mid_streams _ _ mode _ _ copies closes.count (closes.others 1 (λ file. error_no_output c.requires.tee (inr file))))
 
 pub tell_broken-requires-clause-known : goal.tell_broken-requires-clause-known
 tell_broken-requires-clause-known g c =
-    let (mode, on_broken, pieces, messages, copies) = c.requires.copies in
-    known_many _ mode on_broken _ copies ∙ ap (λ n. n + 1) (length-map c.args.names.now _)
+    let (mode, pieces, messages, copies) = c.requires.copies in
+    known_many _ _ mode _ _ copies ∙ ap (λ n. n + 1) (length-map c.args.job.now.names.now _)
 
-pub returns : goal.returns
-returns g c mode on_broken pieces fault copies =
-    closing_said _ mode on_broken _ copies (closed_next _ mode on_broken _ c.requires.tee copies (c.close.ensures.closes c.requires.tee.live)) c.tell_broken.ensures.said c.tell_broken.ensures.known
+pub returns-clause-closed : goal.returns-clause-closed
+returns-clause-closed g c mode pieces fault copies =
+    closing_said _ _ mode _ _ copies (closed_next _ _ mode _ _ c.requires.tee copies (c.close.ensures.closes c.requires.tee.live) c.tell_broken.ensures.seen) c.tell_broken.ensures.said

@@ -3,12 +3,12 @@ use Rattle.std.proofs.lemmas.Grind.{common_steps}
 use Rattle.std.proofs.lemmas.List.{length-map}
 use Rattle.tee_core.specs.Run.{said_of_input}
 use Rattle.tee_core.proofs.CopyLemmas.{copies_said, copies_streams}
-use Rattle.tee_core.proofs.EndLemmas.{ends_copied}
+use Rattle.tee_core.proofs.EndLemmas.{all_sound, ends_copied}
 use Rattle.tee_core.proofs.StartLemmas.{length-names, opened_streams, starts}
 use Rattle.tee_core.proofs.run.copy_all.Goals as goal
 
 pub tell_broken-requires-clause-streams : goal.tell_broken-requires-clause-streams
-tell_broken-requires-clause-streams g c = rw (length-map c.args.names.now _) at (opened_streams c.requires.opened.1)
+tell_broken-requires-clause-streams g c = rw (length-map c.args.job.now.names.now _) at (opened_streams c.requires.opened.1)
 
 pub copy_pieces-fault-requires-clause-copies : goal.copy_pieces-fault-requires-clause-copies
 copy_pieces-fault-requires-clause-copies g c = grind (arith, common_steps, starts, length-names)
@@ -16,19 +16,19 @@ copy_pieces-fault-requires-clause-copies g c = grind (arith, common_steps, start
 pub tell_input-requires : goal.tell_input-requires
 tell_input-requires g c =
     let (mode, opens) = c.requires.opened in
-    let copied = c.copy_pieces-fault.ensures.copies mode (starts _ c.args.on_broken opens (length-names c.args.names.now c.requires.unknown) c.tell_broken.ensures.said c.tell_broken.ensures.known) in
-    (_, copies_streams _ mode _ _ copied.2.0.copies)
+    let copied = c.copy_pieces-fault.ensures.copies mode (starts _ _ opens (length-names c.args.job.now.names.now c.requires.unknown) c.tell_broken.ensures.said c.tell_broken.ensures.seen) in
+    (_, copies_streams _ _ mode _ _ copied.2.0.copies)
 
 pub close_all-requires-clause-copies : goal.close_all-requires-clause-copies
 close_all-requires-clause-copies g c =
     let (mode, opens) = c.requires.opened in
-    let copied = c.copy_pieces-fault.ensures.copies mode (starts _ c.args.on_broken opens (length-names c.args.names.now c.requires.unknown) c.tell_broken.ensures.said c.tell_broken.ensures.known) in
-    (mode, c.args.on_broken, copied.2.0.pieces, said_of_input c.copy_pieces-fault.result, copies_said _ mode _ _ copied.2.0.copies c.tell_input.ensures)
+    let copied = c.copy_pieces-fault.ensures.copies mode (starts _ _ opens (length-names c.args.job.now.names.now c.requires.unknown) c.tell_broken.ensures.said c.tell_broken.ensures.seen) in
+    (mode, copied.2.0.pieces, said_of_input c.copy_pieces-fault.result, copies_said _ _ mode _ _ copied.2.0.copies c.tell_input.ensures.told)
 
 pub returns-clause-copied : goal.returns-clause-copied
 returns-clause-copied g c mode opens =
-    let (content, is, (read, breaks)) = c.copy_pieces-fault.ensures.copies mode (starts _ c.args.on_broken opens (length-names c.args.names.now c.requires.unknown) c.tell_broken.ensures.said c.tell_broken.ensures.known) in
-    (content, is, (ends_copied _ c.has_failed.ensures read.read (c.close_all.ensures mode c.args.on_broken read.pieces c.copy_pieces-fault.result (copies_said _ mode _ _ read.copies c.tell_input.ensures)), breaks))
+    let (content, is, (read, breaks)) = c.copy_pieces-fault.ensures.copies mode (starts _ _ opens (length-names c.args.job.now.names.now c.requires.unknown) c.tell_broken.ensures.said c.tell_broken.ensures.seen) in
+    (content, is, (ends_copied _ c.status_for.ensures (c.close_all.ensures.stand (c.copy_pieces-fault.ensures.stand (c.tell_broken.ensures.stand (all_sound g.O.Outs.breaks_for _ _ c.requires.unknown)))) read.read (c.close_all.ensures.closed mode read.pieces c.copy_pieces-fault.result (copies_said _ _ mode _ _ read.copies c.tell_input.ensures.told)), breaks))
 
 pub tell_broken-requires-clause-known : goal.tell_broken-requires-clause-known
 tell_broken-requires-clause-known g c = grind (arith, common_steps)

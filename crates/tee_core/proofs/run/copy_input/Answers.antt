@@ -7,7 +7,7 @@ pub returns-in_err-known-clause-asked : goal.returns-in_err-known-clause-asked
 returns-in_err-known-clause-asked g c = fresh_asks _ _ c.requires.fresh
 
 pub copy_all-requires-clause-tee : goal.copy_all-requires-clause-tee
-copy_all-requires-clause-tee g c = is_tee_of c.args.names.now c.requires.outputs c.in_ok-tee.ensures.live c.in_ok-tee.ensures.files.0 c.in_ok-tee.ensures.files.1
+copy_all-requires-clause-tee g c = is_tee_of c.args.job.now.names.now c.requires.outputs c.in_ok-tee.ensures.live c.in_ok-tee.ensures.files.0 c.in_ok-tee.ensures.files.1
 
 pub returns-clause-copied : goal.returns-clause-copied
 returns-clause-copied g c = c.copy_all.ensures.copied c.args.mode (rw c.requires.outputs at c.in_ok-tee.ensures.opens)

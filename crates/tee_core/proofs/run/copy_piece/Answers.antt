@@ -1,21 +1,22 @@
 use Rattle.std.proofs.Common.{◌+◌, ap, ◌∙◌}
 use Rattle.std.proofs.lemmas.List.{length-map}
-use Rattle.tee_core.proofs.CopyLemmas.{copies_ready, fed_next, after_streams, known_many, piece_said}
+use Rattle.tee_core.proofs.CopyLemmas.{copies_ready, error_no_output, fed_next, known_many, mid_streams, piece_said}
 use Rattle.tee_core.proofs.run.copy_piece.Goals as goal
 
 pub feed-requires : goal.feed-requires
-feed-requires g c = λ live. let (mode, on_broken, pieces, copies) = c.requires.copies in copies_ready _ mode on_broken _ c.requires.tee copies
+feed-requires g c = λ live. let (mode, pieces, copies) = c.requires.copies in copies_ready _ _ mode _ _ c.requires.tee copies
 
 pub tell_broken-requires-clause-streams : goal.tell_broken-requires-clause-streams
 tell_broken-requires-clause-streams g c =
-    let (mode, on_broken, pieces, copies) = c.requires.copies in
-    rw (length-map c.args.names.now _) at (after_streams _ mode on_broken _ (fed_next _ mode on_broken _ c.requires.tee copies (c.feed.ensures.gets c.requires.tee.live)))
+    let (mode, pieces, copies) = c.requires.copies in
+    let gets = c.feed.ensures.gets c.requires.tee.live in
+    rw (length-map c.args.job.now.names.now _) at (mid_streams _ _ mode _ _ copies gets.count (gets.others 1 (error_no_output c.requires.tee)))
 
 pub tell_broken-requires-clause-known : goal.tell_broken-requires-clause-known
 tell_broken-requires-clause-known g c =
-    let (mode, on_broken, pieces, copies) = c.requires.copies in
-    known_many _ mode on_broken _ copies ∙ ap (λ n. n + 1) (length-map c.args.names.now _)
+    let (mode, pieces, copies) = c.requires.copies in
+    known_many _ _ mode _ _ copies ∙ ap (λ n. n + 1) (length-map c.args.job.now.names.now _)
 
 pub returns-clause-copies : goal.returns-clause-copies
-returns-clause-copies g c mode on_broken pieces goes copies =
-    piece_said _ mode on_broken _ c.args.piece.now goes copies (fed_next _ mode on_broken _ c.requires.tee copies (c.feed.ensures.gets c.requires.tee.live)) c.tell_broken.ensures.said c.tell_broken.ensures.known
+returns-clause-copies g c mode pieces goes copies =
+    piece_said _ _ mode _ _ c.args.piece.now goes copies (fed_next _ _ mode _ _ c.requires.tee copies (c.feed.ensures.gets c.requires.tee.live) c.tell_broken.ensures.seen) c.tell_broken.ensures.said

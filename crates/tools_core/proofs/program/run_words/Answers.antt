@@ -7,14 +7,14 @@ use Rattle.tools_core.proofs.program.run_words.Goals as goal
 -- files are followed
 
 pub returns-then-follows-clause-opened : goal.returns-then-follows-clause-opened
-returns-then-follows-clause-opened g c = fresh_counts (names_read (map (λ word. word.now) c.args.words.now)) c.requires.inputs
+returns-then-follows-clause-opened g c = fresh_counts (names_read c.args.calling (map (λ word. word.now) c.args.words.now)) c.requires.inputs
 
 -- words that are refused
 
 pub returns-clause-ends : goal.returns-clause-ends
 returns-clause-ends g c =
-    program_refuses g.I.Inputs.told g.W.Watch.told (map (λ word. word.now) c.args.words.now) (g.I.Inputs.laid c.args.inputs.now) (g.W.Watch.shows c.args.watch.now)
+    program_refuses c.args.calling g.I.Inputs.told g.W.Watch.told g.O.Outs.breaks_for (map (λ word. word.now) c.args.words.now) (g.I.Inputs.laid c.args.inputs.now) (g.W.Watch.shows c.args.watch.now)
     c.requires.inputs c.requires.unseen c.requires.unwatched c.in-Err.ensures.err c.refuse_words.ensures
 
 pub returns-clause-opened : goal.returns-clause-opened
-returns-clause-opened g c = fresh_counts (names_read (map (λ word. word.now) c.args.words.now)) c.requires.inputs
+returns-clause-opened g c = fresh_counts (names_read c.args.calling (map (λ word. word.now) c.args.words.now)) c.requires.inputs

@@ -7,3 +7,6 @@ returns-clause-files c tee asked input does has = (is_copied does has).files
 
 pub returns-clause-stops : goal.returns-clause-stops
 returns-clause-stops c = tee_stops
+
+pub returns-clause-output : goal.returns-clause-output
+returns-clause-output c tee asked input does has = (is_copied does has).output

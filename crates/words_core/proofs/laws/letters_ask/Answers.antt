@@ -1,8 +1,212 @@
-use Rattle.words_core.proofs.LetteredLemmas.{option_asks, unit_asks}
+use Rattle.std.proofs.lemmas.Bool.{and_parts, lt-ltb}
+use Rattle.std.specs.Prelude.{⊤, IfSome}
+use Rattle.std.proofs.lemmas.Bool.Decides.{nat_tests}
+use Rattle.std.proofs.lemmas.List.{append-nil, take-append-drop}
+use Rattle.std.proofs.lemmas.List.Elements.{All-from_recursion, recursion_from_All}
+use Rattle.std.proofs.lemmas.List.Sums.{take_while-cons}
+use Rattle.std.specs.Char.{is_ascii_digit}
+use Rattle.std.specs.List.{list_all, prefix_len}
+use Rattle.std.specs.Prelude.{filter, nat_lt}
+use Rattle.std.proofs.Common.{◌≡◌, ◌≢◌, ◌<◌, ◌⊎◌, suc, ◌&&◌, ◌||◌, inl, inr, refl, sym, ap, arith, rules, ℕ, Bool, true, false, if◌then◌else◌, List, [], ◌∷◌, ◌++◌, length, codes, Option, Some, None}
+use Rattle.seg_core.specs.Count.{after_digits, is_number, leading_digits}
+use Rattle.seg_core.specs.declared.unit.Unit.{Unit as Measured}
+use Rattle.seg_core.specs.declared.unit.Unit.TheVariants.{Lines}
+use Rattle.words_core.specs.declared.choice.Choice.TheVariants as choice
+use Rattle.words_core.specs.declared.settings.Headers.TheVariants.{Always, Never}
+use Rattle.words_core.specs.declared.table.Letters.TheVariants.{OfHead, OfTail}
+use Rattle.words_core.specs.declared.table.Takes.{Takes}
+use Rattle.words_core.specs.declared.table.Takes.TheVariants as takes
+use Rattle.words_core.specs.declared.choice.Choice.{Choice}
+use Rattle.words_core.specs.declared.value.Followed.TheVariants.{Descriptor}
+use Rattle.words_core.specs.declared.choice.Kind.TheVariants as kind
+use Rattle.words_core.specs.Laws.{HasLetters, IsNumberWithLetters, of_lines, of_unit}
+use Rattle.words_core.specs.Lettered.{are_known, are_of_tail, is_known, is_lettered, is_switch, is_unit, letter_named, unit_of, without_digits}
+use Rattle.words_core.specs.Table.{OptionRow, alone, head_table, is_among, tail_table}
+use Rattle.words_core.proofs.LetteredLemmas.{AreOthers, HasParts, IsOther, begins_with_unit, letters_ask, no_digit, no_digit_first, parts}
 use Rattle.words_core.proofs.laws.letters_ask.Goals as goal
 
-pub returns-clause-unit : goal.returns-clause-unit
-returns-clause-unit c = unit_asks
+-- letters of options, or these and one that says what is counted
 
-pub returns-clause-option : goal.returns-clause-option
-returns-clause-option c = option_asks
+module _ (rows : List OptionRow) where
+  record WithUnit (letters : List ℕ) : Type 0 where
+    before : List ℕ
+    letter : ℕ
+    after : List ℕ
+    unit : Measured × ℕ
+    says : unit_of letter ≡ Some unit
+    letters_are : letters ≡ before ++ letter ∷ after
+    others : AreOthers rows (before ++ after)
+
+  abbrev HasShape : List ℕ → Type 0
+  HasShape letters = AreOthers rows letters ⊎ WithUnit letters
+
+  leading_with : (byte : ℕ) (text : List ℕ) (test : Bool) → is_ascii_digit byte ≡ test → list_all is_ascii_digit (leading_digits text) ≡ true → list_all is_ascii_digit (leading_digits (byte ∷ text)) ≡ true
+  leading_with byte text true is are = rw (take_while-cons is_ascii_digit byte text, is, is, are) refl
+  leading_with byte text false is are = rw (take_while-cons is_ascii_digit byte text, is) refl
+
+  leading_are : (text : List ℕ) → list_all is_ascii_digit (leading_digits text) ≡ true
+  leading_are [] = refl
+  leading_are (byte ∷ text) = leading_with byte text (is_ascii_digit byte) refl (leading_are text)
+
+  whole : (text : List ℕ) → HasShape (after_digits text) → (options : List ℕ) × (unit : Measured × ℕ) × HasLetters rows text (leading_digits text) options unit
+  whole text (inl others) =
+      (after_digits text, (Lines, 1), of_lines (sym (take-append-drop (prefix_len is_ascii_digit text) text)) (leading_are text) (All-from_recursion (IsOther rows) (after_digits text) others))
+  whole text (inr with) =
+      let is : text ≡ leading_digits text ++ (with.before ++ with.letter ∷ with.after) = rw with.letters_are at (sym (take-append-drop (prefix_len is_ascii_digit text) text)) in
+      (with.before ++ with.after, with.unit, of_unit with.before with.letter with.after with.says is refl (leading_are text) (All-from_recursion (IsOther rows) (with.before ++ with.after) with.others))
+
+  is_number_with : (text : List ℕ) → HasShape (after_digits text) → IsNumberWithLetters rows text
+  is_number_with text has = let found = whole text has in (leading_digits text, found.0, found.1, found.2)
+
+  -- letters that are known
+
+  module _ (safe : (letter : ℕ) → is_switch (letter_named rows letter) ≡ true → IsOther rows letter) where
+    both : (test more : Bool) → (if test then more else false) ≡ true → (test ≡ true) × (more ≡ true)
+    both true more is = (refl, is)
+    both false more is = absurd (cc)
+
+    known_other : (letter : ℕ) → unit_of letter ≡ None → is_known rows letter ≡ true → IsOther rows letter
+    known_other letter none known = safe letter (rw none at known)
+
+    more_others : (letter : ℕ) (letters : List ℕ) (found : Option (Measured × ℕ)) → unit_of letter ≡ found → is_known rows letter ≡ true → length (filter is_unit (letter ∷ letters)) < 1 → (length (filter is_unit letters) < 1 → AreOthers rows letters)
+        → AreOthers rows (letter ∷ letters)
+    more_others letter letters (Some unit) is known few more = absurd (let none : suc (length (filter is_unit letters)) < 1 = rw is at few in omega (arith, none))
+    more_others letter letters None is known few more = (known_other letter is known, more (rw is at few))
+
+    no_more : (letters : List ℕ) → are_known rows letters ≡ true → length (filter is_unit letters) < 1 → AreOthers rows letters
+    no_more [] known few = tt
+    no_more (letter ∷ letters) known few =
+        let parts = both (is_known rows letter) (are_known rows letters) known in
+        more_others letter letters (unit_of letter) refl parts.0 few (no_more letters parts.1)
+
+    one_more : (letter : ℕ) (letters : List ℕ) (found : Option (Measured × ℕ)) → unit_of letter ≡ found → is_known rows letter ≡ true → are_known rows letters ≡ true → length (filter is_unit (letter ∷ letters)) < 2
+        → (length (filter is_unit letters) < 2 → HasShape letters) → HasShape (letter ∷ letters)
+    one_more letter letters (Some unit) is known are few more =
+        let fewer : suc (length (filter is_unit letters)) < 2 = rw is at few in
+        inr (record { before = []; letter = letter; after = letters; unit = unit; says = is; letters_are = refl; others = no_more letters are (omega (arith, fewer)) })
+    one_more letter letters None is known are few more = elim (more (rw is at few)) [
+      | inl others ↦ inl (known_other letter is known, others)
+      | inr with ↦ inr (record {
+        before = letter ∷ with.before;
+        letter = with.letter;
+        after = with.after;
+        unit = with.unit;
+        says = with.says;
+        letters_are = ap (λ rest. letter ∷ rest) with.letters_are;
+        others = (known_other letter is known, with.others);
+      })
+    ]
+
+    shape : (letters : List ℕ) → are_known rows letters ≡ true → length (filter is_unit letters) < 2 → HasShape letters
+    shape [] known few = inl tt
+    shape (letter ∷ letters) known few =
+        let parts = both (is_known rows letter) (are_known rows letters) known in
+        one_more letter letters (unit_of letter) refl parts.0 parts.1 few (shape letters parts.1)
+
+head_switch : (letter : ℕ) → is_switch (letter_named head_table letter) ≡ true → IsOther head_table letter
+head_switch letter is =
+    let which : (letter ≡ 113) ⊎ ((letter ≡ 118) ⊎ (letter ≡ 122)) = grind (arith, nat_tests) in
+    elim which [
+      | inl q ↦ rw q (refl, refl, choice.Headers Never, record { takes = takes.Nothing (choice.Headers Never); named = refl; alone = refl; ascii = omega arith; no_hyphen = omega arith })
+      | inr (inl v) ↦ rw v (refl, refl, choice.Headers Always, record { takes = takes.Nothing (choice.Headers Always); named = refl; alone = refl; ascii = omega arith; no_hyphen = omega arith })
+      | inr (inr z) ↦ rw z (refl, refl, choice.ZeroTerminated, record { takes = takes.Nothing choice.ZeroTerminated; named = refl; alone = refl; ascii = omega arith; no_hyphen = omega arith })
+    ]
+
+-- and such letters are known
+
+abbrev NeverOptional : Takes → Type 0
+NeverOptional (takes.Optional choice kind) = ⊥
+NeverOptional takes = ⊤
+
+head_never : (letter : ℕ) → IfSome (letter_named head_table letter) NeverOptional
+head_never letter = search rules
+
+switch_by : (takes : Takes) {choice : Choice} → alone takes ≡ Some choice → NeverOptional takes → is_switch (Some takes) ≡ true
+switch_by (takes.Nothing choice) is never = refl
+switch_by (takes.Optional choice kind) is never = absurd never
+switch_by other is never = absurd (cc)
+
+head_known : (letter : ℕ) → IsOther head_table letter → is_known head_table letter ≡ true
+head_known letter is =
+    let never : NeverOptional is.3.takes = rw is.3.named at (head_never letter) in
+    rw (is.0, is.3.named) (switch_by is.3.takes is.3.alone never)
+
+all_known : (letters : List ℕ) → AreOthers head_table letters → are_known head_table letters ≡ true
+all_known [] are = refl
+all_known (letter ∷ letters) are = rw (head_known letter are.0) (all_known letters are.1)
+
+no_units : (letters : List ℕ) → AreOthers head_table letters → length (filter is_unit letters) ≡ 0
+no_units [] are = refl
+no_units (letter ∷ letters) are = rw are.0.0 (no_units letters are.1)
+
+known_with : (before : List ℕ) (letter : ℕ) (after : List ℕ) {unit : Measured × ℕ} → unit_of letter ≡ Some unit → AreOthers head_table (before ++ after) → are_known head_table (before ++ letter ∷ after) ≡ true
+known_with [] letter after says are = rw says (all_known after are)
+known_with (one ∷ before) letter after says are = rw (head_known one are.0) (known_with before letter after says are.1)
+
+one_unit : (before : List ℕ) (letter : ℕ) (after : List ℕ) {unit : Measured × ℕ} → unit_of letter ≡ Some unit → AreOthers head_table (before ++ after) → length (filter is_unit (before ++ letter ∷ after)) ≡ 1
+one_unit [] letter after says are = rw (says, no_units after are) refl
+one_unit (one ∷ before) letter after says are = rw are.0.0 (one_unit before letter after says are.1)
+
+some_digits : (digits : List ℕ) → digits ≢ [] → nat_lt 0 (length digits) ≡ true
+some_digits [] some = absurd (some refl)
+some_digits (digit ∷ digits) some = lt-ltb 0 (length (digit ∷ digits)) (omega arith)
+
+no_nil : (digits : List ℕ) → nat_lt 0 (length digits) ≡ true → digits ≢ []
+no_nil digits some none = absurd (let never : false ≡ true = rw none at some in cc)
+
+head_lettered : (text digits letters : List ℕ) {count : ℕ} → HasParts text digits letters → digits ≢ [] → length (filter is_unit letters) ≡ count → count < 2 → are_known head_table letters ≡ true → is_lettered head_table OfHead text ≡ true
+head_lettered text digits letters {count} is some units few known =
+    rw (is.0, is.1, some_digits digits some, units, lt-ltb count 2 few, known) refl
+
+head_is : (text digits options : List ℕ) {unit : Measured × ℕ} → digits ≢ [] → HasLetters head_table text digits options unit → is_lettered head_table OfHead text ≡ true
+head_is text digits options some (of_lines is all are) =
+    let others = recursion_from_All (IsOther head_table) options are in
+    head_lettered text digits options (rw is (parts digits options all (no_digit head_table options others))) some (no_units options others) (omega arith) (all_known options others)
+head_is text digits options some (of_unit before letter after says is options_are all are) =
+    let others : AreOthers head_table (before ++ after) = rw options_are at (recursion_from_All (IsOther head_table) options are) in
+    head_lettered text digits (before ++ letter ∷ after) (rw is (parts digits (before ++ letter ∷ after) all (no_digit_first head_table before letter after says others))) some
+    (one_unit before letter after says others) (omega arith) (known_with before letter after says others)
+
+f_switch : IsOther tail_table 102
+f_switch = (refl, refl, choice.Follow Descriptor, record { takes = takes.Optional (choice.Follow Descriptor) kind.Follow; named = refl; alone = refl; ascii = omega arith; no_hyphen = omega arith })
+
+with_f : (letter : ℕ) {unit : Measured × ℕ} → unit_of letter ≡ Some unit → HasShape tail_table (letter ∷ 102 ∷ [])
+with_f letter {unit} says = inr (record { before = []; letter = letter; after = 102 ∷ []; unit = unit; says = says; letters_are = refl; others = (f_switch, tt) })
+
+without_f : (letter : ℕ) {unit : Measured × ℕ} → unit_of letter ≡ Some unit → HasShape tail_table (letter ∷ [])
+without_f letter {unit} says = inr (record { before = []; letter = letter; after = []; unit = unit; says = says; letters_are = refl; others = tt })
+
+tail_shape : (text : List ℕ) → is_lettered tail_table OfTail text ≡ true → IsNumberWithLetters tail_table text
+tail_shape text is =
+    let among = (and_parts (are_of_tail (after_digits text)) (nat_lt 0 (length (leading_digits text)) || is_among without_digits text) is).0 in
+    is_number_with tail_table text (begins_with_unit (HasShape tail_table)
+    (codes "f" ∷ codes "b" ∷ codes "bf" ∷ codes "c" ∷ codes "cf" ∷ codes "l" ∷ codes "lf" ∷ []) (after_digits text) among
+    (inl (f_switch, tt), (without_f 98 refl, (with_f 98 refl, (without_f 99 refl, (with_f 99 refl, (without_f 108 refl, (with_f 108 refl, tt))))))))
+
+start_shape : (text : List ℕ) (number lettered : Bool) → is_number text ≡ number → is_lettered tail_table OfTail text ≡ lettered → (number || (lettered || is_among (codes "c" ∷ codes "cf" ∷ []) text)) ≡ true → IsNumberWithLetters tail_table text
+start_shape text true lettered number of_tail is =
+    (text, [], (Lines, 1), of_lines (sym (append-nil text)) (and_parts (nat_lt 0 (length text)) (list_all is_ascii_digit text) number).1 (All-from_recursion (IsOther tail_table) [] tt))
+start_shape text false true number of_tail is = tail_shape text of_tail
+start_shape text false false number of_tail is =
+    begins_with_unit (IsNumberWithLetters tail_table) (codes "c" ∷ codes "cf" ∷ []) text is
+    (is_number_with tail_table (codes "c") (without_f 99 refl), (is_number_with tail_table (codes "cf") (with_f 99 refl), tt))
+
+pub returns-clause-asks : goal.returns-clause-asks
+returns-clause-asks c = letters_ask
+
+head_shape : (text : List ℕ) → is_lettered head_table OfHead text ≡ true → (digits options : List ℕ) × (unit : Measured × ℕ) × (digits ≢ []) × HasLetters head_table text digits options unit
+head_shape text is =
+    let counted = and_parts (nat_lt 0 (length (leading_digits text)) && nat_lt (length (filter is_unit (after_digits text))) 2) (are_known head_table (after_digits text)) is in
+    let both = and_parts (nat_lt 0 (length (leading_digits text))) (nat_lt (length (filter is_unit (after_digits text))) 2) counted.0 in
+    let few : length (filter is_unit (after_digits text)) < 2 = grind (arith, nat_tests) in
+    let found = whole head_table text (shape head_table head_switch (after_digits text) counted.1 few) in
+    (leading_digits text, found.0, found.1, no_nil (leading_digits text) both.0, found.2)
+
+pub returns-clause-head : goal.returns-clause-head
+returns-clause-head c text = (head_shape text, λ is. head_is text is.0 is.1 is.3 is.4)
+
+pub returns-clause-tail : goal.returns-clause-tail
+returns-clause-tail c = tail_shape
+
+pub returns-clause-start : goal.returns-clause-start
+returns-clause-start c text is = start_shape text (is_number text) (is_lettered tail_table OfTail text) refl refl is

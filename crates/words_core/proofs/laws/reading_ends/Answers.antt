@@ -5,11 +5,12 @@ use Rattle.words_core.specs.declared.spelling.State.{State}
 use Rattle.words_core.specs.declared.spelling.State.TheVariants.{Reading, Ended}
 use Rattle.words_core.specs.declared.choice.Choice.TheVariants.{About}
 use Rattle.words_core.specs.declared.settings.Topic.{Topic}
+use Rattle.words_core.specs.declared.table.Takes.TheVariants.{Last}
 use Rattle.words_core.specs.Table.{OptionRow, csplit_table, head_table, program_table, split_table, tail_table, tee_table, tools}
 use Rattle.words_core.specs.Given.{Given, joined, nothing, one_option}
-use Rattle.words_core.specs.Laws.{IsLast, LeaveTheRest}
+use Rattle.words_core.specs.Laws.{IsLong, LeaveTheRest}
 use Rattle.words_core.specs.Spelling.{Meaning, foremost, given_before, meaning_of, onward, spelled}
-use Rattle.words_core.proofs.ValueLemmas.{last_name}
+use Rattle.words_core.proofs.ValueLemmas.{long_name}
 use Rattle.words_core.proofs.laws.reading_ends.Goals as goal
 
 -- what nothing is before, and what two are before
@@ -48,18 +49,18 @@ nothing_more : (rows : List OptionRow) (words : List (List ℕ)) (place : ℕ) �
 nothing_more rows [] place = refl
 nothing_more rows (word ∷ words) place = ap (given_before nothing) (nothing_more rows words (place + 1))
 
-last_ends : (rows : List OptionRow) (name : List ℕ) (topic : Topic) (words : List (List ℕ)) (place : ℕ) → IsLast rows name topic → spelled rows ((45 ∷ 45 ∷ name) ∷ words) place Reading ≡ Ok (one_option (About topic) place)
-last_ends rows name topic words place is = rw (last_name name place is, nothing_more rows words (place + 1))
+last_ends : (rows : List OptionRow) (name : List ℕ) (topic : Topic) (words : List (List ℕ)) (place : ℕ) → IsLong rows name (Ok (Last topic)) → spelled rows ((45 ∷ 45 ∷ name) ∷ words) place Reading ≡ Ok (one_option (About topic) place)
+last_ends rows name topic words place is = rw (long_name name place is, nothing_more rows words (place + 1))
 
 pub returns : goal.returns
 unfolding tools foremost program_table
 returns c = record {
   left = leave_the_rest;
   last = last_ends;
-  head = λ words. rw (nothing_more head_table words 2);
-  tail = λ words. rw (nothing_more tail_table words 2);
-  split = λ words. rw (nothing_more split_table words 2);
-  csplit = λ words. rw (nothing_more csplit_table words 2);
-  tee = λ words. rw (nothing_more tee_table words 2);
-  program = λ words. refl;
+  head = λ calling words. (rw (nothing_more head_table words 2), rw (nothing_more head_table words 2));
+  tail = λ calling words. (rw (nothing_more tail_table words 2), rw (nothing_more tail_table words 2));
+  split = λ calling words. (rw (nothing_more split_table words 2), rw (nothing_more split_table words 2));
+  csplit = λ calling words. (rw (nothing_more csplit_table words 2), rw (nothing_more csplit_table words 2));
+  tee = λ calling words. (rw (nothing_more tee_table words 2), rw (nothing_more tee_table words 2));
+  program = λ calling words. (refl, refl);
 }

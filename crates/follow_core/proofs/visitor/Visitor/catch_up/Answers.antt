@@ -10,7 +10,7 @@ pub returns-in_default-clause-adds : goal.returns-in_default-clause-adds
 returns-in_default-clause-adds g c = adds_none (sym c.open_id.ensures ∙ c.in_default.is)
 
 pub returns-in-Err-clause-adds : goal.returns-in-Err-clause-adds
-returns-in-Err-clause-adds g c = adds_unmeasured (sym c.open_id.ensures ∙ c.in-Some.is) c.in-Err.ensures.err.0 c.in-Err.ensures.err.1
+returns-in-Err-clause-adds g c = adds_unmeasured (sym c.open_id.ensures ∙ c.in-Some.is) c.in-Err.ensures.err.0 c.in-Err.ensures.err.1 c.in-Err.ensures.breaks
 
 pub returns-in-Err-begin_at-clause-adds : goal.returns-in-Err-begin_at-clause-adds
 returns-in-Err-begin_at-clause-adds g c =

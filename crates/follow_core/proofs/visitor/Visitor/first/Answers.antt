@@ -9,18 +9,19 @@ use Rattle.follow_core.specs.declared.visitor.Stop.TheVariants.{Over}
 use Rattle.follow_core.proofs.CallLemmas.{ends_can, follows_from, follows_stop, header_only, long_at, stops_early, opened_there}
 use Rattle.follow_core.proofs.LookLemmas.{first_gave, first_long, first_missing, first_started, first_unopened, gave_fails, gave_through}
 use Rattle.follow_core.proofs.visitor.Visitor.first.Goals as goal
-use Rattle.follow_core.proofs.visitor.Visitor.first.Goals.{then-by_name, else-by_name}
 
-pub returns-in-Ok-false-clause-visits : goal.returns-in-Ok-false-clause-visits
-returns-in-Ok-false-clause-visits g c first =
-    let now : c.if-by_name.standing ≡ (if c.args.by_name then Followed 0 else Left) = elim c.if-by_name.branch [
-      | then-by_name w ↦ rw (w.standing-is, w.if-by_name.true)
-      | else-by_name w ↦ rw (w.standing-is, w.if-by_name.false)
-    ] in
-    rw now (first_missing c.in-Ok-false.ensures.ok c.in-Ok-false.field-0-test c.requires.name c.requires.watchable c.say.ensures)
+pub returns-then-by_name-clause-visits : goal.returns-then-by_name-clause-visits
+returns-then-by_name-clause-visits g c first =
+    let now : Followed 0 ≡ (if c.args.by_name then Followed 0 else Left) = rw c.if-by_name.true refl in
+    rw now (first_missing c.in-Ok-false.ensures.ok c.in-Ok-false.field-0-test c.requires.name c.requires.watchable c.say_failure.ensures)
+
+pub returns-else-by_name-clause-visits : goal.returns-else-by_name-clause-visits
+returns-else-by_name-clause-visits g c first =
+    let now : Left ≡ (if c.args.by_name then Followed 0 else Left) = rw c.if-by_name.false refl in
+    rw now (first_missing c.in-Ok-false.ensures.ok c.in-Ok-false.field-0-test c.requires.name c.requires.watchable c.say_failure.ensures)
 
 pub returns-in-Err-clause-visits : goal.returns-in-Err-clause-visits
-returns-in-Err-clause-visits g c first = first_unopened c.requires.name c.requires.watchable c.in-Err.ensures.err.0 c.in-Err.ensures.err.1 c.stop.ensures.tells
+returns-in-Err-clause-visits g c first = first_unopened c.requires.name c.requires.watchable c.in-Err.ensures.err.0 c.in-Err.ensures.err.1 c.in-Err.ensures.breaks c.stop.ensures.tells
 
 pub returns-in-Err-put-clause-visits : goal.returns-in-Err-put-clause-visits
 returns-in-Err-put-clause-visits g c first = gave_fails sound (Over c.in-Err-put.fault) c.requires.name c.requires.watchable

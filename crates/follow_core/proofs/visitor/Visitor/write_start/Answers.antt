@@ -3,16 +3,16 @@ use Rattle.std.proofs.lemmas.Grind.{common_steps}
 use Rattle.watch_core.specs.Snapshot.{latest}
 use Rattle.std.proofs.lemmas.Result.{IfOk-weaker}
 use Rattle.follow_core.specs.inner.Giving.{stop_in}
-use Rattle.follow_core.proofs.CallLemmas.{ends_can, is_held, long_at, starts_copied, starts_unmeasured, starts_unsought}
+use Rattle.follow_core.proofs.CallLemmas.{breaks_at, ends_can, is_held, long_at, starts_copied, starts_unmeasured, starts_unsought}
 use Rattle.follow_core.proofs.StartLemmas.{contents_same}
 use Rattle.watch_core.specs.Watched.{watched_at}
 use Rattle.follow_core.proofs.visitor.Visitor.write_start.Goals as goal
 
 pub returns-in-Err-clause-starts : goal.returns-in-Err-clause-starts
-returns-in-Err-clause-starts g c = starts_unmeasured c.in-Err.ensures.err.0 c.in-Err.ensures.err.1
+returns-in-Err-clause-starts g c = starts_unmeasured c.in-Err.ensures.err.0 c.in-Err.ensures.err.1 c.in-Err.ensures.breaks
 
 pub returns-in-Err-find-clause-starts : goal.returns-in-Err-find-clause-starts
-returns-in-Err-find-clause-starts g c = starts_unsought c.self.view_is c.in-Ok.ensures.same c.in-Err-find.ensures.err.0 c.in-Err-find.ensures.err.1 c.in-Err-find.ensures.sought
+returns-in-Err-find-clause-starts g c = starts_unsought c.self.view_is c.in-Ok.ensures.same c.in-Err-find.ensures.err.0 c.in-Err-find.ensures.err.1 c.in-Err-find.ensures.sought (breaks_at c.open_len.ensures.seen c.in-Err-find.ensures.breaks)
 
 pub invariant_of-self : goal.invariant_of-self
 invariant_of-self g c = grind (arith, common_steps)

@@ -1,10 +1,9 @@
 use Rattle.std.proofs.Common.{rules, ap, subst, ◌∙◌, arith}
 use Rattle.std.proofs.lemmas.Grind.{common_steps}
-use Rattle.mem_core.specs.MemWatchState.{MemWatchState, world_at}
+use Rattle.mem_core.specs.MemWatchState.{MemWatchState, shown, world_at}
 use Rattle.watch_core.specs.Watched.{Watched, Finds}
-use Rattle.watch_core.specs.Edits.{seen_in}
 use Rattle.watch_core.proofs.NameLemmas.{names_within}
-use Rattle.mem_core.proofs.MemWatchLemmas.{finds_any, finds_now}
+use Rattle.mem_core.proofs.MemWatchLemmas.{finds_any, finds_now, may_break}
 use Rattle.mem_core.proofs.mem_watch.MemWatchWatch.look.Goals as goal
 
 pub index-requires : goal.index-requires
@@ -15,7 +14,10 @@ returns-clause-ok c told =
     finds_now c.self.inside.turns c.self.view_is
     c.self.invariant.1 (c.world_in-world.ensures ∙ ap (λ worlds. world_at worlds c.self.inside.turns) c.deref.ensures.value) c.args.place
     (names_within _ _ c.args.place (ap (λ (those : MemWatchState). those.watched) c.self.view_is) c.requires) c.index.ensures
-    (subst (λ name. Finds (seen_in c.world_in-world.result.now) name c.find-found.result) (c.as_str.ensures.value ∙ ap (λ (those : Watched). those.name) c.behind-self.view_is) c.find-found.ensures)
+    (subst (λ name. Finds (shown c.self.inside.forgives c.world_in-world.result.now) name c.find-found.result) (c.as_str.ensures.value ∙ ap (λ (those : Watched). those.name) c.behind-self.view_is) c.find-found.ensures.finds)
 
 pub returns-clause-found : goal.returns-clause-found
 returns-clause-found c = search (rules, finds_any)
+
+pub returns-then-refuses-clause-breaks : goal.returns-then-refuses-clause-breaks
+returns-then-refuses-clause-breaks c = may_break c.args.self.now (c.refuses.ensures.forgives c.if-refuses.true)

@@ -4,7 +4,7 @@ use Rattle.watch_core.proofs.WorldLemmas.{file_changed, file_stays}
 use Rattle.mem_core.proofs.mem_world.MemWorld.truncate.Goals as goal
 
 pub returns-then-file-len : goal.returns-then-file-len
-returns-then-file-len c = file_changed c.args.self.now c.self.inside.links.items c.self.inside.files.items c.self.inside.ended.items _ c.in-Some.file (take c.args.n) c.index_mut.result.now _ c.self.view_is
+returns-then-file-len c = file_changed c.args.self.now c.self.inside.links.items c.self.inside.files.items c.self.inside.ended.items c.self.inside.bars.items _ c.in-Some.file (take c.args.n) c.index_mut.result.now _ c.self.view_is
     (sym c.file_of.ensures ∙ c.in-Some.is) (let within : c.in-Some.file < length c.self.inside.files.items = omega arith in within) c.index_mut.ensures.value
     (c.truncate.ensures.items ∙ ap (take c.args.n) c.behind-self.view_is)
 

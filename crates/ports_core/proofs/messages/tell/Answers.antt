@@ -1,0 +1,8 @@
+use Rattle.std.proofs.Common.{◌∙◌, sym}
+use Rattle.ports_core.proofs.MessageLemmas.{told_aloud}
+use Rattle.ports_core.proofs.messages.tell.Goals as goal
+
+pub returns : goal.returns
+returns g c =
+    let (told, failed) = told_aloud g.O.Outs.told c.args.fault.now _ (sym c.is_quiet.ensures ∙ c.if-is_quiet.false) (rw c.output_name.ensures at (c.print_message.ensures _ _ c.message_for-line.ensures.ok)) in
+    (c.output_reason-why.result, c.output_reason-why.ensures, told, failed)

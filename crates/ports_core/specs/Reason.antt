@@ -1,0 +1,37 @@
+-- Why outputs, inputs and names break, and what is said of it: the numbers of Linux, and the texts of the C library.
+use Rattle.std.specs.Prelude.{ℕ, ℤ, pos, negsuc, ◌==◌, List, [], ◌∷◌, codes, Option, Some, None, if◌then◌else◌}
+use Rattle.ports_core.specs.declared.reason.Reason.{Reason}
+use Rattle.ports_core.specs.declared.reason.Reason.TheVariants.{Gone, Missing, Denied, Folder, NoFolder, Full, TooLarge, ReadOnly, Quota, TooMany, Device, Busy, LongName, Circle, Input, Other}
+
+-- what a message says of it after the name
+abbrev pub reason_text : Reason → List ℕ
+reason_text Gone = []
+reason_text Missing = codes ": No such file or directory"
+reason_text Denied = codes ": Permission denied"
+reason_text Folder = codes ": Is a directory"
+reason_text NoFolder = codes ": Not a directory"
+reason_text Full = codes ": No space left on device"
+reason_text TooLarge = codes ": File too large"
+reason_text ReadOnly = codes ": Read-only file system"
+reason_text Quota = codes ": Disk quota exceeded"
+reason_text TooMany = codes ": Too many open files"
+reason_text Device = codes ": Input/output error"
+reason_text Busy = codes ": Text file busy"
+reason_text LongName = codes ": File name too long"
+reason_text Circle = codes ": Too many levels of symbolic links"
+reason_text Input = codes ": is an input"
+reason_text Other = []
+
+-- the numbers that the system has for them
+abbrev pub reasons : List (ℕ × Reason)
+reasons = (2, Missing) ∷ (5, Device) ∷ (13, Denied) ∷ (20, NoFolder) ∷ (21, Folder) ∷ (24, TooMany) ∷ (26, Busy)
+    ∷ (27, TooLarge) ∷ (28, Full) ∷ (30, ReadOnly) ∷ (32, Gone) ∷ (36, LongName) ∷ (40, Circle) ∷ (122, Quota) ∷ []
+
+abbrev pub reason_in : List (ℕ × Reason) → ℕ → Reason
+reason_in [] number = Other
+reason_in (row ∷ rows) number = if number == row.0 then row.1 else reason_in rows number
+
+abbrev pub reason_by : Option ℤ → Reason
+reason_by (Some (pos number)) = reason_in reasons number
+reason_by (Some (negsuc n)) = Other
+reason_by None = Other

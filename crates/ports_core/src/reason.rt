@@ -1,0 +1,116 @@
+ghost use Rattle.std.specs.Prelude.{◌≡◌, Some};
+ghost use Rattle.std.specs.IoError.{raw_os_error};
+ghost use Rattle.ports_core.specs.Reason.{reason_by, reason_in, reason_text};
+
+use std::io::Error;
+
+/// Why an output, an input or a watched name broke, as far as the system says.
+#[derive(Clone, Copy, Debug, PartialEq, Eq)]
+pub enum Reason {
+    /// Nobody reads any more what is written to it.
+    Gone,
+    /// There is no such file or folder.
+    Missing,
+    /// It isn't permitted.
+    Denied,
+    /// It is a folder.
+    Folder,
+    /// What should be a folder on the way to it is none.
+    NoFolder,
+    /// The device has no space left.
+    Full,
+    /// The file would be larger than is allowed.
+    TooLarge,
+    /// The file system can only be read.
+    ReadOnly,
+    /// The user may use no more of the disk.
+    Quota,
+    /// The process has too many files open.
+    TooMany,
+    /// The device failed.
+    Device,
+    /// The file is a program that runs.
+    Busy,
+    /// The name is too long.
+    LongName,
+    /// Links on the way to it lead in a circle.
+    Circle,
+    /// It is an input, which no output may be.
+    Input,
+    /// Any other, or none that is known.
+    Other,
+}
+
+impl Reason {
+    /// What a message says of it, after the name: nothing of `Gone` and `Other`. It is the system's own text in English.
+    pub fn text(self) -> &'static [u8]
+        ensures { result.now ≡ reason_text self }
+    {
+        match self {
+            Reason::Gone | Reason::Other => b"",
+            Reason::Missing => b": No such file or directory",
+            Reason::Denied => b": Permission denied",
+            Reason::Folder => b": Is a directory",
+            Reason::NoFolder => b": Not a directory",
+            Reason::Full => b": No space left on device",
+            Reason::TooLarge => b": File too large",
+            Reason::ReadOnly => b": Read-only file system",
+            Reason::Quota => b": Disk quota exceeded",
+            Reason::TooMany => b": Too many open files",
+            Reason::Device => b": Input/output error",
+            Reason::Busy => b": Text file busy",
+            Reason::LongName => b": File name too long",
+            Reason::Circle => b": Too many levels of symbolic links",
+            Reason::Input => b": is an input",
+        }
+    }
+
+    /// Why a call failed, by the number that Linux has for its error.
+    pub fn of(error: &Error) -> Reason
+        ensures { result ≡ reason_by (raw_os_error error.now) }
+    {
+        match error.raw_os_error() {
+            Some(code) => by_code(code),
+            None => Reason::Other,
+        }
+    }
+}
+
+/// The numbers that Linux has for them.
+const REASONS: &[(u32, Reason)] = &[
+    (2, Reason::Missing),
+    (5, Reason::Device),
+    (13, Reason::Denied),
+    (20, Reason::NoFolder),
+    (21, Reason::Folder),
+    (24, Reason::TooMany),
+    (26, Reason::Busy),
+    (27, Reason::TooLarge),
+    (28, Reason::Full),
+    (30, Reason::ReadOnly),
+    (32, Reason::Gone),
+    (36, Reason::LongName),
+    (40, Reason::Circle),
+    (122, Reason::Quota),
+];
+
+fn by_code(code: i32) -> Reason
+    ensures { result ≡ reason_by (Some code) }
+{
+    match u32::try_from(code) {
+        Ok(number) => in_table(REASONS, number),
+        Err(_) => Reason::Other,
+    }
+}
+
+fn in_table(mut table: &[(u32, Reason)], number: u32) -> Reason
+    ensures { result ≡ reason_in table.entry.now number }
+{
+    while let [row, rest @ ..] = table {
+        if number == row.0 {
+            return row.1;
+        }
+        table = rest;
+    }
+    Reason::Other
+}

@@ -1,0 +1,99 @@
+-- Lemmas on what words mean by both ways to call the program.
+use Rattle.std.proofs.Common.{◌≡◌, refl, ap, ◌∙◌, ℕ, ◌==◌, ◌&&◌, ◌||◌, not, Bool, true, false, if◌then◌else◌, List, [], ◌∷◌, Option, Some, None, Result, Ok, Err, option_map}
+use Rattle.ports_core.specs.declared.calling.Calling.TheVariants.{Cutters, OwnName}
+use Rattle.ports_core.specs.declared.fault.Fault.{Fault}
+use Rattle.ports_core.specs.declared.on_broken.OnBroken.{OnBroken}
+use Rattle.ports_core.specs.declared.on_broken.OnBroken.TheVariants.{Signal}
+use Rattle.ports_core.specs.declared.tool.Tool.TheVariants as tool
+use Rattle.words_core.specs.declared.choice.Choice.{Choice}
+use Rattle.words_core.specs.declared.choice.Choice.TheVariants as choice
+use Rattle.words_core.specs.declared.choice.Kind.{Kind}
+use Rattle.words_core.specs.declared.spelled.Chosen.{Chosen}
+use Rattle.words_core.specs.declared.spelling.State.TheVariants.{First}
+use Rattle.words_core.specs.declared.table.Letters.{Letters}
+use Rattle.words_core.specs.declared.table.Letters.TheVariants.{Never, OfHead}
+use Rattle.words_core.specs.Given.{Given, asked_by, one_operand, texts_of}
+use Rattle.words_core.specs.Laws.{has, say_nothing, says_on_broken}
+use Rattle.words_core.specs.Lettered.{is_start}
+use Rattle.words_core.specs.Spelling.{foremost, mixed, onward, reading, spelled}
+use Rattle.words_core.specs.Table.{OptionRow, ToolRow}
+use Rattle.words_core.specs.TeeWords.{TeeAsked, fresh, tee_asked, tee_by}
+use Rattle.words_core.specs.Value.{then_check}
+use Rattle.words_core.specs.Words.{settings_for, tool_settings}
+
+-- the first of these words says where `tail` begins
+abbrev pub begin : List OptionRow → Letters → List (List ℕ) → Bool
+begin rows letters ((byte ∷ text) ∷ words) = byte == 43 && is_start OwnName rows letters text
+begin rows letters words = false
+
+pub and_never : (test : Bool) → (test && false) ≡ false
+and_never true = refl
+and_never false = refl
+
+same_first : (rows : List OptionRow) (kind : Kind) (letters : Letters) (place byte : ℕ) (text : List ℕ) → (byte == 43 && is_start OwnName rows letters text) ≡ false
+    → foremost OwnName rows kind letters place (byte ∷ text) ≡ foremost Cutters rows kind letters place (byte ∷ text)
+unfolding foremost
+same_first rows kind letters place byte text other = rw (other, and_never (byte == 43)) refl
+
+pub same_words : (rows : List OptionRow) (kind : Kind) (letters : Letters) (words : List (List ℕ)) → begin rows letters words ≡ false
+    → spelled rows words 1 (First OwnName kind letters) ≡ spelled rows words 1 (First Cutters kind letters)
+unfolding foremost
+same_words rows kind letters [] other = refl
+same_words rows kind letters ([] ∷ words) other = refl
+same_words rows kind letters ((byte ∷ text) ∷ words) other = ap (onward (spelled rows words 2)) (same_first rows kind letters 1 byte text other)
+
+pub begins_never : (rows : List OptionRow) (words : List (List ℕ)) → begin rows Never words ≡ false
+begins_never rows [] = refl
+begins_never rows ([] ∷ words) = refl
+begins_never rows ((byte ∷ text) ∷ words) = and_never (byte == 43)
+
+pub begins_head : (rows : List OptionRow) (words : List (List ℕ)) → begin rows OfHead words ≡ false
+begins_head rows [] = refl
+begins_head rows ([] ∷ words) = refl
+begins_head rows ((byte ∷ text) ∷ words) = and_never (byte == 43)
+
+pub same_unknown : (name : List ℕ) (words : List (List ℕ)) (row : Option ToolRow) → option_map (λ row. row.tool) row ≡ None
+    → tool_settings OwnName name words row ≡ tool_settings Cutters name words row
+same_unknown name words None none = refl
+same_unknown name words (Some row) none = absurd (cc)
+
+-- a word of a `+` is a name
+pub plus_is_name : (rows : List OptionRow) (place : ℕ) (text : List ℕ) → mixed rows place (43 ∷ text) ≡ reading (one_operand (43 ∷ text) place)
+plus_is_name rows place [] = refl
+plus_is_name rows place (byte ∷ text) = refl
+
+-- what is done once an output is broken, said before the options, is so where none of them says it
+
+abbrev pub with_broken : OnBroken → TeeAsked → TeeAsked
+with_broken on_broken asked = record asked { on_broken = on_broken }
+
+with_one : (on_broken : OnBroken) (asked : TeeAsked) (choice : Choice)
+    → tee_by (with_broken on_broken asked) choice ≡ (if says_on_broken choice then tee_by asked choice else with_broken on_broken (tee_by asked choice))
+with_one on_broken asked (choice.OnBroken said) = refl
+with_one on_broken asked choice = refl
+
+said_or : (test more : Bool) (on_broken : OnBroken) (next : TeeAsked) (options : List Chosen)
+    → asked_by tee_by (with_broken on_broken next) options ≡ (if more then asked_by tee_by next options else with_broken on_broken (asked_by tee_by next options))
+    → asked_by tee_by (if test then next else with_broken on_broken next) options ≡ (if test || more then asked_by tee_by next options else with_broken on_broken (asked_by tee_by next options))
+said_or true more on_broken next options rest = refl
+said_or false more on_broken next options rest = rest
+
+with_all : (on_broken : OnBroken) (asked : TeeAsked) (options : List Chosen)
+    → asked_by tee_by (with_broken on_broken asked) options ≡ (if has says_on_broken options then asked_by tee_by asked options else with_broken on_broken (asked_by tee_by asked options))
+with_all on_broken asked [] = refl
+with_all on_broken asked (option ∷ options) =
+    ap (λ next. asked_by tee_by next options) (with_one on_broken asked option.choice)
+    ∙ said_or (says_on_broken option.choice) (has says_on_broken options) on_broken (tee_by asked option.choice) options (with_all on_broken (tee_by asked option.choice) options)
+
+pub left_open : (given : Given) → has says_on_broken given.options ≡ false → tee_asked OwnName given ≡ with_broken Signal (tee_asked Cutters given)
+left_open given none = rw (with_all Signal (fresh Cutters (texts_of given.operands)) given.options, none) refl
+
+said : (given : Given) → has says_on_broken given.options ≡ true → tee_asked OwnName given ≡ tee_asked Cutters given
+said given is = rw (with_all Signal (fresh Cutters (texts_of given.operands)) given.options, is) refl
+
+pub same_tee : (meant : Result Given Fault) → say_nothing meant ≡ false → then_check meant (settings_for OwnName tool.Tee) ≡ then_check meant (settings_for Cutters tool.Tee)
+same_tee (Ok given) is = rw (said given (says_so (has says_on_broken given.options) is)) refl where
+  says_so : (test : Bool) → not test ≡ false → test ≡ true
+  says_so true is = refl
+  says_so false is = absurd (cc)
+same_tee (Err fault) is = refl

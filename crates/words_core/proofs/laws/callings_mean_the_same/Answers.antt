@@ -1,0 +1,26 @@
+use Rattle.std.proofs.Common.{ap, refl}
+use Rattle.ports_core.specs.declared.calling.Calling.TheVariants.{Cutters}
+use Rattle.ports_core.specs.declared.tool.Tool.TheVariants as tool
+use Rattle.seg_core.specs.declared.unit.Unit.TheVariants.{Lines}
+use Rattle.words_core.specs.declared.choice.Kind.TheVariants.{Amount, LinesEach}
+use Rattle.words_core.specs.declared.spelling.State.TheVariants.{Reading}
+use Rattle.words_core.specs.declared.table.Letters.TheVariants.{Never, OfHead, OfTail}
+use Rattle.words_core.specs.Spelling.{spelled}
+use Rattle.words_core.specs.Table.{head_table, row_named, split_table, tail_table, tee_table, tools}
+use Rattle.words_core.specs.Value.{then_check}
+use Rattle.words_core.specs.Words.{settings_for}
+use Rattle.words_core.proofs.CallingLemmas.{begins_head, begins_never, left_open, same_tee, same_unknown, same_words}
+use Rattle.words_core.proofs.laws.callings_mean_the_same.Goals as goal
+
+pub returns : goal.returns
+unfolding tools
+returns c = record {
+  none = refl;
+  unknown = λ name words. same_unknown name words (row_named tools name);
+  head = λ words. ap (λ given. then_check given (settings_for Cutters tool.Head)) (same_words head_table (Amount Lines) OfHead words (begins_head head_table words));
+  tail = λ words other. ap (λ given. then_check given (settings_for Cutters tool.Tail)) (same_words tail_table (Amount Lines) OfTail words other);
+  split = λ words. ap (λ given. then_check given (settings_for Cutters tool.Split)) (same_words split_table LinesEach Never words (begins_never split_table words));
+  csplit = λ words. refl;
+  tee = λ words said. same_tee (spelled tee_table words 1 Reading) said;
+  left_open = left_open;
+}
