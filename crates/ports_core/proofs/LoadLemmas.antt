@@ -4,7 +4,7 @@ use Rattle.std.proofs.Common.{◌≡◌, ℕ, ◌<◌, ◌≤◌, ◌^◌, max, 
 use Rattle.std.proofs.lemmas.Bool.{false≢true}
 use Rattle.std.proofs.lemmas.List.{length-replicate, length-take-le, nil_from_length, take-append-drop}
 use Rattle.ports_core.specs.Slot.{changed_at}
-use Rattle.ports_core.specs.Source.{Content, Source, count_left, source_at, is_readable, looks, skips}
+use Rattle.ports_core.specs.Source.{Source, source_at, is_readable, looks, skips}
 use Rattle.ports_core.specs.Inputs.{HasLooked, PassesOver}
 use Rattle.ports_core.proofs.InputsLemmas.{changed_source, keeps_again, keeps_itself, keeps_others}
 use Rattle.ports_core.specs.Engine.{Terms, Loads, TookIn}
@@ -44,83 +44,61 @@ pub looked_readable : {most slot : ℕ} {old new : List Source} → HasLooked mo
 looked_readable looked can = ap (λ (source : Source). source.is_open && not source.is_broken) looked.looked ∙ can
 
 -- where none is passed over, what holds of nothing holds
-pub passes_none : (told : Bool) {most slot : ℕ} (Keeps : List ℕ → Type 0) {old new : List Source} → HasLooked most slot old new → Keeps []
-    → PassesOver told most slot 0 Keeps old new
-passes_none told {slot = slot} Keeps {new = new} looked keeps = record {
+pub passes_none : (told : Bool) {slot : ℕ} (Keeps : List ℕ → Type 0) {sources : List Source} → Keeps [] → PassesOver told slot 0 Keeps sources sources
+passes_none told {slot} Keeps {sources} keeps = record {
   few = omega arith;
   front = [];
   long = refl;
-  there = λ tells. sym (ap (λ (source : Source). source.left.bytes) looked.looked);
-  mid = new;
-  looked = looked;
-  passed = none_passed slot new;
+  there = λ tells. refl;
+  passed = none_passed slot sources;
   keeps = keeps;
 }
 
--- an input has as many bytes as it says
-
-counted : (content : Content) {left : ℕ} → count_left content ≡ Some left → length content.bytes ≡ left
-counted content is = by content.breaks_off is where
-  by : (breaks_off : Bool) {left : ℕ} → (if breaks_off then None else Some (length content.bytes)) ≡ Some left → length content.bytes ≡ left
-  by true is = absurd (cc)
-  by false is = cc
-
-pub has_left : {told : Bool} {said : Option ℕ} (content : Content) {left : ℕ} → (told ≡ true → said ≡ count_left content) → said ≡ Some left
-    → told ≡ true → left ≤ length content.bytes
-has_left content counts is tells = omega (arith, counted content (sym (counts tells) ∙ is))
-
 -- a front of the bytes that are left was passed over
-pub passes_front : (told : Bool) {most slot count least : ℕ} {old mid new : List Source} → IsTrue (is_readable old slot)
-    → (told ≡ true → least ≤ length (source_at old slot).left.bytes) → count ≤ least → count < 2 ^ 63 → HasLooked most slot old mid
-    → new ≡ changed_at slot (skips count) mid → PassesOver told most slot count (λ x. Unit {0}) old new
-passes_front true {slot = slot} {count} {old = old} {mid} {new} can has within few looked passed =
+passes_front : (told : Bool) {slot count : ℕ} {old new : List Source} → IsTrue (is_readable old slot)
+    → (told ≡ true → count ≤ length (source_at old slot).left.bytes) → count < 2 ^ 63 → new ≡ changed_at slot (skips count) old
+    → PassesOver told slot count (λ x. Unit {0}) old new
+passes_front true {slot} {count} {old} {new} can has few passed =
     let bytes = (source_at old slot).left.bytes in
-    let long : length (take count bytes) ≡ count = length-take-le count bytes (omega (arith, within, has refl)) in record {
+    let long : length (take count bytes) ≡ count = length-take-le count bytes (has refl) in record {
       few = few;
       front = take count bytes;
       long = sym long;
-      there = λ t. rw (ap (λ (source : Source). source.left.bytes) (passed_at slot count mid new (looked_readable looked can) passed) ∙ ap (λ (source : Source). drop count source.left.bytes) looked.looked) (sym (take-append-drop count bytes));
-      mid = mid;
-      looked = looked;
+      there = λ t. rw (ap (λ (source : Source). source.left.bytes) (passed_at slot count old new can passed)) (sym (take-append-drop count bytes));
       passed = passed;
       keeps = tt;
     }
-passes_front false {count = count} {mid = mid} can has within few looked passed = record {
+passes_front false {count = count} can has few passed = record {
   few = few;
   front = replicate count 0;
   long = sym (length-replicate count 0);
   there = λ t. absurd (false≢true t);
-  mid = mid;
-  looked = looked;
   passed = passed;
   keeps = tt;
 }
 
 -- or none was, where that can't be done
-pub passes_if : (told done : Bool) {most slot count least : ℕ} {old mid new : List Source} → IsTrue (is_readable old slot)
-    → (told ≡ true → least ≤ length (source_at old slot).left.bytes) → count ≤ least → count < 2 ^ 63 → HasLooked most slot old mid
-    → (IsTrue done → new ≡ changed_at slot (skips count) mid) → (done ≡ false → new ≡ mid)
-    → PassesOver told most slot (if done then count else 0) (λ x. Unit {0}) old new
-passes_if told true can has within few looked passed stays = passes_front told can has within few looked (passed refl)
-passes_if told false can has within few looked passed stays = rw (stays refl) (passes_none told _ looked tt)
+pub passes_if : (told done : Bool) {slot count : ℕ} {old new : List Source} → IsTrue (is_readable old slot)
+    → (IsTrue done → told ≡ true → count ≤ length (source_at old slot).left.bytes) → count < 2 ^ 63
+    → (IsTrue done → new ≡ changed_at slot (skips count) old) → (done ≡ false → new ≡ old)
+    → PassesOver told slot (if done then count else 0) (λ x. Unit {0}) old new
+passes_if told true can has few passed stays = passes_front told can (has refl) few (passed refl)
+passes_if told false can has few passed stays = rw (stays refl) (passes_none told _ tt)
 
 -- whether they were is known
-pub passes_by : {told : Bool} {most slot : ℕ} {Keeps : List ℕ → Type 0} {old new : List Source} (count : ℕ) (done : Bool) {is : Bool} → done ≡ is
-    → PassesOver told most slot (if done then count else 0) Keeps old new → PassesOver told most slot (if is then count else 0) Keeps old new
-passes_by {told} {most} {slot} {Keeps} {old} {new} count done is passes =
-    subst (λ done. PassesOver told most slot (if done then count else 0) Keeps old new) is passes
+pub passes_by : {told : Bool} {slot : ℕ} {Keeps : List ℕ → Type 0} {old new : List Source} (count : ℕ) (done : Bool) {is : Bool} → done ≡ is
+    → PassesOver told slot (if done then count else 0) Keeps old new → PassesOver told slot (if is then count else 0) Keeps old new
+passes_by {told} {slot} {Keeps} {old} {new} count done is passes =
+    subst (λ done. PassesOver told slot (if done then count else 0) Keeps old new) is passes
 
 -- what holds of the bytes that were passed over
-pub passes_so : {told : Bool} {most slot count : ℕ} {Before : List ℕ → Type 0} (Keeps : List ℕ → Type 0) {old new : List Source}
-    → PassesOver told most slot count Before old new → ((x : List ℕ) → count ≡ length x → Before x → Keeps x)
-    → PassesOver told most slot count Keeps old new
+pub passes_so : {told : Bool} {slot count : ℕ} {Before : List ℕ → Type 0} (Keeps : List ℕ → Type 0) {old new : List Source}
+    → PassesOver told slot count Before old new → ((x : List ℕ) → count ≡ length x → Before x → Keeps x) → PassesOver told slot count Keeps old new
 passes_so Keeps passes so = record {
   few = passes.few;
   front = passes.front;
   long = passes.long;
   there = passes.there;
-  mid = passes.mid;
-  looked = passes.looked;
   passed = passes.passed;
   keeps = so passes.front passes.long passes.keeps;
 }
@@ -139,12 +117,12 @@ module _ {S : Type 0} (terms : Terms S) where
     going = inl refl;
   }
 
-  pub loads_none : (told : Bool) (most : ℕ) {slot : ℕ} {stage : S} {sources : List Source} → terms.Holds stage [] → terms.size stage ≡ 0
-      → Loads terms told most slot 0 stage stage sources sources
-  loads_none told most {slot} {sources = sources} fresh none = passes_none told _ (looked_none most slot sources) (took_none fresh none)
+  pub loads_none : (told : Bool) {slot : ℕ} {stage : S} {sources : List Source} → terms.Holds stage [] → terms.size stage ≡ 0
+      → Loads terms told slot 0 stage stage sources sources
+  loads_none told fresh none = passes_none told _ (took_none fresh none)
 
-  -- also where the input was looked at
-  pub loads_still : {told : Bool} {most slot : ℕ} {Before : List ℕ → Type 0} {stage : S} {old new : List Source} → terms.Holds stage []
-      → terms.size stage ≡ 0 → PassesOver told most slot 0 Before old new → Loads terms told most slot 0 stage stage old new
+  -- also where more might have been passed over
+  pub loads_still : {told : Bool} {slot : ℕ} {Before : List ℕ → Type 0} {stage : S} {old new : List Source} → terms.Holds stage []
+      → terms.size stage ≡ 0 → PassesOver told slot 0 Before old new → Loads terms told slot 0 stage stage old new
   loads_still {stage = stage} fresh none passes = passes_so _ passes
       (λ x long is. subst (TookIn terms stage stage) (sym (nil_from_length x (sym long))) (took_none fresh none))

@@ -184,11 +184,10 @@ pub record TookIn {S : Type 0} (terms : Terms S) (before after : S) (front : Lis
   pub idle : (terms.work before).settled front ≡ (terms.work before).settled []
   pub going : (front ≡ []) ⊎ ((terms.work before).is_complete front ≡ false)
 
--- It took in the next `count` bytes of what an input has left, which were passed over there and not read: looks asked
--- for at most `most` at once. Where inputs don't tell their bytes, it is as if it was fed some text of that length.
-abbrev pub Loads : {S : Type 0} → Terms S → Bool → ℕ → ℕ → ℕ → S → S → List Source → List Source → Type 0
-Loads terms told most slot count before after old new =
-    PassesOver told most slot count (TookIn terms before after) old new
+-- It took in the next `count` bytes of what an input has left, which were passed over there and not read. Where inputs
+-- don't tell their bytes, it is as if it was fed some text of that length.
+abbrev pub Loads : {S : Type 0} → Terms S → Bool → ℕ → ℕ → S → S → List Source → List Source → Type 0
+Loads terms told slot count before after old new = PassesOver told slot count (TookIn terms before after) old new
 
 -- The next piece may have this many bytes. Whatever x the stage was fed, if more can change the output: where a piece of
 -- no more bytes than that completes it, those of its bytes that are not used, n at its end, are at most `ahead`.

@@ -1,10 +1,10 @@
 -- What a run knows of its inputs, and what it leaves of them.
 use Rattle.std.specs.Prelude.{◌≡◌, ℕ, ◌<◌, ◌≤◌, ◌^◌, Bool, true, false, List, [], ◌++◌, length}
 use Rattle.ports_core.specs.Slot.{changed_at}
-use Rattle.ports_core.specs.Source.{Content, Source, looks, skips, source_at}
+use Rattle.ports_core.specs.Source.{Content, Source, looks, skips, source_at, unshown}
 
 abbrev pub empty : Content
-empty = record { bytes = []; breaks_off = false }
+empty = unshown []
 
 -- an input that tells its bytes had this content; of others it is known no further than their reads gave it
 abbrev pub OfContent : Bool → Content → (Content → Type 0) → Type 0
@@ -28,17 +28,15 @@ pub record HasLooked (most slot : ℕ) (old new : List Source) : Type 0 where
   pub looked : source_at new slot ≡ looks size (source_at old slot)
   pub others : KeepsOthers slot old new
 
--- The next `count` bytes of an input were passed over, no more than any tool takes, after looks of at most `most` bytes
--- each. Of these bytes `Keeps` holds, or of some text of that length, where inputs don't tell theirs.
-pub record PassesOver (told : Bool) (most slot count : ℕ) (Keeps : List ℕ → Type 0) (old new : List Source)
+-- The next `count` bytes of an input were passed over, no more than any tool takes. Of these bytes `Keeps` holds, or of
+-- some text of that length, where inputs don't tell theirs.
+pub record PassesOver (told : Bool) (slot count : ℕ) (Keeps : List ℕ → Type 0) (old new : List Source)
     : Type 0 where
   pub few : count < 2 ^ 63
   pub front : List ℕ
   pub long : count ≡ length front
   pub there : told ≡ true → (source_at old slot).left.bytes ≡ front ++ (source_at new slot).left.bytes
-  pub mid : List Source
-  pub looked : HasLooked most slot old mid
-  pub passed : new ≡ changed_at slot (skips count) mid
+  pub passed : new ≡ changed_at slot (skips count) old
   pub keeps : Keeps front
 
 -- no read asked for more than `most` bytes, and no look

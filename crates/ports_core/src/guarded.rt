@@ -86,17 +86,16 @@ impl<S: Stage> Guarded<S> {
     /// part is wanted, or what stands before a part that is wanted alone. It returns how many bytes it took in; they are passed
     /// over, so that the reads that follow give what comes after them. 0 where it took in none, and the input is to be read
     /// from its front.
-    pub fn load<I: Inputs>(&mut self, slot: usize, buffer: &mut [u8], inputs: &mut I) -> u64
-        requires room { 0 < length buffer.old }
+    pub fn load<I: Inputs>(&mut self, slot: usize, inputs: &mut I) -> u64
         requires fresh { HoldsIn S.terms.Holds self.old [] }
         requires input { IsTrue (is_readable (I.sources inputs.old) slot) }
-        ensures loads { Loads S.terms I.told (length buffer.old) slot result self.old.stage self.new.stage
-            (I.sources inputs.old) (I.sources inputs.new) }
+        ensures loads { Loads S.terms I.told slot result self.old.stage self.new.stage (I.sources inputs.old)
+            (I.sources inputs.new) }
         ensures fed { self.new.fed ≡ result }
         ensures live { self.new.is_over ≡ false }
         ensures laid { I.laid inputs.new ≡ I.laid inputs.old }
     {
-        self.fed = self.stage.load(slot, buffer, inputs);
+        self.fed = self.stage.load(slot, inputs);
         self.fed
     }
 

@@ -25,17 +25,15 @@ pub trait Stage {
             (IsMetWith terms piece.now self.old) result };
 
     /// Takes in bytes that an input has left, before any piece, as `Guarded::load`. By itself it takes in none.
-    fn load<I: Inputs>(&mut self, slot: usize, buffer: &mut [u8], inputs: &mut I) -> u64
-        requires room { 0 < length buffer.old }
+    fn load<I: Inputs>(&mut self, slot: usize, inputs: &mut I) -> u64
         requires fresh { terms.Holds self.old [] }
         requires none { terms.size self.old ≡ 0 }
         requires input { IsTrue (is_readable (I.sources inputs.old) slot) }
-        ensures loads { Loads terms I.told (length buffer.old) slot result self.old self.new (I.sources inputs.old)
+        ensures loads { Loads terms I.told slot result self.old self.new (I.sources inputs.old)
             (I.sources inputs.new) }
         ensures laid { I.laid inputs.new ≡ I.laid inputs.old }
     {
         let _ = slot;
-        let _ = buffer;
         let _ = inputs;
         0
     }

@@ -5,6 +5,7 @@ use crate::input_place::standard_input_place;
 use std::fs;
 use std::io::{self, BufRead, Lock, Read, StdinLock};
 use std::mem::replace;
+use std::os::unix::fs::FileExt;
 use std::rt::{Files, Stdin};
 
 /// The most bytes of one read that can be given back: as many as the library's lock on standard input reads ahead.
@@ -104,5 +105,40 @@ impl Drop for StandardInput {
             given,
         } = self;
         lock.consume(given);
+    }
+}
+
+/// The file that standard input is, opened anew, so that looking at it doesn't move the place at which it is read.
+#[derive(Drop)]
+pub(crate) struct StandardFile<F: Drop> {
+    file: F,
+    /// The place at which standard input stood.
+    from: u64,
+    /// How many bytes came from there on.
+    pub(crate) len: u64,
+}
+
+impl<F: FileExt + Drop> StandardFile<F> {
+    /// Opens it, before anything is read. None where standard input is no file, or has no byte left, or the system doesn't let
+    /// its place be known or its last byte be looked at.
+    pub(crate) fn open<R: Files<File = F>>(files: &R) -> Option<Self> {
+        let about = fs::metadata(files, STANDARD_INPUT_FILE).ok()?;
+        if !about.is_file() {
+            return None;
+        }
+        let from = standard_input_place(files)?;
+        let len = about.len().checked_sub(from)?;
+        let last = len.checked_sub(1)?;
+        let file = fs::open(files, STANDARD_INPUT_FILE).ok()?;
+        let shown = StandardFile { file, from, len };
+        shown.read_at(last, &mut [0u8]).then_some(shown)
+    }
+
+    /// Fills the buffer from a place after that on, and returns whether it could.
+    pub(crate) fn read_at(&self, place: u64, buffer: &mut [u8]) -> bool {
+        match self.from.checked_add(place) {
+            Some(at) => self.file.read_exact_at(buffer, at).is_ok(),
+            None => false,
+        }
     }
 }
