@@ -1,74 +1,77 @@
 -- Lemmas on inputs in memory: how far one was read, where it breaks off, and what opening one finds.
-use Rattle.std.proofs.Common.{◌≡◌, ℕ, ◌+◌, ◌-◌, ◌<◌, ◌≤◌, max, Bool, true, false, IsTrue, List, [], ◌∷◌, ◌++◌, Some, None, length, take, drop, get_or, set, eqb, refl, sym, ◌∙◌, ap, subst, arith, length-take, length-drop, take-take, drop-drop, take-add, if◌then◌else◌, leb, not, ◌&&◌, ◌==◌}
+use Rattle.std.proofs.Common.{◌≡◌, ℕ, ◌+◌, ◌-◌, ◌<◌, ◌≤◌, max, Bool, true, false, IsTrue, List, Option, [], ◌∷◌, ◌++◌, Some, None, length, take, drop, get_or, set, eqb, refl, sym, ◌∙◌, ap, subst, arith, length-take, length-drop, take-take, drop-drop, take-add, if◌then◌else◌, leb, not, ◌&&◌, ◌==◌}
 use Rattle.std.proofs.lemmas.List.{drop-take, take-append-drop}
 use Rattle.std.proofs.lemmas.Bool.{cond_both, le-leb, lt-ltb}
 use Rattle.ports_core.specs.Slot.{changed_at}
 use Rattle.ports_core.specs.Source.{Content, Opens, OpensNothing, Source, broke, cut, gets_back, gives, is_readable, missing, no_room, skips, source_of}
 use Rattle.ports_core.specs.declared.fault.Fault.TheVariants as fault
 use Rattle.ports_core.proofs.SourceLemmas.{one_changes, readable_within}
-use Rattle.mem_core.specs.MemInState.{MemInState, Laid, laid_at, laid_in, breaks_in, content_of, with_break}
+use Rattle.mem_core.specs.MemInState.{MemInState, Laid, laid_at, laid_in, breaks_in, content_in, content_of, with_break}
 
--- the input that an input in memory is seen as
-abbrev pub seen_as : List ℕ → ℕ → Bool → Bool → Bool → ℕ → ℕ → ℕ → Bool → Source
-seen_as bytes given breaks_off is_open is_broken asked reached last ended = record {
-  left = record { bytes = drop given bytes; breaks_off = breaks_off };
-  is_open = is_open;
-  is_broken = is_broken;
-  asked = asked;
-  taken = take given bytes;
-  reached = reached;
-  last = last;
-  ended = ended;
-}
+-- whatever it shows
 
-both_taken : (bytes : List ℕ) (given n : ℕ) → take (given + n) bytes ≡ take given bytes ++ take n (drop given bytes)
-both_taken bytes given n = take-add given n bytes
+module _ (shown : Option (List ℕ)) where
+  -- the input that an input in memory is seen as
+  abbrev pub seen_as : List ℕ → ℕ → Bool → Bool → Bool → ℕ → ℕ → ℕ → Bool → Source
+  seen_as bytes given breaks_off is_open is_broken asked reached last ended = record {
+    left = record { bytes = drop given bytes; breaks_off = breaks_off; shown = shown };
+    is_open = is_open;
+    is_broken = is_broken;
+    asked = asked;
+    taken = take given bytes;
+    reached = reached;
+    last = last;
+    ended = ended;
+  }
 
-rest_left : (bytes : List ℕ) (given n : ℕ) → drop (given + n) bytes ≡ drop n (drop given bytes)
-rest_left bytes given n = sym (drop-drop n given bytes)
+  both_taken : (bytes : List ℕ) (given n : ℕ) → take (given + n) bytes ≡ take given bytes ++ take n (drop given bytes)
+  both_taken bytes given n = take-add given n bytes
 
--- n bytes more were taken
-goes_on : (bytes : List ℕ) (given n reached asked last : ℕ) (breaks_off is_open is_broken ended : Bool)
-    → seen_as bytes (given + n) breaks_off is_open is_broken asked reached last ended
-    ≡ record (skips n (seen_as bytes given breaks_off is_open is_broken asked reached last ended)) { last = last }
-goes_on bytes given n reached asked last breaks_off is_open is_broken ended =
-    ap (λ those. record (seen_as bytes (given + n) breaks_off is_open is_broken asked reached last ended) { left = record { bytes = those; breaks_off = breaks_off } }) (rest_left bytes given n)
-    ∙ ap (λ those. record (skips n (seen_as bytes given breaks_off is_open is_broken asked reached last ended)) { taken = those; last = last }) (both_taken bytes given n)
+  rest_left : (bytes : List ℕ) (given n : ℕ) → drop (given + n) bytes ≡ drop n (drop given bytes)
+  rest_left bytes given n = sym (drop-drop n given bytes)
 
-pub skipped : (bytes : List ℕ) (given n reached asked last : ℕ) {now : ℕ} (breaks_off is_open is_broken ended : Bool) → now ≡ (if n == 0 then last else 0)
-    → seen_as bytes (given + n) breaks_off is_open is_broken asked reached now ended ≡ skips n (seen_as bytes given breaks_off is_open is_broken asked reached last ended)
-skipped bytes given n reached asked last {now} breaks_off is_open is_broken ended is =
-    goes_on bytes given n reached asked now breaks_off is_open is_broken ended
-    ∙ ap (λ those. record (skips n (seen_as bytes given breaks_off is_open is_broken asked reached last ended)) { last = those }) is
+  -- n bytes more were taken
+  goes_on : (bytes : List ℕ) (given n reached asked last : ℕ) (breaks_off is_open is_broken ended : Bool)
+      → seen_as bytes (given + n) breaks_off is_open is_broken asked reached last ended
+      ≡ record (skips n (seen_as bytes given breaks_off is_open is_broken asked reached last ended)) { last = last }
+  goes_on bytes given n reached asked last breaks_off is_open is_broken ended =
+      ap (λ those. record (seen_as bytes (given + n) breaks_off is_open is_broken asked reached last ended) { left = record { bytes = those; breaks_off = breaks_off; shown = shown } }) (rest_left bytes given n)
+      ∙ ap (λ those. record (skips n (seen_as bytes given breaks_off is_open is_broken asked reached last ended)) { taken = those; last = last }) (both_taken bytes given n)
 
-pub read_on : (bytes : List ℕ) (given n size : ℕ) {most now : ℕ} (reached asked last : ℕ) (breaks_off is_open is_broken ended : Bool) {ends : Bool}
-    → given + n ≤ length bytes → most ≡ max asked size → now ≡ max reached (given + n) → ends ≡ (n == 0 && not (size == 0))
-    → seen_as bytes (given + n) breaks_off is_open is_broken most now n ends ≡ gives size n (seen_as bytes given breaks_off is_open is_broken asked reached last ended)
-read_on bytes given n size {most} {now} reached asked last breaks_off is_open is_broken ended {ends} within greatest is ending =
-    goes_on bytes given n now most n breaks_off is_open is_broken ends ∙ ap (λ asks. record (skips n (seen_as bytes given breaks_off is_open is_broken asks now n ends)) { last = n }) greatest
-    ∙ ap (λ those. record (skips n (seen_as bytes given breaks_off is_open is_broken (max asked size) now n ends)) { last = those }) (sym (omega (arith, within, length-take n (drop given bytes), length-drop given bytes)))
-    ∙ ap (λ far. record (gives size n (seen_as bytes given breaks_off is_open is_broken asked reached last ended)) { reached = far; ended = ends })
-    (is ∙ ap (max reached) (sym (ap length (sym (both_taken bytes given n)) ∙ omega (arith, within, length-take (given + n) bytes))))
-    ∙ ap (λ ends. record (gives size n (seen_as bytes given breaks_off is_open is_broken asked reached last ended)) { ended = ends }) ending
+  pub skipped : (bytes : List ℕ) (given n reached asked last : ℕ) {now : ℕ} (breaks_off is_open is_broken ended : Bool) → now ≡ (if n == 0 then last else 0)
+      → seen_as bytes (given + n) breaks_off is_open is_broken asked reached now ended ≡ skips n (seen_as bytes given breaks_off is_open is_broken asked reached last ended)
+  skipped bytes given n reached asked last {now} breaks_off is_open is_broken ended is =
+      goes_on bytes given n reached asked now breaks_off is_open is_broken ended
+      ∙ ap (λ those. record (skips n (seen_as bytes given breaks_off is_open is_broken asked reached last ended)) { last = those }) is
 
-pub set_back : (bytes : List ℕ) (given n reached asked last : ℕ) (breaks_off is_open is_broken ended : Bool) → given ≤ length bytes → n ≤ given
-    → seen_as bytes (given - n) breaks_off is_open is_broken asked reached (last - n) ended ≡ gets_back n (seen_as bytes given breaks_off is_open is_broken asked reached last ended)
-set_back bytes given n reached asked last breaks_off is_open is_broken ended within few =
-    let at : length (take given bytes) - n ≡ given - n = omega (arith, within, length-take given bytes) in
-    let joined : drop (given - n) (take given bytes) ++ drop given bytes ≡ drop (given - n) bytes = between bytes (given - n) given (omega arith) in
-    ap (set_to (take (given - n) bytes)) (sym joined)
-    ∙ ap (λ those. set_to those (drop (given - n) (take given bytes) ++ drop given bytes)) (sym (take-take (given - n) given bytes (omega arith)))
-    ∙ ap (λ k. set_to (take k (take given bytes)) (drop k (take given bytes) ++ drop given bytes)) (sym at) where
-      set_to : List ℕ → List ℕ → Source
-      set_to taken left = record { left = record { bytes = left; breaks_off = breaks_off }; is_open = is_open; is_broken = is_broken; asked = asked; taken = taken; reached = reached; last = last - n; ended = ended }
+  pub read_on : (bytes : List ℕ) (given n size : ℕ) {most now : ℕ} (reached asked last : ℕ) (breaks_off is_open is_broken ended : Bool) {ends : Bool}
+      → given + n ≤ length bytes → most ≡ max asked size → now ≡ max reached (given + n) → ends ≡ (n == 0 && not (size == 0))
+      → seen_as bytes (given + n) breaks_off is_open is_broken most now n ends ≡ gives size n (seen_as bytes given breaks_off is_open is_broken asked reached last ended)
+  read_on bytes given n size {most} {now} reached asked last breaks_off is_open is_broken ended {ends} within greatest is ending =
+      goes_on bytes given n now most n breaks_off is_open is_broken ends ∙ ap (λ asks. record (skips n (seen_as bytes given breaks_off is_open is_broken asks now n ends)) { last = n }) greatest
+      ∙ ap (λ those. record (skips n (seen_as bytes given breaks_off is_open is_broken (max asked size) now n ends)) { last = those }) (sym (omega (arith, within, length-take n (drop given bytes), length-drop given bytes)))
+      ∙ ap (λ far. record (gives size n (seen_as bytes given breaks_off is_open is_broken asked reached last ended)) { reached = far; ended = ends })
+      (is ∙ ap (max reached) (sym (ap length (sym (both_taken bytes given n)) ∙ omega (arith, within, length-take (given + n) bytes))))
+      ∙ ap (λ ends. record (gives size n (seen_as bytes given breaks_off is_open is_broken asked reached last ended)) { ended = ends }) ending
 
-      between : (bytes : List ℕ) (from given : ℕ) → from ≤ given → drop from (take given bytes) ++ drop given bytes ≡ drop from bytes
-      between bytes from given less =
-          let more : from + (given - from) ≡ given = omega (arith, less) in
-          ap (λ k. drop from (take k bytes) ++ drop k bytes) (sym more)
-          ∙ ap (λ those. those ++ drop (from + (given - from)) bytes) (drop-take from (given - from) bytes)
-          ∙ ap (λ those. take (given - from) (drop from bytes) ++ those) (rest_left bytes from (given - from))
-          ∙ take-append-drop (given - from) (drop from bytes)
+  pub set_back : (bytes : List ℕ) (given n reached asked last : ℕ) (breaks_off is_open is_broken ended : Bool) → given ≤ length bytes → n ≤ given
+      → seen_as bytes (given - n) breaks_off is_open is_broken asked reached (last - n) ended ≡ gets_back n (seen_as bytes given breaks_off is_open is_broken asked reached last ended)
+  set_back bytes given n reached asked last breaks_off is_open is_broken ended within few =
+      let at : length (take given bytes) - n ≡ given - n = omega (arith, within, length-take given bytes) in
+      let joined : drop (given - n) (take given bytes) ++ drop given bytes ≡ drop (given - n) bytes = between bytes (given - n) given (omega arith) in
+      ap (set_to (take (given - n) bytes)) (sym joined)
+      ∙ ap (λ those. set_to those (drop (given - n) (take given bytes) ++ drop given bytes)) (sym (take-take (given - n) given bytes (omega arith)))
+      ∙ ap (λ k. set_to (take k (take given bytes)) (drop k (take given bytes) ++ drop given bytes)) (sym at) where
+        set_to : List ℕ → List ℕ → Source
+        set_to taken left = record { left = record { bytes = left; breaks_off = breaks_off; shown = shown }; is_open = is_open; is_broken = is_broken; asked = asked; taken = taken; reached = reached; last = last - n; ended = ended }
+
+        between : (bytes : List ℕ) (from given : ℕ) → from ≤ given → drop from (take given bytes) ++ drop given bytes ≡ drop from bytes
+        between bytes from given less =
+            let more : from + (given - from) ≡ given = omega (arith, less) in
+            ap (λ k. drop from (take k bytes) ++ drop k bytes) (sym more)
+            ∙ ap (λ those. those ++ drop (from + (given - from)) bytes) (drop-take from (given - from) bytes)
+            ∙ ap (λ those. take (given - from) (drop from bytes) ++ those) (rest_left bytes from (given - from))
+            ∙ take-append-drop (given - from) (drop from bytes)
 
 -- inputs in memory with these fields are seen so
 abbrev pub IsSeen : List Source → List Laid → List (ℕ × ℕ) → MemInState → Type 0
@@ -76,7 +79,7 @@ IsSeen sources files breaks state = record { sources = sources; files = files; b
 
 -- an input that has this many bytes is cut there
 pub cut_within : (source : Source) {at : ℕ} → at ≤ length source.left.bytes
-    → record source { left = record { bytes = take at source.left.bytes; breaks_off = true } } ≡ cut at source
+    → record source { left = record source.left { bytes = take at source.left.bytes; breaks_off = true } } ≡ cut at source
 cut_within source within = rw le-leb refl
 
 pub break_there : (state : MemInState) {slot : ℕ} (at : ℕ) {source new : Source} → slot < length state.sources
@@ -113,19 +116,16 @@ opened_nothing {state} {sources} {name} {slot} is none added lacks counts =
     (added ∙ ap (λ last. sources ++ last ∷ []) lacks ∙ ap (λ (those : MemInState). those.sources ++ missing ∷ []) is)
 
 -- a name at which a file lies
-pub opened_file : {state : MemInState} {sources new : List Source} {files : List Laid} {breaks : List (ℕ × ℕ)} {name bytes held : List ℕ} (made : Source) {source : Source} {slot : ℕ}
-    → IsSeen sources files breaks state → laid_at files name ≡ Some bytes → held ≡ bytes
-    → made ≡ source_of (record { bytes = held; breaks_off = false }) → source ≡ breaks_in breaks slot made → new ≡ sources ++ source ∷ []
-    → slot ≡ length sources → Opens true (laid_in state.files state.breaks) state.sources new name slot
-opened_file {sources} {breaks} {name} {bytes} made {source} {slot} is found same fresh planned added counts =
-    let content : Content = record { bytes = bytes; breaks_off = false } in
-    let cut_so : source ≡ breaks_in breaks slot (source_of content) = planned
-    ∙ ap (breaks_in breaks slot) (fresh ∙ ap (λ those. source_of (record { bytes = those; breaks_off = false })) same) in
+pub opened_file : {state : MemInState} {sources new : List Source} {files : List Laid} {breaks : List (ℕ × ℕ)} {name : List ℕ} {file : Laid} (made : Source) {source : Source} {slot : ℕ}
+    → IsSeen sources files breaks state → laid_at files name ≡ Some file → made ≡ source_of (content_in file) → source ≡ breaks_in breaks slot made
+    → new ≡ sources ++ source ∷ [] → slot ≡ length sources → Opens true (laid_in state.files state.breaks) state.sources new name slot
+opened_file {sources} {breaks} {name} {file} made {source} {slot} is found fresh planned added counts =
+    let cut_so : source ≡ breaks_in breaks slot (source_of (content_in file)) = planned ∙ ap (breaks_in breaks slot) fresh in
     record {
       number = counts ∙ ap (λ (those : MemInState). length those.sources) is;
       content = source.left;
       lies = λ told. ap (λ (those : MemInState). laid_in those.files those.breaks slot name) (sym is) ∙ ap (content_of breaks slot) found ∙ ap (λ (made : Source). Some made.left) (sym cut_so);
-      sources = added ∙ ap (λ made. sources ++ made ∷ []) (cut_so ∙ still_open breaks slot content ∙ ap (λ (made : Source). source_of made.left) (sym cut_so))
+      sources = added ∙ ap (λ made. sources ++ made ∷ []) (cut_so ∙ still_open breaks slot (content_in file) ∙ ap (λ (made : Source). source_of made.left) (sym cut_so))
           ∙ ap (λ (those : MemInState). those.sources ++ source_of source.left ∷ []) is;
     }
 

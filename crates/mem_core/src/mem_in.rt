@@ -1,7 +1,7 @@
-ghost use Rattle.std.specs.Prelude.{◌≡◌, ◌++◌, ◌∷◌, [], ℕ, ◌+◌, ◌≤◌, ◌<◌, List, Bool, Option, Some, None, true, false, length, nat_le, take, drop, map, string_bytes, IsTrue, IfOk, IfErr, IfSome, IfNone, OnOk, OnErr};
+ghost use Rattle.std.specs.Prelude.{◌≡◌, ◌++◌, ◌∷◌, [], ℕ, ◌+◌, ◌≤◌, ◌<◌, List, Bool, Option, Some, None, true, false, length, option_map, take, drop, map, string_bytes, IsTrue, IfOk, IfErr, IfSome, IfNone, OnOk, OnErr};
 ghost use Rattle.ports_core.specs.Slot.{changed_at};
-ghost use Rattle.ports_core.specs.Source.{Source, Content, source_of, missing, gives, gets_back, fails, looks, skips, Gave, BrokeOff, Shows, count_left, holds, cut, is_readable, source_at};
-ghost use Rattle.mem_core.specs.MemInState.{MemInState, Laid, laid_at, laid_in, breaks_in, content_of, with_break};
+ghost use Rattle.ports_core.specs.Source.{Source, Content, source_of, missing, gives, gets_back, fails, looks, skips, unshown, Gave, BrokeOff, Shows, ShowsAll, ShowsOf, count_shown, holds, cut};
+ghost use Rattle.mem_core.specs.MemInState.{MemInState, Laid, laid_at, laid_in, breaks_in, content_in, content_of, file_of, showing, shown_by, with_break};
 
 use crate::failing::{Cause, planned};
 use ports_core::{Fault, Inputs, Reason};
@@ -12,6 +12,8 @@ use std::marker::Model;
 #[derive(Drop)]
 struct MemSource {
     bytes: Vec<u8>,
+    /// What it shows before it is read, if it shows anything.
+    shown: Option<Vec<u8>>,
     /// How many of the bytes reads have given.
     given: usize,
     breaks_off: bool,
@@ -31,7 +33,11 @@ impl Model for MemSource {
     ghost Value = { Source };
 
     ghost view = { λ s. record {
-      left = record { bytes = drop s.given s.bytes.items; breaks_off = s.breaks_off };
+      left = record {
+        bytes = drop s.given s.bytes.items;
+        breaks_off = s.breaks_off;
+        shown = option_map (λ v. v.items) s.shown;
+      };
       is_open = s.is_open;
       is_broken = s.is_broken;
       asked = s.asked;
@@ -45,12 +51,17 @@ impl Model for MemSource {
 }
 
 impl MemSource {
-    /// An input that holds these bytes and hasn't been read yet.
-    fn new(bytes: Vec<u8>) -> Self
-        ensures { result ≡ source_of (record { bytes = bytes.items; breaks_off = false }) }
+    /// An input that holds these bytes, shows that text and hasn't been read yet.
+    fn new(bytes: Vec<u8>, shown: Option<Vec<u8>>) -> Self
+        ensures { result ≡ source_of (record {
+          bytes = bytes.items;
+          breaks_off = false;
+          shown = option_map (λ v. v.items) shown;
+        }) }
     {
         MemSource {
             bytes,
+            shown,
             given: 0,
             breaks_off: false,
             is_open: true,
@@ -67,6 +78,7 @@ impl MemSource {
     {
         MemSource {
             bytes: Vec::new(alloc),
+            shown: None,
             given: 0,
             breaks_off: false,
             is_open: false,
@@ -104,11 +116,13 @@ impl MemSource {
         Some(n)
     }
 
-    fn left(&self) -> Option<u64>
-        ensures { result ≡ count_left self.now.left }
+    fn shown(&self) -> Option<u64>
+        ensures { result ≡ count_shown self.now.left }
     {
-        let count = (self.bytes.len() - self.given) as u64;
-        if !self.breaks_off { Some(count) } else { None }
+        match &self.shown {
+            Some(text) => Some(text.len() as u64),
+            None => None,
+        }
     }
 
     /// Notes how many bytes a look asked for.
@@ -118,31 +132,32 @@ impl MemSource {
         self.asked = self.asked.max(size);
     }
 
-    /// Fills the buffer with the bytes from a place on, where there are as many.
+    /// Fills the buffer with what is shown from a place on, where that is as much.
     fn read_at(&mut self, place: u64, buffer: &mut [u8]) -> bool
-        ensures could { result ≡ nat_le (place + length buffer.old) (length self.old.left.bytes) }
-        ensures shows { IsTrue result → Shows self.old.left.bytes place buffer.new }
+        ensures shows { IsTrue result → ShowsOf self.old.left place buffer.new }
+        ensures can { ShowsAll self.old.left (place + length buffer.old) → IsTrue result }
         ensures rest { self.new ≡ looks (length buffer.old) self.old }
     {
         self.note_look(buffer.len());
-        let left = &self.bytes[self.given..];
-        if (left.len() as u64) < place {
-            return false;
+        match &self.shown {
+            Some(text) => copy_from(text, place, buffer),
+            None => false,
         }
-        let from = &left[place as usize..];
-        if from.len() < buffer.len() {
-            return false;
-        }
-        buffer.copy_from_slice(&from[..buffer.len()]);
-        true
     }
 
-    fn skip(&mut self, count: u64)
-        requires { count ≤ length self.old.left.bytes }
-        ensures { self.new ≡ skips count self.old }
+    /// Passes over the next bytes, where there are as many.
+    fn skip(&mut self, count: u64) -> bool
+        ensures there { IsTrue result → count ≤ length self.old.left.bytes }
+        ensures can { count ≤ length self.old.left.bytes → IsTrue result }
+        ensures rest { IsTrue result → self.new ≡ skips count self.old }
+        ensures unchanged { result ≡ false → self.new ≡ self.old }
     {
+        if ((self.bytes.len() - self.given) as u64) < count {
+            return false;
+        }
         self.given += count as usize;
         self.last = if count == 0 { self.last } else { 0 };
+        true
     }
 
     fn give_back(&mut self, count: u64)
@@ -168,12 +183,17 @@ impl MemSource {
 struct MemFile {
     name: String,
     bytes: Vec<u8>,
+    shown: Option<Vec<u8>>,
 }
 
 impl Model for MemFile {
     ghost Value = { Laid };
 
-    ghost view = { λ f. record { name = string_bytes f.name; bytes = f.bytes.items } };
+    ghost view = { λ f. record {
+      name = string_bytes f.name;
+      bytes = f.bytes.items;
+      shown = option_map (λ v. v.items) f.shown;
+    } };
 }
 
 /// Where an input that isn't opened yet is to break off.
@@ -216,14 +236,14 @@ impl MemIn {
     pub fn new(alloc: Global) -> Result<Self, Fault>
         ensures ok { IfOk result (λ inputs. inputs
             ≡ record {
-              sources = source_of (record { bytes = []; breaks_off = false }) ∷ [];
+              sources = source_of (unshown []) ∷ [];
               files = [];
               breaks = [];
             }) }
         ensures err { IfErr result (λ fault. fault ≡ Fault.Memory) }
     {
         let mut sources = Vec::new(alloc);
-        if sources.push(MemSource::new(Vec::new(alloc))).is_err() {
+        if sources.push(MemSource::new(Vec::new(alloc), None)).is_err() {
             return Err(Fault::Memory);
         }
         Ok(MemIn {
@@ -236,7 +256,7 @@ impl MemIn {
         })
     }
 
-    /// Gives standard input these bytes in place of those that it had, and takes memory for them.
+    /// Gives standard input these bytes in place of those that it had, and takes memory for them. It shows nothing, as a pipe.
     ///
     /// # Errors
     ///
@@ -246,25 +266,52 @@ impl MemIn {
             ≡ record self.old { sources = changed_at 0 (holds bytes.now) self.old.sources }) }
         ensures err { IfErr result (λ fault. (fault ≡ Fault.Memory) × (self.new ≡ self.old)) }
     {
+        self.input_showing(bytes, b"")
+    }
+
+    /// The same, with the text that standard input shows before it is read; nothing where that is empty.
+    ///
+    /// # Errors
+    ///
+    /// `Memory` where there is no room for the bytes and the text: nothing is changed.
+    pub fn input_showing(&mut self, bytes: &[u8], shown: &[u8]) -> Result<(), Fault>
+        ensures ok { OnOk result (self.new
+            ≡ record self.old { sources = changed_at 0 (showing bytes.now shown.now) self.old.sources }) }
+        ensures err { IfErr result (λ fault. (fault ≡ Fault.Memory) × (self.new ≡ self.old)) }
+    {
         let bytes = Vec::from_slice(self.alloc, bytes)?;
+        let shown = shown_by(self.alloc, shown)?;
         if let Some(standard) = self.sources.first_mut() {
-            *standard = MemSource::new(bytes);
+            *standard = MemSource::new(bytes, shown);
         }
         Ok(())
     }
 
-    /// Adds a file with this name and these bytes, and takes memory for both. Of several files of one name the first
-    /// counts.
+    /// Adds a file with this name and these bytes, which it shows before they are read, and takes memory for all. Of several
+    /// files of one name the first counts.
     ///
     /// # Errors
     ///
     /// `Memory` where there is no room for it: nothing is changed.
     pub fn file(&mut self, name: &str, bytes: &[u8]) -> Result<(), Fault>
         ensures ok { OnOk result (self.new
-            ≡ record self.old { files = self.old.files ++ record { name = name.now; bytes = bytes.now } ∷ [] }) }
+            ≡ record self.old { files = self.old.files ++ file_of name.now bytes.now bytes.now ∷ [] }) }
         ensures err { IfErr result (λ fault. (fault ≡ Fault.Memory) × (self.new ≡ self.old)) }
     {
-        let file = laid(self.alloc, name, bytes)?;
+        self.file_showing(name, bytes, bytes)
+    }
+
+    /// The same of a file that changes: it shows this text, or nothing where that is empty, and then gives other bytes.
+    ///
+    /// # Errors
+    ///
+    /// `Memory` where there is no room for it: nothing is changed.
+    pub fn file_showing(&mut self, name: &str, bytes: &[u8], shown: &[u8]) -> Result<(), Fault>
+        ensures ok { OnOk result (self.new
+            ≡ record self.old { files = self.old.files ++ file_of name.now bytes.now shown.now ∷ [] }) }
+        ensures err { IfErr result (λ fault. (fault ≡ Fault.Memory) × (self.new ≡ self.old)) }
+    {
+        let file = laid(self.alloc, name, bytes, shown)?;
         Ok(self.files.push(file)?)
     }
 
@@ -306,23 +353,62 @@ impl MemIn {
     }
 }
 
-fn laid(alloc: Global, name: &str, bytes: &[u8]) -> Result<MemFile, AllocError>
-    ensures { IfOk result (λ file. file ≡ record { name = name.now; bytes = bytes.now }) }
+fn laid(alloc: Global, name: &str, bytes: &[u8], shown: &[u8]) -> Result<MemFile, AllocError>
+    ensures { IfOk result (λ file. file ≡ file_of name.now bytes.now shown.now) }
 {
     Ok(MemFile {
         name: String::from_str(alloc, name)?,
         bytes: Vec::from_slice(alloc, bytes)?,
+        shown: shown_by(alloc, shown)?,
     })
 }
 
-/// The bytes of the first file of this name.
-fn find<'a>(mut files: &'a [MemFile], name: &str) -> Option<&'a [u8]>
-    ensures some { IfSome result (λ bytes. laid_at files.entry.now name.now ≡ Some bytes.now) }
+/// A copy of a text that is shown; none of an empty one.
+fn shown_by(alloc: Global, text: &[u8]) -> Result<Option<Vec<u8>>, AllocError>
+    ensures { IfOk result (λ shown. option_map (λ v. v.items) shown ≡ shown_by text.now) }
+{
+    if text.is_empty() {
+        return Ok(None);
+    }
+    Ok(Some(Vec::from_slice(alloc, text)?))
+}
+
+/// Fills the buffer with the bytes of a text from a place on, where there are as many.
+fn copy_from(text: &[u8], place: u64, buffer: &mut [u8]) -> bool
+    ensures shows { IsTrue result → Shows text.now place buffer.new }
+    ensures can { place + length buffer.old ≤ length text.now → IsTrue result }
+{
+    if (text.len() as u64) < place {
+        return false;
+    }
+    let from = &text[place as usize..];
+    if from.len() < buffer.len() {
+        return false;
+    }
+    buffer.copy_from_slice(&from[..buffer.len()]);
+    true
+}
+
+/// The input that a file is as it is opened.
+fn opened(alloc: Global, file: &MemFile) -> Result<MemSource, AllocError>
+    ensures { IfOk result (λ source. source ≡ source_of (content_in file.now)) }
+{
+    let bytes = Vec::from_slice(alloc, &file.bytes)?;
+    let shown = match &file.shown {
+        Some(text) => Some(Vec::from_slice(alloc, text)?),
+        None => None,
+    };
+    Ok(MemSource::new(bytes, shown))
+}
+
+/// The first file of this name.
+fn find<'a>(mut files: &'a [MemFile], name: &str) -> Option<&'a MemFile>
+    ensures some { IfSome result (λ file. laid_at files.entry.now name.now ≡ Some file.now) }
     ensures none { IfNone result (laid_at files.entry.now name.now ≡ None) }
 {
     while let [file, rest @ ..] = files {
         if file.name.as_str() == name {
-            return Some(file.bytes.as_slice());
+            return Some(file);
         }
         files = rest;
     }
@@ -361,14 +447,13 @@ impl Inputs for MemIn {
 
     fn open(&mut self, name: &str) -> Result<usize, Fault> {
         let slot = self.sources.len();
-        let Some(bytes) = find(&self.files, name) else {
+        let Some(file) = find(&self.files, name) else {
             if keep(&mut self.sources, MemSource::missing(self.alloc)) {
                 return Err(Fault::Open(slot));
             }
             return Err(Fault::Memory);
         };
-        let bytes = Vec::from_slice(self.alloc, bytes)?;
-        let mut source = MemSource::new(bytes);
+        let mut source = opened(self.alloc, file)?;
         break_as_planned(&mut source, &self.breaks, slot);
         if keep(&mut self.sources, source) {
             return Ok(slot);
@@ -389,38 +474,19 @@ impl Inputs for MemIn {
         planned(&self.causes, slot)
     }
 
-    /// How many bytes the input has left, unless it breaks off.
-    fn left(&self, slot: usize) -> Option<u64>
-        requires { IsTrue (is_readable self.now.sources slot) }
-        ensures { result ≡ count_left (source_at self.now.sources slot).left }
-    {
-        self.sources[slot].left()
+    /// As many as the text that it shows has.
+    fn shown(&mut self, slot: usize) -> Option<u64> {
+        self.sources[slot].shown()
     }
 
-    /// Fills the buffer with the input's bytes from a place on, wherever it has as many there.
-    fn read_at(&mut self, slot: usize, place: u64, buffer: &mut [u8]) -> bool
-        requires { IsTrue (is_readable self.old.sources slot) }
-        ensures could { result ≡ nat_le (place + length buffer.old)
-            (length (source_at self.old.sources slot).left.bytes) }
-        ensures shows { IsTrue result → Shows (source_at self.old.sources slot).left.bytes place buffer.new }
-        ensures rest { self.new ≡ record self.old {
-          sources = changed_at slot (looks (length buffer.old)) self.old.sources;
-        } }
-    {
+    /// Fills the buffer wherever what it shows has as many bytes there.
+    fn read_at(&mut self, slot: usize, place: u64, buffer: &mut [u8]) -> bool {
         self.sources[slot].read_at(place, buffer)
     }
 
-    /// Passes over the next bytes, which it always can.
-    fn skip(&mut self, slot: usize, count: u64, least: u64) -> bool
-        requires input { IsTrue (is_readable self.old.sources slot) }
-        requires has { least ≤ length (source_at self.old.sources slot).left.bytes }
-        requires within { count ≤ least }
-        ensures could { IsTrue result }
-        ensures rest { self.new ≡ record self.old { sources = changed_at slot (skips count) self.old.sources } }
-    {
-        let _ = least;
-        self.sources[slot].skip(count);
-        true
+    /// Passes over the next bytes, where there are as many.
+    fn skip(&mut self, slot: usize, count: u64) -> bool {
+        self.sources[slot].skip(count)
     }
 
     fn give_back(&mut self, slot: usize, count: u64) {

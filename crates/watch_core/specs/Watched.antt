@@ -1,7 +1,7 @@
 -- The names that are watched: which file of each is open, and by which call it broke.
 use Rattle.std.specs.Prelude.{is_none, is_some, ◌≡◌, ℕ, Bool, true, false, ◌&&◌, List, [], Option, Some, None, length, drop, option_map, slice_index_or}
 use Rattle.ports_core.specs.Slot.{changed_at}
-use Rattle.ports_core.specs.Source.{Gave}
+use Rattle.ports_core.specs.Source.{Gave, unshown}
 use Rattle.watch_core.specs.Snapshot.{Snapshot, Found, opens_as}
 use Rattle.watch_core.specs.declared.watch.Broken.{Broken}
 use Rattle.watch_core.specs.declared.watch.Broken.TheVariants as broken
@@ -67,4 +67,4 @@ pub record Reopens (told : Bool) (snapshot : Snapshot) (old new : List Watched) 
 
 -- a read from a place of the file on: it gave none only from its end on, or into no room
 abbrev pub GaveFrom : List ℕ → ℕ → List ℕ → List ℕ → ℕ → Type 0
-GaveFrom contents from old new n = Gave (record { bytes = drop from contents; breaks_off = false }) old new n
+GaveFrom contents from old new n = Gave (unshown (drop from contents)) old new n
