@@ -4,7 +4,7 @@ use Rattle.std.proofs.Common.{◌⊎◌, ◌≡◌, ℕ, ◌+◌, ◌<◌, ◌�
 use Rattle.std.proofs.lemmas.List.{append-nil, drop_at, length-take}
 use Rattle.std.proofs.lemmas.Bool.{false≢true, or_right}
 use Rattle.ports_core.specs.Slot.{Slot, changed_at}
-use Rattle.ports_core.specs.Source.{Content, Source, source_at, is_readable, gives, gets_back, with_next, Gave}
+use Rattle.ports_core.specs.Source.{Content, Source, source_at, is_readable, gives, gets_back, unshown, with_next, Gave}
 use Rattle.ports_core.specs.Part.{Part, OutputsAt}
 use Rattle.ports_core.specs.Swept.{Swept}
 use Rattle.ports_core.specs.Work.{Work, Means, Needs, IsLawful, IsComplete, IsNeeded, IsSpare, Judges, IsSettled}
@@ -103,13 +103,13 @@ short_of_end : {told : Bool} {opening : Needs} {most : ℕ} {work : Work} {conte
     → Ended work.means.output told before (work.settled x) (work.whole x) work.clears fault reached
     → (is_verdict fault ≡ false → Stops (close_of work z) reached fault) → (is_verdict fault ≡ true → OfVerdict fault (Judges work x))
     → (is_verdict fault ≡ true → new ≡ reached) → (is_verdict fault ≡ false → Swept work.clears (length before) reached new) → FedAs told before work opening most content WasRead new (Err fault)
-short_of_end WasRead {z} {reached} fed {fault} lawful got all alike needed read (engine.cut unjudged stop) why verdict kept swept =
+short_of_end {content} WasRead {z} {reached} fed {fault} lawful got all alike needed read (engine.cut unjudged stop) why verdict kept swept =
     stopped fault unjudged _ (closes z all needed) read reached (why unjudged)
     (rw alike.settled at (rw alike.whole at stop))
     (swept unjudged)
-short_of_end WasRead fed {fault} lawful got all alike needed read (engine.judged judging first at cleared) why verdict kept swept =
-    let same = got_alike _ fed lawful got in let (given, is, ends) = verdict judging in
-    rw is (judged given (got_enough _ _ fed lawful got) (same.verdict ∙ ends) first (rw same.whole at) (rw (kept judging) cleared))
+short_of_end {content} WasRead fed {fault} lawful got all alike needed read (engine.judged judging first at cleared) why verdict kept swept =
+    let same = got_alike content fed lawful got in let (given, is, ends) = verdict judging in
+    rw is (judged given (got_enough content _ fed lawful got) (same.verdict ∙ ends) first (rw same.whole at) (rw (kept judging) cleared))
 
 module _ {S : Type 0} (terms : Terms S) where
   -- the loop has fed the engine x
@@ -184,18 +184,18 @@ pub of_read : (told : Bool) (there : Content) (bytes : List ℕ) (breaks_off : B
 of_read true there bytes breaks_off source P all came holds =
     let from = came there (λ off. absurd (false≢true (sym off))) in (there, λ t. refl, (holds there (λ t. refl) (all refl).0 (all refl).1 from, from))
 of_read false there bytes breaks_off source P all came holds =
-    let from = came (record { bytes = bytes; breaks_off = breaks_off }) (λ off. refl) in (record { bytes = bytes; breaks_off = breaks_off }, λ t. absurd (false≢true t), (holds _ (λ t. absurd (false≢true t)) refl refl from, from))
+    let from = came (record { bytes = bytes; breaks_off = breaks_off; shown = None }) (λ off. refl) in (record { bytes = bytes; breaks_off = breaks_off; shown = None }, λ t. absurd (false≢true t), (holds _ (λ t. absurd (false≢true t)) refl refl from, from))
 
 pub of_more : (told : Bool) (there : Content) (x rest : List ℕ) (source : Source) (P : Content → Type 0) → (told ≡ true → there.bytes ≡ x ++ rest) → ((content : Content) → (told ≡ false → content.breaks_off ≡ false) → CameFrom told content source)
     → ((content : Content) → (told ≡ true → content.bytes ≡ there.bytes) → (rest : List ℕ) → content.bytes ≡ x ++ rest → CameFrom told content source → P content) → OfContent told there (λ content. P content × CameFrom told content source)
 of_more true there x rest source P all came holds =
     let from = came there (λ off. absurd (false≢true (sym off))) in (there, λ t. refl, (holds there (λ t. refl) rest (all refl) from, from))
 of_more false there x rest source P all came holds =
-    let from = came (record { bytes = x; breaks_off = false }) (λ off. refl) in (record { bytes = x; breaks_off = false }, λ t. absurd (false≢true t), (holds _ (λ t. absurd (false≢true t)) [] (sym (append-nil x)) from, from))
+    let from = came (unshown x) (λ off. refl) in (unshown x, λ t. absurd (false≢true t), (holds _ (λ t. absurd (false≢true t)) [] (sym (append-nil x)) from, from))
 
 -- where the output was complete, no end had to be told
-pub told_by_complete : {work : Work} {content : Content} (source : Source) {x : List ℕ} (rest : List ℕ) → IsLawful work → work.is_complete x ≡ true → content.bytes ≡ x ++ rest → ToldEnd work content source
-told_by_complete {work} source {x} rest lawful complete is ends going = absurd (false≢true (sym going ∙ ap work.is_complete is ∙ (lawful.stays x rest complete).still))
+pub told_by_complete : {work : Work} (content : Content) (source : Source) {x : List ℕ} (rest : List ℕ) → IsLawful work → work.is_complete x ≡ true → content.bytes ≡ x ++ rest → ToldEnd work content source
+told_by_complete {work} content source {x} rest lawful complete is ends going = absurd (false≢true (sym going ∙ ap work.is_complete is ∙ (lawful.stays x rest complete).still))
 
 -- what is known of the call that a fault stopped
 pub fed_so : {told : Bool} {before : List Slot} {work : Work} {opening : Needs} {most : ℕ} {content : Content} {A B : Step → Type 0} {new : List Slot} {result : Result Fed Fault} → ((call : Step) → A call → B call) → FedAs told before work opening most content A new result → FedAs told before work opening most content B new result

@@ -10,10 +10,10 @@ use Rattle.ports_core.specs.declared.verdict.Verdict.{Verdict}
 use Rattle.ports_core.specs.Work.{Work, Needs}
 use Rattle.run_core.specs.Feeding.{IsUnread, Step, ToldEnd, Uses, is_enough, FedAs, whole, had_enough, broke_off, judged, stopped}
 use Rattle.ports_core.specs.Inputs.{CameFrom, KeepsOthers, OfContent, AsksAtMost, empty, largest_piece}
-use Rattle.run_core.specs.Input.{Input, World, IsFor, coming_of, saying, is_dash, input_of, inputs_from, next_slot, has_dash, AreFrom, inputs_at, file_input, standard_input, read_before}
+use Rattle.run_core.specs.Input.{Input, World, IsFor, shown_of, showing, is_dash, input_of, inputs_from, next_slot, has_dash, AreFrom, inputs_at, file_input, standard_input, read_before}
 use Rattle.run_core.specs.Reading.{AreDone, AreUntouched, IsDone, IsUntouched, Leaves, count_after}
-use Rattle.run_core.specs.inner.RunSteps.{TakesOne, IsComing, OfSource, HeaderFails, no_room, broke, TookInput, took, cut_off, input_from, TookAll, all, stopped_at, not_begun, HasStreams, OfName, standard_source}
-use Rattle.ports_core.proofs.InputsLemmas.{came_sound, sound_at, fresh_asks}
+use Rattle.run_core.specs.inner.RunSteps.{TakesOne, KeepsOther, OfSource, HeaderFails, no_room, broke, TookInput, took, cut_off, input_from, TookAll, all, stopped_at, not_begun, HasStreams, OfName, standard_source}
+use Rattle.ports_core.proofs.InputsLemmas.{came_sound, sound_at, fresh_asks, keeps_again}
 use Rattle.std.proofs.Math.Bool.{and-false, and-true, or-false, or-true, or_assoc}
 use Rattle.ports_core.specs.Slot.{Slot, adds, is_open, slot_at, is_writable, told_of, with_written, streams}
 use Rattle.ports_core.specs.Part.{Part, only_out, OutputsAt}
@@ -30,7 +30,8 @@ use Rattle.run_core.specs.declared.feeding.Fed.{Fed}
 use Rattle.run_core.specs.declared.feeding.Fed.TheVariants.{Whole, Enough, Broken}
 use Rattle.run_core.specs.RunEnds.{unheaded, heading, calling, step_after, EndsAs, as_defined, stopped as run_stopped, no_room as run_unmade, RunsOver, unopened}
 use Rattle.ports_core.specs.Streams.{streams_with, standard_output, standard_error}
-use Rattle.run_core.specs.RunSteps.{world_of}
+use Rattle.run_core.specs.RunSteps.{IsShown, OnlyLooked, world_of}
+use Rattle.ports_core.proofs.LoadLemmas.{looked_readable}
 use Rattle.run_core.specs.Task.{Task, Outcome, after_part, header_text, of_content, made_by, no_outcome, joined, of_input, of_inputs, is_missing, are_missing}
 use Rattle.run_core.proofs.StopLemmas.{after_assoc, out_on, at_after, stop_after, none_to_sweep, nothing_after, swept_from, said_swept, error_open, stop_error, stop_swept, said_at}
 use Rattle.ports_core.proofs.MessageLemmas.{all_said_state, printed_named, says_after, told_named}
@@ -65,6 +66,30 @@ unread_source true (Some slot) sources Q can unread holds =
     ((source_at sources slot).left, λ t. refl, holds (source_at sources slot).left (left_unread true slot sources can unread (λ t. refl) (λ off. absurd (false≢true (sym off)))))
 unread_source false (Some slot) sources Q can unread holds =
     (empty, λ t. absurd (false≢true t), holds empty (left_unread false slot sources can unread (λ t. absurd (false≢true t)) (λ off. refl)))
+
+-- a source that was looked at is as it was, but for what was asked of it
+
+pub of_looked : (told : Bool) (most : ℕ) (source : Option ℕ) (old new : List Source) (Q : Content → Type 0) → OnlyLooked most source old new → OfSource told source new Q → OfSource told source old Q
+of_looked told most None old new Q same holds = holds
+of_looked told most (Some slot) old new Q looked (content, is, holds) = (content, λ t. is t ∙ ap (λ (source : Source). source.left) looked.looked, holds)
+
+pub looked_can : (most : ℕ) (source : Option ℕ) (old new : List Source) → OnlyLooked most source old new → IfSome source (λ slot. IsTrue (is_readable old slot)) → IfSome source (λ slot. IsTrue (is_readable new slot))
+looked_can most None old new looked can = tt
+looked_can most (Some slot) old new looked can = looked_readable looked can
+
+pub looked_unread : (most : ℕ) (source : Option ℕ) (old new : List Source) → OnlyLooked most source old new → IfSome source (λ slot. IsUnread (source_at old slot)) → IfSome source (λ slot. IsUnread (source_at new slot))
+looked_unread most None old new looked unread = tt
+looked_unread most (Some slot) old new looked unread = (ap (λ (source : Source). source.taken) looked.looked ∙ unread.0, ap (λ (source : Source). source.reached) looked.looked ∙ unread.1)
+
+-- no input but that of the source was touched, first by looks
+pub looked_keeps : (most : ℕ) (source : Option ℕ) (old mid new : List Source) → OnlyLooked most source old mid → KeepsOther source mid new → KeepsOther source old new
+looked_keeps most None old mid new looked keeps = keeps ∙ looked
+looked_keeps most (Some slot) old mid new looked keeps = keeps_again slot old mid new looked.others keeps
+
+-- where a source is there, it shows what it shows
+pub shows_something : (told : Bool) (source : Option ℕ) (sources : List Source) → (shown : Option (List ℕ)) × IsShown told source sources shown
+shows_something told None sources = (None, refl)
+shows_something told (Some slot) sources = ((source_at sources slot).left.shown, λ t. refl)
 
 -- an input that could be read is still there
 pub still_within : {source : Option ℕ} {slot : ℕ} {old new : List Source} → source ≡ Some slot → IfSome source (λ slot. IsTrue (is_readable old slot)) → KeepsOthers slot old new → slot < length new
@@ -108,9 +133,9 @@ abbrev pub StaysDone : Bool → Work → ℕ → Bool → Option ℕ → Option 
 StaysDone told work most was_read None content sources = Unit {0}
 StaysDone told work most was_read (Some slot) content sources = (slot ≡ 0 → was_read ≡ true) × IsDone told work most (Some slot) content sources
 
-abbrev pub StayDone : Bool → (ℕ → Work) → ℕ → Bool → List Input → List Source → Type 0
+abbrev pub StayDone : Bool → (Option (List ℕ) → Work) → ℕ → Bool → List Input → List Source → Type 0
 StayDone told work most was_read [] sources = Unit {0}
-StayDone told work most was_read (input ∷ inputs) sources = StaysDone told (work input.coming) most was_read input.slot input.content sources × StayDone told work most was_read inputs sources
+StayDone told work most was_read (input ∷ inputs) sources = StaysDone told (work input.shown) most was_read input.slot input.content sources × StayDone told work most was_read inputs sources
 
 still_done_at : (told : Bool) (work : Work) (most : ℕ) {room : ℕ} {was_read now_read : Bool} {name : List ℕ} (slot : Option ℕ) (content : Option Content) {old new : List Source} → (was_read ≡ true → now_read ≡ true) → TakesOne room was_read name old new
     → StaysDone told work most was_read slot content old → StaysDone told work most now_read slot content new
@@ -118,13 +143,13 @@ still_done_at told work most None content reads takes done = tt
 still_done_at told work most {was_read} (Some zero) content {old} {new} reads takes done = grind (arith, common_steps)
 still_done_at told work most (Some (suc slot)) content {old} {new} reads takes done = grind (arith, common_steps)
 
-pub still_done : (told : Bool) (work : ℕ → Work) (most : ℕ) {room : ℕ} {was_read now_read : Bool} {name : List ℕ} (inputs : List Input) {old new : List Source} → (was_read ≡ true → now_read ≡ true) → TakesOne room was_read name old new
+pub still_done : (told : Bool) (work : Option (List ℕ) → Work) (most : ℕ) {room : ℕ} {was_read now_read : Bool} {name : List ℕ} (inputs : List Input) {old new : List Source} → (was_read ≡ true → now_read ≡ true) → TakesOne room was_read name old new
     → StayDone told work most was_read inputs old → StayDone told work most now_read inputs new
 still_done told work most [] reads takes done = tt
 still_done told work most (input ∷ inputs) reads takes done =
-    (still_done_at told (work input.coming) most input.slot input.content reads takes done.0, still_done told work most inputs reads takes done.1)
+    (still_done_at told (work input.shown) most input.slot input.content reads takes done.0, still_done told work most inputs reads takes done.1)
 
-pub done_more : (told : Bool) (work : ℕ → Work) (most : ℕ) (was_read : Bool) (inputs : List Input) (input : Input) (sources : List Source) → StayDone told work most was_read inputs sources → StaysDone told (work input.coming) most was_read input.slot input.content sources
+pub done_more : (told : Bool) (work : Option (List ℕ) → Work) (most : ℕ) (was_read : Bool) (inputs : List Input) (input : Input) (sources : List Source) → StayDone told work most was_read inputs sources → StaysDone told (work input.shown) most was_read input.slot input.content sources
     → StayDone told work most was_read (inputs ++ input ∷ []) sources
 done_more told work most was_read [] input sources done one = (one, tt)
 done_more told work most was_read (first ∷ inputs) input sources done one = (done.0, done_more told work most was_read inputs input sources done.1 one)
@@ -133,13 +158,13 @@ done_at : (told : Bool) (work : Work) (most : ℕ) (was_read : Bool) (slot : Opt
 done_at told work most was_read None content sources done = tt
 done_at told work most was_read (Some slot) content sources done = done.1
 
-pub all_done : (told : Bool) (work : ℕ → Work) (most : ℕ) (was_read : Bool) (inputs : List Input) (sources : List Source) → StayDone told work most was_read inputs sources → AreDone told work most inputs sources
+pub all_done : (told : Bool) (work : Option (List ℕ) → Work) (most : ℕ) (was_read : Bool) (inputs : List Input) (sources : List Source) → StayDone told work most was_read inputs sources → AreDone told work most inputs sources
 all_done told work most was_read [] sources done = tt
-all_done told work most was_read (input ∷ inputs) sources done = (done_at told (work input.coming) most was_read input.slot input.content sources done.0, all_done told work most was_read inputs sources done.1)
+all_done told work most was_read (input ∷ inputs) sources done = (done_at told (work input.shown) most was_read input.slot input.content sources done.0, all_done told work most was_read inputs sources done.1)
 
 pub done_with : (told : Bool) (work : Work) (most : ℕ) (was_read : Bool) {count : ℕ} (name : List ℕ) {input : Input} (sources : List Source) → IsFor was_read count name input → 0 < count
     → IsDone told work most input.slot input.content sources → StaysDone told work most (was_read || is_dash name) input.slot input.content sources
-done_with told work most was_read name sources (world, coming, is) some done = grind (arith, common_steps)
+done_with told work most was_read name sources (world, shown, is) some done = grind (arith, common_steps)
 
 -- the inputs after the place where a run was stopped were not touched
 
@@ -188,64 +213,64 @@ made_well task work is_first name content enough well = search rules
 
 -- the header could not be written
 
-pub stopped_in_header : {told_in told : Bool} {task : Task} {most : ℕ} (is_first : Bool) (name : List ℕ) {source : Option ℕ} {coming : ℕ} {content : Content} {outcome : Outcome} {failed was_read : Bool} {so_far : Part} {error : Slot} {sources : List Source} {old new : List Slot} {fault : Fault} → task.with_header ≡ true → ((step : Step) → step.read ≡ [] → step.ended ≡ false → Leaves told_in content source sources step)
+pub stopped_in_header : {told_in told : Bool} {task : Task} {most : ℕ} (is_first : Bool) (name : List ℕ) {source : Option ℕ} {shown : Option (List ℕ)} {content : Content} {outcome : Outcome} {failed was_read : Bool} {so_far : Part} {error : Slot} {sources : List Source} {old new : List Slot} {fault : Fault} → task.with_header ≡ true → ((step : Step) → step.read ≡ [] → step.ended ≡ false → Leaves told_in content source sources step)
     → OutputsAt told (streams_with error) so_far old → HeaderFails told (header_text task.with_header is_first name) old new fault
-    → TookInput told_in told task most (input_from name source coming content) outcome is_first failed was_read so_far error (length old) sources new (Err fault)
-stopped_in_header {told} {task} is_first name {coming} {content} {so_far} {error} {old} {new} due unread at (no_room is) =
+    → TookInput told_in told task most (input_from name source shown content) outcome is_first failed was_read so_far error (length old) sources new (Err fault)
+stopped_in_header {told} {task} is_first name {shown} {content} {so_far} {error} {old} {new} due unread at (no_room is) =
     cut_off Memory _ new (unheaded content due (unread _ refl refl)) refl
     (stopped_here _ told (streams_with error) so_far so_far Memory old new at (part_begins_itself so_far) is tt tt)
-    (none_to_sweep (task.work coming).clears new (omega (arith, ap length is)))
-stopped_in_header {told} {task} is_first name {coming} {content} {so_far} {error} {old} {new} due unread at (broke n after) =
+    (none_to_sweep (task.work shown).clears new (omega (arith, ap length is)))
+stopped_in_header {told} {task} is_first name {shown} {content} {so_far} {error} {old} {new} due unread at (broke n after) =
     let text = header_text task.with_header is_first name in
     let count : length new ≡ length old = ap length after.slots ∙ length-changed_at 0 _ _ ∙ length-changed_at 0 _ old in
     cut_off (Write 0) _ new (heading content due (unread _ refl refl))
     (λ _. refl, λ alone. refl, ap (λ those. (slot_at those 0).is_broken) after.slots ∙ broken_at 0 _ (writable-written old 0 0 (told_of told (take n text)) ∙ part_writable at))
     (rw (out_on so_far text) at (out_cut told (streams_with error) so_far old new text n at after))
-    (none_to_sweep (task.work coming).clears new (omega (arith, count)))
+    (none_to_sweep (task.work shown).clears new (omega (arith, count)))
 
 -- the engine's part of an input, after the header
-module _ (told_in told : Bool) (task : Task) (most : ℕ) (is_first failed was_read : Bool) (name : List ℕ) (so_far : Part) (error : Slot) (count : ℕ) (source : Option ℕ) (coming : ℕ) (sources : List Source) (mid : List Slot) (counted : length mid ≡ count) (streams_there : 2 ≤ count)
+module _ (told_in told : Bool) (task : Task) (most : ℕ) (is_first failed was_read : Bool) (name : List ℕ) (so_far : Part) (error : Slot) (count : ℕ) (source : Option ℕ) (shown : Option (List ℕ)) (sources : List Source) (mid : List Slot) (counted : length mid ≡ count) (streams_there : 2 ≤ count)
     (at : OutputsAt told (streams_with error) (after_part so_far (only_out (header_text task.with_header is_first name))) mid) where
   abbrev pub TookSo : Content → List Slot → Result Progress Fault → Type 0
-  TookSo content new result = TookInput told_in told task most (input_from name source coming content) (of_content task (task.work coming) is_first name (Some content)) is_first failed was_read so_far error count sources new result
+  TookSo content new result = TookInput told_in told task most (input_from name source shown content) (of_content task (task.work shown) is_first name (Some content)) is_first failed was_read so_far error count sources new result
 
   part_after : (error_now : Slot) (part : Part) {reached : List Slot} → OutputsAt told (streams_with error_now) (after_part (after_part so_far (only_out (header_text task.with_header is_first name))) part) reached
       → OutputsAt told (streams_with error_now) (after_part so_far (after_part (only_out (header_text task.with_header is_first name)) part)) reached
   part_after error_now part there = rw (after_assoc so_far (only_out (header_text task.with_header is_first name)) part) at there
 
   -- it went well
-  went_well : (content : Content) (new : List Slot) → IsDone told_in (task.work coming) most source (Some content) sources → is_enough (task.work coming) content ≡ true → (task.work coming).verdict content.bytes ≡ None → OutputsAt told mid ((task.work coming).whole content.bytes) new → TookSo content new (Ok (record { was_read = was_read; is_first = false; failed = failed }))
+  went_well : (content : Content) (new : List Slot) → IsDone told_in (task.work shown) most source (Some content) sources → is_enough (task.work shown) content ≡ true → (task.work shown).verdict content.bytes ≡ None → OutputsAt told mid ((task.work shown).whole content.bytes) new → TookSo content new (Ok (record { was_read = was_read; is_first = false; failed = failed }))
   went_well content new done enough well there =
-      rw (made_well task (task.work coming) is_first name content enough well) (took (record { was_read = was_read; is_first = false; failed = failed }) error new (simp (and-false, or-false)) done refl (part_after error _ (at_after at there)) refl)
+      rw (made_well task (task.work shown) is_first name content enough well) (took (record { was_read = was_read; is_first = false; failed = failed }) error new (simp (and-false, or-false)) done refl (part_after error _ (at_after at there)) refl)
 
   -- a message is due
-  went_badly : {why : Reason} (content : Content) (part : Part) (message : Message) (reached old new : List Slot) → IsDone told_in (task.work coming) most source (Some content) sources
-      → of_content task (task.work coming) is_first name (Some content) ≡ record { part = after_part (only_out (header_text task.with_header is_first name)) part; messages = message ∷ []; failed = true; sweeps = (task.work coming).clears }
-      → OutputsAt told mid part reached → Swept (task.work coming).clears (length mid) reached old → SaysOn told task.speaker why message old new → TookSo content new (Ok (record { was_read = was_read; is_first = false; failed = true }))
+  went_badly : {why : Reason} (content : Content) (part : Part) (message : Message) (reached old new : List Slot) → IsDone told_in (task.work shown) most source (Some content) sources
+      → of_content task (task.work shown) is_first name (Some content) ≡ record { part = after_part (only_out (header_text task.with_header is_first name)) part; messages = message ∷ []; failed = true; sweeps = (task.work shown).clears }
+      → OutputsAt told mid part reached → Swept (task.work shown).clears (length mid) reached old → SaysOn told task.speaker why message old new → TookSo content new (Ok (record { was_read = was_read; is_first = false; failed = true }))
   went_badly {why} content part message reached old new done made there swept says =
       let top = adds (told_of told (after_part so_far (after_part (only_out (header_text task.with_header is_first name)) part)).out) standard_output in
       let all = part_after error part (at_after at there) in
-      let said = said_swept told (SaysFor told task.speaker why message) (λ _ _ says. printed_named says.printed) (task.work coming).clears old new count streams_there (rw all.slots at (rw counted at swept)) says in
+      let said = said_swept told (SaysFor told task.speaker why message) (λ _ _ says. printed_named says.printed) (task.work shown).clears old new count streams_there (rw all.slots at (rw counted at swept)) says in
       rw made (took (record { was_read = was_read; is_first = false; failed = true }) said.after (top ∷ said.after ∷ all.since)
       (simp (and-false, or-true)) done (said.after, (why, said.says), refl) (record { standard = lit< tt; since = all.since; slots = refl; files = all.files }) said.swept)
 
-  pub took_well : {content : Content} {new : List Slot} {fed : Fed} → IsDone told_in (task.work coming) most source (Some content) sources → (fed ≡ Whole) ⊎ (fed ≡ Enough) → FedAs told mid (task.work coming) task.opening most content (Leaves told_in content source sources) new (Ok fed) → TookSo content new (Ok (record { was_read = was_read; is_first = false; failed = failed }))
+  pub took_well : {content : Content} {new : List Slot} {fed : Fed} → IsDone told_in (task.work shown) most source (Some content) sources → (fed ≡ Whole) ⊎ (fed ≡ Enough) → FedAs told mid (task.work shown) (task.opening shown) most content (Leaves told_in content source sources) new (Ok fed) → TookSo content new (Ok (record { was_read = was_read; is_first = false; failed = failed }))
   took_well {content} {new} done good (whole sound going well there) = went_well content new done (or_left _ _ (ap not sound)) well there
   took_well {content} {new} done good (had_enough complete well there) = went_well content new done (or_right _ _ complete) well there
   took_well done good (broke_off breaks going reached there swept) = absurd (elim good [ inl is ↦ cc | inr is ↦ cc ])
 
-  pub took_broken : {why : Reason} {content : Content} {old new : List Slot} {fed : Fed} → IsDone told_in (task.work coming) most source (Some content) sources → fed ≡ Broken → FedAs told mid (task.work coming) task.opening most content (Leaves told_in content source sources) old (Ok fed) → SaysOn told task.speaker why (message_of (Read 0) name) old new → TookSo content new (Ok (record { was_read = was_read; is_first = false; failed = true }))
+  pub took_broken : {why : Reason} {content : Content} {old new : List Slot} {fed : Fed} → IsDone told_in (task.work shown) most source (Some content) sources → fed ≡ Broken → FedAs told mid (task.work shown) (task.opening shown) most content (Leaves told_in content source sources) old (Ok fed) → SaysOn told task.speaker why (message_of (Read 0) name) old new → TookSo content new (Ok (record { was_read = was_read; is_first = false; failed = true }))
   took_broken {content} {old} {new} done is (broke_off breaks going reached there swept) says =
-      went_badly content ((task.work coming).settled content.bytes) (message_of (Read 0) name) reached old new done
-      (let short : is_enough (task.work coming) content ≡ false = ap (λ (b : Bool). not b || (task.work coming).is_complete content.bytes) breaks ∙ going in simp (short, and-true)) there swept says
+      went_badly content ((task.work shown).settled content.bytes) (message_of (Read 0) name) reached old new done
+      (let short : is_enough (task.work shown) content ≡ false = ap (λ (b : Bool). not b || (task.work shown).is_complete content.bytes) breaks ∙ going in simp (short, and-true)) there swept says
   took_broken done is ends says = absurd (cc)
 
-  pub took_verdict : {why : Reason} {content : Content} {old new : List Slot} {verdict : Verdict} → IsDone told_in (task.work coming) most source (Some content) sources → FedAs told mid (task.work coming) task.opening most content (Leaves told_in content source sources) old (Err (fault_is.Verdict verdict)) → SaysOn told task.speaker why (message_of (fault_is.Verdict verdict) (task.subject verdict)) old new → TookSo content new (Ok (record { was_read = was_read; is_first = false; failed = true }))
+  pub took_verdict : {why : Reason} {content : Content} {old new : List Slot} {verdict : Verdict} → IsDone told_in (task.work shown) most source (Some content) sources → FedAs told mid (task.work shown) (task.opening shown) most content (Leaves told_in content source sources) old (Err (fault_is.Verdict verdict)) → SaysOn told task.speaker why (message_of (fault_is.Verdict verdict) (task.subject verdict name)) old new → TookSo content new (Ok (record { was_read = was_read; is_first = false; failed = true }))
   took_verdict {content} {old} {new} {verdict} done (judged _ enough judges reached there swept) says =
-      went_badly content ((task.work coming).whole content.bytes) (message_of (fault_is.Verdict verdict) (task.subject verdict)) reached old new done (simp (enough, judges, and-true)) there swept says
+      went_badly content ((task.work shown).whole content.bytes) (message_of (fault_is.Verdict verdict) (task.subject verdict name)) reached old new done (simp (enough, judges, and-true)) there swept says
   took_verdict done (stopped _ unjudged call is_call read reached why stop swept) says = absurd (false≢true (sym unjudged))
 
-  pub took_stopped : {content : Content} {new : List Slot} {fault : Fault} → ((verdict : Verdict) → fault ≡ fault_is.Verdict verdict → ⊥) → FedAs told mid (task.work coming) task.opening most content (Leaves told_in content source sources) new (Err fault) → TookSo content new (Err fault)
+  pub took_stopped : {content : Content} {new : List Slot} {fault : Fault} → ((verdict : Verdict) → fault ≡ fault_is.Verdict verdict → ⊥) → FedAs told mid (task.work shown) (task.opening shown) most content (Leaves told_in content source sources) new (Err fault) → TookSo content new (Err fault)
   took_stopped other (judged verdict enough judges reached there swept) = absurd (other verdict refl)
   took_stopped {content} {fault} other (stopped _ is call is_call read reached why stop swept) =
       cut_off fault (step_after (after_part so_far (only_out (header_text task.with_header is_first name))) call) reached (calling content call is_call read)
@@ -279,7 +304,7 @@ stop_open (not_begun is untouched none) = grind (arith, common_steps)
 pub ran_into : {told_in told : Bool} {breaks_for : ℕ → Reason → Bool} {task : Task} {found : List Input} {sources : List Source} {mid new : List Slot} {fault : Fault} {status : ℕ} → TookAll told_in told task found sources mid (Err fault)
     → (why : Reason) × IsWhy breaks_for fault why × TellsOn told task.speaker why fault (output_named mid fault) mid new × (status ≡ status_after fault task.speaker.calling why) → EndsAs told_in told breaks_for task found sources new status
 ran_into {told} {task} {mid} {fault} (stopped_at _ before input after error step reached among done untouched is_step stops said stop swept) (why, is_why, tells, is) =
-    let told_so = stop_swept told (Tells told task.speaker why fault (output_named mid fault)) (told_named told task.speaker why fault _) step (task.work input.coming).clears (lit≤ tt)
+    let told_so = stop_swept told (Tells told task.speaker why fault (output_named mid fault)) (told_named told task.speaker why fault _) step (task.work input.shown).clears (lit≤ tt)
     (ap is_open (all_said_state told task.speaker (made_by task before).messages standard_error error said)) stop stops swept tells in
     run_stopped fault why before input after error told_so.after step told_so.reached among done untouched is_step told_so.why told_so.stop told_so.swept
     said is_why (rw told_so.named told_so.says) is
@@ -299,46 +324,46 @@ none_left (word ∷ words) none = absurd (omega arith)
 
 -- which input a name stands for
 
-of_file : {told : Bool} (world : World) (was_read : Bool) {slot : ℕ} {name : List ℕ} {content : Option Content} (coming : ℕ) (P : Input → Type 0) → is_dash name ≡ false → (told ≡ true → world.laid slot name ≡ content) → (told ≡ true → coming ≡ coming_of content) → P (saying coming (file_input name slot content)) → OfName told world was_read slot name P
-of_file world was_read {slot} {name} {content} coming P differs lies says holds = (
-  saying coming (file_input name slot content),
-  (record { laid = λ _ _. content; standard = empty }, coming, sym (ap (λ d. saying coming (input_of (record { laid = λ _ _. content; standard = empty }) was_read slot name d)) differs)),
-  λ t. ap (λ n. saying n (file_input name slot content)) (says t) ∙ ap (file_input name slot) (sym (lies t)) ∙ sym (ap (input_of world was_read slot name) differs),
+of_file : {told : Bool} (world : World) (was_read : Bool) {slot : ℕ} {name : List ℕ} {content : Option Content} (shown : Option (List ℕ)) (P : Input → Type 0) → is_dash name ≡ false → (told ≡ true → world.laid slot name ≡ content) → (told ≡ true → shown ≡ shown_of content) → P (showing shown (file_input name slot content)) → OfName told world was_read slot name P
+of_file world was_read {slot} {name} {content} shown P differs lies says holds = (
+  showing shown (file_input name slot content),
+  (record { laid = λ _ _. content; standard = empty }, shown, sym (ap (λ d. showing shown (input_of (record { laid = λ _ _. content; standard = empty }) was_read slot name d)) differs)),
+  λ t. ap (λ n. showing n (file_input name slot content)) (says t) ∙ ap (file_input name slot) (sym (lies t)) ∙ sym (ap (input_of world was_read slot name) differs),
   holds,
 )
 
-dash_at : {told : Bool} (was_read : Bool) (laid : ℕ → List ℕ → Option Content) (sources : List Source) (slot : ℕ) (name : List ℕ) (coming : ℕ) (P : Input → Type 0) → is_dash name ≡ true → IsComing told (standard_source was_read) sources coming
-    → OfSource told (standard_source was_read) sources (λ content. P (input_from (codes "standard input") (standard_source was_read) coming content)) → OfName told (world_of laid sources) was_read slot name P
-dash_at true laid sources slot name coming P dash none holds = (
+dash_at : {told : Bool} (was_read : Bool) (laid : ℕ → List ℕ → Option Content) (sources : List Source) (slot : ℕ) (name : List ℕ) (shown : Option (List ℕ)) (P : Input → Type 0) → is_dash name ≡ true → IsShown told (standard_source was_read) sources shown
+    → OfSource told (standard_source was_read) sources (λ content. P (input_from (codes "standard input") (standard_source was_read) shown content)) → OfName told (world_of laid sources) was_read slot name P
+dash_at true laid sources slot name shown P dash none holds = (
   read_before,
-  (record { laid = laid; standard = empty }, 0, sym (ap (λ d. saying 0 (input_of (record { laid = laid; standard = empty }) true slot name d)) dash)),
+  (record { laid = laid; standard = empty }, None, sym (ap (λ d. showing None (input_of (record { laid = laid; standard = empty }) true slot name d)) dash)),
   λ t. sym (ap (input_of (world_of laid sources) true slot name) dash),
   subst (λ n. P (input_from (codes "standard input") None n empty)) none holds,
 )
-dash_at false laid sources slot name coming P dash says (content, there, holds) = (
-  saying coming (standard_input content),
-  (record { laid = laid; standard = content }, coming, sym (ap (λ d. saying coming (input_of (record { laid = laid; standard = content }) false slot name d)) dash)),
-  λ t. ap (λ n. saying n (standard_input content)) (says t) ∙ ap (λ those. saying (coming_of (Some (source_at sources 0).left)) (standard_input those)) (there t) ∙ sym (ap (input_of (world_of laid sources) false slot name) dash),
+dash_at false laid sources slot name shown P dash says (content, there, holds) = (
+  showing shown (standard_input content),
+  (record { laid = laid; standard = content }, shown, sym (ap (λ d. showing shown (input_of (record { laid = laid; standard = content }) false slot name d)) dash)),
+  λ t. ap (λ n. showing n (standard_input content)) (says t) ∙ ap (λ those. showing (shown_of (Some (source_at sources 0).left)) (standard_input those)) (there t) ∙ sym (ap (input_of (world_of laid sources) false slot name) dash),
   holds,
 )
 
 -- the file was opened
 pub took_opened : {told_in told : Bool} {task : Task} {most : ℕ} {is_first failed was_read : Bool} {laid : ℕ → List ℕ → Option Content} {name : List ℕ} {old mid : List Source} {slot : ℕ} {so_far : Part} {error : Slot} {first : ℕ} {sources : List Source} {new : List Slot} {result : Result Progress Fault} → is_dash name ≡ false → OpensFile told_in laid old mid name slot
-    → (coming : ℕ) × IsComing told_in (Some slot) mid coming × OfSource told_in (Some slot) mid (λ content. TookInput told_in told task most (input_from name (Some slot) coming content) (of_content task (task.work coming) is_first name (Some content)) is_first failed was_read so_far error first sources new result)
+    → (shown : Option (List ℕ)) × IsShown told_in (Some slot) mid shown × OfSource told_in (Some slot) mid (λ content. TookInput told_in told task most (input_from name (Some slot) shown content) (of_content task (task.work shown) is_first name (Some content)) is_first failed was_read so_far error first sources new result)
     → OfName told_in (world_of laid old) was_read (length old) name (λ input. TookInput told_in told task most input (of_input task is_first input) is_first failed (was_read || is_dash name) so_far error first sources new result)
-took_opened {was_read} {laid} {name} {old} {slot} {sources} differs opened_it (coming, says, (content, there, one)) =
-    of_file (world_of laid old) was_read coming _ differs (λ t. ap (λ n. laid n name) (sym opened_it.number) ∙ opened_it.lies t
+took_opened {was_read} {laid} {name} {old} {slot} {sources} differs opened_it (shown, says, (content, there, one)) =
+    of_file (world_of laid old) was_read shown _ differs (λ t. ap (λ n. laid n name) (sym opened_it.number) ∙ opened_it.lies t
     ∙ ap Some (sym (there t ∙ ap (λ (source : Source). source.left) (ap (λ those. source_at those slot) opened_it.sources ∙ ap (source_at (old ++ source_of opened_it.content ∷ [])) opened_it.number ∙ last_source old))))
-    (λ t. says t ∙ ap (λ those. coming_of (Some those)) (sym (there t)))
+    (λ t. says t ∙ ap (λ those. shown_of (Some those)) (sym (there t)))
     (rw (ap (λ (b : Bool). was_read || b) differs ∙ or-false was_read) (rw opened_it.number at one))
 
 -- standard input, for the operand `-`
 pub took_standard : {told_in told : Bool} {task : Task} {most : ℕ} {is_first failed : Bool} (was_read : Bool) {source : Option ℕ} (laid : ℕ → List ℕ → Option Content) (name : List ℕ) (old : List Source) {sources : List Source} {so_far : Part} {error : Slot} {first : ℕ} {new : List Slot} {result : Result Progress Fault} → source ≡ standard_source was_read → is_dash name ≡ true
-    → (coming : ℕ) × IsComing told_in source old coming × OfSource told_in source old (λ content. TookInput told_in told task most (input_from (codes "standard input") source coming content) (of_content task (task.work coming) is_first (codes "standard input") (Some content)) is_first failed true so_far error first sources new result)
+    → (shown : Option (List ℕ)) × IsShown told_in source old shown × OfSource told_in source old (λ content. TookInput told_in told task most (input_from (codes "standard input") source shown content) (of_content task (task.work shown) is_first (codes "standard input") (Some content)) is_first failed true so_far error first sources new result)
     → OfName told_in (world_of laid old) was_read (length old) name (λ input. TookInput told_in told task most input (of_input task is_first input) is_first failed (was_read || is_dash name) so_far error first sources new result)
-took_standard {told_in} {told} {task} {most} {is_first} {failed} was_read laid name old {sources} {so_far} {error} {first} {new} {result} is dash (coming, says, holds) =
+took_standard {told_in} {told} {task} {most} {is_first} {failed} was_read laid name old {sources} {so_far} {error} {first} {new} {result} is dash (shown, says, holds) =
     let P = λ (read : Bool) (input : Input). TookInput told_in told task most input (of_input task is_first input) is_first failed read so_far error first sources new result in
-    dash_at was_read laid old (length old) name coming (P (was_read || is_dash name)) dash (rw is at says)
+    dash_at was_read laid old (length old) name shown (P (was_read || is_dash name)) dash (rw is at says)
     (rw (ap (λ (b : Bool). was_read || b) dash ∙ or-true was_read) (rw is at holds))
 
 -- a name that could not be opened: it is passed over with a message
@@ -347,9 +372,9 @@ pub of_missing : {told_in told : Bool} {IsSaid : Reason → Type 0} {task : Task
     → (why : Reason) × IsSaid why × SaysOn told task.speaker why (message_of (Open slot) name) old new → OfName told_in (world_of laid sources) was_read (length sources) name
     (λ input. TookInput told_in told task most input (of_input task is_first input) is_first failed (was_read || is_dash name) so_far error (length old) after new (Ok (record { was_read = was_read; is_first = is_first; failed = true })))
 of_missing {told_in} {told} {task} {most} {is_first} {was_read} {laid} {name} {sources} {new} differs (from.broke slot number lies are) cannot at (why, reason, says) =
-    of_file (world_of laid sources) was_read 0 _ differs (λ t. ap (λ n. laid n name) (sym number) ∙ lies t) (λ t. refl)
+    of_file (world_of laid sources) was_read None _ differs (λ t. ap (λ n. laid n name) (sym number) ∙ lies t) (λ t. refl)
     (let said = said_at at says in
-    took (record { was_read = was_read; is_first = is_first; failed = true }) said.0 new (simp (differs, or-false, and-true, or-true)) (missing_done told_in (task.work 0) most sources are)
+    took (record { was_read = was_read; is_first = is_first; failed = true }) said.0 new (simp (differs, or-false, and-true, or-true)) (missing_done told_in (task.work None) most sources are)
     (said.0, (why, said.1), refl) (subst (λ part. OutputsAt told (streams_with said.0) part new) (sym nothing_after) said.2) refl)
 of_missing differs (from.no_room are) cannot at says = absurd (cc)
 
@@ -358,7 +383,7 @@ pub of_no_room : {told_in told : Bool} {task : Task} {most : ℕ} {is_first fail
     → OfName told_in (world_of laid sources) was_read (length sources) name (λ input. TookInput told_in told task most input (of_input task is_first input) is_first failed (was_read || is_dash name) so_far error (length old) after old (Err fault))
 of_no_room was_read differs (from.broke slot number lies are) other at = absurd (other slot refl)
 of_no_room {told} {task} was_read {laid} {name} {sources} {so_far} {error} {old} differs (from.no_room are) other at =
-    of_file (world_of laid sources) was_read (coming_of (laid (length sources) name)) _ differs (λ t. refl) (λ t. refl)
+    of_file (world_of laid sources) was_read (shown_of (laid (length sources) name)) _ differs (λ t. refl) (λ t. refl)
     (cut_off Memory _ old (unopened (laid (length sources) name) (length sources) refl (omega (arith, ap length are))) refl
     (stopped_here _ told (streams_with error) so_far so_far Memory old old at (part_begins_itself so_far) refl tt tt) (none_to_sweep _ old (omega arith)))
 
@@ -373,9 +398,9 @@ sweeps_clears task work is_first name None sweeps = cc
 sweeps_clears task work is_first name (Some content) sweeps = grind (arith, common_steps)
 
 -- each input says what it says
-pub says_itself : (input : Input) → saying input.coming input ≡ input
+pub says_itself : (input : Input) → showing input.shown input ≡ input
 says_itself input = by (is_some input.slot) where
-  by : (b : Bool) → (if b then record input { coming = input.coming } else input) ≡ input
+  by : (b : Bool) → (if b then record input { shown = input.shown } else input) ≡ input
   by true = refl
   by false = refl
 
@@ -394,7 +419,7 @@ pub record Walked (told_in told : Bool) (task : Task) (world : World) (names lef
   pub says : SaysAll told task.speaker made.messages standard_error error
   pub failed : progress.failed ≡ made.failed
   -- where the work clears files, there is one name at most
-  pub alone : (coming : ℕ) → (task.work coming).clears ≡ true → (left ≡ []) ⊎ ((length left ≤ 1) × (length slots ≡ 2))
+  pub alone : (shown : Option (List ℕ)) → (task.work shown).clears ≡ true → (left ≡ []) ⊎ ((length left ≤ 1) × (length slots ≡ 2))
   pub unswept : 1 ≤ length left → made.sweeps ≡ false
   pub first : progress.is_first ≡ are_missing done
   pub rest_made : (rest : List Input) → of_inputs task true (done ++ rest) ≡ joined made (of_inputs task progress.is_first rest)
@@ -407,7 +432,7 @@ pub record Walked (told_in told : Bool) (task : Task) (world : World) (names lef
   pub asked : AsksAtMost largest_piece sources
   pub count : count_after (length sources) left ≡ count_after 1 names
 
-pub walk_begins : {told_in told : Bool} {task : Task} {names : List (List ℕ)} {laid : ℕ → List ℕ → Option Content} {sources : List Source} {slots : List Slot} → IsFresh sources → slots ≡ streams → ((coming : ℕ) → (task.work coming).clears ≡ true → length names ≤ 1)
+pub walk_begins : {told_in told : Bool} {task : Task} {names : List (List ℕ)} {laid : ℕ → List ℕ → Option Content} {sources : List Source} {slots : List Slot} → IsFresh sources → slots ≡ streams → ((shown : Option (List ℕ)) → (task.work shown).clears ≡ true → length names ≤ 1)
     → Walked told_in told task (world_of laid sources) names names (record { was_read = false; is_first = true; failed = false }) laid sources slots
 walk_begins {told} {names} {laid} {sources} {slots} fresh are alone =
     let one : length sources ≡ 1 = ap length fresh.only in
@@ -421,7 +446,7 @@ walk_begins {told} {names} {laid} {sources} {slots} fresh are alone =
       swept = refl;
       says = refl;
       failed = refl;
-      alone = λ coming clears. inr (alone coming clears, ap length are);
+      alone = λ shown clears. inr (alone shown clears, ap length are);
       unswept = λ some. refl;
       first = refl;
       rest_made = λ rest. refl;
@@ -481,7 +506,7 @@ walk_goes_on {told_in} {told} {task} {world} {names} {name} {left} {progress} {n
     let was : next.was_read ≡ (progress.was_read || is_dash name) = ap (λ (p : Progress). p.was_read) is in
     let unswept : walked.made.sweeps ≡ false = walked.unswept (omega arith) in
     let sweeps_one : (walked.made.sweeps || one.sweeps) ≡ one.sweeps = ap (λ (b : Bool). b || one.sweeps) unswept in
-    let only : one.sweeps ≡ true → (left ≡ []) × (length slots ≡ 2) = λ sweeps. taken_alone slots (walked.alone input.coming) (sweeps_clears task (task.work input.coming) progress.is_first input.name input.content sweeps) in
+    let only : one.sweeps ≡ true → (left ≡ []) × (length slots ≡ 2) = λ sweeps. taken_alone slots (walked.alone input.shown) (sweeps_clears task (task.work input.shown) progress.is_first input.name input.content sweeps) in
     record {
       done = walked.done ++ input ∷ [];
       made = joined walked.made one;
@@ -491,7 +516,7 @@ walk_goes_on {told_in} {told} {task} {world} {names} {name} {left} {progress} {n
       swept = rw sweeps_one (swept_from one.sweeps reached new (λ sweeps. (only sweeps).1) swept);
       says = says_after told task.speaker walked.made.messages one.messages standard_error walked.error after walked.says says;
       failed = rw (is, walked.failed);
-      alone = λ coming clears. inl (taken_alone slots (walked.alone coming) clears).0;
+      alone = λ shown clears. inl (taken_alone slots (walked.alone shown) clears).0;
       unswept = λ some. sweeps_one ∙ false_from_ne_true one.sweeps (λ sweeps. omega (arith, some, ap length (only sweeps).0));
       first = rw (is, walked.first, and_push are_missing (λ (one : Input). is_missing one.content) refl (λ one inputs. refl) walked.done input);
       rest_made = λ rest. ap (of_inputs task true) (append_assoc walked.done (input ∷ []) rest) ∙ walked.rest_made (input ∷ rest)
@@ -508,7 +533,7 @@ walk_goes_on {told_in} {told} {task} {world} {names} {name} {left} {progress} {n
       some = omega (arith, walked.some, leaves.grown);
       known = rw was (done_more told_in task.work largest_piece (progress.was_read || is_dash name) walked.done input new_sources
           (still_done told_in task.work largest_piece walked.done (λ had. ap (λ (b : Bool). b || is_dash name) had) leaves walked.known)
-          (done_with told_in (task.work input.coming) largest_piece progress.was_read name new_sources is_for walked.some is_done));
+          (done_with told_in (task.work input.shown) largest_piece progress.was_read name new_sources is_for walked.some is_done));
       asked = leaves.asked walked.asked;
       count = rw (opened_it, walked.count);
     }
@@ -536,7 +561,7 @@ walk_stops {told_in} told {task} {world} {names} {name} {left} {progress} {laid}
           (λ unread. let both = or_parts progress.was_read (is_dash name) unread in leaves.unasked both.1 ∙ walked.standard both.0) leaves.within)
           (rw before (rw walked.first at is_step))
           stops (rw before walked.says) stop
-          (swept_from (task.work input.coming).clears reached new (λ clears. (taken_alone slots (walked.alone input.coming) clears).1) swept),
+          (swept_from (task.work input.shown).clears reached new (λ clears. (taken_alone slots (walked.alone input.shown) clears).1) swept),
     )
 
 -- all names were taken

@@ -1,16 +1,15 @@
 -- What a run finds at the names that it is to read, one after another.
 use Rattle.std.specs.Prelude.{◌≡◌, ℕ, ◌+◌, Bool, true, false, ◌||◌, List, [], ◌∷◌, Option, Some, None, codes, if◌then◌else◌, bytes_eq, is_some}
-use Rattle.std.specs.Option.{unwrap_or}
 use Rattle.ports_core.specs.Inputs.{empty}
-use Rattle.ports_core.specs.Source.{Content, count_left}
+use Rattle.ports_core.specs.Source.{Content}
 
 pub record Input : Type 0 where
   -- what headers and messages call it
   pub name : List ℕ
   -- its number among the inputs, where it has one
   pub slot : Option ℕ
-  -- how many bytes it says that it has, before it is read; 0 where it doesn't say
-  pub coming : ℕ
+  -- what it shows before it is read, if it shows anything
+  pub shown : Option (List ℕ)
   -- what it holds; none where it can't be opened
   pub content : Option Content
 
@@ -22,28 +21,28 @@ abbrev pub has_dash : List (List ℕ) → Bool
 has_dash [] = false
 has_dash (name ∷ names) = is_dash name || has_dash names
 
--- how many bytes an input says that it has, where inputs tell their bytes: all, if it ends
-abbrev pub coming_of : Option Content → ℕ
-coming_of None = 0
-coming_of (Some content) = unwrap_or (count_left content) 0
+-- what an input shows, where inputs tell their bytes; one that can't be opened shows nothing
+abbrev pub shown_of : Option Content → Option (List ℕ)
+shown_of None = None
+shown_of (Some content) = content.shown
 
 abbrev pub standard_input : Content → Input
 standard_input content = record {
   name = codes "standard input";
   slot = Some 0;
-  coming = coming_of (Some content);
+  shown = content.shown;
   content = Some content;
 }
 
 -- what came in once doesn't come again: a `-` after the first is an empty input
 abbrev pub read_before : Input
-read_before = record { name = codes "standard input"; slot = None; coming = 0; content = Some empty }
+read_before = record { name = codes "standard input"; slot = None; shown = None; content = Some empty }
 
 abbrev pub file_input : List ℕ → ℕ → Option Content → Input
 file_input name slot content = record {
   name = name;
   slot = Some slot;
-  coming = coming_of content;
+  shown = shown_of content;
   content = content;
 }
 
@@ -72,14 +71,14 @@ inputs_from world was_read slot (name ∷ names) =
 abbrev pub inputs_at : World → List (List ℕ) → List Input
 inputs_at world names = inputs_from world false 1 names
 
--- an input that is read says that it has this many bytes, whatever it holds
-abbrev pub saying : ℕ → Input → Input
-saying coming input = if is_some input.slot then record input { coming = coming } else input
+-- an input that is read shows this, whatever it holds
+abbrev pub showing : Option (List ℕ) → Input → Input
+showing shown input = if is_some input.slot then record input { shown = shown } else input
 
--- the input may be the one for the name, whatever it holds and says
+-- the input may be the one for the name, whatever it holds and shows
 abbrev pub IsFor : Bool → ℕ → List ℕ → Input → Type 0
-IsFor was_read slot name input = (world : World) × (coming : ℕ)
-    × (input ≡ saying coming (input_of world was_read slot name (is_dash name)))
+IsFor was_read slot name input = (world : World) × (shown : Option (List ℕ))
+    × (input ≡ showing shown (input_of world was_read slot name (is_dash name)))
 
 abbrev pub AreFrom : Bool → ℕ → List (List ℕ) → List Input → Type 0
 AreFrom was_read slot [] inputs = inputs ≡ []
@@ -88,7 +87,7 @@ AreFrom was_read slot (name ∷ names) (input ∷ inputs) = IsFor was_read slot 
     × AreFrom (was_read || is_dash name) (next_slot slot name) names inputs
 
 -- Inputs that tell their bytes are those that are there; of others it is known only that they are inputs for these
--- names: nothing is said of their bytes, nor of how many they say that they have.
+-- names: nothing is said of their bytes, nor of what they show.
 pub record Finds (told : Bool) (world : World) (names : List (List ℕ)) (inputs : List Input) : Type 0 where
   pub are : AreFrom false 1 names inputs
   pub there : told ≡ true → inputs ≡ inputs_at world names

@@ -19,10 +19,10 @@ IsDone told work most None content sources = Unit {0}
 IsDone told work most (Some slot) content sources = (slot < length sources)
     × IsLeft told work most slot content (source_at sources slot)
 
-abbrev pub AreDone : Bool → (ℕ → Work) → ℕ → List Input → List Source → Type 0
+abbrev pub AreDone : Bool → (Option (List ℕ) → Work) → ℕ → List Input → List Source → Type 0
 AreDone told work most [] sources = Unit {0}
 AreDone told work most (input ∷ inputs) sources =
-    IsDone told (work input.coming) most input.slot input.content sources × AreDone told work most inputs sources
+    IsDone told (work input.shown) most input.slot input.content sources × AreDone told work most inputs sources
 
 -- what is left of an input by its number, where a fault stopped this step
 abbrev pub Leaves : Bool → Content → Option ℕ → List Source → Step → Type 0

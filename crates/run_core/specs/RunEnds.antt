@@ -42,21 +42,21 @@ memory_step so_far = own_step so_far so_far gets_none (record { memory = true; f
 abbrev pub header_step : Part → List ℕ → Step
 header_step so_far header = own_step so_far (after_part so_far (only_out header)) gets_bytes no_needs
 
--- One step at an input, on which this work is done, after what was written before it: there is no room to open it; or
+-- One step at an input, which shows this, after what was written before it: there is no room to open it; or
 -- none for its header, where headers are; or that is written; or its engine is called. The input didn't break, and no
 -- byte of it was taken but what came in by then; of standard input, none was read but that, and what was given back.
-pub data RunStep (told : Bool) (task : Task) (work : Work) (most : ℕ) (so_far : Part) (header : List ℕ)
+pub data RunStep (told : Bool) (task : Task) (shown : Option (List ℕ)) (most : ℕ) (so_far : Part) (header : List ℕ)
     (slot : Option ℕ) (sources : List Source) : Option Content → Step → Type 0 where
   unopened : (content : Option Content) (place : ℕ) → slot ≡ Some place → length sources ≤ place
-      → RunStep told task work most so_far header slot sources content (memory_step so_far)
+      → RunStep told task shown most so_far header slot sources content (memory_step so_far)
   unheaded : (content : Content) → task.with_header ≡ true → Leaves told content slot sources (memory_step so_far)
-      → RunStep told task work most so_far header slot sources (Some content) (memory_step so_far)
+      → RunStep told task shown most so_far header slot sources (Some content) (memory_step so_far)
   heading : (content : Content) → task.with_header ≡ true
       → Leaves told content slot sources (header_step so_far header)
-      → RunStep told task work most so_far header slot sources (Some content) (header_step so_far header)
-  calling : (content : Content) (call : Step) → IsCall work task.opening most content call
+      → RunStep told task shown most so_far header slot sources (Some content) (header_step so_far header)
+  calling : (content : Content) (call : Step) → IsCall (task.work shown) (task.opening shown) most content call
       → Leaves told content slot sources call
-      → RunStep told task work most so_far header slot sources (Some content)
+      → RunStep told task shown most so_far header slot sources (Some content)
       (step_after (after_part so_far (only_out header)) call)
 
 -- A run ended so: its inputs were done, its outcome is written, its files were removed if that is due, and standard
@@ -77,11 +77,11 @@ pub data EndsAs (told_in told : Bool) (breaks_for : ℕ → Reason → Bool) (ta
       (said error : Slot) (step : Step) (reached : List Slot)
       → inputs ≡ before ++ input ∷ after → AreDone told_in task.work largest_piece before sources
       → AreUntouched after sources
-      → RunStep told_in task (task.work input.coming) largest_piece (made_by task before).part
+      → RunStep told_in task input.shown largest_piece (made_by task before).part
       (header_text task.with_header (are_missing before) input.name) input.slot sources input.content step
       → Stops step reached fault
       → StoppedBetween step.output told (streams_with error) step.low step.high fault reached
-      → Swept (task.work input.coming).clears 2 reached new
+      → Swept (task.work input.shown).clears 2 reached new
       → SaysAll told task.speaker (made_by task before).messages standard_error said
       → IsWhy breaks_for fault why → Tells told task.speaker why fault (output_named new fault) said error
       → status ≡ status_after fault task.speaker.calling why

@@ -1,7 +1,8 @@
 -- What each step of a run over its inputs leaves.
-use Rattle.std.specs.Prelude.{◌≡◌, ℕ, ◌<◌, ◌^◌, Bool, false, List, [], length, Option}
+use Rattle.std.specs.Prelude.{◌≡◌, ℕ, ◌<◌, ◌^◌, Bool, true, false, List, [], length, Option, Some, None}
 use Rattle.ports_core.specs.Slot.{Slot}
 use Rattle.ports_core.specs.Source.{Content, Source, source_at}
+use Rattle.ports_core.specs.Inputs.{HasLooked}
 use Rattle.ports_core.specs.Part.{OutputsAt, StoppedBetween, nothing}
 use Rattle.ports_core.specs.Swept.{Swept}
 use Rattle.ports_core.specs.Work.{Work, Needs}
@@ -29,6 +30,16 @@ pub record OpensShort (asked : Work) (opening : Needs) (told : Bool) (old new : 
   pub why : Stops (call_of asked opening [] nothing (asked.settled [])) reached fault
   pub stop : StoppedBetween asked.means.output told old nothing (asked.settled []) fault reached
   pub swept : Swept asked.clears (length old) reached new
+
+-- what a source shows, as it is where inputs tell their bytes; one that is no input shows nothing
+abbrev pub IsShown : Bool → Option ℕ → List Source → Option (List ℕ) → Type 0
+IsShown told None sources shown = shown ≡ None
+IsShown told (Some slot) sources shown = told ≡ true → shown ≡ (source_at sources slot).left.shown
+
+-- at most looks were made at a source, and nothing else was done
+abbrev pub OnlyLooked : ℕ → Option ℕ → List Source → List Source → Type 0
+OnlyLooked most None old new = new ≡ old
+OnlyLooked most (Some slot) old new = HasLooked most slot old new
 
 -- the input for a name, where inputs tell what they have
 abbrev pub world_of : (ℕ → List ℕ → Option Content) → List Source → World

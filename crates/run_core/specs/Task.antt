@@ -15,12 +15,12 @@ use Rattle.run_core.specs.Input.{Input}
 pub record Task : Type 0 where
   -- who speaks in its messages
   pub speaker : Speaker
-  -- what it makes of an input which says that it has this many bytes; 0 where it doesn't say
-  pub work : ℕ → Work
+  -- what it makes of an input which shows this before it is read, or nothing
+  pub work : Option (List ℕ) → Work
   -- what opening its engine may need
-  pub opening : Needs
-  -- what the message of a verdict with which that work ends speaks of
-  pub subject : Verdict → List ℕ
+  pub opening : Option (List ℕ) → Needs
+  -- what the message of a verdict with which that work ends speaks of, where the input has this name
+  pub subject : Verdict → List ℕ → List ℕ
   -- whether a header goes before each input
   pub with_header : Bool
 
@@ -57,9 +57,9 @@ abbrev pub header_text : Bool → Bool → List ℕ → List ℕ
 header_text with_header is_first name = if with_header then header_of name is_first else []
 
 -- the message for the verdict with which the work ends, if there is one
-abbrev pub verdict_messages : Task → Option Verdict → List Message
-verdict_messages task None = []
-verdict_messages task (Some verdict) = message_of (fault_is.Verdict verdict) (task.subject verdict) ∷ []
+abbrev pub verdict_messages : Task → List ℕ → Option Verdict → List Message
+verdict_messages task name None = []
+verdict_messages task name (Some verdict) = message_of (fault_is.Verdict verdict) (task.subject verdict name) ∷ []
 
 -- the work ends with a verdict, or the input breaks off before it is done
 abbrev pub ends_badly : Work → Content → Bool
@@ -73,14 +73,14 @@ of_content task work is_first name None =
     record no_outcome { messages = message_of (Open 0) name ∷ []; failed = true }
 of_content task work is_first name (Some content) = record {
   part = after_part (only_out (header_text task.with_header is_first name)) (made_of work content);
-  messages = if is_enough work content then verdict_messages task (work.verdict content.bytes)
+  messages = if is_enough work content then verdict_messages task name (work.verdict content.bytes)
       else message_of (Read 0) name ∷ [];
   failed = ends_badly work content;
   sweeps = work.clears && ends_badly work content;
 }
 
 abbrev pub of_input : Task → Bool → Input → Outcome
-of_input task is_first input = of_content task (task.work input.coming) is_first input.name input.content
+of_input task is_first input = of_content task (task.work input.shown) is_first input.name input.content
 
 abbrev pub is_missing : Option Content → Bool
 is_missing None = true

@@ -1,9 +1,10 @@
-ghost use Rattle.std.specs.Prelude.{◌≡◌, ◌≤◌, length, IfOk, IfErr, IsTrue};
+ghost use Rattle.std.specs.Prelude.{◌≡◌, ◌≤◌, ◌<◌, ℕ, List, Option, length, IfOk, IfErr, IfSome, IsTrue};
+ghost use Rattle.ports_core.specs.Source.{is_readable};
 ghost use Rattle.ports_core.specs.Slot.{is_writable};
 ghost use Rattle.run_core.specs.Task.{Task};
-ghost use Rattle.run_core.specs.RunSteps.{Opens, OpensShort};
+ghost use Rattle.run_core.specs.RunSteps.{IsShown, OnlyLooked, Opens, OpensShort};
 
-use ports_core::{Fault, Guarded, Outs, Speaker, Stage, Verdict};
+use ports_core::{Fault, Guarded, Inputs, Outs, Speaker, Stage, Verdict};
 use std::alloc::Global;
 
 /// What a run knows of a tool that feeds each of its inputs to an engine of its own.
@@ -22,28 +23,34 @@ pub trait Adapter {
     fn with_header(&self) -> bool
         ensures { result ≡ (task self.now).with_header };
 
-    /// The name in the message for a verdict with which the work on an input ends.
-    fn subject<'a>(&'a self, verdict: &Verdict) -> &'a str
-        ensures { result.now ≡ (task self.now).subject verdict.now };
+    /// The name in the message for a verdict with which the work on an input of this name ends.
+    fn subject<'a>(&'a self, verdict: &Verdict, name: &'a str) -> &'a str
+        ensures { result.now ≡ (task self.now).subject verdict.now name.now };
 
-    /// Opens an engine for one input, which says that it has `coming` bytes; 0 where it doesn't say. It may have more or
-    /// fewer.
+    /// Opens an engine for the input of a source, by what that shows, which it may look at; it takes no byte of it. Without
+    /// a source it is an empty input.
     ///
     /// # Errors
     ///
     /// `Memory` where there is no room for it, `Open` where one of its first files can't be opened, `Write` where an output
     /// broke; each only where the task says that opening may need it. No file is left then, if the work clears them.
-    fn open<O: Outs>(
+    fn open<I: Inputs, O: Outs>(
         &self,
         alloc: Global,
-        coming: u64,
+        source: Option<usize>,
+        buffer: &mut [u8],
+        inputs: &mut I,
         outs: &mut O,
     ) -> Result<Guarded<Self::Driven>, Fault>
+        requires room { 0 < length buffer.old }
+        requires input { IfSome source (λ slot. IsTrue (is_readable (I.sources inputs.old) slot)) }
         requires streams { 2 ≤ length (O.slots outs.old) }
         requires output { IsTrue (is_writable (O.slots outs.old) 0) }
-        ensures ok { IfOk result (Opens Self.Driven.terms ((task self.now).work coming) O.told (O.slots outs.old)
-            (O.slots outs.new)) }
-        ensures err { IfErr result
-            (OpensShort ((task self.now).work coming) (task self.now).opening O.told (O.slots outs.old)
-            (O.slots outs.new)) };
+        ensures opens { (shown : Option (List ℕ)) × IsShown I.told source (I.sources inputs.old) shown
+            × IfOk result (Opens Self.Driven.terms ((task self.now).work shown) O.told (O.slots outs.old)
+            (O.slots outs.new))
+            × IfErr result (OpensShort ((task self.now).work shown) ((task self.now).opening shown) O.told
+            (O.slots outs.old) (O.slots outs.new)) }
+        ensures looked { OnlyLooked (length buffer.old) source (I.sources inputs.old) (I.sources inputs.new) }
+        ensures laid { I.laid inputs.new ≡ I.laid inputs.old };
 }

@@ -1,5 +1,5 @@
 //! The inputs of a run, one after another.
-ghost use Rattle.std.specs.Prelude.{◌≡◌, ◌<◌, ◌≤◌, ◌^◌, ◌||◌, ℕ, List, [], Some, None, true, false, map, length, IfOk, IfErr, IfSome, OnOk, OnErr, IsTrue};
+ghost use Rattle.std.specs.Prelude.{◌≡◌, ◌<◌, ◌≤◌, ◌^◌, ◌||◌, ℕ, List, [], Option, Some, None, true, false, map, length, IfOk, IfErr, IfSome, OnOk, OnErr, IsTrue};
 ghost use Rattle.ports_core.specs.Slot.{Slot, is_open, slot_at, is_writable, streams, told_of, with_written};
 ghost use Rattle.ports_core.specs.Source.{source_at, is_readable, IsFresh};
 ghost use Rattle.ports_core.specs.Part.{Part, OutputsAt};
@@ -8,12 +8,12 @@ ghost use Rattle.run_core.specs.Feeding.{FedAs, IsUnread, is_stop};
 ghost use Rattle.run_core.specs.Input.{has_dash, is_dash, next_slot};
 ghost use Rattle.run_core.specs.Reading.{IsDone, Leaves, count_after};
 ghost use Rattle.ports_core.specs.Inputs.{AsksAtMost, largest_piece};
-ghost use Rattle.run_core.specs.inner.RunSteps.{TakesOne, HasStreams, HeaderFails, IsComing, KeepsOther, OfName, OfSource, TookAll, TookInput, input_from, standard_source};
+ghost use Rattle.run_core.specs.inner.RunSteps.{TakesOne, HasStreams, HeaderFails, KeepsOther, OfName, OfSource, TookAll, TookInput, input_from, standard_source};
 ghost use Rattle.run_core.specs.RunEnds.{EndsAs, RunsOver};
 ghost use Rattle.ports_core.specs.Message.{SaysOn};
 ghost use Rattle.ports_core.specs.Streams.{streams_with};
 ghost use Rattle.ports_core.specs.Text.{message_of};
-ghost use Rattle.run_core.specs.RunSteps.{world_of};
+ghost use Rattle.run_core.specs.RunSteps.{IsShown, world_of};
 ghost use Rattle.run_core.specs.Task.{Task, header_text, of_content, of_input};
 
 use crate::adapter::Adapter;
@@ -54,7 +54,7 @@ pub fn run_inputs<A: Adapter, I: Inputs, O: Outs>(
 ) -> u8
     requires fresh { IsFresh (I.sources inputs.old) }
     requires outputs { O.slots outs.old ≡ streams }
-    requires alone { (coming : ℕ) → ((A.task adapter.now).work coming).clears ≡ true
+    requires alone { (shown : Option (List ℕ)) → ((A.task adapter.now).work shown).clears ≡ true
         → length (map (λ name. name.now) names.now) ≤ 1 }
     ensures untouched { has_dash (map (λ name. name.now) names.now) ≡ false
         → source_at (I.sources inputs.new) 0 ≡ source_at (I.sources inputs.old) 0 }
@@ -91,7 +91,7 @@ fn take_names<A: Adapter, I: Inputs, O: Outs>(
     requires room { length buffer.old ≡ largest_piece }
     requires fresh { IsFresh (I.sources inputs.old) }
     requires outputs { O.slots outs.old ≡ streams }
-    requires alone { (coming : ℕ) → ((A.task job.now.adapter.now).work coming).clears ≡ true
+    requires alone { (shown : Option (List ℕ)) → ((A.task job.now.adapter.now).work shown).clears ≡ true
         → length (map (λ name. name.now) names.now) ≤ 1 }
     ensures took { RunsOver I.told (world_of (I.laid inputs.old) (I.sources inputs.old))
         (map (λ name. name.now) names.now)
@@ -212,11 +212,11 @@ fn take_input<A: Adapter, I: Inputs, O: Outs>(
     requires outputs { HasStreams O.told (O.slots outs.old) }
     ensures took { (so_far : Part) (error : Slot) → is_open error.state ≡ true
         → OutputsAt O.told (streams_with error) so_far (O.slots outs.old)
-        → (coming : ℕ) × IsComing I.told source (I.sources inputs.old) coming
+        → (shown : Option (List ℕ)) × IsShown I.told source (I.sources inputs.old) shown
         × OfSource I.told source (I.sources inputs.old)
         (λ content. TookInput I.told O.told (A.task job.now.adapter.now) (length buffer.old)
-        (input_from name.now source coming content)
-        (of_content (A.task job.now.adapter.now) ((A.task job.now.adapter.now).work coming) progress.is_first name.now
+        (input_from name.now source shown content)
+        (of_content (A.task job.now.adapter.now) ((A.task job.now.adapter.now).work shown) progress.is_first name.now
         (Some content)) progress.is_first progress.failed progress.was_read so_far error (length (O.slots outs.old))
         (I.sources inputs.new) (O.slots outs.new) result) }
     ensures asked { AsksAtMost (length buffer.old) (I.sources inputs.old)
@@ -224,13 +224,12 @@ fn take_input<A: Adapter, I: Inputs, O: Outs>(
     ensures others { KeepsOther source (I.sources inputs.old) (I.sources inputs.new) }
     ensures laid { I.laid inputs.new ≡ I.laid inputs.old }
 {
-    let coming = coming_from(source, inputs);
     put_header(job, name, progress.is_first, outs)?;
     let after = Progress {
         is_first: false,
         ..progress
     };
-    match feed_source(job, source, coming, buffer, inputs, outs) {
+    match feed_source(job, source, buffer, inputs, outs) {
         Ok(Fed::Whole) => Ok(after),
         Ok(Fed::Enough) => Ok(after),
         Ok(Fed::Broken) => {
@@ -244,7 +243,7 @@ fn take_input<A: Adapter, I: Inputs, O: Outs>(
             let Fault::Verdict(verdict) = fault else {
                 return Err(fault);
             };
-            let subject = job.adapter.subject(&verdict);
+            let subject = job.adapter.subject(&verdict, name);
             say(
                 job.alloc,
                 job.adapter.speaker(),
@@ -316,7 +315,7 @@ fn put_header<A: Adapter, O: Outs>(
     Ok(write_whole(outs, 0, &text)?)
 }
 
-/// Feeds all of a source, which says that it has `coming` bytes, to an engine of its own.
+/// Feeds all of a source to an engine of its own, which is opened by what that shows.
 ///
 /// # Errors
 ///
@@ -324,7 +323,6 @@ fn put_header<A: Adapter, O: Outs>(
 fn feed_source<A: Adapter, I: Inputs, O: Outs>(
     job: &Job<'_, A>,
     source: Option<usize>,
-    coming: u64,
     buffer: &mut [u8],
     inputs: &mut I,
     outs: &mut O,
@@ -334,32 +332,22 @@ fn feed_source<A: Adapter, I: Inputs, O: Outs>(
     requires unread { IfSome source (λ slot. IsUnread (source_at (I.sources inputs.old) slot)) }
     requires streams { 2 ≤ length (O.slots outs.old) }
     requires output { IsTrue (is_writable (O.slots outs.old) 0) }
-    ensures fed { OfSource I.told source (I.sources inputs.old)
-        (λ content. FedAs O.told (O.slots outs.old) ((A.task job.now.adapter.now).work coming)
-        (A.task job.now.adapter.now).opening (length buffer.old) content
+    ensures fed { (shown : Option (List ℕ)) × IsShown I.told source (I.sources inputs.old) shown
+        × OfSource I.told source (I.sources inputs.old)
+        (λ content. FedAs O.told (O.slots outs.old) ((A.task job.now.adapter.now).work shown)
+        ((A.task job.now.adapter.now).opening shown) (length buffer.old) content
         (Leaves I.told content source (I.sources inputs.new)) (O.slots outs.new) result
         × (is_stop result ≡ false
-        → IsDone I.told ((A.task job.now.adapter.now).work coming) (length buffer.old) source (Some content)
+        → IsDone I.told ((A.task job.now.adapter.now).work shown) (length buffer.old) source (Some content)
         (I.sources inputs.new))) }
     ensures asked { AsksAtMost (length buffer.old) (I.sources inputs.old)
         → AsksAtMost (length buffer.old) (I.sources inputs.new) }
     ensures others { KeepsOther source (I.sources inputs.old) (I.sources inputs.new) }
     ensures laid { I.laid inputs.new ≡ I.laid inputs.old }
 {
-    let mut engine = job.adapter.open(job.alloc, coming, outs)?;
+    let mut engine = job.adapter.open(job.alloc, source, buffer, inputs, outs)?;
     match source {
         Some(slot) => feed_input(&mut engine, slot, buffer, inputs, outs),
         None => feed_nothing(&mut engine, outs),
-    }
-}
-
-/// How many bytes a source says that it has left; 0 where it doesn't say.
-fn coming_from<I: Inputs>(source: Option<usize>, inputs: &I) -> u64
-    requires input { IfSome source (λ slot. IsTrue (is_readable (I.sources inputs.now) slot)) }
-    ensures { IsComing I.told source (I.sources inputs.now) result }
-{
-    match source {
-        Some(slot) => inputs.left(slot).unwrap_or(0),
-        None => 0,
     }
 }

@@ -151,9 +151,9 @@ module _ (chunker : ChunkerState) (front place : ℕ) (stands : StandsAfter chun
     going = inr open_yet;
   }
 
-pub loads_front : {told : Bool} {most slot front place : ℕ} {Before : List ℕ → Type 0} {chunker inside : ChunkerState} {old new : List Source}
-    → inside ≡ chunker → StandsAfter chunker front place → Holds chunker [] → PassesOver told most slot front Before old new
-    → Loads ways.terms told most slot front (way.Chunks chunker) (way.Chunks (passed_to inside front place)) old new
+pub loads_front : {told : Bool} {slot front place : ℕ} {Before : List ℕ → Type 0} {chunker inside : ChunkerState} {old new : List Source}
+    → inside ≡ chunker → StandsAfter chunker front place → Holds chunker [] → PassesOver told slot front Before old new
+    → Loads ways.terms told slot front (way.Chunks chunker) (way.Chunks (passed_to inside front place)) old new
 loads_front {front = front} {place} {chunker = chunker} is stands fresh passes = passes_so _ passes (λ x long so.
     subst (λ next. TookIn ways.terms (way.Chunks chunker) (way.Chunks (passed_to next front place)) x) (sym is)
     (took_in chunker front place stands fresh x long))

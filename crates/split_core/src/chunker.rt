@@ -111,25 +111,18 @@ impl Chunker {
 
     /// Passes over what stands before the chunk that is written, where bytes are counted and the input said its length, and
     /// returns how many bytes these are. 0 where the chunk is empty, or they can't be passed over.
-    pub(crate) fn load<I: Inputs>(&mut self, slot: usize, buffer: &mut [u8], inputs: &mut I) -> u64
-        requires room { 0 < length buffer.old }
+    pub(crate) fn load<I: Inputs>(&mut self, slot: usize, inputs: &mut I) -> u64
         requires fresh { Holds self.old [] }
         requires none { total self.old ≡ 0 }
         requires input { IsTrue (is_readable (I.sources inputs.old) slot) }
-        ensures loads { Loads ways.terms I.told (length buffer.old) slot result (way.Chunks self.old)
-            (way.Chunks self.new) (I.sources inputs.old) (I.sources inputs.new) }
+        ensures loads { Loads ways.terms I.told slot result (way.Chunks self.old) (way.Chunks self.new)
+            (I.sources inputs.old) (I.sources inputs.new) }
         ensures laid { I.laid inputs.new ≡ I.laid inputs.old }
     {
         let Some((front, place)) = self.front() else {
             return 0;
         };
-        let Some(left) = inputs.left(slot) else {
-            return 0;
-        };
-        if left < front {
-            return 0;
-        }
-        if !pass_over(slot, front, front, buffer, inputs) {
+        if !pass_over(slot, front, inputs) {
             return 0;
         }
         self.cutter.at = front;

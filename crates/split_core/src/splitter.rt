@@ -120,11 +120,11 @@ impl Stage for Splitter {
     }
 
     /// Where one chunk is written, what stands before it.
-    fn load<I: Inputs>(&mut self, slot: usize, buffer: &mut [u8], inputs: &mut I) -> u64 {
+    fn load<I: Inputs>(&mut self, slot: usize, inputs: &mut I) -> u64 {
         let Splitter::Chunks(chunker) = self else {
             return 0;
         };
-        chunker.load(slot, buffer, inputs)
+        chunker.load(slot, inputs)
     }
 
     fn finish<O: Outs>(&mut self, outs: &mut O) -> Result<(), Fault> {

@@ -15,7 +15,7 @@ use Rattle.ports_core.specs.declared.fault.Fault.TheVariants.{Memory, Write}
 use Rattle.run_core.specs.declared.inputs.Progress.{Progress}
 use Rattle.run_core.specs.Feeding.{Step, Stops}
 use Rattle.ports_core.specs.Inputs.{KeepsOthers, empty, largest_piece, AsksAtMost}
-use Rattle.run_core.specs.Input.{Input, IsFor, World, coming_of, is_dash, input_of, next_slot}
+use Rattle.run_core.specs.Input.{Input, IsFor, World, is_dash, input_of, next_slot}
 use Rattle.run_core.specs.Reading.{AreDone, AreUntouched, IsDone}
 use Rattle.run_core.specs.RunEnds.{RunStep}
 use Rattle.ports_core.specs.Streams.{streams_with, standard_error}
@@ -46,8 +46,8 @@ pub data HeaderFails (told : Bool) (text : List ℕ) (old new : List Slot) : Fau
   broke : (n : ℕ) → BrokeAfter told old new 0 text n → HeaderFails told text old new (Write 0)
 
 -- an input that a name stands for, where it can be read
-abbrev pub input_from : List ℕ → Option ℕ → ℕ → Content → Input
-input_from name slot coming content = record { name = name; slot = slot; coming = coming; content = Some content }
+abbrev pub input_from : List ℕ → Option ℕ → Option (List ℕ) → Content → Input
+input_from name slot shown content = record { name = name; slot = slot; shown = shown; content = Some content }
 
 -- One input was done, with this outcome, or a fault stopped the run there: whether a header is the first was told, and
 -- whether a fault was, and standard input was read or not. The files that may be removed are those from `first` on.
@@ -60,18 +60,18 @@ pub data TookInput (told_in told : Bool) (task : Task) (most : ℕ) (input : Inp
         is_first = is_first && is_missing input.content;
         failed = failed || outcome.failed;
       }
-      → IsDone told_in (task.work input.coming) most input.slot input.content sources
+      → IsDone told_in (task.work input.shown) most input.slot input.content sources
       → SaysAll told task.speaker outcome.messages error after
       → OutputsAt told (streams_with after) (after_part so_far outcome.part) reached
       → Swept outcome.sweeps first reached new
       → TookInput told_in told task most input outcome is_first failed was_read so_far error first sources new
       (Ok next)
   cut_off : (fault : Fault) (step : Step) (reached : List Slot)
-      → RunStep told_in task (task.work input.coming) most so_far
+      → RunStep told_in task input.shown most so_far
       (header_text task.with_header is_first input.name) input.slot sources input.content step
       → Stops step reached fault
       → StoppedBetween step.output told (streams_with error) step.low step.high fault reached
-      → Swept (task.work input.coming).clears first reached new
+      → Swept (task.work input.shown).clears first reached new
       → TookInput told_in told task most input outcome is_first failed was_read so_far error first sources new
       (Err fault)
 
@@ -88,11 +88,11 @@ pub data TookAll (told_in told : Bool) (task : Task) (inputs : List Input) (sour
       (reached : List Slot)
       → inputs ≡ before ++ input ∷ after → AreDone told_in task.work largest_piece before sources
       → AreUntouched after sources
-      → RunStep told_in task (task.work input.coming) largest_piece (made_by task before).part
+      → RunStep told_in task input.shown largest_piece (made_by task before).part
       (header_text task.with_header (are_missing before) input.name) input.slot sources input.content step
       → Stops step reached fault → SaysAll told task.speaker (made_by task before).messages standard_error error
       → StoppedBetween step.output told (streams_with error) step.low step.high fault reached
-      → Swept (task.work input.coming).clears 2 reached new
+      → Swept (task.work input.shown).clears 2 reached new
       → TookAll told_in told task inputs sources new (Err fault)
   not_begun : new ≡ streams → AreUntouched inputs sources → length sources ≡ 1
       → TookAll told_in told task inputs sources new (Err Memory)
@@ -102,11 +102,6 @@ abbrev pub OfSource : Bool → Option ℕ → List Source → (Content → Type 
 OfSource told None sources P = P empty
 OfSource told (Some slot) sources P = (content : Content) × (told ≡ true → content ≡ (source_at sources slot).left)
     × P content
-
--- how many bytes a source says that it has; where inputs tell their bytes, as it is
-abbrev pub IsComing : Bool → Option ℕ → List Source → ℕ → Type 0
-IsComing told None sources coming = coming ≡ 0
-IsComing told (Some slot) sources coming = told ≡ true → coming ≡ coming_of (Some (source_at sources slot).left)
 
 abbrev pub OfName : Bool → World → Bool → ℕ → List ℕ → (Input → Type 0) → Type 0
 OfName told world was_read slot name P = (input : Input) × IsFor was_read slot name input

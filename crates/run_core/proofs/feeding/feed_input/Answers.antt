@@ -1,5 +1,5 @@
 use Rattle.std.proofs.lemmas.List.{length-take-le, take_at}
-use Rattle.ports_core.proofs.LoadLemmas.{looked_readable, passed_at}
+use Rattle.ports_core.proofs.LoadLemmas.{passed_at}
 use Rattle.std.proofs.Common.{◌&&◌, not, Err, inl, inr, ◌≡◌, ◌≤◌, drop, length, ◌++◌, ◌∙◌, [], true, false, sym, ap, refl, take, arith, append_assoc, append-nil, length-append}
 use Rattle.std.proofs.lemmas.Bool.{false≢true, not-false}
 use Rattle.ports_core.specs.Source.{gets_back, skips, Source, source_at}
@@ -17,7 +17,7 @@ pub pieces-init : goal.pieces-init
 pieces-init g c =
     let loads = c.load.ensures.loads in
     let took = loads.keeps in
-    let passed = passed_at _ _ _ _ (looked_readable loads.looked c.requires.input) loads.passed ∙ ap (skips c.load.result) loads.looked.looked in record {
+    let passed = passed_at _ _ _ _ c.requires.input loads.passed in record {
       fed = loads.front;
       feeds = record {
         same = took.same;
@@ -27,7 +27,7 @@ pieces-init g c =
         bound = omega (arith, c.load.ensures.fed, loads.few);
       };
       readable = rw (passed, c.requires.input);
-      others = keeps_again _ _ _ _ loads.looked.others (keeps_others _ _ _ _ loads.passed);
+      others = keeps_others _ _ _ _ loads.passed;
       read = λ told. record { bytes = loads.there told; breaks_off = rw passed };
       took = λ told. record {
         taken = rw (passed, loads.there told, loads.long, take_at loads.front _ (length loads.front) refl);
@@ -39,9 +39,9 @@ pieces-init g c =
         | inl none ↦ omega (arith, ap length none, ap length spare.joined ∙ length-append spare.used spare.rest, spare.long)
         | inr going ↦ omega (arith, none_spare _ loads.front n (g.met.S.Stage.lawful _) going spare)
       ];
-      room = c.load.auto.buffer;
+      room = refl;
       needed = needed_front took.going;
-      asked = λ within. omega (arith, ap (λ (source : Source). source.asked) passed, within, loads.looked.within);
+      asked = λ within. omega (arith, ap (λ (source : Source). source.asked) passed, within);
       laid = c.load.ensures.laid;
       ready = took.ready _ c.requires.output;
     }
@@ -163,7 +163,7 @@ returns-in-Err-feed g c =
               λ told unread standard. omega (arith, (takes_more _ (so_far.took told) so_far.readable (c.in-Ok.ensures.bytes told) c.in-Ok.ensures.rest).far unread),
             )
                 c.in-Err-feed.ensures.passes c.given_up.ensures.judged c.given_up.ensures.swept),
-            λ ends. rw (← so_far.feeds.same) (told_by_complete (source_at (g.I.Inputs.sources c.read_part.new.inputs) c.args.slot) rest (g.met.S.Stage.lawful _) (settles ends).2.0 bytes),
+            λ ends. rw (← so_far.feeds.same) (told_by_complete content (source_at (g.I.Inputs.sources c.read_part.new.inputs) c.args.slot) rest (g.met.S.Stage.lawful _) (settles ends).2.0 bytes),
           ));
       others = keeps_again _ _ _ _ so_far.others (keeps_others _ _ _ _ c.in-Ok.ensures.rest);
       reads = λ told. (
@@ -214,7 +214,7 @@ returns g c =
                   },
                   λ told unread. rw used (read_to_used spare few (so_far.took told) unread so_far.readable back),
                 ) c.end-2.ensures,
-            λ ends. rw (← so_far.feeds.same) (told_by_complete (source_at (g.I.Inputs.sources c.give_back.new.self) c.args.slot) rest (g.met.S.Stage.lawful _) done bytes),
+            λ ends. rw (← so_far.feeds.same) (told_by_complete content (source_at (g.I.Inputs.sources c.give_back.new.self) c.args.slot) rest (g.met.S.Stage.lawful _) done bytes),
           ));
       reads = λ told. (
         spare.used,

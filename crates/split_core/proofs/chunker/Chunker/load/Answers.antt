@@ -1,20 +1,11 @@
-use Rattle.std.proofs.Common.{IfSome, arith, subst}
-use Rattle.ports_core.proofs.LoadLemmas.{has_left, loads_none, loads_still, passes_by}
+use Rattle.std.proofs.Common.{IfSome, subst}
+use Rattle.ports_core.proofs.LoadLemmas.{loads_none, loads_still, passes_by}
 use Rattle.split_core.specs.inner.Chunker.{StandsAfter}
 use Rattle.split_core.proofs.FrontLemmas.{loads_front}
 use Rattle.split_core.proofs.chunker.Chunker.load.Goals as goal
 
 pub returns-in_default-clause-loads : goal.returns-in_default-clause-loads
-returns-in_default-clause-loads g c = loads_none _ _ _ c.requires.fresh c.requires.none
-
-pub returns-in_default-left-clause-loads : goal.returns-in_default-left-clause-loads
-returns-in_default-left-clause-loads g c = loads_none _ _ _ c.requires.fresh c.requires.none
-
-pub returns-then-left-front-clause-loads : goal.returns-then-left-front-clause-loads
-returns-then-left-front-clause-loads g c = loads_none _ _ _ c.requires.fresh c.requires.none
-
-pub pass_over-requires-clause-has : goal.pass_over-requires-clause-has
-pass_over-requires-clause-has g c tells = omega (arith, has_left _ c.left.ensures c.in-Some-left.is tells, c.if-left-front.false)
+returns-in_default-clause-loads g c = loads_none _ _ c.requires.fresh c.requires.none
 
 pub returns-then-not-pass_over-clause-loads : goal.returns-then-not-pass_over-clause-loads
 returns-then-not-pass_over-clause-loads g c = loads_still _ c.requires.fresh c.requires.none
