@@ -44,7 +44,7 @@ standing_of (Some broke) = lost_as broke.is_gone
 -- how an output stands that broke for this reason
 abbrev pub lost_for : Reason → Standing
 lost_for reason.Gone = Gone
-lost_for other = Broken
+lost_for why = Broken
 
 -- an output stands so for a reason for which it can break
 abbrev pub StandsFor : (Reason → Bool) → Standing → Type 0
