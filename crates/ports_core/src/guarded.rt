@@ -86,7 +86,7 @@ impl<S: Stage> Guarded<S> {
     /// part is wanted, or what stands before a part that is wanted alone. It returns how many bytes it took in; they are passed
     /// over, so that the reads that follow give what comes after them. 0 where it took in none, and the input is to be read
     /// from its front.
-    pub fn load<I: Inputs>(&mut self, slot: usize, inputs: &mut I) -> u64
+    pub fn load<I: Inputs>(&mut self, slot: usize, most: usize, inputs: &mut I) -> u64
         requires fresh { HoldsIn S.terms.Holds self.old [] }
         requires input { IsTrue (is_readable (I.sources inputs.old) slot) }
         ensures loads { Loads S.terms I.told slot result self.old.stage self.new.stage (I.sources inputs.old)
@@ -95,7 +95,7 @@ impl<S: Stage> Guarded<S> {
         ensures live { self.new.is_over ≡ false }
         ensures laid { I.laid inputs.new ≡ I.laid inputs.old }
     {
-        self.fed = self.stage.load(slot, inputs);
+        self.fed = self.stage.load(slot, most, inputs);
         self.fed
     }
 

@@ -25,7 +25,7 @@ pub trait Stage {
             (IsMetWith terms piece.now self.old) result };
 
     /// Takes in bytes that an input has left, before any piece, as `Guarded::load`. By itself it takes in none.
-    fn load<I: Inputs>(&mut self, slot: usize, inputs: &mut I) -> u64
+    fn load<I: Inputs>(&mut self, slot: usize, most: usize, inputs: &mut I) -> u64
         requires fresh { terms.Holds self.old [] }
         requires none { terms.size self.old ≡ 0 }
         requires input { IsTrue (is_readable (I.sources inputs.old) slot) }
@@ -33,7 +33,7 @@ pub trait Stage {
             (I.sources inputs.new) }
         ensures laid { I.laid inputs.new ≡ I.laid inputs.old }
     {
-        let _ = slot;
+        let _ = (slot, most);
         let _ = inputs;
         0
     }

@@ -68,7 +68,7 @@ pub fn feed_input<S: Stage, I: Inputs, O: Outs>(
     ensures laid { I.laid inputs.new ≡ I.laid inputs.old }
     ensures others { KeepsOthers slot (I.sources inputs.old) (I.sources inputs.new) }
 {
-    engine.load(slot, inputs);
+    engine.load(slot, buffer.len(), inputs);
     'pieces: while !engine.done() {
         let size = piece_size(slot, engine.wanted(), buffer.len());
         let n = match read_part(slot, size, buffer, inputs) {

@@ -111,7 +111,7 @@ impl Chunker {
 
     /// Passes over what stands before the chunk that is written, where bytes are counted and the input said its length, and
     /// returns how many bytes these are. 0 where the chunk is empty, or they can't be passed over.
-    pub(crate) fn load<I: Inputs>(&mut self, slot: usize, inputs: &mut I) -> u64
+    pub(crate) fn load<I: Inputs>(&mut self, slot: usize, most: usize, inputs: &mut I) -> u64
         requires fresh { Holds self.old [] }
         requires none { total self.old ≡ 0 }
         requires input { IsTrue (is_readable (I.sources inputs.old) slot) }
@@ -122,7 +122,7 @@ impl Chunker {
         let Some((front, place)) = self.front() else {
             return 0;
         };
-        if !pass_over(slot, front, inputs) {
+        if !pass_over(slot, front, most, inputs) {
             return 0;
         }
         self.cutter.at = front;

@@ -120,11 +120,11 @@ impl Stage for Splitter {
     }
 
     /// Where one chunk is written, what stands before it.
-    fn load<I: Inputs>(&mut self, slot: usize, inputs: &mut I) -> u64 {
+    fn load<I: Inputs>(&mut self, slot: usize, most: usize, inputs: &mut I) -> u64 {
         let Splitter::Chunks(chunker) = self else {
             return 0;
         };
-        chunker.load(slot, inputs)
+        chunker.load(slot, most, inputs)
     }
 
     fn finish<O: Outs>(&mut self, outs: &mut O) -> Result<(), Fault> {

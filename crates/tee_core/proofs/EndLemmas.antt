@@ -4,7 +4,7 @@ use Rattle.std.proofs.Common.{◌≡◌, ℕ, ◌+◌, ◌<◌, ◌≤◌, ◌^�
 use Rattle.std.specs.List.{concat}
 use Rattle.std.proofs.lemmas.Bool.{false≢true}
 use Rattle.ports_core.specs.Slot.{Slot, changed_at, adds, closes, opened, streams, told_of}
-use Rattle.ports_core.specs.Source.{Content, Source, source_at, is_readable, fails, gives, BrokeOff, Gave, IsFresh}
+use Rattle.ports_core.specs.Source.{Content, Source, source_at, unshown, is_readable, fails, gives, BrokeOff, Gave, IsFresh}
 use Rattle.ports_core.specs.declared.fault.Fault.{Fault}
 use Rattle.ports_core.specs.declared.fault.Fault.TheVariants.{Read, Memory}
 use Rattle.ports_core.specs.declared.on_broken.OnBroken.{OnBroken}
@@ -39,7 +39,7 @@ SeenWhole told there x breaks source = (content : Content) × (told ≡ true →
 whole : (told : Bool) (there : Content) (x : List ℕ) (breaks : Bool) (source : Source) → (told ≡ true → (there.bytes ≡ x) × (there.breaks_off ≡ breaks) × (source.left.bytes ≡ []))
     → ((content : Content) → (told ≡ false → content.breaks_off ≡ breaks) → CameFrom told content source) → SeenWhole told there x breaks source
 whole true there x breaks source has came = let had = has refl in (there, (λ t. refl), had.0, had.1, (λ t. had.2), came there (λ off. absurd (false≢true (sym off))))
-whole false there x breaks source has came = (record { bytes = x; breaks_off = breaks }, (λ t. absurd (false≢true t)), refl, refl, (λ t. absurd (false≢true t)), came _ (λ off. refl))
+whole false there x breaks source has came = (record { bytes = x; breaks_off = breaks; shown = None }, (λ t. absurd (false≢true t)), refl, refl, (λ t. absurd (false≢true t)), came _ (λ off. refl))
 
 -- the read failed
 pub seen_broken : (told : Bool) (there : Content) (x : List ℕ) (size : ℕ) (sources new : List Source) → (told ≡ true → HasRead there x 0 sources) → IsTrue (is_readable sources 0)
@@ -62,7 +62,7 @@ pub seen_so_far : (told : Bool) (there : Content) (x : List ℕ) (sources : List
 seen_so_far true there x sources read can =
     (there, (source_at sources 0).left.bytes, (λ t. refl), (read refl).bytes, (λ t. refl), came_sound true sources 0 can (λ off. absurd (false≢true (sym off))))
 seen_so_far false there x sources read can = (
-  record { bytes = x; breaks_off = false },
+  unshown x,
   [],
   (λ t. absurd (false≢true t)),
   sym (append-nil x),

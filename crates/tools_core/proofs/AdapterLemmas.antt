@@ -103,12 +103,12 @@ csplit_halts style operands old new (Verdict Suffixes) breaks = absurd (false≢
 csplit_halts style operands old new fault breaks = absurd breaks
 
 -- the work that is asked of `split`
-pub split_asked : (those asked : SplitAsked) (coming : ℕ) {naming : Naming} {tells : Tells} {said : Option ℕ} → those ≡ asked
-    → naming ≡ naming_of asked → tells ≡ tells_by those.verbose → said ≡ said_by those.input coming
-    → work_by those.way those.elide naming tells said ≡ (split_task Cutters asked).work coming
-split_asked those asked coming is named told says =
+pub split_asked : (those asked : SplitAsked) (shown : Option (List ℕ)) {naming : Naming} {tells : Tells} {said : Option ℕ} → those ≡ asked
+    → naming ≡ naming_of asked → tells ≡ tells_by those.verbose → said ≡ said_by those.input shown
+    → work_by those.way those.elide naming tells said ≡ (split_task Cutters asked).work shown
+split_asked those asked shown is named told says =
     rw (named, told, says, is) (ap (λ verbose. way_work asked.way asked.elide (record { names = naming_of asked; verbose = verbose })
-    (said_by asked.input coming)) (verbose_is asked.verbose))
+    (said_by asked.input shown)) (verbose_is asked.verbose))
 
 -- why the work of `split` can't be begun
 pub split_halts : (way : Way) (elide : Bool) (names : Naming) (tells : Tells) (said : Option ℕ) (old new : List Slot) (fault : Fault)
@@ -133,10 +133,10 @@ no_memory_for told work opening slots (Err fault) P may two err = no_memory (may
 
 -- the work that is asked for, and what opening it may need
 
-pub head_asked : (coming : ℕ) {those asked : EndsAsked} {minus : Bool} → those ≡ asked → minus ≡ is_minus those.count.sign → (head_work those.delim those.unit minus those.count.amount ≡ (head_task Cutters asked).work coming) × (minus ≡ true → (head_task Cutters asked).opening.memory ≡ true)
-head_asked coming {those} is signed =
-    (ap (λ b. head_work those.delim those.unit b those.count.amount) signed ∙ ap (λ (asked : EndsAsked). (head_task Cutters asked).work coming) is, λ may. sym (ap (λ (asked : EndsAsked). is_minus asked.count.sign) is) ∙ sym signed ∙ may)
+pub head_asked : (shown : Option (List ℕ)) {those asked : EndsAsked} {minus : Bool} → those ≡ asked → minus ≡ is_minus those.count.sign → (head_work those.delim those.unit minus those.count.amount ≡ (head_task Cutters asked).work shown) × (minus ≡ true → (head_task Cutters asked).opening.memory ≡ true)
+head_asked shown {those} is signed =
+    (ap (λ b. head_work those.delim those.unit b those.count.amount) signed ∙ ap (λ (asked : EndsAsked). (head_task Cutters asked).work shown) is, λ may. sym (ap (λ (asked : EndsAsked). is_minus asked.count.sign) is) ∙ sym signed ∙ may)
 
-pub tail_asked : (coming : ℕ) {those asked : EndsAsked} {plus : Bool} → those ≡ asked → plus ≡ is_plus those.count.sign → (tail_work those.delim those.unit plus those.count.amount ≡ (tail_task Cutters asked).work coming) × (plus ≡ false → (tail_task Cutters asked).opening.memory ≡ true)
-tail_asked coming {those} is signed =
-    (ap (λ b. tail_work those.delim those.unit b those.count.amount) signed ∙ ap (λ (asked : EndsAsked). (tail_task Cutters asked).work coming) is, λ may. ap not (sym (ap (λ (asked : EndsAsked). is_plus asked.count.sign) is) ∙ sym signed ∙ may))
+pub tail_asked : (shown : Option (List ℕ)) {those asked : EndsAsked} {plus : Bool} → those ≡ asked → plus ≡ is_plus those.count.sign → (tail_work those.delim those.unit plus those.count.amount ≡ (tail_task Cutters asked).work shown) × (plus ≡ false → (tail_task Cutters asked).opening.memory ≡ true)
+tail_asked shown {those} is signed =
+    (ap (λ b. tail_work those.delim those.unit b those.count.amount) signed ∙ ap (λ (asked : EndsAsked). (tail_task Cutters asked).work shown) is, λ may. ap not (sym (ap (λ (asked : EndsAsked). is_plus asked.count.sign) is) ∙ sym signed ∙ may))

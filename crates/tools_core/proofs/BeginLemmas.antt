@@ -137,11 +137,11 @@ stopped_begins clears {high = high} {all} {fault = fault} {reached} new {place} 
 -- One input, which ends after these bytes
 
 abbrev pub ending : List ℕ → Content
-ending bytes = record { bytes = bytes; breaks_off = false }
+ending bytes = unshown bytes
 
 -- what is made of it, after its header
-abbrev pub part_of : Task → ℕ → List ℕ → List ℕ → Part
-part_of task coming name bytes = after_part (only_out (header_text task.with_header true name)) ((task.work coming).whole bytes)
+abbrev pub part_of : Task → List ℕ → List ℕ → Part
+part_of task name bytes = after_part (only_out (header_text task.with_header true name)) ((task.work None).whole bytes)
 
 -- What a step has written is a beginning of what is made of its input.
 
@@ -173,32 +173,32 @@ step_begins {task} {work} is_first name {so_far} grows (call_step content call i
 -- What is made of inputs is what is made of the first of them, of one, and of those after it.
 
 made_after : (task : Task) (is_first : Bool) (before : List Input) (input : Input) (after : List Input) → (of_inputs task is_first (before ++ input ∷ after)).part
-    ≡ after_part (of_inputs task is_first before).part (after_part (of_content task (task.work input.coming) (is_first && are_missing before) input.name input.content).part (of_inputs task (is_first && are_missing before && is_missing input.content) after).part)
+    ≡ after_part (of_inputs task is_first before).part (after_part (of_content task (task.work input.shown) (is_first && are_missing before) input.name input.content).part (of_inputs task (is_first && are_missing before && is_missing input.content) after).part)
 made_after task is_first [] input after = grind (arith, common_steps)
 made_after task is_first (first ∷ before) input after =
     let now = is_first && is_missing first.content in
     let here = (of_input task is_first first).part in
     let front = (of_inputs task now before).part in
-    let back = λ (b : Bool). after_part (of_content task (task.work input.coming) b input.name input.content).part (of_inputs task (b && is_missing input.content) after).part in
+    let back = λ (b : Bool). after_part (of_content task (task.work input.shown) b input.name input.content).part (of_inputs task (b && is_missing input.content) after).part in
     ap (after_part here) (made_after task now before input after) ∙ sym (after_assoc here front (back (now && are_missing before)))
     ∙ ap (λ (b : Bool). after_part (after_part here front) (back b)) (and_assoc is_first (is_missing first.content) (are_missing before))
 
-step_in_all : {task : Task} {inputs : List Input} (before : List Input) (input : Input) (after : List Input) {sources : List Source} {step : Step} → ((coming : ℕ) (content : Content) → IsGrowing (task.work coming) content) → inputs ≡ before ++ input ∷ after
-    → RunStep true task (task.work input.coming) largest_piece (made_by task before).part (header_text task.with_header (are_missing before) input.name) input.slot sources input.content step → Begins step.high (made_by task inputs).part
+step_in_all : {task : Task} {inputs : List Input} (before : List Input) (input : Input) (after : List Input) {sources : List Source} {step : Step} → ((shown : Option (List ℕ)) (content : Content) → IsGrowing (task.work shown) content) → inputs ≡ before ++ input ∷ after
+    → RunStep true task input.shown largest_piece (made_by task before).part (header_text task.with_header (are_missing before) input.name) input.slot sources input.content step → Begins step.high (made_by task inputs).part
 step_in_all {task} before input after {step = step} grows are at =
     let so_far = (made_by task before).part in
-    let here = (of_content task (task.work input.coming) (are_missing before) input.name input.content).part in
+    let here = (of_content task (task.work input.shown) (are_missing before) input.name input.content).part in
     let rest = (of_inputs task (are_missing before && is_missing input.content) after).part in
     rw (are, made_after task true before input after, sym (after_assoc so_far here rest))
-    (begins_longer step.high (after_part so_far here) rest (step_begins (are_missing before) input.name (grows input.coming) at))
+    (begins_longer step.high (after_part so_far here) rest (step_begins (are_missing before) input.name (grows input.shown) at))
 
 -- A run over any inputs
 
-pub begins_whole : {breaks_for : ℕ → Reason → Bool} {task : Task} {inputs : List Input} {sources : List Source} {new : List Slot} {status : ℕ} {place : ℕ} → ((coming : ℕ) (content : Content) → IsGrowing (task.work coming) content) → (place ≡ 1 → ⊥)
+pub begins_whole : {breaks_for : ℕ → Reason → Bool} {task : Task} {inputs : List Input} {sources : List Source} {new : List Slot} {status : ℕ} {place : ℕ} → ((shown : Option (List ℕ)) (content : Content) → IsGrowing (task.work shown) content) → (place ≡ 1 → ⊥)
     → EndsAs true true breaks_for task inputs sources new status → BeginsAs (slot_at new place) (slot_at (slots_of (made_by task inputs).part) place)
 begins_whole {new} grows differs (as_defined error reached says outputs swept done status_is) = left_begins _ new (part_begins_itself _) differs outputs swept
 begins_whole {task} {new} grows differs (stopped fault why before input after said error step reached are done untouched at stops between swept says is_why tells status_is) =
-    stopped_begins (task.work input.coming).clears new (step_in_all before input after grows are at) differs between swept
+    stopped_begins (task.work input.shown).clears new (step_in_all before input after grows are at) differs between swept
 begins_whole {place} grows differs (no_room error says slots untouched count status_is) = still_begins place slots (bare_begins error place differs)
 
 -- Works grow.

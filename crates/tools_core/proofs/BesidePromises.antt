@@ -23,7 +23,7 @@ use Rattle.ports_core.specs.declared.calling.Calling.{Calling}
 use Rattle.ports_core.specs.declared.calling.Speaker.{Speaker}
 use Rattle.ports_core.specs.declared.reason.Reason.TheVariants.{Other}
 use Rattle.run_core.proofs.FeedingLemmas.{needed_within}
-use Rattle.run_core.specs.Input.{World, coming_of, input_of, inputs_at, inputs_from, is_dash, standard_input}
+use Rattle.run_core.specs.Input.{World, shown_of, input_of, inputs_at, inputs_from, is_dash, standard_input}
 use Rattle.run_core.specs.Reading.{AreDone, IsLeft}
 use Rattle.run_core.specs.RunEnds.{EndsAs, as_defined}
 use Rattle.run_core.specs.Task.{Task, made_by, status_of}
@@ -39,6 +39,7 @@ use Rattle.tools_core.specs.About.{text_whole}
 use Rattle.tools_core.specs.Outcome.{DoesAsked}
 use Rattle.tools_core.specs.Promises.{Completes, FindAlike, HasLong, IsUnstopped, Ran, Run, Unstopped}
 use Rattle.tools_core.specs.Tasks.{csplit_task, head_task, names_of, split_task, tail_task}
+use Rattle.tools_core.proofs.SameLemmas.{all_alike}
 use Rattle.tools_core.proofs.LeftLemmas.{sound_status, gone, met_by, outputs_of, quiet_outputs, slot_of}
 
 -- Of an input a tool reads a front: as far as it has enough of it, and no further.
@@ -66,11 +67,11 @@ record LeftFor (work : Work) (there : Option Content) : Type 0 where
   pub source : Source
   pub is : (slot : ℕ) → IsLeft true work largest_piece slot there source
 
-left_for : (work : ℕ → Work) (there : Option Content) → LeftFor (work (coming_of there)) there
+left_for : (work : Option (List ℕ) → Work) (there : Option Content) → LeftFor (work (shown_of there)) there
 left_for work None = record { source = missing; is = λ slot. refl }
 left_for work (Some content) =
-    let front = front_from (work (coming_of (Some content))) [] content.bytes (inl refl) in record {
-      source = record (source_of content) { left = record { bytes = front.rest; breaks_off = content.breaks_off }; taken = front.read; reached = length front.read; ended = true };
+    let front = front_from (work (shown_of (Some content))) [] content.bytes (inl refl) in record {
+      source = record (source_of content) { left = record content { bytes = front.rest }; taken = front.read; reached = length front.read; ended = true };
       is = λ slot. (
         λ told. record { read = front.read; joined = front.joined; enough = front.enough; needed = needed_within (omega arith) front.needed; exact = λ well. front.needed; few = λ standard. omega arith },
         came_from _ refl,
@@ -80,19 +81,19 @@ left_for work (Some content) =
 
 -- The sources of all inputs: that of standard input, and those of the files in their order.
 
-abbrev files_for : (ℕ → Work) → World → ℕ → List (List ℕ) → List Source
+abbrev files_for : (Option (List ℕ) → Work) → World → ℕ → List (List ℕ) → List Source
 files_for work world slot [] = []
 files_for work world slot (name ∷ names) = cond (is_dash name) (files_for work world slot names) ((left_for work (world.laid slot name)).source ∷ files_for work world (slot + 1) names)
 
 -- the sources when the names before these were taken
-abbrev sources_for : (ℕ → Work) → World → List Source → ℕ → List (List ℕ) → List Source
+abbrev sources_for : (Option (List ℕ) → Work) → World → List Source → ℕ → List (List ℕ) → List Source
 sources_for work world more slot names = ((left_for work (Some world.standard)).source ∷ more) ++ files_for work world slot names
 
 -- the names after one are done, whatever that is
-abbrev AreDoneFrom : (ℕ → Work) → World → List (List ℕ) → Type 0
+abbrev AreDoneFrom : (Option (List ℕ) → Work) → World → List (List ℕ) → Type 0
 AreDoneFrom work world names = (was_read : Bool) (slot : ℕ) (more : List Source) → slot ≡ suc (length more) → AreDone true work largest_piece (inputs_from world was_read slot names) (sources_for work world more slot names)
 
-file_done : (work : ℕ → Work) (world : World) (was_read : Bool) (slot : ℕ) (name : List ℕ) (names : List (List ℕ)) (more : List Source) → slot ≡ suc (length more) → AreDoneFrom work world names
+file_done : (work : Option (List ℕ) → Work) (world : World) (was_read : Bool) (slot : ℕ) (name : List ℕ) (names : List (List ℕ)) (more : List Source) → slot ≡ suc (length more) → AreDoneFrom work world names
     → AreDone true work largest_piece (input_of world was_read slot name false ∷ inputs_from world was_read (slot + 1) names) (((left_for work (Some world.standard)).source ∷ more) ++ (left_for work (world.laid slot name)).source ∷ files_for work world (slot + 1) names)
 file_done work world was_read slot name names more is again =
     let first = (left_for work (Some world.standard)).source in
@@ -105,7 +106,7 @@ file_done work world was_read slot name names more is again =
       subst (AreDone true work largest_piece (inputs_from world was_read (slot + 1) names)) (append_assoc (first ∷ more) (here.source ∷ []) rest) (again was_read (slot + 1) (more ++ here.source ∷ []) (omega (arith, is, next))),
     )
 
-name_done : (dash : Bool) (work : ℕ → Work) (world : World) (was_read : Bool) (slot : ℕ) (name : List ℕ) (names : List (List ℕ)) (more : List Source) → slot ≡ suc (length more) → AreDoneFrom work world names
+name_done : (dash : Bool) (work : Option (List ℕ) → Work) (world : World) (was_read : Bool) (slot : ℕ) (name : List ℕ) (names : List (List ℕ)) (more : List Source) → slot ≡ suc (length more) → AreDoneFrom work world names
     → AreDone true work largest_piece (input_of world was_read slot name dash ∷ inputs_from world (was_read || dash) (cond dash slot (slot + 1)) names)
     (((left_for work (Some world.standard)).source ∷ more) ++ cond dash (files_for work world slot names) ((left_for work (world.laid slot name)).source ∷ files_for work world (slot + 1) names))
 name_done true work world true slot name names more is again = (tt, again true slot more is)
@@ -113,7 +114,7 @@ name_done true work world false slot name names more is again = ((omega arith, (
 name_done false work world true slot name names more is again = file_done work world true slot name names more is again
 name_done false work world false slot name names more is again = file_done work world false slot name names more is again
 
-all_done : (work : ℕ → Work) (world : World) (names : List (List ℕ)) → AreDoneFrom work world names
+all_done : (work : Option (List ℕ) → Work) (world : World) (names : List (List ℕ)) → AreDoneFrom work world names
 all_done work world [] = λ was_read slot more is. tt
 all_done work world (name ∷ names) = λ was_read slot more is. name_done (is_dash name) work world was_read slot name names more is (all_done work world names)
 
@@ -220,7 +221,7 @@ record DoesWell (breaks_for : ℕ → Reason → Bool) (calling : Calling) (aske
   pub does : DoesAsked calling true true breaks_for asked (inputs_at world (names_of asked)) sources new status
   pub unstopped : Unstopped breaks_for calling asked (inputs_at world (names_of asked)) sources new status does
 
-read_all : (bytes : List ℕ) (breaks_off : Bool) (Leaves : List ℕ → Type 0) → Leaves [] → IsRead (record { bytes = bytes; breaks_off = breaks_off }) Leaves false (concat (pieces_of bytes)) (met_by breaks_off)
+read_all : (bytes : List ℕ) (breaks_off : Bool) {shown : Option (List ℕ)} (Leaves : List ℕ → Type 0) → Leaves [] → IsRead (record { bytes = bytes; breaks_off = breaks_off; shown = shown }) Leaves false (concat (pieces_of bytes)) (met_by breaks_off)
 read_all bytes true Leaves none = tee.to_break _ (sym (pieces_are bytes)) refl none
 read_all bytes false Leaves none = tee.to_end _ (sym (pieces_are bytes)) refl none
 
@@ -246,7 +247,7 @@ tee_well breaks_for calling asked world few = record {
   fault = met_by content.breaks_off
 
   source : Source
-  source = record (source_of content) { left = record { bytes = []; breaks_off = content.breaks_off }; is_broken = content.breaks_off; taken = content.bytes; reached = length content.bytes; ended = true }
+  source = record (source_of content) { left = record content { bytes = [] }; is_broken = content.breaks_off; taken = content.bytes; reached = length content.bytes; ended = true }
 
   lines : TookLines (tee_called calling) (said_of_input fault) standard_error
   lines = took_lines (tee_called calling) (said_of_input fault) standard_error refl
@@ -288,4 +289,4 @@ does_well run (Tee asked) can short = elim (cases_lt (length run.world.standard.
 pub one_completes : (run : Run) (asked : Settings) → Ran run asked → HasOperands asked → (HasLong run asked → ⊥) → (well : Run) × FindAlike run well × Completes well asked
 one_completes run asked ran can short =
     let all = does_well run asked can short in
-    (record run { inputs = all.sources; outputs = all.new; status = all.status }, refl, record { read = ran.read; does = all.does; unstopped = all.unstopped })
+    (record run { inputs = all.sources; outputs = all.new; status = all.status }, all_alike _, record { read = ran.read; does = all.does; unstopped = all.unstopped })

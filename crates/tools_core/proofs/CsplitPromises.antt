@@ -219,7 +219,7 @@ is_csplit : {run : Run} {asked : CsplitAsked} {input : List ℕ} → Does run (C
 is_csplit {run} {asked} {input} does has =
     let one = did_one does has in
     let (operands, asks, is) = one.makes in
-    let made = one_made one (csplit_task Cutters asked operands) is in
+    let made = one_made one (csplit_task Cutters asked operands) (record { whole = λ text. refl; verdict = λ text. refl; clears = λ text. refl }) is in
     let sections = whole_sections (all_lines input) (plan asked.style.suppress operands (all_lines input)) in
     let files : files_of run ≡ map slot_of (files_from (manner_of asked.style) 0 (shares_in asked.style sections)) = ap (drop 2) made.slots in
     record {

@@ -32,8 +32,8 @@ use Rattle.seg_core.specs.declared.cut.Way.TheVariants as way
 use Rattle.split_core.specs.ChunkWork.{ChunksPlan, chunks_work, draft_by, way_work}
 use Rattle.split_core.specs.Chunks.{decided}
 use Rattle.seg_core.specs.declared.unit.Unit.{Unit as Counted}
-use Rattle.ends_core.specs.Head.{head_work}
-use Rattle.ends_core.specs.Tail.{tail_work}
+use Rattle.ends_core.specs.Shown.{head_in, tail_in}
+use Rattle.tools_core.proofs.SameLemmas.{all_made_alike, head_knows, tail_knows, way_knows}
 use Rattle.seg_core.specs.declared.cut.Limit.{Limit}
 use Rattle.split_core.specs.inner.CutLaws.{named}
 use Rattle.split_core.specs.Split.{Filing, Plan, Share, dealt_files, settled_parts, settled_shares, share, split_work}
@@ -49,7 +49,7 @@ use Rattle.run_core.specs.Feeding.{IsCall, Step, closes as ends_call, feeds, is_
 use Rattle.run_core.specs.Input.{Input, inputs_at, standard_input}
 use Rattle.run_core.specs.RunEnds.{RunStep, calling as call_step, heading, unheaded, unopened, EndsAs, as_defined}
 use Rattle.run_core.specs.Task.{Outcome, Task, after_part, header_text, is_missing, joined, of_content, of_input, of_inputs, verdict_messages, made_by, status_of}
-use Rattle.tools_core.specs.Promises.{SaysLines, Completes, FindAlike, IsCopied, IsFound, IsGone, IsTask, IsUnstopped, LeaveAlike, Ran, Run, TellsMet, Unstopped, broken_off, failing, judged, missing, removes_files}
+use Rattle.tools_core.specs.Promises.{AllAlike, AreAlike, GivesBytes, give_same, same, SaysLines, Completes, FindAlike, IsCopied, IsFound, IsGone, IsTask, IsUnstopped, LeaveAlike, Ran, Run, TellsMet, Unstopped, broken_off, failing, judged, missing, removes_files}
 use Rattle.ports_core.specs.Message.{SaysAll}
 use Rattle.ports_core.specs.Swept.{Cleared, Swept}
 use Rattle.ports_core.specs.Swept as swept_so
@@ -148,11 +148,25 @@ pub record IsLiving (work : Work) : Type 0 where
   pub settled : (x : List ℕ) → AreLive (work.settled x).files
   pub whole : (x : List ℕ) → AreLive (work.whole x).files
 
-head_living : (delim : ℕ) (unit : Counted) (but_last : Bool) (n : ℕ) → IsLiving (head_work delim unit but_last n)
-head_living delim unit but_last n = grind (arith, common_steps)
+head_living : (delim : ℕ) (unit : Counted) (but_last : Bool) (n : ℕ) (shown : Option (List ℕ)) → IsLiving (head_in delim unit but_last n shown)
+head_living delim unit true n (Some text) = grind (arith, common_steps)
+head_living delim unit true n None = grind (arith, common_steps)
+head_living delim unit false n shown = grind (arith, common_steps)
 
-tail_living : (delim : ℕ) (unit : Counted) (from_nth : Bool) (n : ℕ) → IsLiving (tail_work delim unit from_nth n)
-tail_living delim unit from_nth n = grind (arith, common_steps)
+head_clears : (delim : ℕ) (unit : Counted) (but_last : Bool) (n : ℕ) (shown : Option (List ℕ)) → (head_in delim unit but_last n shown).clears ≡ false
+head_clears delim unit true n (Some text) = refl
+head_clears delim unit true n None = refl
+head_clears delim unit false n shown = refl
+
+tail_living : (delim : ℕ) (unit : Counted) (from_nth : Bool) (n : ℕ) (shown : Option (List ℕ)) → IsLiving (tail_in delim unit from_nth n shown)
+tail_living delim unit false n (Some text) = grind (arith, common_steps)
+tail_living delim unit false n None = grind (arith, common_steps)
+tail_living delim unit true n shown = grind (arith, common_steps)
+
+tail_clears : (delim : ℕ) (unit : Counted) (from_nth : Bool) (n : ℕ) (shown : Option (List ℕ)) → (tail_in delim unit from_nth n shown).clears ≡ false
+tail_clears delim unit false n (Some text) = refl
+tail_clears delim unit false n None = refl
+tail_clears delim unit true n shown = refl
 
 abbrev IsThere : Share → Type 0
 IsThere share = has_file share.state ≡ true
@@ -259,12 +273,12 @@ fits_joined {Line} first next one other = record {
 pub record TellsInput (Line : Message → Type 0) (task : Task) (work : Work) (name : List ℕ) (there : Option Content) : Type 0 where
   pub missing : there ≡ None → Line (message_of (CannotOpen 0) name)
   pub broken_off : (content : Content) → there ≡ Some content → is_enough work content ≡ false → Line (message_of (Read 0) name)
-  pub judged : (content : Content) (verdict : Verdict) → there ≡ Some content → is_enough work content ≡ true → Judges work content.bytes verdict → Line (message_of (fault_is.Verdict verdict) (task.subject verdict))
+  pub judged : (content : Content) (verdict : Verdict) → there ≡ Some content → is_enough work content ≡ true → Judges work content.bytes verdict → Line (message_of (fault_is.Verdict verdict) (task.subject verdict name))
 
 given_fits : {Line : Message → Type 0} (task : Task) (work : Work) (header name bytes : List ℕ) (enough : Bool) (verdict : Option Verdict)
-    → (enough ≡ false → Line (message_of (Read 0) name)) → ((given : Verdict) → enough ≡ true → verdict ≡ Some given → Line (message_of (fault_is.Verdict given) (task.subject given))) → IsLiving work → Fits Line work.clears (record {
+    → (enough ≡ false → Line (message_of (Read 0) name)) → ((given : Verdict) → enough ≡ true → verdict ≡ Some given → Line (message_of (fault_is.Verdict given) (task.subject given name))) → IsLiving work → Fits Line work.clears (record {
       part = after_part (only_out header) (cond enough (work.whole bytes) (work.settled bytes));
-      messages = cond enough (verdict_messages task verdict) (message_of (Read 0) name ∷ []);
+      messages = cond enough (verdict_messages task name verdict) (message_of (Read 0) name ∷ []);
       failed = cond enough (is_some verdict) true;
       sweeps = work.clears && cond enough (is_some verdict) true;
     })
@@ -282,22 +296,22 @@ content_fits task work is_first name (Some content) tells living =
     (λ short. tells.broken_off content refl short) (λ verdict enough is. tells.judged content verdict refl enough is) living
 
 abbrev pub TellsAt : (Message → Type 0) → Task → Input → Type 0
-TellsAt Line task input = TellsInput Line task (task.work input.coming) input.name input.content
+TellsAt Line task input = TellsInput Line task (task.work input.shown) input.name input.content
 
 abbrev pub TellsAll : (Message → Type 0) → Task → List Input → Type 0
 TellsAll Line task inputs = All (TellsAt Line task) inputs
 
 -- whatever length an input says, files are live, and are removed or kept alike
-pub record AreLiving (work : ℕ → Work) (clears : Bool) : Type 0 where
-  pub each : (coming : ℕ) → IsLiving (work coming)
-  pub clears_all : (coming : ℕ) → (work coming).clears ≡ clears
+pub record AreLiving (work : Option (List ℕ) → Work) (clears : Bool) : Type 0 where
+  pub each : (shown : Option (List ℕ)) → IsLiving (work shown)
+  pub clears_all : (shown : Option (List ℕ)) → (work shown).clears ≡ clears
 
 pub inputs_fit : {Line : Message → Type 0} {clears : Bool} (task : Task) (is_first : Bool) (inputs : List Input) → TellsAll Line task inputs → AreLiving task.work clears → Fits Line clears (of_inputs task is_first inputs)
 inputs_fit task is_first [] tells living = search rules
 inputs_fit {Line} task is_first (input ∷ inputs) tells living =
     let P = TellsAt Line task in
     fits_joined (of_input task is_first input) (of_inputs task (is_first && is_missing input.content) inputs)
-    (subst (λ clears. Fits Line clears (of_input task is_first input)) (living.clears_all input.coming) (content_fits task (task.work input.coming) is_first input.name input.content (All-head P input inputs tells) (living.each input.coming)))
+    (subst (λ clears. Fits Line clears (of_input task is_first input)) (living.clears_all input.shown) (content_fits task (task.work input.shown) is_first input.name input.content (All-head P input inputs tells) (living.each input.shown)))
     (inputs_fit task (is_first && is_missing input.content) inputs (All-tail P input inputs tells) living)
 
 -- what a run found is told so
@@ -321,8 +335,8 @@ one_task calling (About which topic) one other is is_too = absurd is
 found_tells : {run : Run} (asked : Settings) {task : Task} (input : Input) → IsTask run.calling asked task → IsFound run asked input → TellsAt (TellsMet run asked) task input
 found_tells {run} asked {task} input of found = record {
   missing = λ none. (CannotOpen 0, input.name, inr (missing input found none), refl);
-  broken_off = λ content is short. (Read 0, input.name, inr (broken_off input content found is (breaks_short (task.work input.coming) content short) (λ other of_too. rw (one_task run.calling asked other task of_too of) short)), refl);
-  judged = λ content verdict is enough judges. (fault_is.Verdict verdict, task.subject verdict, inr (judged input content task verdict found is of enough judges), refl);
+  broken_off = λ content is short. (Read 0, input.name, inr (broken_off input content found is (breaks_short (task.work input.shown) content short) (λ other of_too. rw (one_task run.calling asked other task of_too of) short)), refl);
+  judged = λ content verdict is enough judges. (fault_is.Verdict verdict, task.subject verdict input.name, inr (judged input content task verdict found is of enough judges), refl);
 }
 
 -- these inputs, which the run found after others and before others
@@ -508,12 +522,12 @@ pub copies_are : (mode : Mode) (bytes : List ℕ) (names : List (List ℕ)) → 
 copies_are mode bytes [] = refl
 copies_are mode bytes (name ∷ names) = rw (copies_are mode bytes names)
 
-tee_fits : {Line : Message → Type 0} (asked : TeeAsked) (bytes : List ℕ) (breaks_off : Bool) → (breaks_off ≡ true → Line (message_of (Read 0) (codes "standard input"))) → Fits Line false (tee_made asked (record { bytes = bytes; breaks_off = breaks_off }))
-tee_fits {Line} asked bytes breaks_off tells = by breaks_off tells where
+tee_fits : {Line : Message → Type 0} (asked : TeeAsked) (bytes : List ℕ) (breaks_off : Bool) {shown : Option (List ℕ)} → (breaks_off ≡ true → Line (message_of (Read 0) (codes "standard input"))) → Fits Line false (tee_made asked (record { bytes = bytes; breaks_off = breaks_off; shown = shown }))
+tee_fits {Line} asked bytes breaks_off {shown} tells = by breaks_off tells where
   live : AreLive (map (λ name. file_of (copy asked.mode bytes name)) asked.names)
   live = All-map (λ (file : File). IsLive (slot_of file)) (λ name. file_of (copy asked.mode bytes name)) asked.names (λ k name within. (refl, refl))
 
-  by : (breaks_off : Bool) → (breaks_off ≡ true → Line (message_of (Read 0) (codes "standard input"))) → Fits Line false (tee_made asked (record { bytes = bytes; breaks_off = breaks_off }))
+  by : (breaks_off : Bool) → (breaks_off ≡ true → Line (message_of (Read 0) (codes "standard input"))) → Fits Line false (tee_made asked (record { bytes = bytes; breaks_off = breaks_off; shown = shown }))
   by true tells = fits_fault _ false (tells refl) (λ is. is) live
   by false tells = fits_well _ false refl live
 
@@ -602,13 +616,13 @@ pub record LeftBy (run : Run) (asked : Settings) : Type 0 where
 
 -- what each tool does with its inputs is so
 pub task_lives : (calling : Calling) (asked : Settings) (task : Task) → IsTask calling asked task → AreLiving task.work (removes_files asked)
-task_lives calling (Head asked) task is = rw is (record { each = λ coming. head_living asked.delim asked.unit (is_minus asked.count.sign) asked.count.amount; clears_all = λ coming. refl })
-task_lives calling (Tail asked) task is = rw is (record { each = λ coming. tail_living asked.ends.delim asked.ends.unit (is_plus asked.ends.count.sign) asked.ends.count.amount; clears_all = λ coming. refl })
+task_lives calling (Head asked) task is = rw is (record { each = head_living asked.delim asked.unit (is_minus asked.count.sign) asked.count.amount; clears_all = head_clears asked.delim asked.unit (is_minus asked.count.sign) asked.count.amount })
+task_lives calling (Tail asked) task is = rw is (record { each = tail_living asked.ends.delim asked.ends.unit (is_plus asked.ends.count.sign) asked.ends.count.amount; clears_all = tail_clears asked.ends.delim asked.ends.unit (is_plus asked.ends.count.sign) asked.ends.count.amount })
 task_lives calling (Split asked) task is = rw is (record {
-  each = λ coming. way_living asked.way asked.elide (filing_of asked) (said_by asked.input coming);
-  clears_all = λ coming. way_clears asked.way asked.elide (filing_of asked) (said_by asked.input coming);
+  each = λ shown. way_living asked.way asked.elide (filing_of asked) (said_by shown);
+  clears_all = λ shown. way_clears asked.way asked.elide (filing_of asked) (said_by shown);
 })
-task_lives calling (Csplit asked) task (operands, asks, is) = rw is (record { each = λ coming. csplit_living asked.style operands; clears_all = λ coming. refl })
+task_lives calling (Csplit asked) task (operands, asks, is) = rw is (record { each = λ shown. csplit_living asked.style operands; clears_all = λ shown. refl })
 task_lives calling (Tee asked) task is = absurd is
 task_lives calling (About which topic) task is = absurd is
 
@@ -662,13 +676,43 @@ ran_over ran =
 
 -- Two runs that were asked for the same, over the same inputs
 
-found_same : (one other : Run) {asked : Settings} → settings_of one.calling one.words ≡ Ok asked → settings_of other.calling other.words ≡ Ok asked → FindAlike one other → inputs_at one.world (names_of asked) ≡ inputs_at other.world (names_of asked)
-found_same one other read read_too same = cc (read, same, read_too)
+found_same : (one other : Run) {asked : Settings} → settings_of one.calling one.words ≡ Ok asked → settings_of other.calling other.words ≡ Ok asked → FindAlike one other
+    → AllAlike (inputs_at one.world (names_of asked)) (inputs_at other.world (names_of asked))
+found_same one other read read_too same = rw (read, read_too) at same
+
+-- `tee` makes the same of inputs that give the same
+given_content : {input : Input} {content : Content} {bytes : List ℕ} → input.content ≡ Some content → GivesBytes input bytes → (content.bytes ≡ bytes) × (content.breaks_off ≡ false)
+given_content {content} is gives =
+    let there : Some gives.content ≡ Some content = sym gives.is ∙ is in
+    let same : gives.content ≡ content = cc in
+    (ap (λ (those : Content). those.bytes) (sym same) ∙ gives.bytes_are, ap (λ (those : Content). those.breaks_off) (sym same) ∙ gives.ends)
+
+tee_of : TeeAsked → List ℕ → Bool → Outcome
+tee_of asked bytes breaks_off = tee_made asked (record { bytes = bytes; breaks_off = breaks_off; shown = None })
+
+tee_alike : (asked : TeeAsked) (content other : Content) → AreAlike (standard_input content) (standard_input other) → tee_made asked other ≡ tee_made asked content
+unfolding tee_of
+tee_alike asked content other (same is) = ap (tee_made asked) (sym (same_content {inputs = standard_input content ∷ []} refl (ap (λ input. input ∷ []) is)))
+tee_alike asked content other (give_same bytes named gives gives_too) =
+    let one = given_content refl gives in
+    let two = given_content refl gives_too in
+    ap (λ those. tee_of asked those other.breaks_off) (two.0 ∙ sym one.0) ∙ ap (tee_of asked content.bytes) (two.1 ∙ sym one.1)
+
+-- what is made of inputs is what is made of others that are alike
+alike_makes : (asked : Settings) (ones others : List Input) {made made_too : Outcome} → AllAlike ones others → Makes asked ones made → Makes asked others made_too → made_too ≡ made
+alike_makes (Head asked) ones others alike is is_too = is_too ∙ sym (is ∙ all_made_alike (head_task Cutters asked) (head_knows asked.delim asked.unit (is_minus asked.count.sign) asked.count.amount) true ones others alike)
+alike_makes (Tail asked) ones others alike is is_too = is_too ∙ sym (is ∙ all_made_alike (tail_task Cutters asked.ends) (tail_knows asked.ends.delim asked.ends.unit (is_plus asked.ends.count.sign) asked.ends.count.amount) true ones others alike)
+alike_makes (Split asked) ones others alike is is_too = is_too ∙ sym (is ∙ all_made_alike (split_task Cutters asked) (way_knows asked.way asked.elide (filing_of asked)) true ones others alike)
+alike_makes (Csplit asked) ones others alike (operands, asks, is) makes_too =
+    one_made (Csplit asked) others makes_too (operands, asks, is ∙ all_made_alike (csplit_task Cutters asked operands) (record { whole = λ text. refl; verdict = λ text. refl; clears = λ text. refl }) true ones others alike)
+alike_makes (Tee asked) ones others alike (content, only, is) (content_too, only_too, is_too) =
+    is_too ∙ tee_alike asked content content_too (rw (only, only_too) at alike).0 ∙ sym is
+alike_makes (About which topic) ones others alike is is_too = is_too ∙ sym is
 
 -- what the one made is what the other does
 pub same_made : (one other : Run) {asked : Settings} {made made_too : Outcome} → settings_of one.calling one.words ≡ Ok asked → settings_of other.calling other.words ≡ Ok asked → FindAlike one other
     → Makes asked (inputs_at one.world (names_of asked)) made → Makes asked (inputs_at other.world (names_of asked)) made_too → made_too ≡ made
-same_made one other {asked} read read_too same makes makes_too = one_made asked _ makes_too (rw (found_same one other read read_too same) at makes)
+same_made one other {asked} read read_too same makes makes_too = alike_makes asked _ _ (found_same one other read read_too same) makes makes_too
 
 pub leave_alike : (one other : Run) (asked : Settings) → Completes one asked → Completes other asked → FindAlike one other → LeaveAlike asked one other
 leave_alike one other asked whole whole_too same =

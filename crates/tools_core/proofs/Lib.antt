@@ -1,6 +1,7 @@
 pub mod AboutLemmas
 pub mod AdapterLemmas
 pub mod RunLemmas
+pub mod SameLemmas
 pub mod LeftLemmas
 pub mod BeginLemmas
 pub mod StoppedPromises

@@ -4,11 +4,11 @@ use Rattle.std.proofs.lemmas.Grind.{common_steps}
 use Rattle.std.proofs.Common.{◌≡◌, ℕ, Bool, true, false, if◌then◌else◌, List, [], ◌∷◌, Option, Some, None, inl, inr, refl, sym, ◌∙◌, ap, arith, ◌+◌, ◌-◌, ◌++◌, length, map, drop, subst}
 use Rattle.ports_core.specs.declared.reason.Reason.{Reason}
 use Rattle.ports_core.specs.Slot.{Slot, slot_at}
-use Rattle.run_core.specs.Input.{Input, World, coming_of, input_of, inputs_at, is_dash}
+use Rattle.run_core.specs.Input.{Input, World, shown_of, input_of, inputs_at, is_dash}
 use Rattle.run_core.specs.Task.{Outcome, Task, made_by}
 use Rattle.words_core.specs.declared.settings.Settings.{Settings}
 use Rattle.tools_core.specs.Tasks.{filing_of, names_of, is_minus, is_plus, said_by}
-use Rattle.tools_core.specs.Promises.{Completes, Does, FindAlike, HasInput, Ran, Run, IsHead, IsTail, IsBare, CountAlike, output_of, AreCopies, IsSound, files_of, BeginsAs, BeginsEach}
+use Rattle.tools_core.specs.Promises.{GivesBytes, IsSteady, Completes, Does, FindAlike, HasInput, Ran, Run, IsHead, IsTail, IsBare, CountAlike, output_of, AreCopies, IsSound, files_of, BeginsAs, BeginsEach}
 use Rattle.tools_core.proofs.BeginLemmas.{all_have_names, ending, is_way, part_of, bare_begins, begins_kept, begins_whole, lawful_grows, way_grows, still_begins, tee_begins, text_begins}
 use Rattle.tools_core.proofs.LeftLemmas.{Makes, completes_left, left_whole, same_made, slots_of, copies_are, copy, tee_made, left_at, ran_over}
 use Rattle.tools_core.proofs.StoppedPromises.{completes_or, silent_completes}
@@ -28,6 +28,7 @@ use Rattle.words_core.specs.Words.{CanRun}
 use Rattle.ports_core.specs.declared.calling.Calling.{Calling}
 use Rattle.tools_core.specs.Outcome.{DoesAsked, names_at}
 use Rattle.tools_core.proofs.RunLemmas.{can_run}
+use Rattle.tools_core.proofs.SameLemmas.{KnowsNoMore, head_in_lawful, steady_made, tail_in_lawful}
 
 completes : {run : Run} {asked : Settings} → Does run asked → Completes run asked
 completes {run} {asked} does = elim (completes_or run asked does.ran) [
@@ -46,34 +47,41 @@ leave_same one other asked does does_too same =
 
 pub record HasOne (run : Run) (asked : Settings) (bytes : List ℕ) : Type 0 where
   pub input : Input
-  pub content : input.content ≡ Some (ending bytes)
-  pub coming : input.coming ≡ length bytes
+  pub gives : GivesBytes input bytes
   pub only : inputs_at run.world (names_of asked) ≡ input ∷ []
 
 lies_there : (world : World) (name : List ℕ) (dash : Bool) → (input_of world false 1 name dash).content ≡ (if dash then Some world.standard else world.laid 1 name)
 lies_there world name true = refl
 lies_there world name false = refl
 
--- it says how many bytes it has
-says_all : (world : World) (name : List ℕ) (dash : Bool)
-    → (input_of world false 1 name dash).coming ≡ coming_of (input_of world false 1 name dash).content
-says_all world name true = refl
-says_all world name false = refl
+-- it shows what lies there
+shows_all : (world : World) (name : List ℕ) (dash : Bool)
+    → (input_of world false 1 name dash).shown ≡ shown_of (input_of world false 1 name dash).content
+shows_all world name true = refl
+shows_all world name false = refl
+
+-- the only input of a run
+pub one_gives : {run : Run} {bytes : List ℕ} (has : HasInput run bytes) → GivesBytes (input_of run.world false 1 has.name (is_dash has.name)) bytes
+one_gives {run} {bytes} has =
+    let there = lies_there run.world has.name (is_dash has.name) ∙ has.holds in record {
+      content = record { bytes = bytes; breaks_off = false; shown = has.shown };
+      is = there;
+      bytes_are = refl;
+      ends = refl;
+      steady = subst (λ shown. IsSteady shown bytes) (sym (shows_all run.world has.name (is_dash has.name) ∙ ap shown_of there)) has.steady;
+    }
 
 pub has_one : {run : Run} {asked : Settings} {bytes : List ℕ} → Ran run asked → HasInput run bytes → HasOne run asked bytes
 has_one {run} ran has = record {
   input = input_of run.world false 1 has.name (is_dash has.name);
-  content = lies_there run.world has.name (is_dash has.name) ∙ has.holds;
-  coming = says_all run.world has.name (is_dash has.name)
-      ∙ ap coming_of (lies_there run.world has.name (is_dash has.name) ∙ has.holds);
+  gives = one_gives has;
   only = ap (inputs_at run.world) (sym (ap names_at ran.read) ∙ has.only);
 }
 
 -- what was made of it
 pub record DidOne (run : Run) (asked : Settings) (bytes : List ℕ) : Type 0 where
   pub input : Input
-  pub content : input.content ≡ Some (ending bytes)
-  pub coming : input.coming ≡ length bytes
+  pub gives : GivesBytes input bytes
   pub made : Outcome
   pub makes : Makes asked (input ∷ []) made
   pub sound : made.failed ≡ false
@@ -84,14 +92,19 @@ did_one does has =
     let one = has_one does.ran has in
     let all = completes_left (completes does) in
     let whole = left_whole all.fits all.left does.well in
-    record { input = one.input; content = one.content; coming = one.coming; made = all.made; makes = rw one.only at all.of; sound = whole.sound; slots = whole.slots }
+    record { input = one.input; gives = one.gives; made = all.made; makes = rw one.only at all.of; sound = whole.sound; slots = whole.slots }
 
-pub record IsMade (task : Task) (coming : ℕ) (name bytes : List ℕ) (new : List Slot) : Type 0 where
-  pub unjudged : (task.work coming).verdict bytes ≡ None
-  pub slots : new ≡ slots_of (part_of task coming name bytes)
+-- as much as if it showed nothing
+pub record IsMade (task : Task) (name bytes : List ℕ) (new : List Slot) : Type 0 where
+  pub unjudged : (task.work None).verdict bytes ≡ None
+  pub slots : new ≡ slots_of (part_of task name bytes)
 
-pub one_made : {run : Run} {asked : Settings} {bytes : List ℕ} (one : DidOne run asked bytes) (task : Task) → one.made ≡ made_by task (one.input ∷ []) → IsMade task one.input.coming one.input.name bytes run.outputs
-one_made {bytes} one task is = grind (arith, common_steps)
+made_one : (task : Task) (name bytes : List ℕ) {made : Outcome} {new : List Slot} → made ≡ joined (of_content task (task.work None) true name (Some (ending bytes))) no_outcome → made.failed ≡ false → new ≡ slots_of made.part → IsMade task name bytes new
+made_one task name bytes is sound slots = grind (arith, common_steps)
+
+pub one_made : {run : Run} {asked : Settings} {bytes : List ℕ} (one : DidOne run asked bytes) (task : Task) → KnowsNoMore task.work → one.made ≡ made_by task (one.input ∷ []) → IsMade task one.input.name bytes run.outputs
+one_made {bytes} one task knows is = made_one task one.input.name bytes
+    (is ∙ ap (λ made. joined made no_outcome) (steady_made task knows true one.input.name bytes one.input refl one.gives)) one.sound one.slots
 
 -- What `head` and `tail` leave of one input.
 
@@ -131,9 +144,11 @@ pub is_copied : {tee : Run} {asked : TeeAsked} {input : List ℕ} → Does tee (
 is_copied {asked} {input} does has =
     let one = did_one does has in
     let (content, only, is) = one.makes in
-    let same : Some content ≡ Some (ending input) = ap (first_content content) (sym only) ∙ one.content in
-    let there : content ≡ ending input = cc in
-    let whole = one.slots ∙ ap (λ (made : Outcome). slots_of made.part) is ∙ ap (λ those. slots_of (tee_made asked those).part) there in
+    let same : Some content ≡ Some one.gives.content = ap (first_content content) (sym only) ∙ one.gives.is in
+    let there : content ≡ one.gives.content = cc in
+    let bytes = ap (λ (those : Content). those.bytes) there ∙ one.gives.bytes_are in
+    let whole = one.slots ∙ ap (λ (made : Outcome). slots_of made.part) is
+        ∙ ap (λ those. slots_of (tee_made asked (record { bytes = those; breaks_off = content.breaks_off; shown = content.shown })).part) bytes in
     record {
       output = ap (λ slots. (slot_at slots 0).written) whole;
       files = rw (ap (drop 2) whole ∙ copies_are asked.mode input asked.names) (record { named = copies_named asked.mode input asked.names; each = All-map (λ (file : Slot). IsSound asked.mode file × (file.written ≡ input)) (copy asked.mode input) asked.names (λ k name within. ((refl, refl, refl), refl)) });
@@ -144,10 +159,10 @@ abbrev BeginsMade : Settings → List Input → List Slot → Type 0
 BeginsMade asked inputs new = (made : Outcome) × Makes asked inputs made × ((place : ℕ) → (place ≡ 1 → ⊥) → BeginsAs (slot_at new place) (slot_at (slots_of made.part) place))
 
 begins_made : (breaks_for : ℕ → Reason → Bool) (calling : Calling) (asked : Settings) (inputs : List Input) (sources : List Source) (new : List Slot) (status : ℕ) → CanRun asked → DoesAsked calling true true breaks_for asked inputs sources new status → BeginsMade asked inputs new
-begins_made breaks_for calling (Head asked) inputs sources new status can does = (_, refl, λ place differs. begins_whole (λ coming. lawful_grows (head_lawful _ _ _ _)) differs does)
-begins_made breaks_for calling (Tail asked) inputs sources new status can does = (_, refl, λ place differs. begins_whole (λ coming. lawful_grows (tail_lawful _ _ _ _)) differs does)
-begins_made breaks_for calling (Split asked) inputs sources new status can does = (_, refl, λ place differs. begins_whole (λ coming. way_grows asked.way asked.elide (filing_of asked) (said_by asked.input coming) (is_way asked can) (all_have_names asked can.named)) differs does)
-begins_made breaks_for calling (Csplit asked) inputs sources new status can does = (_, (does.operands, does.asks, refl), λ place differs. begins_whole (λ coming. lawful_grows (csplit_law.lawful asked.style does.operands)) differs does.ends)
+begins_made breaks_for calling (Head asked) inputs sources new status can does = (_, refl, λ place differs. begins_whole (λ shown. lawful_grows (head_in_lawful _ _ _ _ shown)) differs does)
+begins_made breaks_for calling (Tail asked) inputs sources new status can does = (_, refl, λ place differs. begins_whole (λ shown. lawful_grows (tail_in_lawful _ _ _ _ shown)) differs does)
+begins_made breaks_for calling (Split asked) inputs sources new status can does = (_, refl, λ place differs. begins_whole (λ shown. way_grows asked.way asked.elide (filing_of asked) (said_by shown) (is_way asked can) (all_have_names asked can.named)) differs does)
+begins_made breaks_for calling (Csplit asked) inputs sources new status can does = (_, (does.operands, does.asks, refl), λ place differs. begins_whole (λ shown. lawful_grows (csplit_law.lawful asked.style does.operands)) differs does.ends)
 begins_made breaks_for calling (Tee asked) inputs sources new status can does = (_, (does.content, does.input, refl), λ place differs. tee_begins place differs does.ends)
 begins_made breaks_for calling (About which topic) inputs sources new status can does = (_, refl, λ place differs. text_begins place differs does)
 

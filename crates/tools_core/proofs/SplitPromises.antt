@@ -55,7 +55,8 @@ use Rattle.split_core.proofs.SectionLemmas.{line_at, all_dealt, first_files, joi
 use Rattle.words_core.specs.declared.settings.Settings.TheVariants.{Split}
 use Rattle.words_core.specs.SplitWords.{SplitAsked, AreNamed as HasNumbers, CanSplit, IsInLimits}
 use Rattle.ports_core.specs.declared.calling.Calling.TheVariants.{Cutters}
-use Rattle.tools_core.specs.Tasks.{filing_of, naming_of, said_by, split_task}
+use Rattle.tools_core.specs.Tasks.{filing_of, naming_of, split_task}
+use Rattle.tools_core.proofs.SameLemmas.{way_knows}
 use Rattle.tools_core.proofs.BeginLemmas.{all_have_names}
 use Rattle.tools_core.proofs.RunLemmas.{can_run}
 use Rattle.tools_core.proofs.LeftLemmas.{named_each, slot_of, slots_of}
@@ -138,11 +139,6 @@ alone_by (way.Chunks chunks) x = []
 alone_by (way.Chunk place chunks) x = get_or (chunks_in chunks x) place []
 alone_by (way.Turn place n delim) x = share_of delim n x place
 
--- an input that tells its bytes says how many it has, if it says that
-said_so : (input x : List ℕ) → (is_as_said (said_by input (length x)) x ≡ true) × (size_by (said_by input (length x)) x ≡ length x)
-said_so input x = cond_both (is_dash input || length x == 0) None (Some (length x)) (λ said. (is_as_said said x ≡ true) × (size_by said x ≡ length x))
-    (λ is. (refl, refl)) (λ is. (eq-eqb (length x) (length x) refl, refl))
-
 -- no more are kept than there are
 few_kept : (elide : Bool) (pieces : List (List ℕ)) → length (kept elide pieces) ≤ length pieces
 few_kept false pieces = omega arith
@@ -157,29 +153,28 @@ ends_cut chunks said x some long = ap (λ size. chunks_of chunks size x) long
     ∙ ap (λ rest. record { full = chunks_in chunks x; rest = rest }) (rest_none chunks (length x) x some (omega arith))
 
 -- what the work makes of the whole
-module _ (asked : SplitAsked) (x : List ℕ) (coming : ℕ) (is : coming ≡ length x) (can : CanSplit asked)
-    (well : ((split_task Cutters asked).work coming).verdict x ≡ None) where
+module _ (asked : SplitAsked) (x : List ℕ) where
   whole_is : (way : Way) → IsInLimits way → makes_files way ≡ true
-      → (way_work way asked.elide (filing_of asked) (said_by asked.input coming)).whole x
+      → (way_work way asked.elide (filing_of asked) None).whole x
       ≡ part_of (manner_of (filing_of asked)) (map (share Closed) (pieces_by way asked.elide x))
   whole_is (way.Cut cut) limits makes = refl
   whole_is (way.Chunks chunks) limits makes =
       ap (λ cut. part_of (manner_of (filing_of asked)) (map (share Closed) (files_by asked.elide cut)))
-      (ends_cut chunks (said_by asked.input coming) x limits.0 (rw is (said_so asked.input x).1))
+      (ends_cut chunks None x limits.0 refl)
       ∙ ap (λ those. part_of (manner_of (filing_of asked)) (map (share Closed) those)) (append-nil _)
   whole_is way limits makes = absurd (false≢true makes)
 
   alone_is : (way : Way) → IsInLimits way → makes_files way ≡ false
-      → (way_work way asked.elide (filing_of asked) (said_by asked.input coming)).whole x ≡ only_out (alone_by way x)
+      → (way_work way asked.elide (filing_of asked) None).whole x ≡ only_out (alone_by way x)
   alone_is (way.Chunk place chunks) limits makes =
-      ap (λ cut. piece_at place cut) (ends_cut chunks (said_by asked.input coming) x limits.0.0 (rw is (said_so asked.input x).1))
+      ap (λ cut. piece_at place cut) (ends_cut chunks None x limits.0.0 refl)
       ∙ ap only_out (get_or_append_left (chunks_in chunks x) ([] ∷ []) [] place (omega (arith, limits.1, count_chunks chunks x limits.0.0)))
   alone_is (way.Turn place n delim) limits makes = refl
   alone_is way limits makes = absurd (false≢true (sym makes))
 
   -- each piece has a name
   named_all : (way : Way) → IsInLimits way → HasNumbers way asked.alphabet asked.from asked.width
-      → ((way_work way asked.elide (filing_of asked) (said_by asked.input coming)).verdict x ≡ None)
+      → ((way_work way asked.elide (filing_of asked) None).verdict x ≡ None)
       → are_named (naming_of asked) (length (map (share Closed) (pieces_by way asked.elide x))) ≡ true
   named_all (way.Cut cut) limits named none = not_short _ none
   named_all (way.Chunks chunks) limits named none =
@@ -241,8 +236,8 @@ is_split {run} {asked} {input} does has = by (makes_files asked.way) refl where
   one : DidOne run (Split asked) input
   one = did_one does has
 
-  made : IsMade (split_task Cutters asked) one.input.coming one.input.name input run.outputs
-  made = one_made one (split_task Cutters asked) one.makes
+  made : IsMade (split_task Cutters asked) one.input.name input run.outputs
+  made = one_made one (split_task Cutters asked) (way_knows asked.way asked.elide (filing_of asked)) one.makes
 
   can : CanSplit asked
   can = can_run run.calling run.words does.ran.read
@@ -250,8 +245,8 @@ is_split {run} {asked} {input} does has = by (makes_files asked.way) refl where
   by : (makes : Bool) → makes_files asked.way ≡ makes → IsSplit run asked input
   by true makes =
       let filed = is_filed run asked (pieces_by asked.way asked.elide input) can
-      (named_all asked input one.input.coming one.coming can made.unjudged asked.way can.way can.named made.unjudged)
-      (made.slots ∙ ap (λ whole. slots_of (after_part (only_out []) whole)) (whole_is asked input one.input.coming one.coming can made.unjudged asked.way can.way makes)) in
+      (named_all asked input asked.way can.way can.named made.unjudged)
+      (made.slots ∙ ap (λ whole. slots_of (after_part (only_out []) whole)) (whole_is asked input asked.way can.way makes)) in
       record {
         can = can;
         listed = filed.listed;
@@ -261,7 +256,7 @@ is_split {run} {asked} {input} does has = by (makes_files asked.way) refl where
         alone = λ is. absurd (false≢true (sym is ∙ makes));
       }
   by false makes =
-      let left = made.slots ∙ ap (λ whole. slots_of (after_part (only_out []) whole)) (alone_is asked input one.input.coming one.coming can made.unjudged asked.way can.way makes) in
+      let left = made.slots ∙ ap (λ whole. slots_of (after_part (only_out []) whole)) (alone_is asked input asked.way can.way makes) in
       let files : files_of run ≡ [] = ap (drop 2) left in
       record {
         can = can;

@@ -192,12 +192,12 @@ ends_or : {run : Run} {asked : Settings} {task : Task} → IsTask run.calling as
 ends_or of (as_defined error reached says outputs swept done is) = inl tt
 ends_or {run} {asked} {task} of (stopped fault why before input after said error step reached are done untouched at stops between swept_as says is_why tells is) =
     let living = task_lives run.calling asked task of in
-    let swept = rw (living.clears_all input.coming) at swept_as in
+    let swept = rw (living.clears_all input.shown) at swept_as in
     let slots = ap length (slots_at between.outputs) in
     let lines = (made_by task before).messages in
     let name = output_named run.outputs fault in
     let fits = inputs_fit task true before (all_tell run asked task [] before (input ∷ after) of are) living in
-    let live = step_live (living.each input.coming) fits.live at in
+    let live = step_live (living.each input.shown) fits.live at in
     let stop = stops_run run asked (IsNext between.part step.high) step (removes_files asked) between.place (length between.part.files) between.reached reached fault
     (λ many. let (content, there, long) = step_long at many in (input, content, (before, after, are), there, long)) (sound_before live between) (omega (arith, slots)) between.from stops between.marks swept in
     by (is_quiet fault task.speaker.calling why) refl tells is (λ told_so ends.

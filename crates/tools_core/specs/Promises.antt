@@ -116,17 +116,45 @@ pub record Does (run : Run) (asked : Settings) : Type 0 where
 abbrev pub lying_at : World → List ℕ → Option Content
 lying_at world name = if is_dash name then Some world.standard else world.laid 1 name
 
--- the run has one input, which has these bytes and ends after them
+-- an input with these bytes gives what it shows before it is read, if it shows anything
+abbrev pub IsSteady : Option (List ℕ) → List ℕ → Type 0
+IsSteady shown bytes = (shown ≡ None) ⊎ (shown ≡ Some bytes)
+
+-- the run has one input, which gives these bytes and ends after them
 pub record HasInput (run : Run) (bytes : List ℕ) : Type 0 where
   pub name : List ℕ
   pub only : names_read run.calling run.words ≡ name ∷ []
-  pub holds : lying_at run.world name ≡ Some (record { bytes = bytes; breaks_off = false })
+  pub shown : Option (List ℕ)
+  pub holds : lying_at run.world name ≡ Some (record { bytes = bytes; breaks_off = false; shown = shown })
+  pub steady : IsSteady shown bytes
+
+-- an input gives these bytes and ends after them
+pub record GivesBytes (input : Input) (bytes : List ℕ) : Type 0 where
+  pub content : Content
+  pub is : input.content ≡ Some content
+  pub bytes_are : content.bytes ≡ bytes
+  pub ends : content.breaks_off ≡ false
+  pub steady : IsSteady input.shown bytes
+
+-- Two inputs are the same, or have one name, and give the same bytes, whatever they show of these before.
+pub data AreAlike (one other : Input) : Type 0 where
+  same : one ≡ other → AreAlike one other
+  give_same : (bytes : List ℕ) → one.name ≡ other.name → GivesBytes one bytes → GivesBytes other bytes
+      → AreAlike one other
+
+-- each of the inputs and the one at its place in the other list
+abbrev pub AllAlike : List Input → List Input → Type 0
+AllAlike [] [] = Unit {0}
+AllAlike (one ∷ ones) [] = ⊥
+AllAlike [] (other ∷ others) = ⊥
+AllAlike (one ∷ ones) (other ∷ others) = AreAlike one other × AllAlike ones others
 
 -- Two runs read inputs of the same names, in order, and find the same under each: the same bytes, which end or break
--- off alike, or nothing. In how many reads bytes come is no part of what lies there.
+-- off alike, or nothing. In how many reads bytes come is no part of what lies there, nor whether an input that ends shows
+-- them before.
 abbrev pub FindAlike : Run → Run → Type 0
-FindAlike one other = inputs_at one.world (names_read one.calling one.words)
-    ≡ inputs_at other.world (names_read other.calling other.words)
+FindAlike one other = AllAlike (inputs_at one.world (names_read one.calling one.words))
+    (inputs_at other.world (names_read other.calling other.words))
 
 -- what is on standard output
 abbrev pub output_of : Run → List ℕ
@@ -386,11 +414,10 @@ IsTask calling (Csplit asked) task = (operands : List Operand) × Asks asked.ope
 IsTask calling (Tee asked) task = ⊥
 IsTask calling (About tool topic) task = ⊥
 
--- the tool has not enough of what an input gives, which says that it has this many bytes, before it breaks off, and
--- `tee` never has
-abbrev pub WantsMore : Calling → Settings → ℕ → Content → Type 0
-WantsMore calling asked coming content =
-    (task : Task) → IsTask calling asked task → is_enough (task.work coming) content ≡ false
+-- the tool has not enough of what an input gives, which shows this, before it breaks off, and `tee` never has
+abbrev pub WantsMore : Calling → Settings → Option (List ℕ) → Content → Type 0
+WantsMore calling asked shown content =
+    (task : Task) → IsTask calling asked task → is_enough (task.work shown) content ≡ false
 
 -- A fault after which a run goes on, and the name that its line has: an input of this name is missing, or breaks off
 -- before the tool has enough of it; or the tool has, and its own work over that input ends with this verdict, as where
@@ -399,12 +426,12 @@ pub data GoesOnAfter (run : Run) (asked : Settings) : Fault → List ℕ → Typ
   missing : (input : Input) → IsFound run asked input → input.content ≡ None
       → GoesOnAfter run asked (fault.Open 0) input.name
   broken_off : (input : Input) (content : Content) → IsFound run asked input → input.content ≡ Some content
-      → content.breaks_off ≡ true → WantsMore run.calling asked input.coming content
+      → content.breaks_off ≡ true → WantsMore run.calling asked input.shown content
       → GoesOnAfter run asked (fault.Read 0) input.name
   judged : (input : Input) (content : Content) (task : Task) (verdict : Verdict) → IsFound run asked input
-      → input.content ≡ Some content → IsTask run.calling asked task → is_enough (task.work input.coming) content ≡ true
-      → Judges (task.work input.coming) content.bytes verdict
-      → GoesOnAfter run asked (fault.Verdict verdict) (task.subject verdict)
+      → input.content ≡ Some content → IsTask run.calling asked task → is_enough (task.work input.shown) content ≡ true
+      → Judges (task.work input.shown) content.bytes verdict
+      → GoesOnAfter run asked (fault.Verdict verdict) (task.subject verdict input.name)
 
 -- a fault that the run met, and the name that its line has
 abbrev pub IsMet : Run → Settings → Fault → List ℕ → Type 0

@@ -2,7 +2,7 @@
 -- files for tail, headers and their options, bytes, and all but the last are GNU's, and so is what split does where an
 -- input breaks off.
 use Rattle.std.specs.Option.{unwrap_or}
-use Rattle.std.specs.Prelude.{ℕ, ◌==◌, ◌||◌, nat_lt, Bool, true, false, not, List, [], ◌∷◌, length, slice_index_or, codes, Option, Some, None, if◌then◌else◌}
+use Rattle.std.specs.Prelude.{ℕ, ◌&&◌, nat_lt, is_none, Bool, true, false, not, List, [], ◌∷◌, length, slice_index_or, codes, Option, Some, None, if◌then◌else◌}
 use Rattle.ports_core.specs.Name.{Naming, numbering_of}
 use Rattle.ports_core.specs.declared.verdict.Verdict.{Verdict}
 use Rattle.ports_core.specs.declared.verdict.Verdict.TheVariants.{Changed, NoMatch, Range}
@@ -12,13 +12,12 @@ use Rattle.ports_core.specs.declared.tool.Tool.{Tool}
 use Rattle.ports_core.specs.declared.tool.Tool.TheVariants as tool
 use Rattle.seg_core.specs.declared.count.Sign.{Sign}
 use Rattle.seg_core.specs.declared.count.Sign.TheVariants.{Plain, Minus, Plus}
-use Rattle.ends_core.specs.Head.{head_work}
-use Rattle.ends_core.specs.Tail.{tail_work}
+use Rattle.ends_core.specs.Shown.{head_in, tail_in}
 use Rattle.split_core.specs.ChunkWork.{way_work}
 use Rattle.split_core.specs.Split.{Filing}
 use Rattle.csplit_core.specs.Csplit.{csplit_work}
 use Rattle.operand_core.specs.declared.operand.Operand.{Operand}
-use Rattle.run_core.specs.Input.{is_dash}
+use Rattle.ports_core.specs.Work.{Needs}
 use Rattle.run_core.specs.Task.{Task}
 use Rattle.words_core.specs.declared.settings.Headers.{Headers}
 use Rattle.words_core.specs.declared.settings.Headers.TheVariants.{ForSeveral, Never, Always}
@@ -44,21 +43,26 @@ has_headers ForSeveral names = nat_lt 1 (length names)
 has_headers Never names = false
 has_headers Always names = true
 
--- a verdict that speaks of nothing but the tool
-abbrev pub of_nothing : Verdict → List ℕ
-of_nothing verdict = []
-
 -- a tool, called so
 abbrev pub by : Calling → Tool → Speaker
 by calling tool = record { calling = calling; tool = tool }
+
+-- a verdict that the input changed speaks of its name
+abbrev pub changed_of : Verdict → List ℕ → List ℕ
+changed_of Changed name = name
+changed_of verdict name = []
+
+-- what has to wait takes memory, unless the input shows its bytes
+abbrev pub waits_unless : Option (List ℕ) → Bool → Needs
+waits_unless shown waits = record { memory = waits && is_none shown; files = false }
 
 -- `head`: the first lines or bytes, and with `-` before the count all but the last
 abbrev pub head_task : Calling → EndsAsked → Task
 head_task calling asked = record {
   speaker = by calling tool.Head;
-  work = λ coming. head_work asked.delim asked.unit (is_minus asked.count.sign) asked.count.amount;
-  opening = record { memory = is_minus asked.count.sign; files = false };
-  subject = of_nothing;
+  work = head_in asked.delim asked.unit (is_minus asked.count.sign) asked.count.amount;
+  opening = λ shown. waits_unless shown (is_minus asked.count.sign);
+  subject = changed_of;
   with_header = has_headers asked.headers asked.names;
 }
 
@@ -66,9 +70,9 @@ head_task calling asked = record {
 abbrev pub tail_task : Calling → EndsAsked → Task
 tail_task calling asked = record {
   speaker = by calling tool.Tail;
-  work = λ coming. tail_work asked.delim asked.unit (is_plus asked.count.sign) asked.count.amount;
-  opening = record { memory = not (is_plus asked.count.sign); files = false };
-  subject = of_nothing;
+  work = tail_in asked.delim asked.unit (is_plus asked.count.sign) asked.count.amount;
+  opening = λ shown. waits_unless shown (not (is_plus asked.count.sign));
+  subject = changed_of;
   with_header = has_headers asked.headers asked.names;
 }
 
@@ -84,23 +88,19 @@ naming_of asked = record {
 abbrev pub filing_of : SplitAsked → Filing
 filing_of asked = record { names = naming_of asked; verbose = asked.verbose }
 
--- The length of the input, if it says that before it is read: a file by its name does, unless it says 0. Standard input
--- doesn't.
-abbrev pub said_by : List ℕ → ℕ → Option ℕ
-said_by input coming = if is_dash input || coming == 0 then None else Some coming
-
--- a verdict that the input changed speaks of its name
-abbrev pub changed_of : List ℕ → Verdict → List ℕ
-changed_of input Changed = input
-changed_of input verdict = []
+-- the length of what an input shows, where it shows a byte
+abbrev pub said_by : Option (List ℕ) → Option ℕ
+said_by None = None
+said_by (Some []) = None
+said_by (Some (byte ∷ text)) = Some (length (byte ∷ text))
 
 -- `split`: the input cut into files, or what one of them would have
 abbrev pub split_task : Calling → SplitAsked → Task
 split_task calling asked = record {
   speaker = by calling tool.Split;
-  work = λ coming. way_work asked.way asked.elide (filing_of asked) (said_by asked.input coming);
-  opening = record { memory = true; files = true };
-  subject = changed_of asked.input;
+  work = λ shown. way_work asked.way asked.elide (filing_of asked) (said_by shown);
+  opening = λ shown. record { memory = true; files = true };
+  subject = changed_of;
   with_header = false;
 }
 
@@ -114,9 +114,9 @@ operand_of operands verdict = []
 abbrev pub csplit_task : Calling → CsplitAsked → List Operand → Task
 csplit_task calling asked operands = record {
   speaker = by calling tool.Csplit;
-  work = λ coming. csplit_work asked.style operands;
-  opening = record { memory = true; files = true };
-  subject = operand_of asked.operands;
+  work = λ shown. csplit_work asked.style operands;
+  opening = λ shown. record { memory = true; files = true };
+  subject = λ verdict name. operand_of asked.operands verdict;
   with_header = false;
 }
 

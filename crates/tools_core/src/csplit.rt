@@ -33,7 +33,8 @@ impl<'a, 'b> Adapter for CsplitAdapter<'a, 'b> {
     }
 
     /// The word of the operand that finds no line.
-    fn subject<'c>(&'c self, verdict: &Verdict) -> &'c str {
+    fn subject<'c>(&'c self, verdict: &Verdict, name: &'c str) -> &'c str {
+        let _ = name;
         match verdict {
             Verdict::NoMatch(operand, _) | Verdict::Range(operand, _) => {
                 self.settings.word(*operand)
@@ -42,13 +43,17 @@ impl<'a, 'b> Adapter for CsplitAdapter<'a, 'b> {
         }
     }
 
-    fn open<O: Outs>(
+    fn open<I: Inputs, O: Outs>(
         &self,
         alloc: Global,
-        coming: u64,
+        source: Option<usize>,
+        buffer: &mut [u8],
+        inputs: &mut I,
         outs: &mut O,
     ) -> Result<Guarded<Csplitter<'a>>, Fault> {
-        let _ = coming;
+        let _ = source;
+        let _ = buffer;
+        let _ = inputs;
         let settings = self.settings;
         let style = settings.style.try_clone(alloc)?;
         Csplitter::open(alloc, self.operands, style, outs)

@@ -1,11 +1,14 @@
 //! `head` and `tail`: the same part of each input, one after another (POSIX.1-2017, XCU head and tail; several files
 //! for `tail`, and when headers go before them, are GNU's).
-ghost use Rattle.std.specs.Prelude.{◌≡◌, map};
-ghost use Rattle.tools_core.specs.Tasks.{has_headers, head_task, is_minus, is_plus, tail_task};
+ghost use Rattle.std.specs.Prelude.{◌≡◌, ◌<◌, ℕ, List, Some, None, map, length, IfSome, IfNone, IsTrue};
+ghost use Rattle.ports_core.specs.Source.{is_readable};
+ghost use Rattle.ends_core.specs.Shown.{place_of};
+ghost use Rattle.run_core.specs.RunSteps.{IsShown, OnlyLooked};
+ghost use Rattle.tools_core.specs.Tasks.{changed_of, has_headers, head_task, is_minus, is_plus, tail_task};
 
 use crate::run::by;
-use ends_core::{Ends, Head, Tail};
-use ports_core::{Calling, Fault, Guarded, Outs, Speaker, Tool, Verdict};
+use ends_core::{Ends, Found, Head, Tail, find_last};
+use ports_core::{Calling, Fault, Guarded, Inputs, Outs, Speaker, Tool, Verdict};
 use run_core::Adapter;
 use seg_core::count::{Count, Sign};
 use std::alloc::Global;
@@ -42,22 +45,28 @@ impl<'a, 'b> Adapter for HeadAdapter<'a, 'b> {
         has_headers(self.settings)
     }
 
-    fn subject<'c>(&'c self, verdict: &Verdict) -> &'c str {
-        let _ = verdict;
-        ""
+    fn subject<'c>(&'c self, verdict: &Verdict, name: &'c str) -> &'c str {
+        changed_of(verdict, name)
     }
 
-    fn open<O: Outs>(
+    fn open<I: Inputs, O: Outs>(
         &self,
         alloc: Global,
-        coming: u64,
+        source: Option<usize>,
+        buffer: &mut [u8],
+        inputs: &mut I,
         outs: &mut O,
     ) -> Result<Guarded<Ends>, Fault> {
-        let _ = coming;
         let _ = outs;
         let settings = self.settings;
         let Count { sign, amount } = settings.count;
-        Head::open(alloc, settings.unit, is_minus(sign), amount, settings.delim)
+        let but_last = is_minus(sign);
+        if but_last {
+            if let Some(found) = last_in(settings, source, buffer, inputs) {
+                return Ok(Head::up_to(found.place));
+            }
+        }
+        Head::open(alloc, settings.unit, but_last, amount, settings.delim)
     }
 }
 
@@ -74,29 +83,65 @@ impl<'a, 'b> Adapter for TailAdapter<'a, 'b> {
         has_headers(self.settings)
     }
 
-    fn subject<'c>(&'c self, verdict: &Verdict) -> &'c str {
-        let _ = verdict;
-        ""
+    fn subject<'c>(&'c self, verdict: &Verdict, name: &'c str) -> &'c str {
+        changed_of(verdict, name)
     }
 
-    fn open<O: Outs>(
+    fn open<I: Inputs, O: Outs>(
         &self,
         alloc: Global,
-        coming: u64,
+        source: Option<usize>,
+        buffer: &mut [u8],
+        inputs: &mut I,
         outs: &mut O,
     ) -> Result<Guarded<Ends>, Fault> {
         let _ = outs;
         let settings = self.settings;
         let Count { sign, amount } = settings.count;
         let from_nth = is_plus(sign);
-        Tail::open_for(
-            alloc,
-            settings.unit,
-            from_nth,
-            amount,
-            settings.delim,
-            coming,
-        )
+        if !from_nth {
+            if let Some(found) = last_in(settings, source, buffer, inputs) {
+                return Ok(Tail::after(found.place, found.len));
+            }
+        }
+        Tail::open(alloc, settings.unit, from_nth, amount, settings.delim)
+    }
+}
+
+/// Where the last lines or bytes begin of what a source shows, as many as are asked for.
+fn last_in<I: Inputs>(
+    settings: &EndsSettings<'_>,
+    source: Option<usize>,
+    buffer: &mut [u8],
+    inputs: &mut I,
+) -> Option<Found>
+    requires room { 0 < length buffer.old }
+    requires input { IfSome source (λ slot. IsTrue (is_readable (I.sources inputs.old) slot)) }
+    ensures found { IfSome result (λ found. (text : List ℕ)
+        × IsShown I.told source (I.sources inputs.old) (Some text)
+        × (found.place ≡ place_of settings.now.delim settings.now.unit settings.now.count.amount text)
+        × (found.len ≡ length text)) }
+    ensures none { IfNone result (IsShown I.told source (I.sources inputs.old) None) }
+    ensures looked { OnlyLooked (length buffer.old) source (I.sources inputs.old) (I.sources inputs.new) }
+    ensures laid { I.laid inputs.new ≡ I.laid inputs.old }
+{
+    find_last(
+        settings.unit,
+        settings.count.amount,
+        settings.delim,
+        source?,
+        buffer,
+        inputs,
+    )
+}
+
+/// The name in the message for a verdict: the input's, where that changed.
+pub(crate) fn changed_of<'a>(verdict: &Verdict, name: &'a str) -> &'a str
+    ensures { result.now ≡ changed_of verdict.now name.now }
+{
+    match verdict {
+        Verdict::Changed => name,
+        _ => "",
     }
 }
 

@@ -35,25 +35,23 @@ impl<'a, 'b> Adapter for SplitAdapter<'a, 'b> {
         false
     }
 
-    /// The input's name, if it changed.
-    fn subject<'c>(&'c self, verdict: &Verdict) -> &'c str {
-        let settings = self.settings;
-        match verdict {
-            Verdict::Changed => settings.input,
-            _ => "",
-        }
+    fn subject<'c>(&'c self, verdict: &Verdict, name: &'c str) -> &'c str {
+        changed_of(verdict, name)
     }
 
-    fn open<O: Outs>(
+    fn open<I: Inputs, O: Outs>(
         &self,
         alloc: Global,
-        coming: u64,
+        source: Option<usize>,
+        buffer: &mut [u8],
+        inputs: &mut I,
         outs: &mut O,
     ) -> Result<Guarded<Splitter>, Fault> {
+        let _ = buffer;
         let settings = self.settings;
+        let said = said_by(&settings.way, source, inputs);
         let naming = naming_for(alloc, settings)?;
         let tells = tells_for(settings.verbose);
-        let said = said_by(settings.input, coming);
         Splitter::open(
             alloc,
             settings.way,
@@ -66,15 +64,22 @@ impl<'a, 'b> Adapter for SplitAdapter<'a, 'b> {
     }
 }
 
-/// The length of the input, if it says that before it is read: a file by its name does, unless it says 0. Standard input
-/// doesn't.
-fn said_by(input: &str, coming: u64) -> Option<u64>
-    ensures { result ≡ said_by input.now coming }
+/// How many bytes a source shows, where that matters and it shows any.
+fn said_by<I: Inputs>(way: &Way, source: Option<usize>, inputs: &mut I) -> Option<u64>
+    requires input { IfSome source (λ slot. IsTrue (is_readable (I.sources inputs.old) slot)) }
+    ensures said { (shown : Option (List ℕ)) × IsShown I.told source (I.sources inputs.old) shown
+        × (needs_length way.now ≡ true → result ≡ said_by shown) }
+    ensures same { I.sources inputs.new ≡ I.sources inputs.old }
+    ensures laid { I.laid inputs.new ≡ I.laid inputs.old }
 {
-    if is_dash(input) || coming == 0 {
+    let (Way::Chunks(_) | Way::Chunk(_, _)) = way else {
+        return None;
+    };
+    let count = inputs.shown(source?)?;
+    if count == 0 {
         return None;
     }
-    Some(coming)
+    Some(count)
 }
 
 /// What standard output is told of its files.

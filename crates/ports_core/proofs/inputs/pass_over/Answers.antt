@@ -2,8 +2,8 @@ use Rattle.std.proofs.Common.{arith, ◌<◌, ◌^◌}
 use Rattle.ports_core.proofs.LoadLemmas.{passes_if, passes_none}
 use Rattle.ports_core.proofs.inputs.pass_over.Goals as goal
 
-pub returns-then-count-clause-passes : goal.returns-then-count-clause-passes
-returns-then-count-clause-passes g c = passes_none _ _ tt
+pub returns-then-count-most-clause-passes : goal.returns-then-count-most-clause-passes
+returns-then-count-most-clause-passes g c = passes_none _ _ tt
 
 pub returns-then-unwrap_or-count-clause-passes : goal.returns-then-unwrap_or-count-clause-passes
 returns-then-unwrap_or-count-clause-passes g c = rw c.shown.ensures.same (passes_none _ _ tt)

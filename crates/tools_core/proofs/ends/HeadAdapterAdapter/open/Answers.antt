@@ -6,4 +6,4 @@ pub returns-clause-ok : goal.returns-clause-ok
 returns-clause-ok g c = search (rules, opened_of, head_asked, whatever, head_begins)
 
 pub returns-clause-err : goal.returns-clause-err
-returns-clause-err g c = no_memory_for _ _ _ _ c.open.result _ (head_asked c.args.coming c.settings.view_is c.is_minus.ensures).1 c.requires.streams c.open.ensures.err
+returns-clause-err g c = no_memory_for _ _ _ _ c.open.result _ (head_asked c.args.shown c.settings.view_is c.is_minus.ensures).1 c.requires.streams c.open.ensures.err

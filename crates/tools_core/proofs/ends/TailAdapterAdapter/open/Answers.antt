@@ -6,4 +6,4 @@ pub returns-clause-ok : goal.returns-clause-ok
 returns-clause-ok g c = search (rules, opened_of, tail_asked, whatever, tail_starts)
 
 pub returns-clause-err : goal.returns-clause-err
-returns-clause-err g c = no_memory_for _ _ _ _ c.open_for.result _ (tail_asked c.args.coming c.settings.view_is c.is_plus-from_nth.ensures).1 c.requires.streams c.open_for.ensures.err
+returns-clause-err g c = no_memory_for _ _ _ _ c.open_for.result _ (tail_asked c.args.shown c.settings.view_is c.is_plus-from_nth.ensures).1 c.requires.streams c.open_for.ensures.err

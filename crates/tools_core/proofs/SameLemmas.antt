@@ -1,0 +1,138 @@
+-- Lemmas on inputs that give what they show before they are read: what is made of them is what is made of those that show nothing.
+use Rattle.std.proofs.Common.{◌≡◌, ℕ, ◌&&◌, ◌||◌, ◌⊎◌, if◌then◌else◌, map, Bool, true, false, not, is_some, List, [], ◌∷◌, ◌++◌, Option, Some, None, inl, inr, refl, sym, ◌∙◌, ap, subst, length}
+use Rattle.ports_core.specs.Part.{Part, only_out}
+use Rattle.ports_core.specs.Source.{Content, unshown}
+use Rattle.ports_core.specs.Work.{IsLawful, Work}
+use Rattle.ports_core.specs.declared.calling.Calling.{Calling}
+use Rattle.ports_core.specs.declared.calling.Calling.TheVariants.{Cutters}
+use Rattle.ports_core.specs.declared.verdict.Verdict.{Verdict}
+use Rattle.seg_core.specs.declared.unit.Unit.{Unit as Counted}
+use Rattle.ends_core.specs.Shown.{head_in, tail_in}
+use Rattle.ends_core.specs.laws.WorkLaws.{head_lawful, tail_lawful}
+use Rattle.ends_core.proofs.ShownLemmas.{head_shown_lawful, tail_shown_lawful, verdict-head_shown, verdict-tail_shown, whole-head_shown, whole-tail_shown}
+use Rattle.seg_core.specs.declared.cut.Way.{Way}
+use Rattle.seg_core.specs.declared.cut.Way.TheVariants as way
+use Rattle.split_core.specs.Chunks.{chunks_of, is_as_said, size_by}
+use Rattle.split_core.specs.ChunkWork.{files_by, is_written, piece_at, way_work}
+use Rattle.split_core.specs.Split.{Filing, manner_of, share}
+use Rattle.ports_core.specs.Draft.{part_of}
+use Rattle.ports_core.specs.declared.slot.State.TheVariants.{Closed}
+use Rattle.ports_core.specs.declared.verdict.Verdict.TheVariants.{Changed}
+use Rattle.std.proofs.Math.Bool.{or-true}
+use Rattle.std.proofs.lemmas.Bool.{eq-eqb}
+use Rattle.tools_core.specs.Tasks.{said_by}
+use Rattle.run_core.specs.Input.{Input}
+use Rattle.run_core.specs.Task.{Task, Outcome, after_part, header_text, is_missing, joined, made_by, of_content, of_input, of_inputs, verdict_messages}
+use Rattle.tools_core.specs.Promises.{AllAlike, AreAlike, GivesBytes, IsSteady, give_same, same}
+
+-- a work makes of each text the same, whether its input showed it or nothing
+pub record KnowsNoMore (work : Option (List ℕ) → Work) : Type 0 where
+  pub whole : (text : List ℕ) → (work (Some text)).whole text ≡ (work None).whole text
+  pub verdict : (text : List ℕ) → (work (Some text)).verdict text ≡ (work None).verdict text
+  pub clears : (text : List ℕ) → (work (Some text)).clears ≡ (work None).clears
+
+-- the works of `head` and `tail` are lawful, whatever is shown
+
+pub head_in_lawful : (delim : ℕ) (unit : Counted) (but_last : Bool) (n : ℕ) (shown : Option (List ℕ)) → IsLawful (head_in delim unit but_last n shown)
+head_in_lawful delim unit true n (Some text) = head_shown_lawful delim unit n text
+head_in_lawful delim unit true n None = head_lawful delim unit true n
+head_in_lawful delim unit false n shown = head_lawful delim unit false n
+
+pub tail_in_lawful : (delim : ℕ) (unit : Counted) (from_nth : Bool) (n : ℕ) (shown : Option (List ℕ)) → IsLawful (tail_in delim unit from_nth n shown)
+tail_in_lawful delim unit false n (Some text) = tail_shown_lawful delim unit n text
+tail_in_lawful delim unit false n None = tail_lawful delim unit false n
+tail_in_lawful delim unit true n shown = tail_lawful delim unit true n
+
+pub head_knows : (delim : ℕ) (unit : Counted) (but_last : Bool) (n : ℕ) → KnowsNoMore (head_in delim unit but_last n)
+head_knows delim unit true n = record {
+  whole = whole-head_shown delim unit n;
+  verdict = verdict-head_shown delim unit n;
+  clears = λ text. refl;
+}
+head_knows delim unit false n = record { whole = λ text. refl; verdict = λ text. refl; clears = λ text. refl }
+
+pub tail_knows : (delim : ℕ) (unit : Counted) (from_nth : Bool) (n : ℕ) → KnowsNoMore (tail_in delim unit from_nth n)
+tail_knows delim unit false n = record {
+  whole = whole-tail_shown delim unit n;
+  verdict = verdict-tail_shown delim unit n;
+  clears = λ text. refl;
+}
+tail_knows delim unit true n = record { whole = λ text. refl; verdict = λ text. refl; clears = λ text. refl }
+
+-- the length of the text that was shown is that of what came
+
+said_so : (text : List ℕ) → (is_as_said (said_by (Some text)) text ≡ true) × (size_by (said_by (Some text)) text ≡ length text)
+said_so [] = (refl, refl)
+said_so (byte ∷ text) = (eq-eqb (length (byte ∷ text)) (length (byte ∷ text)) refl, refl)
+
+pub way_knows : (way : Way) (elide : Bool) (filing : Filing) → KnowsNoMore (λ shown. way_work way elide filing (said_by shown))
+way_knows (way.Cut cut) elide filing = record { whole = λ text. refl; verdict = λ text. refl; clears = λ text. refl }
+way_knows (way.Chunks chunks) elide filing = record {
+  whole = λ text. ap (λ size. part_of (manner_of filing) (map (share Closed) (files_by elide (chunks_of chunks size text)))) (said_so text).1;
+  verdict = λ text. ap (λ (b : Bool). if b then None else Some Changed) (said_so text).0;
+  clears = λ text. refl;
+}
+way_knows (way.Chunk place chunks) elide filing = record {
+  whole = λ text. ap (λ size. piece_at place (chunks_of chunks size text)) (said_so text).1;
+  verdict = λ text. ap (λ (b : Bool). if is_written place chunks (said_by (Some text)) text || b then None else Some Changed) (said_so text).0
+      ∙ ap (λ (b : Bool). if b then None else Some Changed) (or-true (is_written place chunks (said_by (Some text)) text));
+  clears = λ text. refl;
+}
+way_knows (way.Turn place count delim) elide filing = record { whole = λ text. refl; verdict = λ text. refl; clears = λ text. refl }
+
+-- what is made of an input that ends, by what its work says there
+made_of_end : Task → Bool → List ℕ → Part → Option Verdict → Bool → Outcome
+made_of_end task is_first name whole verdict clears = record {
+  part = after_part (only_out (header_text task.with_header is_first name)) whole;
+  messages = verdict_messages task name verdict;
+  failed = is_some verdict;
+  sweeps = clears && is_some verdict;
+}
+
+-- what is made of an input, by its fields
+of_fields : Task → Work → Bool → List ℕ → List ℕ → Bool → Outcome
+of_fields task work is_first name bytes breaks_off =
+    of_content task work is_first name (Some (record { bytes = bytes; breaks_off = breaks_off; shown = None }))
+
+module _ (task : Task) (knows : KnowsNoMore task.work) (is_first : Bool) (name bytes : List ℕ) where
+  shown_too : (shown : Option (List ℕ)) → IsSteady shown bytes → of_fields task (task.work shown) is_first name bytes false ≡ of_fields task (task.work None) is_first name bytes false
+  unfolding of_fields
+  shown_too shown (inl none) = ap (λ shown. of_fields task (task.work shown) is_first name bytes false) none
+  shown_too shown (inr all) = ap (λ shown. of_fields task (task.work shown) is_first name bytes false) all
+      ∙ ap (λ whole. made_of_end task is_first name whole ((task.work (Some bytes)).verdict bytes) (task.work (Some bytes)).clears) (knows.whole bytes)
+      ∙ ap (λ verdict. made_of_end task is_first name ((task.work None).whole bytes) verdict (task.work (Some bytes)).clears) (knows.verdict bytes)
+      ∙ ap (made_of_end task is_first name ((task.work None).whole bytes) ((task.work None).verdict bytes)) (knows.clears bytes)
+
+  -- what is made of an input that gives these bytes
+  pub steady_made : (input : Input) → input.name ≡ name → GivesBytes input bytes → of_input task is_first input ≡ of_content task (task.work None) is_first name (Some (unshown bytes))
+  steady_made input named gives =
+      ap (λ name. of_content task (task.work input.shown) is_first name input.content) named
+      ∙ ap (of_content task (task.work input.shown) is_first name) gives.is
+      ∙ ap (λ those. of_fields task (task.work input.shown) is_first name those gives.content.breaks_off) gives.bytes_are
+      ∙ ap (of_fields task (task.work input.shown) is_first name bytes) gives.ends
+      ∙ shown_too input.shown gives.steady
+
+-- both are missing, or none is
+missing_alike : (one other : Input) → AreAlike one other → is_missing one.content ≡ is_missing other.content
+missing_alike one other (same is) = ap (λ (input : Input). is_missing input.content) is
+missing_alike one other (give_same bytes named gives gives_too) = ap is_missing gives.is ∙ sym (ap is_missing gives_too.is)
+
+alike_made : (task : Task) → KnowsNoMore task.work → (is_first : Bool) (one other : Input) → AreAlike one other → of_input task is_first one ≡ of_input task is_first other
+alike_made task knows is_first one other (same is) = ap (of_input task is_first) is
+alike_made task knows is_first one other (give_same bytes named gives gives_too) =
+    steady_made task knows is_first other.name bytes one named gives ∙ sym (steady_made task knows is_first other.name bytes other refl gives_too)
+
+-- so what is made of alike inputs is the same
+pub all_made_alike : (task : Task) → KnowsNoMore task.work → (is_first : Bool) (ones others : List Input) → AllAlike ones others → of_inputs task is_first ones ≡ of_inputs task is_first others
+all_made_alike task knows is_first [] [] alike = refl
+all_made_alike task knows is_first (one ∷ ones) [] alike = absurd alike
+all_made_alike task knows is_first [] (other ∷ others) alike = absurd alike
+all_made_alike task knows is_first (one ∷ ones) (other ∷ others) alike =
+    ap (λ made. joined made (of_inputs task (is_first && is_missing one.content) ones)) (alike_made task knows is_first one other alike.0)
+    ∙ ap (joined (of_input task is_first other)) (ap (λ b. of_inputs task (is_first && b) ones) (missing_alike one other alike.0)
+    ∙ all_made_alike task knows (is_first && is_missing other.content) ones others alike.1)
+
+-- inputs are as themselves
+pub all_alike : (inputs : List Input) → AllAlike inputs inputs
+all_alike [] = tt
+all_alike (input ∷ inputs) = (same refl, all_alike inputs)
