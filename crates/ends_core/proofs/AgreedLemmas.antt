@@ -170,7 +170,7 @@ none_common : (one two : ℕ) (rest more bytes : List ℕ) → one ≢ two → I
 none_common one two rest more [] differ begins also = omega arith
 none_common one two rest more (byte ∷ bytes) differ begins also = grind (arith, common_steps)
 
-none_last : (delim : ℕ) (unit : Counted) (x : List ℕ) → length (last_of delim unit 0 x) ≤ 0
+pub none_last : (delim : ℕ) (unit : Counted) (x : List ℕ) → length (last_of delim unit 0 x) ≤ 0
 none_last delim Lines x = grind (arith, common_steps)
 none_last delim Bytes x = grind (arith, common_steps)
 
@@ -219,7 +219,7 @@ head_together : (delim : ℕ) (unit : Counted) (but_last : Bool) (n : ℕ) (x : 
 head_together delim unit false n x = (after_of delim unit n x, sym (first_then_after delim unit n x))
 head_together delim unit true n x = (last_of delim unit n x, sym (ends_together delim unit n x))
 
-head_stretch : (delim : ℕ) (unit : Counted) (but_last : Bool) (n : ℕ) → IsStretch (λ x. only_out (head_of delim unit but_last n x)) (head_spots delim unit but_last n) 0 (λ x. head_of delim unit but_last n x ∷ [])
+pub head_stretch : (delim : ℕ) (unit : Counted) (but_last : Bool) (n : ℕ) → IsStretch (λ x. only_out (head_of delim unit but_last n x)) (head_spots delim unit but_last n) 0 (λ x. head_of delim unit but_last n x ∷ [])
 head_stretch delim unit but_last n = record {
   before = λ x. [];
   rest = λ x. x;
@@ -233,7 +233,7 @@ head_stretch delim unit but_last n = record {
 pub head_placed : (delim : ℕ) (unit : Counted) (but_last : Bool) (n : ℕ) → ArePlaced (head_work delim unit but_last n) (head_spots delim unit but_last n)
 head_placed delim unit but_last n = stretch_placed (head_work delim unit but_last n) 0 (head_stretch delim unit but_last n)
 
-tail_stretch : (delim : ℕ) (unit : Counted) (from_nth : Bool) (n : ℕ) → IsStretch (λ x. only_out (tail_of delim unit from_nth n x)) (tail_spots delim unit from_nth n) 0 (λ x. tail_of delim unit from_nth n x ∷ [])
+pub tail_stretch : (delim : ℕ) (unit : Counted) (from_nth : Bool) (n : ℕ) → IsStretch (λ x. only_out (tail_of delim unit from_nth n x)) (tail_spots delim unit from_nth n) 0 (λ x. tail_of delim unit from_nth n x ∷ [])
 tail_stretch delim unit from_nth n = record {
   before = tail_first delim unit from_nth n;
   rest = tail_of delim unit from_nth n;

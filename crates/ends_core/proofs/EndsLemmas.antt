@@ -1,33 +1,38 @@
 -- Lemmas on the stage of `head` and `tail`, and on what it uses.
 use Rattle.std.proofs.lemmas.Grind.{common_steps}
-use Rattle.std.proofs.Common.{◌≡◌, ℕ, ◌+◌, ◌-◌, ◌<◌, ◌≤◌, ◌&&◌, not, List, [], ◌∷◌, ◌++◌, ◌⊎◌, ◌^◌, length, Bool, true, false, IsTrue, Ok, Err, Result, OnOk, nat_le, inl, inr, None, refl, sym, ◌∙◌, ap, subst, arith, length-append, ◌↔◌, replicate, lit<, zero, suc, take, drop, rules}
+use Rattle.std.proofs.Common.{◌≡◌, ℕ, ◌+◌, ◌-◌, ◌<◌, ◌≤◌, ◌&&◌, not, List, [], ◌∷◌, ◌++◌, ◌⊎◌, length, Bool, true, false, IsTrue, Ok, Err, Result, OnOk, nat_le, inl, inr, None, refl, sym, ◌∙◌, ap, subst, arith, length-append, ◌↔◌, replicate, lit<, zero, suc, take, drop, rules}
+use Rattle.std.proofs.lemmas.Option.{none-some}
 use Rattle.std.proofs.lemmas.Bool.{false≢true, leb-false, cases_lt, le-leb, lt-leb, leb-true}
-use Rattle.std.proofs.lemmas.List.{nil_from_length, append-nil, append_cancel_left, take-append-drop, take-append-le, take_at, length-drop, length-take}
+use Rattle.std.proofs.lemmas.List.{take_all, nil_from_length, append-nil, append_cancel_left, take-append-drop, take-append-le, take_at, length-drop, length-take}
 use Rattle.std.proofs.lemmas.List.Elements.{All-replicate}
 use Rattle.ports_core.specs.Slot.{Slot, is_writable, with_written, told_of}
 use Rattle.ports_core.specs.Source.{Source}
 use Rattle.ports_core.specs.Part.{Part, OutputsAt, StoppedBetween, gets_bytes, only_out}
 use Rattle.ports_core.proofs.PartLemmas.{out_more}
-use Rattle.ports_core.specs.Work.{Means, Needs, on_output, IsNeeded, IsSpare}
-use Rattle.ports_core.specs.Engine.{Loads, TakesIn, PutsOut, CutsOff, IsMet, cut, MayGet}
+use Rattle.ports_core.specs.Work.{Work, Means, Needs, on_output, IsNeeded, IsSettled, IsSpare}
+use Rattle.ports_core.specs.Engine.{EndsThere, IsMetThere, Loads, TakesIn, TookIn, PutsOut, CutsOff, IsMet, cut, judged, MayGet}
 use Rattle.ports_core.specs.declared.fault.Fault.{Fault}
+use Rattle.ports_core.specs.declared.fault.Fault.TheVariants as fault_is
 use Rattle.ports_core.specs.declared.verdict.Verdict.{Verdict}
+use Rattle.ports_core.specs.declared.verdict.Verdict.TheVariants.{Changed}
 use Rattle.seg_core.specs.declared.unit.Unit.{Unit as Counted}
 use Rattle.seg_core.specs.declared.unit.Unit.TheVariants.{Bytes, Lines}
 use Rattle.ends_core.specs.declared.ends.Ends.{Ends}
 use Rattle.ends_core.specs.declared.front.Front.{Front}
 use Rattle.ends_core.specs.declared.ends.Ends.TheVariants.{First, ButLast, FromNth, Last}
-use Rattle.ends_core.specs.Ends.{measure, first_of, after_of, last_of, but_last_of}
+use Rattle.ends_core.specs.Ends.{measure, first_of, after_of, last_of}
 use Rattle.ends_core.specs.Head.{head_work, IsDone, ahead_of}
-use Rattle.ends_core.specs.Stage.{Stretch, the_first, from_the_nth, the_last, keeps, work_in, stretch_of, delim_of, unit_of, count_of, left_of, waiting_of, waiting, past_in, past_of, may_lack, work, Holds, terms, is_done, all_but_last}
-use Rattle.ends_core.specs.inner.Stage.{IsSilent, due, due_at_end, left_waiting, is_full, unused_of, FullLacksNone, SameAsked, piece_for, wanted_by}
-use Rattle.ends_core.specs.Kept.{most_of, delim_of as kept_delim, unit_of as kept_unit}
+use Rattle.ends_core.specs.Stage.{Stretch, the_first, the_last, keeps, front_in, work_in, stretch_of, delim_of, unit_of, count_of, left_of, waiting_of, waiting, past_in, past_of, may_lack, least_of, missing_of, work, Holds, terms, is_done, all_but_last}
+use Rattle.ends_core.specs.inner.Stage.{EndsBadly, changed, stopped, IsSilent, passed, due, due_at_end, left_waiting, is_full, unused_of, FullLacksNone, SameAsked, piece_for, wanted_by}
+use Rattle.ends_core.specs.declared.kept.Kept.{Kept}
+use Rattle.ends_core.specs.Kept.{held_of, most_of, delim_of as kept_delim, unit_of as kept_unit}
 use Rattle.ports_core.specs.Inputs.{PassesOver}
 use Rattle.ports_core.proofs.LoadLemmas.{passes_so}
 use Rattle.ends_core.specs.inner.Kept.{Stops}
-use Rattle.ends_core.specs.laws.WorkLaws.{full_head}
+use Rattle.ends_core.specs.Shown.{changed_below}
+use Rattle.ends_core.specs.laws.WorkLaws.{full_head, enough_came, fewer_came, complete_came}
 use Rattle.ends_core.specs.laws.EndsLaws.{ends_together, first_then_after, measure-append, first_of-append, first_of-short, after_of-append, last_of-append, but_last_of-append, first_of-full}
-use Rattle.ends_core.proofs.KeptLemmas.{measure-delimiters, first_of-more, but_last_grows, first_of-nil, last_none, after-past, stays}
+use Rattle.ends_core.proofs.KeptLemmas.{measure-delimiters, first_of-more, but_last_grows, first_of-nil, after-past, stays}
 use Rattle.ends_core.proofs.KeptLemmas as stop
 use Rattle.ports_core.specs.Guard.{GuardState, HoldsIn}
 use Rattle.ports_core.proofs.SpareLemmas.{all_used}
@@ -40,16 +45,23 @@ same_for : {A : Type 0} (f : Stretch → ℕ → Counted → ℕ → A) {old new
 same_for f {old} {new} same = grind (arith, common_steps)
 
 pub same_work : {old new : Ends} → SameAsked old new → work new ≡ work old
-same_work same = same_for work_in same
+same_work {old} {new} same =
+    ap (λ least. record (work_in (stretch_of new) (delim_of new) (unit_of new) (count_of new)) { verdict = changed_below least }) same.least
+    ∙ ap (λ (work : Work). record work { verdict = changed_below (least_of old) }) (same_for work_in same)
 
 -- it writes to standard output alone, and may want memory where the last are kept
 pub on_means : (s : Stretch) (delim : ℕ) (unit : Counted) (n : ℕ) → (work_in s delim unit n).means ≡ on_output (keeps s)
 on_means the_first delim unit n = refl
 on_means s delim unit n = refl
 
-pub always_well : (s : Stretch) (delim : ℕ) (unit : Counted) (n : ℕ) (x : List ℕ) → (work_in s delim unit n).verdict x ≡ None
-always_well the_first delim unit n x = refl
-always_well s delim unit n x = refl
+-- it ends well where nothing is missing
+pub well_there : (ends : Ends) (x : List ℕ) → missing_of ends ≡ 0 → Holds ends x → (work ends).verdict x ≡ None
+well_there ends x none holds = enough_came (least_of ends) x (omega (arith, none, holds.missing))
+
+-- and while bytes come it never ends badly
+pub none_settled : (ends : Ends) (x : List ℕ) {verdict : Verdict} → IsSettled (work ends) x verdict → ⊥
+none_settled (First count front) x {verdict} settled = none-some verdict (sym (complete_came front.delim front.unit {n = count} x (omega arith) settled.0) ∙ settled.1)
+none_settled ends x settled = false≢true settled.0
 
 -- with these bytes the output has what is due, whatever it was fed
 abbrev pub Makes : Ends → List ℕ → (List ℕ → Part) → Type 0
@@ -89,6 +101,16 @@ waits_next ends piece holds = refl
 waits_now : (ends : Ends) {next : Ends} {x : List ℕ} (piece : List ℕ) → SameAsked ends next → waiting_of next ≡ left_waiting ends piece → Holds ends x → waiting_of next ≡ waiting next (x ++ piece)
 waits_now ends {x} piece same waits holds = waits ∙ waits_next ends piece holds ∙ sym (same_for (λ s d u n. (work_in s d u n).waiting (x ++ piece)) same)
 
+left_now : (ends : Ends) {next : Ends} {x : List ℕ} (piece : List ℕ) → SameAsked ends next → left_of next ≡ left_of ends - measure (delim_of ends) (unit_of ends) piece → Holds ends x → keeps (stretch_of next) ≡ false
+    → left_of next ≡ front_in (stretch_of next) (count_of next) - measure (delim_of next) (unit_of next) (x ++ piece)
+left_now ends {next} {x} piece same left holds none =
+    left ∙ ap (λ m. m - measure (delim_of ends) (unit_of ends) piece) (holds.left (ap keeps (sym same.stretch) ∙ none)) ∙ minus_both _ _ _
+    ∙ ap (λ m. front_in (stretch_of ends) (count_of ends) - m) (sym (measure-append (delim_of ends) (unit_of ends) x piece))
+    ∙ sym (same_for (λ s d u n. front_in s n - measure d u (x ++ piece)) same)
+
+missing_now : (ends : Ends) {next : Ends} {x : List ℕ} (piece : List ℕ) → SameAsked ends next → missing_of next ≡ missing_of ends - length piece → Holds ends x → missing_of next ≡ least_of next - length (x ++ piece)
+missing_now ends {x = x} piece same missing holds = omega (arith, missing, same.least, holds.missing, length-append x piece)
+
 none_lacks : (ends : Ends) → keeps (stretch_of ends) ≡ false → may_lack ends ≡ false
 none_lacks (First count front) none = cc
 none_lacks ends none = cc
@@ -108,8 +130,17 @@ past_next (First count front) {x} piece holds = grind (arith, common_steps, afte
 past_next ends piece holds = refl
 
 pub takes_in : (ends : Ends) {next : Ends} (piece : List ℕ) → SameAsked ends next → past_of next ≡ past_of ends + length (unused_of ends piece)
-    → left_of next ≡ left_of ends - measure (delim_of ends) (unit_of ends) piece → waiting_of next ≡ left_waiting ends piece → FullLacksNone next → TakesIn Holds piece ends next
-takes_in ends {next} piece same past left waits full x holds = grind (arith, common_steps, minus_both, measure-append, same_for, waits_now, past_next, none_lacks, full_lacks)
+    → missing_of next ≡ missing_of ends - length piece → left_of next ≡ left_of ends - measure (delim_of ends) (unit_of ends) piece → waiting_of next ≡ left_waiting ends piece → FullLacksNone next → TakesIn Holds piece ends next
+takes_in ends {next} piece same past missing left waits full x holds =
+    let waits_next = waits_now ends piece same waits holds in record {
+      byte = rw same.delim holds.byte;
+      left = λ none. left_now ends piece same left holds none;
+      waits = waits_next;
+      past = past ∙ past_next ends piece holds ∙ sym (same_for (λ s d u n. past_in s d u n (x ++ piece)) same);
+      missing = missing_now ends piece same missing holds;
+      none = none_lacks next;
+      full = full_lacks next (x ++ piece) waits_next full;
+    }
 
 -- a head is complete exactly where it is done
 
@@ -148,64 +179,71 @@ met told ends needs Lacks Fails {old = old} {new} {f} room can stops =
     subst (λ means. IsMet means (needs means) Lacks Fails old new f) (sym (on_means (stretch_of ends) (delim_of ends) (unit_of ends) (count_of ends)))
     (stop.met (on_output (keeps (stretch_of ends))) (needs (on_output (keeps (stretch_of ends)))) Lacks Fails told refl room can stops)
 
+-- how its end stopped
+
+pub ends_changed : (told : Bool) {ends : Ends} {missing : ℕ} {slots : List Slot} {f : Fault} → missing_of ends ≡ missing → f ≡ fault_is.Verdict Changed → 0 < missing → EndsBadly told ends slots slots f
+ends_changed told are is some = rw is (changed (omega (arith, are, some)) refl)
+
+pub ends_stopped : (told : Bool) {ends : Ends} {kept : Kept} {n : ℕ} {old new : List Slot} {f : Fault} → ends ≡ Last kept → n ≡ length (held_of kept) → Stops told false (take n (held_of kept)) old new f → EndsBadly told ends old new f
+ends_stopped told {kept = kept} {n} {old} {new} {f} is all stops = rw is (stopped f (subst (λ bytes. Stops told false bytes old new f) (take_all n (held_of kept) (omega (arith, all))) stops))
+
+pub ends_cut : (told : Bool) (ends : Ends) {old new : List Slot} {f : Fault} → EndsBadly told ends old new f → CutsOff terms ends (work ends).whole told old new f
+ends_cut told (First count front) {new = new} (changed some same) before x at = judged refl _ at.outputs same
+ends_cut told (ButLast kept) (changed some same) before x at = absurd (omega (arith, some))
+ends_cut told (FromNth count front) (changed some same) before x at = judged refl _ at.outputs same
+ends_cut told (Last kept) (changed some same) before x at = absurd (omega (arith, some))
+ends_cut told ends (stopped f stops) before x at = cuts_off told ends (due_at_end ends) (rest_out ends) stops before x at
+
+pub ends_met : (told : Bool) (ends : Ends) {old new : List Slot} {f : Fault} → IsTrue (is_writable old 0) → EndsBadly told ends old new f → IsMetThere terms ends old new f
+ends_met told ends can (changed some same) = λ x holds. fewer_came (least_of ends) x (omega (arith, some, holds.missing))
+ends_met told ends can (stopped f stops) = met told ends (λ means. means.closing) _ (EndsThere terms ends) (λ never. absurd (false≢true never)) can stops
+
 -- what a call owes for its result, from what the call within it gave
 
 pub on_ok_each : {P P2 P3 Q : Type 0} (result : Result (Unit {0}) Fault) → (P → P2 → P3 → Q) → OnOk result P → OnOk result P2 → OnOk result P3 → OnOk result Q
 on_ok_each (Ok u) also is too three = also is too three
 on_ok_each (Err f) also is too three = tt
 
--- what is taken in of an input before any piece
-
--- nothing waits before anything came in
-pub waits_none : (s : Stretch) (delim : ℕ) (unit : Counted) (n : ℕ) → (work_in s delim unit n).waiting [] ≡ []
-waits_none the_first delim unit n = refl
-waits_none from_the_nth delim unit n = refl
-waits_none s delim unit n = last_none delim unit n
-
--- no more waits than came in
-waits_within : (s : Stretch) (delim : ℕ) (unit : Counted) (n : ℕ) (x : List ℕ) → length ((work_in s delim unit n).waiting x) ≤ length x
-waits_within the_first delim unit n x = omega arith
-waits_within from_the_nth delim unit n x = omega arith
-waits_within s delim unit n x = omega (arith, sym (length-append (but_last_of delim unit n x) (last_of delim unit n x)) ∙ ap length (ends_together delim unit n x))
-
--- what is taken in of an input is as a piece with which nothing is written
+-- what is passed over of an input before any piece is as a piece with which nothing is written
 
 -- of nothing nothing is written
-pub silent_none : (ends : Ends) → IsSilent ends ends []
-silent_none (First count front) = (refl, refl)
-silent_none (ButLast kept) = (refl, refl)
-silent_none (FromNth count front) = let none = stays front front.unit in (none.0, ap (λ (those : Front). those.left) none.1)
-silent_none (Last kept) = refl
+pub silent_none : (ends : Ends) → IsSilent ends []
+silent_none (FromNth count front) = (stays front front.unit).0
+silent_none ends = refl
 
-as_piece : (ends next : Ends) (x : List ℕ) → Holds ends [] → waiting_of next ≡ waiting ends x → past_of next ≡ past_of ends → IsSilent ends next x
-    → (past_of next ≡ past_of ends + length (unused_of ends x)) × (left_of next ≡ left_of ends - measure (delim_of ends) (unit_of ends) x) × (waiting_of next ≡ left_waiting ends x)
-as_piece (FromNth count front) next x fresh waits past silent = (past, silent.1, waits)
-as_piece (Last kept) next x fresh waits past silent = (past, silent ∙ omega arith, waits ∙ ap (λ held. last_of (kept_delim kept) (kept_unit kept) (most_of kept) (held ++ x)) (sym (fresh.waits ∙ last_none (kept_delim kept) (kept_unit kept) (most_of kept))))
-as_piece ends next x fresh waits past silent = grind (arith, common_steps)
+pub passed_none : (ends : Ends) → ends ≡ passed ends []
+passed_none (FromNth count front) = ap (FromNth count) (stays front front.unit).1
+passed_none ends = refl
 
-silent_out : (ends next : Ends) (x : List ℕ) → Holds ends [] → IsSilent ends next x → (work ends).settled x ≡ (work ends).settled []
-silent_out (FromNth count front) next x fresh silent =
-    sym (went_out (FromNth count front) x [] fresh) ∙ ap (λ bytes. record ((work (FromNth count front)).settled []) { out = ((work (FromNth count front)).settled []).out ++ bytes }) silent.0 ∙ ap only_out (append-nil _)
-silent_out (Last kept) next x fresh silent = refl
-silent_out ends next x fresh silent = ap (work ends).settled silent.0
+pub passed_front : {told : Bool} {slot count n : ℕ} {ends next : Ends} {front now : Front} {old new : List Source} → ends ≡ FromNth n front → next ≡ FromNth n now
+    → PassesOver told slot count (λ x. (after_of front.delim front.unit front.left x ≡ []) × (now ≡ record front { left = front.left - measure front.delim front.unit x; missing = front.missing - length x })) old new
+    → PassesOver told slot count (λ x. IsSilent ends x × (next ≡ passed ends x)) old new
+passed_front {n = n} is after passes = passes_so _ passes (λ x long keeps. rw (is, after) (keeps.0, ap (FromNth n) keeps.1))
 
-goes_on : (ends next : Ends) (x : List ℕ) → IsSilent ends next x → (x ≡ []) ⊎ ((work ends).is_complete x ≡ false)
-goes_on (FromNth count front) next x silent = inr refl
-goes_on (Last kept) next x silent = inr refl
-goes_on ends next x silent = inl silent.0
+took_in : (ends : Ends) {x : List ℕ} → Holds ends [] → terms.size ends ≡ 0 → IsSilent ends x → TookIn terms ends (passed ends x) x
+took_in (FromNth count front) {x} fresh none silent = record {
+  same = refl;
+  size = omega arith;
+  holds = takes_in (FromNth count front) x (record { stretch = refl; delim = refl; unit = refl; count = refl; least = refl }) refl refl refl refl (λ bytes full. refl) [] fresh;
+  ready = λ slots is. is;
+  owns = λ first slots is. is;
+  idle = sym (went_out (FromNth count front) x [] fresh)
+      ∙ ap (λ bytes. record ((work (FromNth count front)).settled []) { out = ((work (FromNth count front)).settled []).out ++ bytes }) silent ∙ ap only_out (append-nil _);
+  going = inr refl;
+}
+took_in ends {x} fresh none silent = rw silent (record {
+  same = refl;
+  size = omega (arith, none);
+  holds = fresh;
+  ready = λ slots is. is;
+  owns = λ first slots is. is;
+  idle = refl;
+  going = inl refl;
+})
 
-pub loads : (told : Bool) (most slot count : ℕ) (ends next : Ends) (old new : List Source) → Holds ends [] → terms.size ends ≡ 0 → SameAsked ends next → past_of next ≡ past_of ends
-    → PassesOver told most slot count (λ x. (waiting_of next ≡ waiting ends x) × IsSilent ends next x) old new → FullLacksNone next → Loads terms told most slot count ends next old new
-loads told most slot count ends next old new fresh none same past passes full = passes_so _ passes (λ x long keeps.
-    let piece = as_piece ends next x fresh keeps.0 past keeps.1 in record {
-      same = same_work same;
-      size = omega (arith, none, past, ap length keeps.0, waits_within (stretch_of ends) (delim_of ends) (unit_of ends) (count_of ends) x);
-      holds = takes_in ends x same piece.0 piece.1 piece.2 full [] fresh;
-      ready = λ slots is. is;
-      owns = λ first slots is. is;
-      idle = silent_out ends next x fresh keeps.1;
-      going = goes_on ends next x keeps.1;
-    })
+pub loads : (told : Bool) {slot count : ℕ} {ends next : Ends} {old new : List Source} → Holds ends [] → terms.size ends ≡ 0
+    → PassesOver told slot count (λ x. IsSilent ends x × (next ≡ passed ends x)) old new → Loads terms told slot count ends next old new
+loads told {ends = ends} {next} fresh none passes = passes_so _ passes (λ x long keeps. subst (λ after. TookIn terms ends after x) (sym keeps.1) (took_in ends fresh none keeps.0))
 
 -- What waits in an engine that was fed a text.
 module _ (engine : GuardState Ends) (x : List ℕ) (holds : HoldsIn Holds engine x) where
@@ -286,8 +324,19 @@ pub rest_left : (delim : ℕ) (unit : Counted) (n : ℕ) (used : List ℕ) {rest
 rest_left delim unit n used {rest} needed enough =
     append_cancel_left used _ _ (ap (λ those. those ++ after_of delim unit n (used ++ rest)) (sym (written_used delim unit n needed enough)) ∙ first_then_after delim unit n (used ++ rest))
 
+-- which bytes aren't used is decided by when the output is complete
+spare_so : {one other : Work} {x : List ℕ} {n : ℕ} → one.is_complete ≡ other.is_complete → IsSpare one x n → IsSpare other x n
+spare_so same spare = record {
+  used = spare.used;
+  rest = spare.rest;
+  joined = spare.joined;
+  long = spare.long;
+  needed = subst (λ is. IsNeeded is 1 spare.used) same spare.needed;
+  enough = subst (λ is. (spare.rest ≡ []) ⊎ (is spare.used ≡ true)) same spare.enough;
+}
+
 pub spare_here : (ends : Ends) {x : List ℕ} → Holds ends x → IsSpare (work ends) x (past_of ends)
-spare_here (First count front) {x} holds = grind (arith, common_steps, past_after, first_used)
+spare_here (First count front) {x} holds = spare_so refl (subst (IsSpare (head_work front.delim front.unit false count) x) (sym (holds.past ∙ past_after front.delim front.unit count x)) (first_used front.delim front.unit count))
 spare_here ends {x} holds = all_used (work ends) x refl
 
 -- a text that goes on from x, cut in two where more stands before the cut than in x: the cut is after x, and what is before
@@ -316,7 +365,7 @@ few_between delim x piece used rest is past =
       past,
     )
 
-few_spare : (delim : ℕ) (unit : Counted) (count : ℕ) {left n : ℕ} (x piece : List ℕ) (spare : IsSpare (head_work delim unit false count) (x ++ piece) n) → left ≡ count - measure delim unit x → measure delim unit x < count → count ≤ measure delim unit spare.used
+few_spare : (delim : ℕ) (unit : Counted) (count : ℕ) {left n : ℕ} (x piece : List ℕ) {work : Work} (spare : IsSpare work (x ++ piece) n) → left ≡ count - measure delim unit x → measure delim unit x < count → count ≤ measure delim unit spare.used
     → length piece ≤ piece_for unit left → n ≤ ahead_of unit
 few_spare delim Bytes count x piece spare is going enough within =
     omega (arith, is, going, enough, within, spare.long, sym (length-append x piece) ∙ ap length spare.joined ∙ length-append spare.used spare.rest)

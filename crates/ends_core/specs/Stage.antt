@@ -1,5 +1,5 @@
 -- The one stage of `head` and `tail`, as contracts see it.
-use Rattle.std.specs.Prelude.{◌≡◌, ℕ, ◌+◌, ◌-◌, ◌<◌, ◌≤◌, Bool, true, false, List, [], length, IsTrue}
+use Rattle.std.specs.Prelude.{◌≡◌, ℕ, ◌+◌, ◌-◌, ◌<◌, ◌≤◌, min, Bool, true, false, List, [], length, IsTrue}
 use Rattle.ports_core.specs.Work.{Work}
 use Rattle.ports_core.specs.Slot.{is_writable}
 use Rattle.ports_core.specs.Engine.{Terms}
@@ -10,6 +10,7 @@ use Rattle.ends_core.specs.declared.ends.Ends.TheVariants.{First, ButLast, FromN
 use Rattle.ends_core.specs.Ends.{first_of, measure}
 use Rattle.ends_core.specs.Head.{head_work, IsDone}
 use Rattle.ends_core.specs.Tail.{tail_work}
+use Rattle.ends_core.specs.Shown.{changed_below}
 use Rattle.ends_core.specs.Kept.{held_of, most_of, may_lack_of, delim_of as kept_delim, unit_of as kept_unit}
 
 -- which part of an input is written
@@ -87,6 +88,20 @@ past_of (ButLast kept) = 0
 past_of (FromNth count front) = 0
 past_of (Last kept) = 0
 
+-- how many bytes the input has, or more, where it didn't change since it showed them; a head asks for no more than it has
+abbrev pub least_of : Ends → ℕ
+least_of (First count front) = min front.least count
+least_of (ButLast kept) = 0
+least_of (FromNth count front) = front.least
+least_of (Last kept) = 0
+
+-- how many of these are still to come
+abbrev pub missing_of : Ends → ℕ
+missing_of (First count front) = front.missing
+missing_of (ButLast kept) = 0
+missing_of (FromNth count front) = front.missing
+missing_of (Last kept) = 0
+
 -- how many bytes of an input stand after a head of its first n
 abbrev pub past_in : Stretch → ℕ → Counted → ℕ → List ℕ → ℕ
 past_in the_first delim unit n x = length x - length (first_of delim unit n x)
@@ -108,8 +123,11 @@ may_lack (ButLast kept) = may_lack_of kept
 may_lack (FromNth count front) = false
 may_lack (Last kept) = may_lack_of kept
 
+-- what it makes of its input
 abbrev pub work : Ends → Work
-work ends = work_in (stretch_of ends) (delim_of ends) (unit_of ends) (count_of ends)
+work ends = record (work_in (stretch_of ends) (delim_of ends) (unit_of ends) (count_of ends)) {
+  verdict = changed_below (least_of ends);
+}
 
 abbrev pub waiting : Ends → List ℕ → List ℕ
 waiting ends x = (work ends).waiting x
@@ -122,6 +140,7 @@ pub record Holds (ends : Ends) (x : List ℕ) : Type 0 where
       → left_of ends ≡ front_in (stretch_of ends) (count_of ends) - measure (delim_of ends) (unit_of ends) x
   pub waits : waiting_of ends ≡ waiting ends x
   pub past : past_of ends ≡ past_in (stretch_of ends) (delim_of ends) (unit_of ends) (count_of ends) x
+  pub missing : missing_of ends ≡ least_of ends - length x
   -- where nothing waits no memory can be wanting, nor once as many bytes came in as wait
   pub none : keeps (stretch_of ends) ≡ false → may_lack ends ≡ false
   pub full : unit_of ends ≡ Bytes → count_of ends ≤ length x → may_lack ends ≡ false

@@ -1,13 +1,15 @@
 //! The stage of `head` and `tail`: which part of an input is written.
 ghost use Rattle.std.specs.Prelude.{◌≡◌, ◌+◌, ◌-◌, ◌^◌, ◌<◌, ◌≤◌, ℕ, List, [], true, false, if◌then◌else◌, length, IsTrue, IfOk, IfErr, OnOk};
-ghost use Rattle.ports_core.specs.Slot.{is_writable};
+ghost use Rattle.ports_core.specs.Slot.{is_writable, told_of, with_written};
 ghost use Rattle.ports_core.specs.Source.{is_readable};
 ghost use Rattle.ports_core.specs.Guard.{HoldsIn};
 ghost use Rattle.ends_core.specs.Ends.{measure};
 ghost use Rattle.ends_core.specs.Head.{head_work};
 ghost use Rattle.ends_core.specs.Tail.{tail_work};
-ghost use Rattle.ends_core.specs.inner.Stage.{FullLacksNone, IsSilent, SameAsked, due, due_at_end, is_full, left_waiting, unused_of, wanted_by};
-ghost use Rattle.ends_core.specs.Stage.{Holds, IsAsked, all_but_last, delim_of, terms, from_the_nth, left_of, may_lack, past_of, stretch_of, the_first, the_last, unit_of, waiting, waiting_of, work};
+ghost use Rattle.ends_core.specs.Shown.{head_shown, place_of, tail_shown};
+ghost use Rattle.seg_core.specs.declared.unit.Unit.{Unit as Counted};
+ghost use Rattle.ends_core.specs.inner.Stage.{EndsBadly, FullLacksNone, IsSilent, SameAsked, passed, due, due_at_end, is_full, left_waiting, unused_of, wanted_by};
+ghost use Rattle.ends_core.specs.Stage.{Holds, IsAsked, all_but_last, delim_of, missing_of, terms, from_the_nth, left_of, may_lack, past_of, stretch_of, the_first, the_last, unit_of, waiting_of, work};
 ghost use Rattle.ends_core.specs.laws.WorkLaws.{lawful};
 ghost use Rattle.ports_core.specs.Inputs.{PassesOver};
 ghost use Rattle.ends_core.specs.inner.Kept.{Writes};
@@ -20,8 +22,7 @@ use std::alloc::Global;
 
 /// Writes a part of an input, each byte as soon as nothing that follows can change that it is written. For the first, and
 /// from the nth on, it takes no memory. For all but the last, and for the last, it takes as much as the last lines or
-/// bytes of what came in, or of bytes as many as it was told are coming, and of bytes no more is asked for once as many
-/// came in as are kept.
+/// bytes of what came in, and of bytes no more is asked for once as many came in as are kept.
 #[derive(Drop)]
 pub enum Ends {
     /// The first lines or bytes: how many were asked for, and those that are still to come.
@@ -29,7 +30,7 @@ pub enum Ends {
     /// All but the last, which are kept.
     ButLast(Kept),
     /// All from the nth on: which n that is, and those that are still to be passed over.
-    FromNth(u64, Front),
+    FromNth(u128, Front),
     /// The last, which are kept and written at the end.
     Last(Kept),
 }
@@ -63,16 +64,23 @@ impl Head {
         ensures err { IfErr result (λ fault. (fault ≡ Fault.Memory) × (but_last ≡ true)) }
     {
         if but_last {
-            let kept = Kept::open(alloc, unit, count, delim, 0)?;
+            let kept = Kept::open(alloc, unit, count, delim)?;
             return Ok(Guarded::new(Ends::ButLast(kept)));
         }
-        let front = Front {
-            unit,
-            delim,
-            left: count,
-            past: 0,
-        };
+        let front = Front::new(unit, delim, count, 0);
         Ok(Guarded::new(Ends::First(count, front)))
+    }
+
+    /// An engine that writes the first `place` bytes of an input that showed as many: those that stand before the last lines
+    /// or bytes of what it showed. It takes no memory, and its `close` gives `Changed` where fewer came.
+    pub fn up_to(place: u64) -> Guarded<Ends>
+        ensures holds { HoldsIn Holds result [] }
+        ensures does { (delim : ℕ) (unit : Counted) (n : ℕ) (text : List ℕ) → place_of delim unit n text ≡ place
+            → work result.stage ≡ head_shown delim unit n text }
+        ensures bound { result.fed < 2 ^ 63 }
+    {
+        let front = Front::new(Unit::Bytes, 0, place, place);
+        Guarded::new(Ends::First(place, front))
     }
 }
 
@@ -97,41 +105,25 @@ impl Tail {
         ensures bound { IfOk result (λ tail. tail.fed < 2 ^ 63) }
         ensures err { IfErr result (λ fault. (fault ≡ Fault.Memory) × (from_nth ≡ false)) }
     {
-        Tail::open_for(alloc, unit, from_nth, count, delim, 0)
+        if from_nth {
+            let front = Front::new(unit, delim, count.saturating_sub(1), 0);
+            return Ok(Guarded::new(Ends::FromNth(u128::from(count), front)));
+        }
+        let kept = Kept::open(alloc, unit, count, delim)?;
+        Ok(Guarded::new(Ends::Last(kept)))
     }
 
-    /// The same for an input that says that it has `coming` bytes. Where the last bytes are asked for, there is room for
-    /// as many of these as are kept, where there is memory for them now.
-    ///
-    /// # Errors
-    ///
-    /// `Memory` where there is no room for what waits: only where the last are asked for.
-    pub fn open_for(
-        alloc: Global,
-        unit: Unit,
-        from_nth: bool,
-        count: u64,
-        delim: u8,
-        coming: u64,
-    ) -> Result<Guarded<Ends>, Fault>
-        ensures holds { IfOk result (λ tail. HoldsIn Holds tail []) }
-        ensures asked { IfOk result (λ tail.
-            IsAsked (if from_nth then from_the_nth else the_last) unit count delim tail.stage) }
-        ensures does { IfOk result (λ tail. work tail.stage ≡ tail_work delim unit from_nth count) }
-        ensures bound { IfOk result (λ tail. tail.fed < 2 ^ 63) }
-        ensures err { IfErr result (λ fault. (fault ≡ Fault.Memory) × (from_nth ≡ false)) }
+    /// An engine that writes all but the first `place` bytes of an input that showed `len` bytes: the last lines or bytes of
+    /// what it showed, of which the first stands after `place` bytes. It takes no memory, and its `close` gives `Changed`
+    /// where fewer than `len` bytes came.
+    pub fn after(place: u64, len: u64) -> Guarded<Ends>
+        ensures holds { HoldsIn Holds result [] }
+        ensures does { (delim : ℕ) (unit : Counted) (n : ℕ) (text : List ℕ) → place_of delim unit n text ≡ place
+            → length text ≡ len → work result.stage ≡ tail_shown delim unit n text }
+        ensures bound { result.fed < 2 ^ 63 }
     {
-        if from_nth {
-            let front = Front {
-                unit,
-                delim,
-                left: count.saturating_sub(1),
-                past: 0,
-            };
-            return Ok(Guarded::new(Ends::FromNth(count, front)));
-        }
-        let kept = Kept::open(alloc, unit, count, delim, coming)?;
-        Ok(Guarded::new(Ends::Last(kept)))
+        let front = Front::new(Unit::Bytes, 0, place, len);
+        Guarded::new(Ends::FromNth(u128::from(place) + 1, front))
     }
 }
 
@@ -154,6 +146,7 @@ impl Stage for Ends {
         ensures past { past_of self.new ≡ past_of self.old + length (unused_of self.old piece.now) }
         ensures left { OnOk result (left_of self.new
             ≡ left_of self.old - measure (delim_of self.old) (unit_of self.old) piece.now) }
+        ensures missing { missing_of self.new ≡ missing_of self.old - length piece.now }
         ensures waits { OnOk result (waiting_of self.new ≡ left_waiting self.old piece.now) }
         ensures full { OnOk result (FullLacksNone self.new) }
         ensures wrote { Writes O.told (may_lack self.old) (due self.old piece.now) (O.slots outs.old)
@@ -167,45 +160,44 @@ impl Stage for Ends {
         }
     }
 
-    /// Takes in what an input has left before any piece, without reading all of it, and returns how many bytes these are:
-    /// where the last are asked for all of them, and where all from the nth byte on, those before it.
-    fn load<I: Inputs>(&mut self, slot: usize, buffer: &mut [u8], inputs: &mut I) -> u64
-        requires room { 0 < length buffer.old }
-        requires input { IsTrue (is_readable (I.sources inputs.old) slot) }
-        requires none { waiting_of self.old ≡ [] }
-        requires full { FullLacksNone self.old }
-        ensures same { SameAsked self.old self.new }
-        ensures past { past_of self.new ≡ past_of self.old }
-        ensures passes { PassesOver I.told (length buffer.old) slot result
-            (λ x. (waiting_of self.new ≡ waiting self.old x) × IsSilent self.old self.new x) (I.sources inputs.old)
-            (I.sources inputs.new) }
-        ensures full { FullLacksNone self.new }
+    /// Passes over bytes that an input shows, before any piece, and returns how many these are: where all from the nth byte on
+    /// are asked for, those before it.
+    fn load<I: Inputs>(&mut self, slot: usize, inputs: &mut I) -> u64
+        requires { IsTrue (is_readable (I.sources inputs.old) slot) }
+        ensures passes { PassesOver I.told slot result (λ x. IsSilent self.old x × (self.new ≡ passed self.old x))
+            (I.sources inputs.old) (I.sources inputs.new) }
         ensures laid { I.laid inputs.new ≡ I.laid inputs.old }
     {
-        match self {
-            Ends::Last(kept) => kept.load(slot, buffer, inputs),
-            Ends::FromNth(_, front) => front.pass_over(slot, buffer, inputs),
-            Ends::First(_, _) | Ends::ButLast(_) => 0,
-        }
+        let Ends::FromNth(_, front) = self else {
+            return 0;
+        };
+        front.pass_over(slot, inputs)
     }
 
     /// Writes what waits, where the last are asked for.
     ///
     /// # Errors
     ///
-    /// `Write(0)` where standard output broke.
+    /// `Write(0)` where standard output broke, `Verdict(Changed)` where fewer bytes came in than were shown.
     fn finish<O: Outs>(&mut self, outs: &mut O) -> Result<(), Fault>
         requires writable { IsTrue (is_writable (O.slots outs.old) 0) }
         ensures same { SameAsked self.old self.new }
         ensures bound { length (waiting_of self.new) + past_of self.new
             ≤ length (waiting_of self.old) + past_of self.old }
-        ensures wrote { Writes O.told false (due_at_end self.old) (O.slots outs.old) (O.slots outs.new) result }
+        ensures whole { OnOk result (missing_of self.old ≡ 0) }
+        ensures out { OnOk result (O.slots outs.new
+            ≡ with_written 0 (told_of O.told (due_at_end self.old)) (O.slots outs.old)) }
+        ensures cut { IfErr result (EndsBadly O.told self.old (O.slots outs.old) (O.slots outs.new)) }
     {
-        let Ends::Last(kept) = self else {
-            return Ok(());
-        };
-        let all = kept.len();
-        kept.write_front(all, outs)
+        match self {
+            Ends::First(_, front) => front.finish(),
+            Ends::ButLast(_) => Ok(()),
+            Ends::FromNth(_, front) => front.finish(),
+            Ends::Last(kept) => {
+                let all = kept.len();
+                kept.write_front(all, outs)
+            }
+        }
     }
 
     /// It has no files to remove.

@@ -1,9 +1,10 @@
 //! Laws of the definitions, with no code: each stands on the contract of a function whose body is empty.
-ghost use Rattle.std.specs.Prelude.{◌≡◌, ◌<◌, ◌≤◌, ◌+◌, ◌-◌, ◌++◌, ◌⊎◌, ℕ, Bool, List, [], length, true, false};
+ghost use Rattle.std.specs.Prelude.{◌≡◌, ◌<◌, ◌≤◌, ◌+◌, ◌-◌, ◌++◌, ◌⊎◌, ℕ, suc, Bool, List, [], length, None, true, false};
 ghost use Rattle.seg_core.specs.Line.{delimiters, ends_with, line_count};
 ghost use Rattle.ends_core.specs.Ends.{after_of, but_last_of, first_of, last_of, measure, size, tail_of};
 ghost use Rattle.ends_core.specs.Head.{head_waiting, head_work};
 ghost use Rattle.ends_core.specs.Place.{head_spots, tail_spots};
+ghost use Rattle.ends_core.specs.Shown.{head_shown, place_of, tail_shown};
 ghost use Rattle.ends_core.specs.Stage.{Holds, all_but_last, count_of, delim_of, terms, keeps, may_lack, stretch_of, the_last, unit_of, waiting_of, work};
 ghost use Rattle.ends_core.specs.Tail.{tail_waiting, tail_work};
 ghost use Rattle.ends_core.specs.declared.ends.Ends.{Ends};
@@ -89,6 +90,32 @@ pub fn agreed_is_settled(unit: Unit, delim: u8)
         → IsUndecided (tail_spots delim unit from_nth n) x (tail_waiting delim unit from_nth n x) }
     ensures tail_placed { (from_nth : Bool) (n : ℕ)
         → ArePlaced (tail_work delim unit from_nth n) (tail_spots delim unit from_nth n) }
+{
+    let _ = (unit, delim);
+}
+
+/// The same where the input shows its bytes before they are read. Nothing waits then, whatever it showed and whatever comes.
+/// Where the text comes that it showed, the outputs are in the end those of the tools that know nothing of it, and the work
+/// ends well.
+pub fn shown_is_settled(unit: Unit, delim: u8)
+    ensures head { (n : ℕ) (text x : List ℕ)
+        → IsAgreed (head_shown delim unit n text) x ((head_shown delim unit n text).settled x) }
+    ensures head_waits { (n : ℕ) (text x : List ℕ)
+        → IsUndecided (head_spots 0 Unit.Bytes false (place_of delim unit n text)) x [] }
+    ensures head_placed { (n : ℕ) (text : List ℕ)
+        → ArePlaced (head_shown delim unit n text) (head_spots 0 Unit.Bytes false (place_of delim unit n text)) }
+    ensures head_whole { (n : ℕ) (text : List ℕ)
+        → ((head_shown delim unit n text).whole text ≡ (head_work delim unit true n).whole text)
+        × ((head_shown delim unit n text).verdict text ≡ None) }
+    ensures tail { (n : ℕ) (text x : List ℕ)
+        → IsAgreed (tail_shown delim unit n text) x ((tail_shown delim unit n text).settled x) }
+    ensures tail_waits { (n : ℕ) (text x : List ℕ)
+        → IsUndecided (tail_spots 0 Unit.Bytes true (suc (place_of delim unit n text))) x [] }
+    ensures tail_placed { (n : ℕ) (text : List ℕ)
+        → ArePlaced (tail_shown delim unit n text) (tail_spots 0 Unit.Bytes true (suc (place_of delim unit n text))) }
+    ensures tail_whole { (n : ℕ) (text : List ℕ)
+        → ((tail_shown delim unit n text).whole text ≡ (tail_work delim unit false n).whole text)
+        × ((tail_shown delim unit n text).verdict text ≡ None) }
 {
     let _ = (unit, delim);
 }

@@ -1,20 +1,18 @@
 -- Where the first look begins to write: blocks that are read, and the lines in them.
 use Rattle.std.proofs.lemmas.Grind.{common_steps}
-use Rattle.std.proofs.Common.{◌≡◌, ℕ, ◌+◌, ◌-◌, ◌<◌, ◌≤◌, List, [], ◌++◌, length, take, drop, Bool, true, refl, sym, ◌∙◌, ap, arith, ◌==◌, zero, suc, false, ◌∷◌, length-append, if◌then◌else◌, min, rules}
+use Rattle.std.proofs.Common.{◌≡◌, ℕ, ◌+◌, ◌-◌, ◌<◌, ◌≤◌, List, ◌++◌, length, take, drop, Bool, true, sym, ◌∙◌, ap, arith, min}
 use Rattle.std.proofs.Math.Seq.{take-add, take-append-add}
-use Rattle.std.proofs.lemmas.List.{length-take, length-drop, drop-drop, take-append-drop, take-take, drop_at, drop-append-le, drop-take}
+use Rattle.std.proofs.lemmas.List.{length-take, drop-drop, take-take, drop-append-le}
 use Rattle.std.proofs.lemmas.Slice.{take-put_mid}
 use borrow.Rule.Slice.PartMut.{put_mid}
 use Rattle.watch_core.specs.Snapshot.{Snapshot, latest}
 use Rattle.watch_core.specs.Watched.{Watched, GaveFrom, open_contents, watched_at}
-use Rattle.std.specs.List.{onto_first}
-use Rattle.seg_core.specs.Line.{BeginsAt, EndsAt, FallsShort, after_lines, delimiters, ends_with, joined, last_lines, line_count, lines_of}
-use Rattle.seg_core.proofs.Delimiters.{delimiters-append}
-use Rattle.seg_core.proofs.LineCounts.{ends_with-append, ends_with-some}
-use Rattle.seg_core.proofs.LinesOf.{joined-lines_of, lines_of-append}
+use Rattle.seg_core.specs.Line.{EndsAt, FallsShort, after_lines, delimiters, joined}
+use Rattle.seg_core.proofs.LinesOf.{joined-lines_of}
 use Rattle.seg_core.proofs.FirstLines.{EndsAt-enough, EndsAt-rest}
 use Rattle.seg_core.proofs.EndLines.{after_lines-append, after_lines-past}
 use Rattle.ends_core.specs.laws.EndsLaws.{after_of-append}
+use Rattle.ends_core.proofs.FindLemmas.{block_then}
 use Rattle.seg_core.specs.declared.unit.Unit.TheVariants.{Lines}
 
 -- filling a block of a watched file, read by read
@@ -55,109 +53,6 @@ pub fill_ends : {told_in : Bool} {contents now_contents : List ℕ} {from filled
     → now_contents ≡ contents → filled < length now → (told_in ≡ true → GaveFrom now_contents (from + filled) (take (length now - filled) (drop filled now)) read_new 0)
     → told_in ≡ true → take filled (put_mid filled (length now - filled) now read_new) ≡ take (length old) (drop from contents)
 fill_ends {contents} {now_contents} {from} {filled} {now} {read_new} f same less gave is = grind (arith, common_steps)
-
--- where the last lines of a text begin, and those after the first n
-
-count_step : (is : Bool) (byte n : ℕ) (lines : List (List ℕ)) → length lines ≡ n + 1 → length (if is then (byte ∷ []) ∷ lines else onto_first byte lines) ≡ (if is then n + 1 else n) + 1
-count_step true byte n lines is = omega arith
-count_step false byte n [] is = omega arith
-count_step false byte n (line ∷ lines) is = is
-
--- each delimiter before the last byte ends a line after which another one follows
-lines_and_last : (delim : ℕ) (x : List ℕ) (last : ℕ) → line_count delim (x ++ last ∷ []) ≡ delimiters delim x + 1
-lines_and_last delim [] last = search rules
-lines_and_last delim (byte ∷ x) last = count_step (byte == delim) byte (delimiters delim x) (lines_of delim (x ++ last ∷ [])) (lines_and_last delim x last)
-
-lines_and_one : (delim : ℕ) (x y : List ℕ) → length y ≡ 1 → line_count delim (x ++ y) ≡ delimiters delim x + 1
-lines_and_one delim x [] one = omega (arith, one)
-lines_and_one delim x (last ∷ []) one = lines_and_last delim x last
-lines_and_one delim x (last ∷ next ∷ y) one = cc
-
--- the text without its last byte
-abbrev pub but_one : List ℕ → List ℕ
-but_one x = take (length x - 1) x
-
-one_left : (x : List ℕ) → 0 < length x → length (drop (length x - 1) x) ≡ 1
-one_left x some = grind (arith, common_steps)
-
-but_one_shorter : (x : List ℕ) → 0 < length x → length (but_one x) ≡ length x - 1
-but_one_shorter x some = search rules
-
-all_lines : (delim : ℕ) (x : List ℕ) → 0 < length x → line_count delim x ≡ delimiters delim (but_one x) + 1
-all_lines delim x some = ap (line_count delim) (sym (take-append-drop (length x - 1) x)) ∙ lines_and_one delim (but_one x) (drop (length x - 1) x) (one_left x some)
-
--- a text of so many lines after a complete one is the last lines
-last_are : (delim : ℕ) {n : ℕ} (front : List ℕ) {y : List ℕ} → ends_with delim front ≡ true → line_count delim y ≡ n → y ≡ last_lines delim n (front ++ y)
-last_are delim {n} front {y} closed count = grind (arith, common_steps, lines_of-append, drop_at, joined-lines_of)
-
--- they begin after the delimiter that is the n-th from the end, where the last byte isn't counted
-pub begins_last : {delim n at : ℕ} (x : List ℕ) → 0 < length x → BeginsAt delim n (but_one x) at → drop at x ≡ last_lines delim n x
-begins_last {delim} {n} {at} x some begins =
-    let shorter = but_one_shorter x some in
-    let within : at ≤ length (but_one x) = begins.within in
-    let front : take at (but_one x) ≡ take at x = take-take at (length x - 1) x (omega (arith, within, shorter)) in
-    let rest : drop at x ≡ drop at (but_one x) ++ drop (length x - 1) x = ap (drop at) (sym (take-append-drop (length x - 1) x)) ∙ drop-append-le at (but_one x) (drop (length x - 1) x) within in
-    let count : line_count delim (drop at x) ≡ n = ap (line_count delim) rest ∙ lines_and_one delim (drop at (but_one x)) (drop (length x - 1) x) (one_left x some) ∙ begins.counted in
-    last_are delim (take at x) (ap (ends_with delim) (sym front) ∙ begins.after) count ∙ ap (last_lines delim n) (take-append-drop at x)
-
--- a text without as many lines is all of them
-pub few_last : (delim : ℕ) {n : ℕ} (x : List ℕ) → delimiters delim (but_one x) < n → x ≡ last_lines delim n x
-few_last delim {n} [] few = grind (arith, common_steps)
-few_last delim {n} (byte ∷ x) few =
-    let count = all_lines delim (byte ∷ x) (omega arith) in
-    let none : line_count delim (byte ∷ x) - n ≡ 0 = omega (arith, count, few) in
-    sym (ap (λ k. after_lines delim k (byte ∷ x)) none ∙ joined-lines_of delim (byte ∷ x))
-
--- a block of the text is one of the text without its last byte
-block_of : (x : List ℕ) (from size : ℕ) → from + size ≤ length x - 1 → take size (drop from x) ≡ take size (drop from (but_one x))
-block_of x from size within =
-    let more = length x - 1 - from in
-    let all : from + more ≡ length x - 1 = omega (arith, within) in
-    sym (ap (λ k. take size (drop from (take k x))) (sym all) ∙ ap (take size) (drop-take from more x) ∙ take-take size more (drop from x) (omega (arith, within)))
-
-block_then : (y : List ℕ) (from size : ℕ) → drop from y ≡ take size (drop from y) ++ drop (from + size) y
-block_then y from size = sym (take-append-drop size (drop from y)) ∙ ap (λ rest. take size (drop from y) ++ rest) (drop-drop size from y)
-
--- where the walk from the end stands: so many delimiters are still wanted before this place
-abbrev pub IsWanted : ℕ → ℕ → ℕ → ℕ → List ℕ → Type 0
-IsWanted delim count wanted end x = count ≡ wanted + delimiters delim (drop end (but_one x))
-
--- so many in the block, so many fewer before it
-pub wanted_before : {delim count wanted end : ℕ} (from size : ℕ) {found : ℕ} (x : List ℕ) {block : List ℕ} → IsWanted delim count wanted end x → from + size ≡ end → end ≤ length x - 1 → block ≡ take size (drop from x) → FallsShort delim wanted block found
-    → IsWanted delim count (wanted - found) from x
-wanted_before {delim} {end} from size x {block} is place within are short =
-    let here : block ≡ take size (drop from (but_one x)) = are ∙ block_of x from size (omega (arith, place, within)) in
-    let all : delimiters delim (drop from (but_one x)) ≡ delimiters delim block + delimiters delim (drop end (but_one x)) =
-    ap (delimiters delim) (block_then (but_one x) from size) ∙ delimiters-append delim (take size (drop from (but_one x))) (drop (from + size) (but_one x))
-    ∙ ap (λ those. delimiters delim those + delimiters delim (drop (from + size) (but_one x))) (sym here) ∙ ap (λ k. delimiters delim block + delimiters delim (drop k (but_one x))) place in
-    let counted = short.counted in let fewer = short.fewer in omega (arith, is, all, counted, fewer)
-
--- the wanted one stands in the block
-pub begins_in : {delim count wanted end : ℕ} (from size : ℕ) {at : ℕ} (x : List ℕ) {block : List ℕ} → IsWanted delim count wanted end x → from + size ≡ end → end ≤ length x - 1 → block ≡ take size (drop from x) → BeginsAt delim wanted block at → BeginsAt delim count (but_one x) (from + at)
-begins_in {delim} {end} from size {at} x {block} is place within are begins =
-    let here : block ≡ take size (drop from (but_one x)) = are ∙ block_of x from size (omega (arith, place, within)) in
-    let all : drop from (but_one x) ≡ block ++ drop end (but_one x) = block_then (but_one x) from size ∙ ap (λ those. those ++ drop (from + size) (but_one x)) (sym here) ∙ ap (λ k. block ++ drop k (but_one x)) place in
-    let inner : at ≤ length block = begins.within in
-    let long : length block + length (drop end (but_one x)) ≡ length (but_one x) - from = sym (ap length all ∙ length-append block (drop end (but_one x))) ∙ length-drop from (but_one x) in
-    let front : take (from + at) (but_one x) ≡ take from (but_one x) ++ take at block =
-    take-add from at (but_one x) ∙ ap (λ those. take from (but_one x) ++ take at those) all ∙ ap (λ those. take from (but_one x) ++ those) (take_of at block (drop end (but_one x)) inner) in
-    let rest : drop (from + at) (but_one x) ≡ drop at block ++ drop end (but_one x) = sym (drop-drop at from (but_one x)) ∙ ap (drop at) all ∙ drop-append-le at block (drop end (but_one x)) inner in
-    let some : 0 < length (take at block) = ends_with-some delim (take at block) begins.after in
-    let taken : length (take at block) ≡ min at (length block) = length-take at block in
-    let after : delimiters delim (drop (from + at) (but_one x)) ≡ delimiters delim (drop at block) + delimiters delim (drop end (but_one x)) = ap (delimiters delim) rest ∙ delimiters-append delim (drop at block) (drop end (but_one x)) in
-    let counted = begins.counted in record {
-      within = omega (arith, long, inner, some, taken);
-      after = ap (ends_with delim) front ∙ ends_with-append delim (take from (but_one x)) (take at block) some ∙ begins.after;
-      counted = omega (arith, after, counted, is);
-    } where
-      take_of : (at : ℕ) (block rest : List ℕ) → at ≤ length block → take at (block ++ rest) ≡ take at block
-      take_of zero block rest few = refl
-      take_of (suc at) [] rest few = absurd (omega (arith, few))
-      take_of (suc at) (byte ∷ block) rest few = ap (λ those. byte ∷ those) (take_of at block rest (omega (arith, few)))
-
--- the walk came to the front
-pub all_wanted : (delim : ℕ) {count wanted : ℕ} (end : ℕ) {x : List ℕ} → IsWanted delim count wanted end x → end ≡ 0 → 0 < wanted → x ≡ last_lines delim count x
-all_wanted delim {count} end {x} is front some = grind (arith, common_steps, few_last)
 
 -- after the first lines of a block
 pub passed_in : {delim left : ℕ} (at size : ℕ) {end : ℕ} (x : List ℕ) {block rest : List ℕ} → block ≡ take size (drop at x) → EndsAt delim left block end → rest ≡ after_lines delim left (drop at x) → drop (at + end) x ≡ rest

@@ -1,4 +1,4 @@
--- What private calls say of what waits: how it is written, how that stops, and how it is taken in from an end.
+-- What private calls say of what waits: how it is written, and how that stops.
 use Rattle.std.specs.Prelude.{◌≡◌, ◌≤◌, false, length, ℕ, Bool, true, List, Result, OnOk, IfErr}
 use Rattle.seg_core.specs.declared.unit.Unit.TheVariants as unit
 use Rattle.ends_core.specs.declared.kept.Kept.{Kept}
@@ -29,10 +29,3 @@ pub record Writes (told lacks : Bool) (bytes : List ℕ) (old new : List Slot)
     (result : Result (Unit {0}) Fault) : Type 0 where
   pub out : OnOk result (new ≡ with_written 0 (told_of told bytes) old)
   pub cut : IfErr result (Stops told lacks bytes old new)
-
--- A text of this length is there, of which `Keeps` holds: where inputs tell their bytes, it is the one that is given.
-pub record HasSeen (told : Bool) (text : List ℕ) (len : ℕ) (Keeps : List ℕ → Type 0) : Type 0 where
-  pub seen : List ℕ
-  pub long : length seen ≡ len
-  pub there : told ≡ true → seen ≡ text
-  pub keeps : Keeps seen

@@ -1,12 +1,17 @@
 -- What private calls say: the one stage of `head` and `tail`, as contracts see it.
-use Rattle.std.specs.Prelude.{◌≡◌, ℕ, ◌-◌, ◌^◌, max, ◌==◌, ◌≤◌, Bool, false, List, [], ◌++◌, length}
+use Rattle.std.specs.Prelude.{◌≡◌, ℕ, ◌-◌, ◌^◌, max, ◌==◌, ◌≤◌, ◌<◌, Bool, false, List, [], ◌++◌, length}
 use Rattle.seg_core.specs.declared.unit.Unit.{Unit as Counted}
 use Rattle.seg_core.specs.declared.unit.Unit.TheVariants.{Lines, Bytes}
 use Rattle.ends_core.specs.declared.ends.Ends.{Ends}
 use Rattle.ends_core.specs.declared.ends.Ends.TheVariants.{First, ButLast, FromNth, Last}
 use Rattle.ends_core.specs.Ends.{first_of, after_of, last_of, but_last_of, measure}
 use Rattle.ends_core.specs.Kept.{held_of, most_of, delim_of as kept_delim, unit_of as kept_unit}
-use Rattle.ends_core.specs.Stage.{stretch_of, unit_of, delim_of, count_of, left_of, waiting_of, may_lack}
+use Rattle.ends_core.specs.Stage.{stretch_of, unit_of, delim_of, count_of, waiting_of, may_lack, least_of, missing_of}
+use Rattle.ends_core.specs.inner.Kept.{Stops}
+use Rattle.ports_core.specs.Slot.{Slot}
+use Rattle.ports_core.specs.declared.fault.Fault.{Fault}
+use Rattle.ports_core.specs.declared.fault.Fault.TheVariants as fault
+use Rattle.ports_core.specs.declared.verdict.Verdict.TheVariants.{Changed}
 
 -- if bytes are kept and as many wait as are to be kept, no memory can be wanting
 abbrev pub FullLacksNone : Ends → Type 0
@@ -19,13 +24,19 @@ due (ButLast kept) piece = but_last_of (kept_delim kept) (kept_unit kept) (most_
 due (FromNth count front) piece = after_of front.delim front.unit front.left piece
 due (Last kept) piece = []
 
--- These bytes came before any other, and nothing is written with them: where the last are asked for, whatever they are,
--- and where all from the nth on, those before it.
-abbrev pub IsSilent : Ends → Ends → List ℕ → Type 0
-IsSilent (FromNth count front) new x = (after_of front.delim front.unit front.left x ≡ [])
-    × (left_of new ≡ front.left - measure front.delim front.unit x)
-IsSilent (Last kept) new x = left_of new ≡ left_of (Last kept)
-IsSilent old new x = (x ≡ []) × (left_of new ≡ left_of old)
+-- with these bytes nothing is written where they are the first: where all from the nth on is asked for, they stand before
+-- it, and else there are none
+abbrev pub IsSilent : Ends → List ℕ → Type 0
+IsSilent (FromNth count front) x = after_of front.delim front.unit front.left x ≡ []
+IsSilent ends x = x ≡ []
+
+-- what it is after these bytes then
+abbrev pub passed : Ends → List ℕ → Ends
+passed (FromNth count front) x = FromNth count (record front {
+  left = front.left - measure front.delim front.unit x;
+  missing = front.missing - length x;
+})
+passed ends x = ends
 
 -- what of a piece comes in after a head
 abbrev pub unused_of : Ends → List ℕ → List ℕ
@@ -64,3 +75,10 @@ pub record SameAsked (old new : Ends) : Type 0 where
   pub delim : delim_of new ≡ delim_of old
   pub unit : unit_of new ≡ unit_of old
   pub count : count_of new ≡ count_of old
+  pub least : least_of new ≡ least_of old
+
+-- Why the end stopped, with the outputs as they are then: fewer bytes came than were shown, and nothing was to be written; or
+-- the output broke.
+pub data EndsBadly (told : Bool) (ends : Ends) (old new : List Slot) : Fault → Type 0 where
+  changed : 0 < missing_of ends → new ≡ old → EndsBadly told ends old new (fault.Verdict Changed)
+  stopped : (fault : Fault) → Stops told false (due_at_end ends) old new fault → EndsBadly told ends old new fault

@@ -1,6 +1,5 @@
 use Rattle.std.proofs.Common.{◌≡◌, ℕ, List, ◌++◌, length, Bool, true, false, ◌⊎◌, inl, inr, refl, sym, ◌∙◌, ap, subst}
 use Rattle.std.proofs.lemmas.Bool.{false≢true}
-use Rattle.std.proofs.lemmas.Option.{none-some}
 use Rattle.ports_core.specs.Slot.{Slot}
 use Rattle.ports_core.specs.Work.{Means, on_output}
 use Rattle.ports_core.specs.Engine.{EndsWith, IsCaused, IsMet, over, long, met}
@@ -11,7 +10,8 @@ use Rattle.ports_core.specs.declared.fault.Fault.TheVariants as fault_is
 use Rattle.ports_core.specs.declared.verdict.Verdict.{Verdict}
 use Rattle.ends_core.specs.declared.ends.Ends.{Ends}
 use Rattle.ends_core.specs.Stage.{Holds, count_of, delim_of, terms, keeps, may_lack, stretch_of, unit_of}
-use Rattle.ends_core.proofs.EndsLemmas.{always_well, on_means}
+use Rattle.ends_core.proofs.EndsLemmas.{none_settled, on_means}
+use Rattle.ends_core.proofs.laws.full_windows_lack_nothing.Goals as goal
 
 -- of what writes to standard output alone, lacks no memory and has no fault of its own
 only_writes : (memory : Bool) {lacks : Bool} (Ends : Verdict → Type 0) (old new : List Slot) (fault : Fault) → lacks ≡ false → ((verdict : Verdict) → Ends verdict → ⊥)
@@ -32,9 +32,10 @@ fails : (engine : GuardState Ends) (x piece : List ℕ) (old new : List Slot) (f
     → IsRefusedWith terms piece engine old new fault → (fault ≡ Write 0) ⊎ (fault ≡ TooLong)
 fails engine x piece old new fault holds enough refused =
     let s = stretch_of engine.stage in
-    let delim = delim_of engine.stage in
-    let unit = unit_of engine.stage in
-    let n = count_of engine.stage in
     only_these (keeps s) (EndsWith terms piece engine.stage) holds.live enough
-    (λ verdict ends. none-some verdict (sym (always_well s delim unit n (x ++ piece)) ∙ (ends x holds.within).1))
-    (subst (λ (means : Means). IsCaused (IsMet means means.feeding (may_lack engine.stage ≡ true) (EndsWith terms piece engine.stage) old new) engine.is_over engine.fed (length piece) old new fault) (on_means s delim unit n) refused)
+    (λ verdict ends. none_settled engine.stage (x ++ piece) (ends x holds.within))
+    (subst (λ (means : Means). IsCaused (IsMet means means.feeding (may_lack engine.stage ≡ true) (EndsWith terms piece engine.stage) old new) engine.is_over engine.fed (length piece) old new fault)
+    (on_means s (delim_of engine.stage) (unit_of engine.stage) (count_of engine.stage)) refused)
+
+pub returns-clause-fails : goal.returns-clause-fails
+returns-clause-fails c = fails

@@ -2,7 +2,8 @@ use Rattle.std.proofs.Common.{◌≡◌, ◌-◌, arith, length, min, rules}
 use Rattle.std.proofs.lemmas.Grind.{common_steps}
 use Rattle.watch_core.specs.Snapshot.{latest}
 use Rattle.watch_core.specs.Watched.{open_contents, watched_at}
-use Rattle.follow_core.proofs.StartLemmas.{contents_same, all_wanted, begins_in, begins_last, block_read, room_kept, wanted_before}
+use Rattle.ends_core.proofs.FindLemmas.{all_wanted, begins_in, begins_last, wanted_before}
+use Rattle.follow_core.proofs.StartLemmas.{contents_same, block_read, room_kept}
 use Rattle.follow_core.proofs.start.find_last_lines.Goals as goal
 
 pub loop-end-init : goal.loop-end-init

@@ -1,13 +1,12 @@
 use Rattle.std.proofs.lemmas.Grind.{common_steps}
 use Rattle.std.proofs.Common.{◌<◌, sym, subst, arith}
-use Rattle.std.proofs.lemmas.Bool.{false≢true}
 use Rattle.std.proofs.lemmas.Result.{on_ok_weaker, IfErr-weaker}
 use Rattle.ports_core.specs.Work.{IsSpare}
-use Rattle.ports_core.specs.Engine.{EndsThere, EndsWith, MayGet}
-use Rattle.ends_core.specs.Stage.{count_of, delim_of, terms, stretch_of, unit_of, work}
+use Rattle.ports_core.specs.Engine.{EndsWith, MayGet}
+use Rattle.ends_core.specs.Stage.{terms, work}
 use Rattle.ends_core.specs.inner.Stage.{due, due_at_end}
 use Rattle.ports_core.proofs.SlotSteps.{written_writable}
-use Rattle.ends_core.proofs.EndsLemmas.{always_well, on_ok_each, same_work, takes_in, puts_out, cuts_off, lacks_kept, met, went_out, rest_out, loads, full_is, done_is_exact, may_get, spare_here, wants_some}
+use Rattle.ends_core.proofs.EndsLemmas.{ends_cut, ends_met, well_there, on_ok_each, same_work, takes_in, puts_out, cuts_off, lacks_kept, met, went_out, rest_out, loads, full_is, done_is_exact, may_get, spare_here, wants_some}
 use Rattle.ends_core.proofs.ends.EndsStage.TheImpl.Goals as goal
 
 pub pass-tells : goal.pass-tells
@@ -16,7 +15,7 @@ pass-tells g c =
     let piece = c.args.piece.now in record {
       same = same_work c.ensures.same;
       size = c.ensures.bound;
-      holds = on_ok_each c.result (λ left waits full. takes_in ends piece c.ensures.same c.ensures.past left waits full) c.ensures.left c.ensures.waits c.ensures.full;
+      holds = on_ok_each c.result (λ left waits full. takes_in ends piece c.ensures.same c.ensures.past c.ensures.missing left waits full) c.ensures.left c.ensures.waits c.ensures.full;
       outputs = on_ok_weaker c.result (puts_out g.O.Outs.told ends (due ends piece) (went_out ends piece)) c.ensures.wrote.out;
       ready = on_ok_weaker c.result (λ wrote. written_writable _ _ 0 0 _ c.requires.ready wrote) c.ensures.wrote.out;
       owns = λ first own. tt;
@@ -31,19 +30,18 @@ finish-tells g c =
     let ends = c.args.self.now in record {
       same = same_work c.ensures.same;
       size = c.ensures.bound;
-      well = on_ok_weaker c.result (λ wrote x holds. always_well (stretch_of ends) (delim_of ends) (unit_of ends) (count_of ends) x) c.ensures.wrote.out;
-      outputs = on_ok_weaker c.result (puts_out g.O.Outs.told ends (due_at_end ends) (rest_out ends)) c.ensures.wrote.out;
-      writable = on_ok_weaker c.result (λ wrote output. written_writable _ _ 0 0 _ c.requires.ready wrote) c.ensures.wrote.out;
+      well = on_ok_weaker c.result (λ none x. well_there ends x none) c.ensures.whole;
+      outputs = on_ok_weaker c.result (puts_out g.O.Outs.told ends (due_at_end ends) (rest_out ends)) c.ensures.out;
+      writable = on_ok_weaker c.result (λ wrote output. written_writable _ _ 0 0 _ c.requires.ready wrote) c.ensures.out;
       owns = λ first own. tt;
       there = λ are. tt;
-      cut = IfErr-weaker c.result _ _ (λ fault stops. cuts_off g.O.Outs.told ends (due_at_end ends) (rest_out ends) stops) c.ensures.wrote.cut;
-      met = IfErr-weaker c.result _ _ (λ fault stops. met g.O.Outs.told ends (λ means. means.closing) _ (EndsThere terms ends)
-          (λ never. absurd (false≢true never)) c.requires.ready stops) c.ensures.wrote.cut;
+      cut = IfErr-weaker c.result _ _ (λ fault. ends_cut g.O.Outs.told ends) c.ensures.cut;
+      met = IfErr-weaker c.result _ _ (λ fault. ends_met g.O.Outs.told ends c.requires.ready) c.ensures.cut;
     }
 
 pub load-tells : goal.load-tells
 load-tells g c = record {
-  loads = loads _ _ _ _ _ _ _ _ c.requires.fresh c.requires.none c.ensures.same c.ensures.past c.ensures.passes c.ensures.full;
+  loads = loads g.I.Inputs.told c.requires.fresh c.requires.none c.ensures.passes;
   laid = c.ensures.laid;
 }
 

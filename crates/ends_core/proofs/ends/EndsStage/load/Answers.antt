@@ -1,15 +1,10 @@
-use Rattle.std.proofs.Common.{sym, ◌∙◌}
-use Rattle.ends_core.specs.Stage.{count_of, delim_of, stretch_of, unit_of}
-use Rattle.ports_core.proofs.LoadLemmas.{looked_none, passes_none}
-use Rattle.ends_core.proofs.EndsLemmas.{silent_none, waits_none}
+use Rattle.std.proofs.Common.{refl}
+use Rattle.ports_core.proofs.LoadLemmas.{passes_none}
+use Rattle.ends_core.proofs.EndsLemmas.{passed_front, passed_none, silent_none}
 use Rattle.ends_core.proofs.ends.EndsStage.load.Goals as goal
 
-pub returns-in-First-clause-passes : goal.returns-in-First-clause-passes
-returns-in-First-clause-passes g c =
-    let ends = c.args.self.now in
-    passes_none _ _ (looked_none _ _ _) (c.requires.none ∙ sym (waits_none (stretch_of ends) (delim_of ends) (unit_of ends) (count_of ends)), silent_none ends)
+pub returns-in_default-clause-passes : goal.returns-in_default-clause-passes
+returns-in_default-clause-passes g c = passes_none _ _ (silent_none c.args.self.now, passed_none c.args.self.now)
 
-pub returns-in-First-2-clause-passes : goal.returns-in-First-2-clause-passes
-returns-in-First-2-clause-passes g c =
-    let ends = c.args.self.now in
-    passes_none _ _ (looked_none _ _ _) (c.requires.none ∙ sym (waits_none (stretch_of ends) (delim_of ends) (unit_of ends) (count_of ends)), silent_none ends)
+pub returns-clause-passes : goal.returns-clause-passes
+returns-clause-passes g c = passed_front c.in-FromNth.is refl c.pass_over.ensures.passes

@@ -1,20 +1,17 @@
 use Rattle.std.proofs.Common.{arith, sym}
 use Rattle.std.proofs.lemmas.List.{nil_from_length}
 use Rattle.seg_core.specs.declared.unit.Unit.TheVariants.{Bytes}
-use Rattle.ports_core.proofs.LoadLemmas.{has_left, looked_none, passes_none, passes_so, passes_by}
+use Rattle.ports_core.proofs.LoadLemmas.{passes_none, passes_so, passes_by}
 use Rattle.ends_core.proofs.KeptLemmas.{fewer_left, stays}
 use Rattle.ends_core.proofs.front.Front.pass_bytes.Goals as goal
 
 pub returns-in_default-clause-passes : goal.returns-in_default-clause-passes
-returns-in_default-clause-passes g c = passes_none _ _ (looked_none _ _ _) (stays c.args.self.now Bytes)
-
-pub pass_over-requires-clause-has : goal.pass_over-requires-clause-has
-pass_over-requires-clause-has g c = has_left _ c.left.ensures c.in-Some.is
+returns-in_default-clause-passes g c = rw c.shown.ensures.same (passes_none _ _ (stays c.args.self.now Bytes))
 
 pub returns-then-not-pass_over-clause-passes : goal.returns-then-not-pass_over-clause-passes
-returns-then-not-pass_over-clause-passes g c = passes_so _ (passes_by _ c.pass_over.result c.if-not-pass_over.true c.pass_over.ensures.passes)
-    (λ x long so. rw (nil_from_length x (sym long)) (stays c.args.self.now Bytes))
+returns-then-not-pass_over-clause-passes g c = rw (← c.shown.ensures.same) (passes_so _ (passes_by _ c.pass_over.result c.if-not-pass_over.true c.pass_over.ensures.passes)
+    (λ x long so. rw (nil_from_length x (sym long)) (stays c.args.self.now Bytes)))
 
 pub returns-clause-passes : goal.returns-clause-passes
-returns-clause-passes g c = passes_so _ (passes_by _ c.pass_over.result c.if-not-pass_over.false c.pass_over.ensures.passes)
-    (λ x long so. fewer_left c.args.self.now c.min-count.result x (omega (arith, c.min-count.ensures)) (sym long))
+returns-clause-passes g c = rw (← c.shown.ensures.same, c.saturating_sub-self.ensures) (passes_so _ (passes_by _ c.pass_over.result c.if-not-pass_over.false c.pass_over.ensures.passes)
+    (λ x long so. fewer_left c.args.self.now c.min-count.result x (omega (arith, c.min-count.ensures)) (sym long)))

@@ -1,0 +1,243 @@
+-- Where the last lines of a text begin, looked for from its end, block by block; and what an input shows there.
+use Rattle.std.proofs.lemmas.Grind.{common_steps}
+use Rattle.std.proofs.Common.{◌≡◌, ℕ, ◌+◌, ◌-◌, ◌<◌, ◌≤◌, ◌==◌, zero, suc, List, [], ◌∷◌, ◌++◌, length, take, drop, replicate, min, Bool, true, false, IsTrue, Option, Some, None, option_map, refl, sym, ◌∙◌, ap, arith, length-append, if◌then◌else◌, rules}
+use Rattle.std.proofs.lemmas.Bool.{false≢true}
+use Rattle.std.proofs.lemmas.Option.{none-some}
+use Rattle.std.proofs.Math.Seq.{take-add}
+use Rattle.std.proofs.lemmas.List.{length-take, length-drop, length-replicate, drop-drop, take-append-drop, take-take, take_at, drop_at, drop_all, drop-append-le, drop-take}
+use Rattle.std.specs.List.{onto_first}
+use Rattle.seg_core.specs.Line.{BeginsAt, FallsShort, after_lines, delimiters, ends_with, last_lines, line_count, lines_of}
+use Rattle.seg_core.proofs.Delimiters.{delimiters-append}
+use Rattle.seg_core.proofs.LineCounts.{ends_with-append, ends_with-some}
+use Rattle.seg_core.proofs.LinesOf.{joined-lines_of, lines_of-append}
+use Rattle.seg_core.specs.declared.unit.Unit.{Unit as Counted}
+use Rattle.seg_core.specs.declared.unit.Unit.TheVariants.{Lines, Bytes}
+use Rattle.ports_core.specs.Slot.{changed_at}
+use Rattle.ports_core.specs.Source.{Content, ShowsOf, Source, count_shown, is_readable, looks}
+use Rattle.ports_core.specs.Inputs.{HasLooked}
+use Rattle.ports_core.proofs.LoadLemmas.{looked_again, looked_once, looked_readable}
+use Rattle.ends_core.specs.Ends.{last_of}
+use Rattle.ends_core.specs.Shown.{SeenLast, place_of}
+use Rattle.ends_core.proofs.AgreedLemmas.{none_last}
+
+-- Where the last lines of a text begin
+
+count_step : (is : Bool) (byte n : ℕ) (lines : List (List ℕ)) → length lines ≡ n + 1 → length (if is then (byte ∷ []) ∷ lines else onto_first byte lines) ≡ (if is then n + 1 else n) + 1
+count_step true byte n lines is = omega arith
+count_step false byte n [] is = omega arith
+count_step false byte n (line ∷ lines) is = is
+
+-- each delimiter before the last byte ends a line after which another one follows
+lines_and_last : (delim : ℕ) (x : List ℕ) (last : ℕ) → line_count delim (x ++ last ∷ []) ≡ delimiters delim x + 1
+lines_and_last delim [] last = search rules
+lines_and_last delim (byte ∷ x) last = count_step (byte == delim) byte (delimiters delim x) (lines_of delim (x ++ last ∷ [])) (lines_and_last delim x last)
+
+lines_and_one : (delim : ℕ) (x y : List ℕ) → length y ≡ 1 → line_count delim (x ++ y) ≡ delimiters delim x + 1
+lines_and_one delim x [] one = omega (arith, one)
+lines_and_one delim x (last ∷ []) one = lines_and_last delim x last
+lines_and_one delim x (last ∷ next ∷ y) one = cc
+
+-- the text without its last byte
+abbrev pub but_one : List ℕ → List ℕ
+but_one x = take (length x - 1) x
+
+one_left : (x : List ℕ) → 0 < length x → length (drop (length x - 1) x) ≡ 1
+one_left x some = grind (arith, common_steps)
+
+but_one_shorter : (x : List ℕ) → 0 < length x → length (but_one x) ≡ length x - 1
+but_one_shorter x some = search rules
+
+all_lines : (delim : ℕ) (x : List ℕ) → 0 < length x → line_count delim x ≡ delimiters delim (but_one x) + 1
+all_lines delim x some = ap (line_count delim) (sym (take-append-drop (length x - 1) x)) ∙ lines_and_one delim (but_one x) (drop (length x - 1) x) (one_left x some)
+
+-- a text of so many lines after a complete one is the last lines
+last_are : (delim : ℕ) {n : ℕ} (front : List ℕ) {y : List ℕ} → ends_with delim front ≡ true → line_count delim y ≡ n → y ≡ last_lines delim n (front ++ y)
+last_are delim {n} front {y} closed count = grind (arith, common_steps, lines_of-append, drop_at, joined-lines_of)
+
+-- they begin after the delimiter that is the n-th from the end, where the last byte isn't counted
+pub begins_last : {delim n at : ℕ} (x : List ℕ) → 0 < length x → BeginsAt delim n (but_one x) at → drop at x ≡ last_lines delim n x
+begins_last {delim} {n} {at} x some begins =
+    let shorter = but_one_shorter x some in
+    let within : at ≤ length (but_one x) = begins.within in
+    let front : take at (but_one x) ≡ take at x = take-take at (length x - 1) x (omega (arith, within, shorter)) in
+    let rest : drop at x ≡ drop at (but_one x) ++ drop (length x - 1) x = ap (drop at) (sym (take-append-drop (length x - 1) x)) ∙ drop-append-le at (but_one x) (drop (length x - 1) x) within in
+    let count : line_count delim (drop at x) ≡ n = ap (line_count delim) rest ∙ lines_and_one delim (drop at (but_one x)) (drop (length x - 1) x) (one_left x some) ∙ begins.counted in
+    last_are delim (take at x) (ap (ends_with delim) (sym front) ∙ begins.after) count ∙ ap (last_lines delim n) (take-append-drop at x)
+
+-- a text without as many lines is all of them
+pub few_last : (delim : ℕ) {n : ℕ} (x : List ℕ) → delimiters delim (but_one x) < n → x ≡ last_lines delim n x
+few_last delim {n} [] few = grind (arith, common_steps)
+few_last delim {n} (byte ∷ x) few =
+    let count = all_lines delim (byte ∷ x) (omega arith) in
+    let none : line_count delim (byte ∷ x) - n ≡ 0 = omega (arith, count, few) in
+    sym (ap (λ k. after_lines delim k (byte ∷ x)) none ∙ joined-lines_of delim (byte ∷ x))
+
+-- a block of the text is one of the text without its last byte
+block_of : (x : List ℕ) (from size : ℕ) → from + size ≤ length x - 1 → take size (drop from x) ≡ take size (drop from (but_one x))
+block_of x from size within =
+    let more = length x - 1 - from in
+    let all : from + more ≡ length x - 1 = omega (arith, within) in
+    sym (ap (λ k. take size (drop from (take k x))) (sym all) ∙ ap (take size) (drop-take from more x) ∙ take-take size more (drop from x) (omega (arith, within)))
+
+pub block_then : (y : List ℕ) (from size : ℕ) → drop from y ≡ take size (drop from y) ++ drop (from + size) y
+block_then y from size = sym (take-append-drop size (drop from y)) ∙ ap (λ rest. take size (drop from y) ++ rest) (drop-drop size from y)
+
+-- where the walk from the end stands: so many delimiters are still wanted before this place
+abbrev pub IsWanted : ℕ → ℕ → ℕ → ℕ → List ℕ → Type 0
+IsWanted delim count wanted end x = count ≡ wanted + delimiters delim (drop end (but_one x))
+
+-- so many in the block, so many fewer before it
+pub wanted_before : {delim count wanted end : ℕ} (from size : ℕ) {found : ℕ} (x : List ℕ) {block : List ℕ} → IsWanted delim count wanted end x → from + size ≡ end → end ≤ length x - 1 → block ≡ take size (drop from x) → FallsShort delim wanted block found
+    → IsWanted delim count (wanted - found) from x
+wanted_before {delim} {end} from size x {block} is place within are short =
+    let here : block ≡ take size (drop from (but_one x)) = are ∙ block_of x from size (omega (arith, place, within)) in
+    let all : delimiters delim (drop from (but_one x)) ≡ delimiters delim block + delimiters delim (drop end (but_one x)) =
+    ap (delimiters delim) (block_then (but_one x) from size) ∙ delimiters-append delim (take size (drop from (but_one x))) (drop (from + size) (but_one x))
+    ∙ ap (λ those. delimiters delim those + delimiters delim (drop (from + size) (but_one x))) (sym here) ∙ ap (λ k. delimiters delim block + delimiters delim (drop k (but_one x))) place in
+    let counted = short.counted in let fewer = short.fewer in omega (arith, is, all, counted, fewer)
+
+-- the wanted one stands in the block
+pub begins_in : {delim count wanted end : ℕ} (from size : ℕ) {at : ℕ} (x : List ℕ) {block : List ℕ} → IsWanted delim count wanted end x → from + size ≡ end → end ≤ length x - 1 → block ≡ take size (drop from x) → BeginsAt delim wanted block at → BeginsAt delim count (but_one x) (from + at)
+begins_in {delim} {end} from size {at} x {block} is place within are begins =
+    let here : block ≡ take size (drop from (but_one x)) = are ∙ block_of x from size (omega (arith, place, within)) in
+    let all : drop from (but_one x) ≡ block ++ drop end (but_one x) = block_then (but_one x) from size ∙ ap (λ those. those ++ drop (from + size) (but_one x)) (sym here) ∙ ap (λ k. block ++ drop k (but_one x)) place in
+    let inner : at ≤ length block = begins.within in
+    let long : length block + length (drop end (but_one x)) ≡ length (but_one x) - from = sym (ap length all ∙ length-append block (drop end (but_one x))) ∙ length-drop from (but_one x) in
+    let front : take (from + at) (but_one x) ≡ take from (but_one x) ++ take at block =
+    take-add from at (but_one x) ∙ ap (λ those. take from (but_one x) ++ take at those) all ∙ ap (λ those. take from (but_one x) ++ those) (take_of at block (drop end (but_one x)) inner) in
+    let rest : drop (from + at) (but_one x) ≡ drop at block ++ drop end (but_one x) = sym (drop-drop at from (but_one x)) ∙ ap (drop at) all ∙ drop-append-le at block (drop end (but_one x)) inner in
+    let some : 0 < length (take at block) = ends_with-some delim (take at block) begins.after in
+    let taken : length (take at block) ≡ min at (length block) = length-take at block in
+    let after : delimiters delim (drop (from + at) (but_one x)) ≡ delimiters delim (drop at block) + delimiters delim (drop end (but_one x)) = ap (delimiters delim) rest ∙ delimiters-append delim (drop at block) (drop end (but_one x)) in
+    let counted = begins.counted in record {
+      within = omega (arith, long, inner, some, taken);
+      after = ap (ends_with delim) front ∙ ends_with-append delim (take from (but_one x)) (take at block) some ∙ begins.after;
+      counted = omega (arith, after, counted, is);
+    } where
+      take_of : (at : ℕ) (block rest : List ℕ) → at ≤ length block → take at (block ++ rest) ≡ take at block
+      take_of zero block rest few = refl
+      take_of (suc at) [] rest few = absurd (omega (arith, few))
+      take_of (suc at) (byte ∷ block) rest few = ap (λ those. byte ∷ those) (take_of at block rest (omega (arith, few)))
+
+-- the walk came to the front
+pub all_wanted : (delim : ℕ) {count wanted : ℕ} (end : ℕ) {x : List ℕ} → IsWanted delim count wanted end x → end ≡ 0 → 0 < wanted → x ≡ last_lines delim count x
+all_wanted delim {count} end {x} is front some = grind (arith, common_steps, few_last)
+
+-- Where they begin in what an input shows
+
+-- looks into the front of the buffer
+pub looked_block : {most slot : ℕ} (size : ℕ) (buffer : List ℕ) {old mid new : List Source} → HasLooked most slot old mid → IsTrue (is_readable old slot) → length buffer ≤ most → new ≡ changed_at slot (looks (length (take size buffer))) mid
+    → HasLooked most slot old new
+looked_block {most} size buffer so_far can few is = looked_again {least = most} so_far (looked_once (looked_readable so_far can) (omega (arith, few, length-take size buffer)) is) (omega arith)
+
+-- What is known of the text that an input shows, of which its end was looked at from a place on: so many delimiters are still
+-- wanted before it. Where inputs don't tell their bytes, any text with that end is one that it may show.
+pub record SeenFrom (told : Bool) (left : Content) (delim count wanted end len : ℕ) : Type 0 where
+  pub text : List ℕ
+  pub shown : told ≡ true → left.shown ≡ Some text
+  pub long : len ≡ length text
+  pub still : IsWanted delim count wanted end text
+
+-- before any look: a text of this length
+text_shown : (told : Bool) {len : ℕ} (shown : Option (List ℕ)) → (told ≡ true → Some len ≡ option_map length shown)
+    → (text : List ℕ) × (told ≡ true → shown ≡ Some text) × (len ≡ length text)
+text_shown false {len} shown counted = (replicate len 0, λ never. absurd (false≢true never), sym (length-replicate len 0))
+text_shown true {len} None counted = absurd (none-some len (sym (counted refl)))
+text_shown true (Some text) counted = (text, λ tells. refl, let same = counted refl in cc)
+
+pub seen_none : (told : Bool) {left : Content} (delim count : ℕ) {len : ℕ} → (told ≡ true → Some len ≡ count_shown left) → SeenFrom told left delim count count (len - 1) len
+seen_none told {left} delim count {len} counted =
+    let text = text_shown told left.shown counted in record {
+      text = text.0;
+      shown = text.1;
+      long = text.2;
+      still = omega (arith, ap (delimiters delim) (drop_all (len - 1) (but_one text.0) (omega (arith, text.2, length-take (length text.0 - 1) text.0))));
+    }
+
+-- texts that are as long and the same from a place on are so without their last byte
+but_one_end : {k : ℕ} (x y : List ℕ) → k ≤ length x - 1 → drop k x ≡ drop k y → length x ≡ length y → drop k (but_one x) ≡ drop k (but_one y)
+but_one_end {k} x y within same also =
+    let more = length x - 1 - k in
+    ap (λ n. drop k (take n x)) (omega (arith, within)) ∙ drop-take k more x ∙ ap (take more) same ∙ sym (drop-take k more y)
+    ∙ ap (λ n. drop k (take n y)) (omega (arith, within, also))
+
+-- a look shows a block of the text
+pub block_seen : (told : Bool) {left : Content} {delim count wanted end len : ℕ} (from size : ℕ) {block : List ℕ} → SeenFrom told left delim count wanted end len → from + size ≡ end → end ≤ len - 1 → length block ≡ size
+    → (told ≡ true → ShowsOf left from block) → (seen : SeenFrom told left delim count wanted end len) × (block ≡ take size (drop from seen.text))
+block_seen true from size {block} seen place within long shows =
+    (seen, shows refl seen.text (seen.shown refl) ∙ ap (λ n. take n (drop from seen.text)) long)
+block_seen false {left} {delim} {wanted = wanted} {end} {len} from size {block} seen place within long shows =
+    let text = take from seen.text ++ (block ++ drop end seen.text) in
+    let front : length (take from seen.text) ≡ from = omega (arith, length-take from seen.text, seen.long, place, within) in
+    let all : length text ≡ len = omega (arith, length-append (take from seen.text) (block ++ drop end seen.text), length-append block (drop end seen.text), front, long, length-drop end seen.text, seen.long, place, within) in
+    let from_there : drop from text ≡ block ++ drop end seen.text = drop_at (take from seen.text) (block ++ drop end seen.text) from front in
+    let rest : drop end text ≡ drop end seen.text = ap (λ k. drop k text) (sym place) ∙ sym (drop-drop size from text) ∙ ap (drop size) from_there ∙ drop_at block (drop end seen.text) size long in (
+      record {
+        text = text;
+        shown = λ never. absurd (false≢true never);
+        long = sym all;
+        still = seen.still ∙ ap (λ those. wanted + delimiters delim those) (but_one_end seen.text text (omega (arith, within, seen.long)) (sym rest) (sym seen.long ∙ sym all));
+      },
+      sym (ap (take size) from_there ∙ take_at block (drop end seen.text) size long),
+    )
+
+-- where a part that is so long begins
+place_is : (delim : ℕ) (unit : Counted) (n : ℕ) {at : ℕ} (text : List ℕ) → at ≤ length text → drop at text ≡ last_of delim unit n text → at ≡ place_of delim unit n text
+place_is delim unit n {at} text within is = omega (arith, within, sym (ap length is) ∙ length-drop at text)
+
+module _ {told : Bool} {left : Content} {delim count wanted end len : ℕ} where
+  -- the wanted delimiter stands in a block
+  pub found_in : (from size : ℕ) {at : ℕ} {block : List ℕ} → SeenFrom told left delim count wanted end len → from + size ≡ end → 0 < end → end ≤ len - 1 → length block ≡ size → (told ≡ true → ShowsOf left from block)
+      → BeginsAt delim wanted block at → SeenLast told left delim Lines count (record { place = from + at; len = len })
+  found_in from size {at} seen place some within long shows begins =
+      let now = block_seen told from size seen place within long shows in
+      let text = now.0.text in
+      let many = now.0.long in
+      let there = begins_in from size text now.0.still place (omega (arith, within, many)) now.1 begins in
+      let inside = there.within in record {
+        text = text;
+        shown = now.0.shown;
+        place = place_is delim Lines count text (omega (arith, inside, length-take (length text - 1) text)) (begins_last text (omega (arith, many, some, within)) there);
+        len = many;
+      }
+
+  -- or not in it
+  pub seen_more : (from size : ℕ) {found : ℕ} {block : List ℕ} → SeenFrom told left delim count wanted end len → from + size ≡ end → end ≤ len - 1 → length block ≡ size → (told ≡ true → ShowsOf left from block)
+      → FallsShort delim wanted block found → SeenFrom told left delim count (wanted - found) from len
+  seen_more from size seen place within long shows short =
+      let now = block_seen told from size seen place within long shows in
+      let many = now.0.long in record {
+        text = now.0.text;
+        shown = now.0.shown;
+        long = many;
+        still = wanted_before from size now.0.text now.0.still place (omega (arith, within, many)) now.1 short;
+      }
+
+  -- the walk came to the front: all lines are among the last
+  pub found_all : SeenFrom told left delim count wanted end len → end ≡ 0 → 0 < wanted → SeenLast told left delim Lines count (record { place = 0; len = len })
+  found_all seen front some = record {
+    text = seen.text;
+    shown = seen.shown;
+    place = place_is delim Lines count seen.text (omega arith) (all_wanted delim end seen.still front some);
+    len = seen.long;
+  }
+
+-- none are wanted
+pub found_none : (told : Bool) {left : Content} (delim : ℕ) {count len : ℕ} → count ≡ 0 → (told ≡ true → Some len ≡ count_shown left) → SeenLast told left delim Lines count (record { place = len; len = len })
+found_none told {left} delim {count} none counted =
+    let text = text_shown told left.shown counted in record {
+      text = text.0;
+      shown = text.1;
+      place = omega (arith, text.2, none_last delim Lines text.0, ap (λ n. length (last_of delim Lines n text.0)) none);
+      len = text.2;
+    }
+
+-- bytes need no look
+pub found_bytes : (told : Bool) {left : Content} (delim count : ℕ) {len : ℕ} → (told ≡ true → Some len ≡ count_shown left) → SeenLast told left delim Bytes count (record { place = len - count; len = len })
+found_bytes told {left} delim count {len} counted =
+    let text = text_shown told left.shown counted in record {
+      text = text.0;
+      shown = text.1;
+      place = omega (arith, text.2, length-drop (length text.0 - count) text.0);
+      len = text.2;
+    }

@@ -1,0 +1,53 @@
+-- `head` of all but the last, and `tail` of the last, where an input shows its bytes before they are read: they end where
+-- those of the text end that was shown. So nothing waits. What comes may be another text.
+use Rattle.std.specs.Prelude.{◌≡◌, ℕ, ◌-◌, zero, suc, nat_lt, Bool, true, false, Option, Some, None, List, length, if◌then◌else◌}
+use Rattle.seg_core.specs.declared.unit.Unit.{Unit as Counted}
+use Rattle.seg_core.specs.declared.unit.Unit.TheVariants.{Bytes}
+use Rattle.ports_core.specs.Source.{Content}
+use Rattle.ports_core.specs.Work.{Work}
+use Rattle.ports_core.specs.declared.verdict.Verdict.{Verdict}
+use Rattle.ports_core.specs.declared.verdict.Verdict.TheVariants.{Changed}
+use Rattle.ends_core.specs.declared.find.Found.{Found}
+use Rattle.ends_core.specs.Ends.{last_of}
+use Rattle.ends_core.specs.Head.{head_work}
+use Rattle.ends_core.specs.Tail.{tail_work}
+
+-- an input that ends with fewer than n bytes has changed since it was shown
+abbrev pub changed_below : ℕ → List ℕ → Option Verdict
+changed_below zero x = None
+changed_below (suc n) x = if nat_lt (length x) (suc n) then Some Changed else None
+
+-- how many bytes stand before the last n lines or bytes
+abbrev pub place_of : ℕ → Counted → ℕ → List ℕ → ℕ
+place_of delim unit n text = length text - length (last_of delim unit n text)
+
+-- what a head of all but the last n makes of an input that showed this text: its first bytes, as many as stand before
+-- the last n of what was shown
+abbrev pub head_shown : ℕ → Counted → ℕ → List ℕ → Work
+head_shown delim unit n text = record (head_work 0 Bytes false (place_of delim unit n text)) {
+  verdict = changed_below (place_of delim unit n text);
+}
+
+-- and a tail of the last n: all bytes but as many
+abbrev pub tail_shown : ℕ → Counted → ℕ → List ℕ → Work
+tail_shown delim unit n text = record (tail_work 0 Bytes true (suc (place_of delim unit n text))) {
+  verdict = changed_below (length text);
+}
+
+-- what a head makes of an input, by the text that this shows, if it shows one
+abbrev pub head_in : ℕ → Counted → Bool → ℕ → Option (List ℕ) → Work
+head_in delim unit true n (Some text) = head_shown delim unit n text
+head_in delim unit but_last n shown = head_work delim unit but_last n
+
+-- and a tail
+abbrev pub tail_in : ℕ → Counted → Bool → ℕ → Option (List ℕ) → Work
+tail_in delim unit false n (Some text) = tail_shown delim unit n text
+tail_in delim unit from_nth n shown = tail_work delim unit from_nth n
+
+-- what was found of the last n lines or bytes of an input: where they begin, and how many bytes it has, in the text that it
+-- shows; in some text, where inputs don't tell theirs
+pub record SeenLast (told : Bool) (left : Content) (delim : ℕ) (unit : Counted) (n : ℕ) (found : Found) : Type 0 where
+  pub text : List ℕ
+  pub shown : told ≡ true → left.shown ≡ Some text
+  pub place : found.place ≡ place_of delim unit n text
+  pub len : found.len ≡ length text
