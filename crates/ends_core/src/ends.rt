@@ -162,7 +162,7 @@ impl Stage for Ends {
 
     /// Passes over bytes that an input shows, before any piece, and returns how many these are: where all from the nth byte on
     /// are asked for, those before it.
-    fn load<I: Inputs>(&mut self, slot: usize, inputs: &mut I) -> u64
+    fn load<I: Inputs>(&mut self, slot: usize, most: usize, inputs: &mut I) -> u64
         requires { IsTrue (is_readable (I.sources inputs.old) slot) }
         ensures passes { PassesOver I.told slot result (λ x. IsSilent self.old x × (self.new ≡ passed self.old x))
             (I.sources inputs.old) (I.sources inputs.new) }
@@ -171,7 +171,7 @@ impl Stage for Ends {
         let Ends::FromNth(_, front) = self else {
             return 0;
         };
-        front.pass_over(slot, inputs)
+        front.pass_over(slot, most, inputs)
     }
 
     /// Writes what waits, where the last are asked for.

@@ -1,7 +1,7 @@
 -- Lemmas on opening a tool's engine.
 use Rattle.std.proofs.lemmas.Grind.{common_steps}
-use Rattle.std.proofs.Common.{◌≡◌, ℕ, ◌-◌, ◌<◌, ◌≤◌, ◌^◌, zero, Bool, true, false, not, if◌then◌else◌, List, [], length, Result, Ok, Err, IfOk, IfErr, OnOk, refl, sym, ◌∙◌, ap, arith, Option, inl, inr}
-use Rattle.ports_core.specs.Slot.{Slot}
+use Rattle.std.proofs.Common.{◌≡◌, ℕ, ◌-◌, ◌<◌, ◌≤◌, ◌^◌, zero, suc, Bool, true, false, IsTrue, if◌then◌else◌, List, [], length, Result, Ok, Err, IfOk, IfErr, IsErr, OnOk, refl, sym, ◌∙◌, ap, arith, Option, Some, None, option_map, replicate, ◌∷◌, inl, inr}
+use Rattle.ports_core.specs.Slot.{Slot, is_writable}
 use Rattle.ports_core.specs.declared.calling.Calling.TheVariants.{Cutters}
 use Rattle.ports_core.specs.Part.{OutputsAt, StoppedBetween, nothing, only_out}
 use Rattle.csplit_core.specs.Output.{manner_of}
@@ -18,15 +18,23 @@ use Rattle.seg_core.specs.declared.cut.Way.TheVariants as way
 use Rattle.ports_core.specs.Name.{Naming}
 use Rattle.ports_core.specs.declared.file_writer.Tells.{Tells}
 use Rattle.split_core.specs.ChunkWork.{CannotBegin, way_work, work_by}
-use Rattle.split_core.specs.Split.{is_verbose, tells_by}
+use Rattle.split_core.specs.Split.{Filing, is_verbose, tells_by}
 use Rattle.seg_core.specs.declared.unit.Unit.{Unit as Counted}
 use Rattle.seg_core.specs.declared.unit.Unit.TheVariants.{Lines, Bytes}
 use Rattle.ends_core.specs.Ends.{after_of, head_of, tail_of}
 use Rattle.ends_core.proofs.KeptLemmas.{first_of-nil}
 use Rattle.ends_core.specs.Head.{head_work}
 use Rattle.ends_core.specs.Tail.{tail_work}
+use Rattle.ends_core.specs.Shown.{head_in, head_shown, place_of, tail_in, tail_shown}
+use Rattle.ends_core.specs.Stage as ends
+use Rattle.ends_core.specs.declared.ends.Ends.{Ends}
+use Rattle.seg_core.specs.declared.cut.Chunks.{Chunks}
 use Rattle.run_core.specs.Feeding.{Stops, call_of}
-use Rattle.run_core.specs.RunSteps.{Opens, OpensShort}
+use Rattle.run_core.specs.RunSteps.{IsShown, OnlyLooked, Opens, OpensShort}
+use Rattle.ports_core.specs.Source.{Source, count_shown, source_at}
+use Rattle.ports_core.proofs.LoadLemmas.{looked_none}
+use Rattle.std.proofs.lemmas.List.{length-replicate}
+use Rattle.std.specs.Option.{unwrap_or}
 use Rattle.words_core.specs.EndsWords.{EndsAsked}
 use Rattle.words_core.specs.SplitWords.{SplitAsked}
 use Rattle.tools_core.specs.Tasks.{is_minus, is_plus, head_task, naming_of, said_by, split_task, tail_task}
@@ -60,6 +68,12 @@ head_begins delim {told} unit but_last n {slots} two = rw (head_of-nil delim uni
 
 pub tail_starts : (delim : ℕ) {told : Bool} (unit : Counted) (from_nth : Bool) (n : ℕ) {slots : List Slot} → 2 ≤ length slots → OutputsAt told slots ((tail_work delim unit from_nth n).settled []) slots
 tail_starts delim {told} unit from_nth n {slots} two = rw (tail_begins delim from_nth unit n) (nothing_out told slots (some_there slots two))
+
+pub head_shown_begins : (delim : ℕ) {told : Bool} (unit : Counted) (n : ℕ) (text : List ℕ) {slots : List Slot} → 2 ≤ length slots → OutputsAt told slots ((head_shown delim unit n text).settled []) slots
+head_shown_begins delim unit n text two = head_begins 0 Bytes false (place_of delim unit n text) two
+
+pub tail_shown_begins : (delim : ℕ) {told : Bool} (unit : Counted) (n : ℕ) (text : List ℕ) {slots : List Slot} → 2 ≤ length slots → OutputsAt told slots ((tail_shown delim unit n text).settled []) slots
+tail_shown_begins delim unit n text two = tail_starts 0 Bytes true (suc (place_of delim unit n text)) two
 
 -- an engine for which there was no memory
 pub no_memory : {told : Bool} {work : Work} {opening : Needs} {slots : List Slot} {fault : Fault} → opening.memory ≡ true → 2 ≤ length slots → fault ≡ Memory → OpensShort work opening told slots slots fault
@@ -103,12 +117,14 @@ csplit_halts style operands old new (Verdict Suffixes) breaks = absurd (false≢
 csplit_halts style operands old new fault breaks = absurd breaks
 
 -- the work that is asked of `split`
-pub split_asked : (those asked : SplitAsked) (shown : Option (List ℕ)) {naming : Naming} {tells : Tells} {said : Option ℕ} → those ≡ asked
-    → naming ≡ naming_of asked → tells ≡ tells_by those.verbose → said ≡ said_by those.input shown
+pub split_asked : (those asked : SplitAsked) (shown : Option (List ℕ)) {naming : Naming} {tells : Tells} (said : Option ℕ) → those ≡ asked
+    → naming ≡ naming_of asked → tells ≡ tells_by those.verbose
+    → ((elide : Bool) (filing : Filing) → way_work those.way elide filing said ≡ way_work those.way elide filing (said_by shown))
     → work_by those.way those.elide naming tells said ≡ (split_task Cutters asked).work shown
-split_asked those asked shown is named told says =
-    rw (named, told, says, is) (ap (λ verbose. way_work asked.way asked.elide (record { names = naming_of asked; verbose = verbose })
-    (said_by asked.input shown)) (verbose_is asked.verbose))
+split_asked those asked shown {naming} {tells} said is named told says =
+    says those.elide (record { names = naming; verbose = is_verbose tells })
+    ∙ rw (named, told, is) (ap (λ verbose. way_work asked.way asked.elide (record { names = naming_of asked; verbose = verbose })
+    (said_by shown)) (verbose_is asked.verbose))
 
 -- why the work of `split` can't be begun
 pub split_halts : (way : Way) (elide : Bool) (names : Naming) (tells : Tells) (said : Option ℕ) (old new : List Slot) (fault : Fault)
@@ -123,6 +139,11 @@ split_halts (way.Chunks chunks) elide names tells said old new fault is = rw is 
 split_halts (way.Chunk place chunks) elide names tells said old new fault is = rw is (refl, refl, refl)
 split_halts (way.Turn place count delim) elide names tells said old new fault is = rw is (refl, refl, refl)
 
+-- what wasn't opened is nothing
+pub none_opened : {E : Type 0} (P : E → Type 0) (result : Result E Fault) → IsErr result → IfOk result P
+none_opened P (Ok e) errs = absurd (cc)
+none_opened P (Err fault) errs = tt
+
 pub whatever : {E : Type 0} (P : E → Type 0) (result : Result E Fault) → ((e : E) → P e) → IfOk result P
 whatever P (Ok e) all = all e
 whatever P (Err fault) all = tt
@@ -131,12 +152,71 @@ pub no_memory_for : {E : Type 0} (told : Bool) (work : Work) (opening : Needs) (
 no_memory_for told work opening slots (Ok e) P may two err = tt
 no_memory_for told work opening slots (Err fault) P may two err = no_memory (may err.1) two err.0
 
--- the work that is asked for, and what opening it may need
+-- an engine of `head` or `tail` that was opened, whatever the input shows
+pub opened_still : (told : Bool) {begun asked : Work} (old : List Slot) (result : Result (GuardState Ends) Fault) → begun ≡ asked → IfOk result (λ e. HoldsIn ends.Holds e [])
+    → IfOk result (λ e. ends.work e.stage ≡ begun) → IfOk result (λ e. e.fed < 2 ^ 63) → IsTrue (is_writable old 0) → OutputsAt told old (begun.settled []) old → IfOk result (Opens ends.terms asked told old old)
+opened_still told old (Ok e) is fresh does bound ready at = opened_of ends.terms told old old (Ok e) is fresh does bound ready tt at
+opened_still told old (Err fault) is fresh does bound ready at = tt
 
-pub head_asked : (shown : Option (List ℕ)) {those asked : EndsAsked} {minus : Bool} → those ≡ asked → minus ≡ is_minus those.count.sign → (head_work those.delim those.unit minus those.count.amount ≡ (head_task Cutters asked).work shown) × (minus ≡ true → (head_task Cutters asked).opening.memory ≡ true)
-head_asked shown {those} is signed =
-    (ap (λ b. head_work those.delim those.unit b those.count.amount) signed ∙ ap (λ (asked : EndsAsked). (head_task Cutters asked).work shown) is, λ may. sym (ap (λ (asked : EndsAsked). is_minus asked.count.sign) is) ∙ sym signed ∙ may)
+-- the work that is asked for, by what an input shows
 
-pub tail_asked : (shown : Option (List ℕ)) {those asked : EndsAsked} {plus : Bool} → those ≡ asked → plus ≡ is_plus those.count.sign → (tail_work those.delim those.unit plus those.count.amount ≡ (tail_task Cutters asked).work shown) × (plus ≡ false → (tail_task Cutters asked).opening.memory ≡ true)
-tail_asked shown {those} is signed =
-    (ap (λ b. tail_work those.delim those.unit b those.count.amount) signed ∙ ap (λ (asked : EndsAsked). (tail_task Cutters asked).work shown) is, λ may. ap not (sym (ap (λ (asked : EndsAsked). is_plus asked.count.sign) is) ∙ sym signed ∙ may))
+pub head_by : (shown : Option (List ℕ)) {those asked : EndsAsked} {minus : Bool} → those ≡ asked → is_minus those.count.sign ≡ minus → head_in those.delim those.unit minus those.count.amount shown ≡ (head_task Cutters asked).work shown
+head_by shown {those} is signed = ap (λ b. head_in those.delim those.unit b those.count.amount shown) (sym signed) ∙ ap (λ (asked : EndsAsked). (head_task Cutters asked).work shown) is
+
+pub tail_by : (shown : Option (List ℕ)) {those asked : EndsAsked} {plus : Bool} → those ≡ asked → is_plus those.count.sign ≡ plus → tail_in those.delim those.unit plus those.count.amount shown ≡ (tail_task Cutters asked).work shown
+tail_by shown {those} is signed = ap (λ b. tail_in those.delim those.unit b those.count.amount shown) (sym signed) ∙ ap (λ (asked : EndsAsked). (tail_task Cutters asked).work shown) is
+
+-- opening it may need memory, where the input shows nothing
+
+pub head_waits : {those asked : EndsAsked} → those ≡ asked → is_minus those.count.sign ≡ true → ((head_task Cutters asked).opening None).memory ≡ true
+head_waits is signed = rw (← is, signed) refl
+
+pub tail_waits : {those asked : EndsAsked} → those ≡ asked → is_plus those.count.sign ≡ false → ((tail_task Cutters asked).opening None).memory ≡ true
+tail_waits is signed = rw (← is, signed) refl
+
+-- the work of `split`, for a length that matters or not
+
+pub length_matters : (asked : Way) → ((chunks : Chunks) → asked ≡ way.Chunks chunks → ⊥) → ((place : ℕ) (chunks : Chunks) → asked ≡ way.Chunk place chunks → ⊥) → (one other : Option ℕ) (elide : Bool) (filing : Filing) → way_work asked elide filing one ≡ way_work asked elide filing other
+length_matters (way.Cut cut) to_files to_output one other elide filing = refl
+length_matters (way.Chunks chunks) to_files to_output one other elide filing = absurd (to_files chunks refl)
+length_matters (way.Chunk place chunks) to_files to_output one other elide filing = absurd (to_output place chunks refl)
+length_matters (way.Turn place count delim) to_files to_output one other elide filing = refl
+
+-- the length that an input says by what it shows
+
+abbrev pub size_said : Option ℕ → Option ℕ
+size_said None = None
+size_said (Some zero) = None
+size_said (Some (suc n)) = Some (suc n)
+
+pub said_shown : (told : Bool) (slot : ℕ) (sources : List Source) {size : Option ℕ} → (told ≡ true → size ≡ count_shown (source_at sources slot).left)
+    → (shown : Option (List ℕ)) × IsShown told (Some slot) sources shown × (size_said size ≡ said_by shown)
+said_shown told slot sources {size} counts = by told counts where
+  size_told : (shown : Option (List ℕ)) → size_said (option_map length shown) ≡ said_by shown
+  size_told None = refl
+  size_told (Some []) = refl
+  size_told (Some (byte ∷ text)) = refl
+
+  of_size : (size : Option ℕ) → (shown : Option (List ℕ)) × (size_said size ≡ said_by shown)
+  of_size None = (None, refl)
+  of_size (Some zero) = (None, refl)
+  of_size (Some (suc n)) = (Some (replicate (suc n) 0), ap Some (sym (length-replicate (suc n) 0)))
+
+  by : (told : Bool) → (told ≡ true → size ≡ count_shown (source_at sources slot).left) → (shown : Option (List ℕ)) × IsShown told (Some slot) sources shown × (size_said size ≡ said_by shown)
+  by true counts = let shown = (source_at sources slot).left.shown in (shown, (λ t. refl), rw (counts refl) (size_told shown))
+  by false counts = let (shown, says) = of_size size in (shown, (λ t. absurd (false≢true t)), says)
+
+pub size_none : (size : Option ℕ) → unwrap_or size 0 ≡ 0 → size_said size ≡ None
+size_none None is = refl
+size_none (Some zero) is = refl
+size_none (Some (suc n)) is = absurd (omega (arith, is))
+
+pub size_some : (size : Option ℕ) {n : ℕ} → 0 < n → unwrap_or size 0 ≡ n → size_said size ≡ Some n
+size_some None some is = absurd (omega (arith, is, some))
+size_some (Some zero) some is = absurd (omega (arith, is, some))
+size_some (Some (suc n)) some is = ap Some is
+
+-- no look was made
+pub only_looked_none : (most : ℕ) (source : Option ℕ) (sources : List Source) → OnlyLooked most source sources sources
+only_looked_none most None sources = refl
+only_looked_none most (Some slot) sources = looked_none most slot sources

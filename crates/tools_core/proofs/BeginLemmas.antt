@@ -6,7 +6,7 @@ use Rattle.std.proofs.lemmas.Bool.{and_parts, cases_eq, false≢true, cases_lt, 
 use Rattle.std.proofs.Math.Bool.{and_assoc, or-true}
 use Rattle.ports_core.specs.declared.reason.Reason.{Reason}
 use Rattle.ports_core.specs.Slot.{Slot, breaks, changed_at, slot_at, unopened, adds}
-use Rattle.ports_core.specs.Source.{Content, Source}
+use Rattle.ports_core.specs.Source.{Content, Source, unshown}
 use Rattle.ports_core.specs.Streams.{streams_with, standard_error, standard_output}
 use Rattle.ports_core.specs.Part.{Begins, File, FilesBegin, Marks, Output, OutputsAt, Part, StoppedBetween, only_out, IsBeginning, file_of}
 use Rattle.ports_core.specs.Swept.{Swept}
@@ -161,12 +161,12 @@ begins_more first next = rw nothing_after at (begins_after first (nothing_begins
 begins_longer : (part longer next : Part) → Begins part longer → Begins part (after_part longer next)
 begins_longer part longer next begins = part_trans part longer (after_part longer next) begins (begins_more longer next)
 
-step_begins : {task : Task} {work : Work} (is_first : Bool) (name : List ℕ) {so_far : Part} {there : Option Content} {slot : Option ℕ} {sources : List Source} {step : Step} → ((content : Content) → IsGrowing work content)
-    → RunStep true task work largest_piece so_far (header_text task.with_header is_first name) slot sources there step → Begins step.high (after_part so_far (of_content task work is_first name there).part)
-step_begins {task} {work} is_first name {so_far} grows (unopened_step content place at past) = begins_more so_far (of_content task work is_first name content).part
-step_begins {task} {work} is_first name {so_far} grows (unheaded content headed leaves) = begins_more so_far (of_content task work is_first name (Some content)).part
-step_begins {task} {work} is_first name {so_far} grows (heading content headed leaves) = begins_after so_far (begins_more (only_out (header_text task.with_header is_first name)) (made_of work content))
-step_begins {task} {work} is_first name {so_far} grows (call_step content call is leaves) =
+step_begins : {task : Task} {shown : Option (List ℕ)} (is_first : Bool) (name : List ℕ) {so_far : Part} {there : Option Content} {slot : Option ℕ} {sources : List Source} {step : Step} → ((content : Content) → IsGrowing (task.work shown) content)
+    → RunStep true task shown largest_piece so_far (header_text task.with_header is_first name) slot sources there step → Begins step.high (after_part so_far (of_content task (task.work shown) is_first name there).part)
+step_begins {task} {shown} is_first name {so_far} grows (unopened_step content place at past) = begins_more so_far (of_content task (task.work shown) is_first name content).part
+step_begins {task} {shown} is_first name {so_far} grows (unheaded content headed leaves) = begins_more so_far (of_content task (task.work shown) is_first name (Some content)).part
+step_begins {task} {shown} is_first name {so_far} grows (heading content headed leaves) = begins_after so_far (begins_more (only_out (header_text task.with_header is_first name)) (made_of (task.work shown) content))
+step_begins {task} {shown} is_first name {so_far} grows (call_step content call is leaves) =
     let header = only_out (header_text task.with_header is_first name) in
     rw (after_assoc so_far header call.high) (begins_after so_far (begins_after header (call_begins (grows content) is)))
 

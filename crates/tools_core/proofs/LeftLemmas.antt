@@ -49,7 +49,7 @@ use Rattle.run_core.specs.Feeding.{IsCall, Step, closes as ends_call, feeds, is_
 use Rattle.run_core.specs.Input.{Input, inputs_at, standard_input}
 use Rattle.run_core.specs.RunEnds.{RunStep, calling as call_step, heading, unheaded, unopened, EndsAs, as_defined}
 use Rattle.run_core.specs.Task.{Outcome, Task, after_part, header_text, is_missing, joined, of_content, of_input, of_inputs, verdict_messages, made_by, status_of}
-use Rattle.tools_core.specs.Promises.{AllAlike, AreAlike, GivesBytes, give_same, same, SaysLines, Completes, FindAlike, IsCopied, IsFound, IsGone, IsTask, IsUnstopped, LeaveAlike, Ran, Run, TellsMet, Unstopped, broken_off, failing, judged, missing, removes_files}
+use Rattle.tools_core.specs.Promises.{AllAlike, AreAlike, GivesBytes, are_same, give_same, SaysLines, Completes, FindAlike, IsCopied, IsFound, IsGone, IsTask, IsUnstopped, LeaveAlike, Ran, Run, TellsMet, Unstopped, broken_off, failing, judged, missing, removes_files}
 use Rattle.ports_core.specs.Message.{SaysAll}
 use Rattle.ports_core.specs.Swept.{Cleared, Swept}
 use Rattle.ports_core.specs.Swept as swept_so
@@ -353,8 +353,8 @@ call_live living opens = living.settled []
 call_live living (feeds x piece rest is few going) = search rules
 call_live living (ends_call x has needed) = living.whole x
 
-pub step_live : {told : Bool} {task : Task} {work : Work} {before : Part} {header : List ℕ} {slot : Option ℕ} {sources : List Source} {content : Option Content} {step : Step} → IsLiving work → AreLive before.files
-    → RunStep told task work largest_piece before header slot sources content step → AreLive step.high.files
+pub step_live : {told : Bool} {task : Task} {shown : Option (List ℕ)} {before : Part} {header : List ℕ} {slot : Option ℕ} {sources : List Source} {content : Option Content} {step : Step} → IsLiving (task.work shown) → AreLive before.files
+    → RunStep told task shown largest_piece before header slot sources content step → AreLive step.high.files
 step_live living live (unopened content place at past) = live
 step_live living live (unheaded content headed leaves) = live
 step_live {before} living live (heading content headed leaves) = search rules
@@ -522,8 +522,8 @@ pub copies_are : (mode : Mode) (bytes : List ℕ) (names : List (List ℕ)) → 
 copies_are mode bytes [] = refl
 copies_are mode bytes (name ∷ names) = rw (copies_are mode bytes names)
 
-tee_fits : {Line : Message → Type 0} (asked : TeeAsked) (bytes : List ℕ) (breaks_off : Bool) {shown : Option (List ℕ)} → (breaks_off ≡ true → Line (message_of (Read 0) (codes "standard input"))) → Fits Line false (tee_made asked (record { bytes = bytes; breaks_off = breaks_off; shown = shown }))
-tee_fits {Line} asked bytes breaks_off {shown} tells = by breaks_off tells where
+tee_fits : {Line : Message → Type 0} (asked : TeeAsked) (bytes : List ℕ) (breaks_off : Bool) (shown : Option (List ℕ)) → (breaks_off ≡ true → Line (message_of (Read 0) (codes "standard input"))) → Fits Line false (tee_made asked (record { bytes = bytes; breaks_off = breaks_off; shown = shown }))
+tee_fits {Line} asked bytes breaks_off shown tells = by breaks_off tells where
   live : AreLive (map (λ name. file_of (copy asked.mode bytes name)) asked.names)
   live = All-map (λ (file : File). IsLive (slot_of file)) (λ name. file_of (copy asked.mode bytes name)) asked.names (λ k name within. (refl, refl))
 
@@ -654,7 +654,7 @@ does_left run (Csplit asked) does unstopped = ends_left {asked = Csplit asked} (
 does_left run (Tee asked) does unstopped = record {
   made = tee_made asked does.content;
   of = (does.content, does.input, refl);
-  fits = tee_fits asked does.content.bytes does.content.breaks_off
+  fits = tee_fits asked does.content.bytes does.content.breaks_off does.content.shown
       (λ breaks. (Read 0, codes "standard input", inr (broken_off (standard_input does.content) does.content ([], [], does.input) refl breaks (λ task of. absurd of)), refl));
   left = tee_left does.ends unstopped;
 }
@@ -692,7 +692,7 @@ tee_of asked bytes breaks_off = tee_made asked (record { bytes = bytes; breaks_o
 
 tee_alike : (asked : TeeAsked) (content other : Content) → AreAlike (standard_input content) (standard_input other) → tee_made asked other ≡ tee_made asked content
 unfolding tee_of
-tee_alike asked content other (same is) = ap (tee_made asked) (sym (same_content {inputs = standard_input content ∷ []} refl (ap (λ input. input ∷ []) is)))
+tee_alike asked content other (are_same is) = ap (tee_made asked) (sym (same_content {inputs = standard_input content ∷ []} refl (ap (λ input. input ∷ []) is)))
 tee_alike asked content other (give_same bytes named gives gives_too) =
     let one = given_content refl gives in
     let two = given_content refl gives_too in

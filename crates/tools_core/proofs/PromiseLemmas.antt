@@ -5,14 +5,20 @@ use Rattle.std.proofs.Common.{◌≡◌, ℕ, Bool, true, false, if◌then◌els
 use Rattle.ports_core.specs.declared.reason.Reason.{Reason}
 use Rattle.ports_core.specs.Slot.{Slot, slot_at}
 use Rattle.run_core.specs.Input.{Input, World, shown_of, input_of, inputs_at, is_dash}
-use Rattle.run_core.specs.Task.{Outcome, Task, made_by}
+use Rattle.run_core.specs.Task.{Outcome, Task, made_by, joined, no_outcome, of_content, header_text}
 use Rattle.words_core.specs.declared.settings.Settings.{Settings}
-use Rattle.tools_core.specs.Tasks.{filing_of, names_of, is_minus, is_plus, said_by}
-use Rattle.tools_core.specs.Promises.{GivesBytes, IsSteady, Completes, Does, FindAlike, HasInput, Ran, Run, IsHead, IsTail, IsBare, CountAlike, output_of, AreCopies, IsSound, files_of, BeginsAs, BeginsEach}
+use Rattle.tools_core.specs.Tasks.{filing_of, head_task, tail_task, names_of, is_minus, is_plus, said_by}
+use Rattle.tools_core.specs.Promises.{GivesBytes, IsSteady, counted, Completes, Does, FindAlike, HasInput, Ran, Run, IsHead, IsTail, IsBare, CountAlike, output_of, AreCopies, IsSound, files_of, BeginsAs, BeginsEach}
 use Rattle.tools_core.proofs.BeginLemmas.{all_have_names, ending, is_way, part_of, bare_begins, begins_kept, begins_whole, lawful_grows, way_grows, still_begins, tee_begins, text_begins}
 use Rattle.tools_core.proofs.LeftLemmas.{Makes, completes_left, left_whole, same_made, slots_of, copies_are, copy, tee_made, left_at, ran_over}
 use Rattle.tools_core.proofs.StoppedPromises.{completes_or, silent_completes}
 use Rattle.seg_core.specs.declared.count.Sign.{Sign}
+use Rattle.seg_core.specs.declared.unit.Unit.{Unit as Counted}
+use Rattle.seg_core.specs.declared.unit.Unit.TheVariants.{Lines, Bytes}
+use Rattle.ports_core.specs.Work.{Work}
+use Rattle.ports_core.specs.declared.calling.Calling.TheVariants.{Cutters}
+use Rattle.ends_core.specs.Head.{head_work}
+use Rattle.ends_core.specs.Tail.{tail_work}
 use Rattle.seg_core.specs.declared.count.Sign.TheVariants.{Plain, Minus, Plus}
 use Rattle.ends_core.specs.Ends.{head_of, tail_of, after_of, first_of}
 use Rattle.ends_core.specs.laws.EndsLaws.{first_then_after, ends_together}
@@ -28,7 +34,7 @@ use Rattle.words_core.specs.Words.{CanRun}
 use Rattle.ports_core.specs.declared.calling.Calling.{Calling}
 use Rattle.tools_core.specs.Outcome.{DoesAsked, names_at}
 use Rattle.tools_core.proofs.RunLemmas.{can_run}
-use Rattle.tools_core.proofs.SameLemmas.{KnowsNoMore, head_in_lawful, steady_made, tail_in_lawful}
+use Rattle.tools_core.proofs.SameLemmas.{KnowsNoMore, head_in-None, head_in_lawful, head_knows, steady_made, tail_in-None, tail_in_lawful, tail_knows}
 
 completes : {run : Run} {asked : Settings} → Does run asked → Completes run asked
 completes {run} {asked} does = elim (completes_or run asked does.ran) [
@@ -108,11 +114,38 @@ one_made {bytes} one task knows is = made_one task one.input.name bytes
 
 -- What `head` and `tail` leave of one input.
 
+-- what is on standard output, where no header is written
+bare_output : (task : Task) (name input : List ℕ) (work : Work) {new : List Slot} → task.with_header ≡ false → task.work None ≡ work → new ≡ slots_of (part_of task name input) → (slot_at new 0).written ≡ (work.whole input).out
+bare_output task name input work bare is left =
+    ap (λ slots. (slot_at slots 0).written) left
+    ∙ ap (λ b. header_text b true name ++ ((task.work None).whole input).out) bare
+    ∙ ap (λ (work : Work). (work.whole input).out) is
+
 head_output : {run : Run} (options : EndsAsked) {sign : Sign} {n : ℕ} {input : List ℕ} → IsBare options → IsHead run options sign n → HasInput run input → output_of run ≡ head_of options.delim options.unit (is_minus sign) n input
-head_output options {sign} {n} {input} bare does has = grind (arith, common_steps)
+head_output options {sign} {n} {input} bare does has =
+    let task = head_task Cutters (counted options sign n) in
+    let one = did_one does has in
+    let made = one_made one task (head_knows options.delim options.unit (is_minus sign) n) one.makes in
+    bare_output task one.input.name input (head_work options.delim options.unit (is_minus sign) n) bare (head_in-None options.delim options.unit (is_minus sign) n) made.slots
+
+tail_output : {run : Run} (options : EndsAsked) {sign : Sign} {n : ℕ} {input : List ℕ} → IsBare options → IsTail run options sign n → HasInput run input → output_of run ≡ tail_of options.delim options.unit (is_plus sign) n input
+tail_output options {sign} {n} {input} bare (looks, pause, process, does) has =
+    let task = tail_task Cutters (counted options sign n) in
+    let one = did_one does has in
+    let made = one_made one task (tail_knows options.delim options.unit (is_plus sign) n) one.makes in
+    bare_output task one.input.name input (tail_work options.delim options.unit (is_plus sign) n) bare (tail_in-None options.delim options.unit (is_plus sign) n) made.slots
+
+-- lines alone have a delimiter
+tail_of-alike : (unit : Counted) (one other : ℕ) (from_nth : Bool) (n : ℕ) (x : List ℕ) → (unit ≡ Lines → one ≡ other) → tail_of one unit from_nth n x ≡ tail_of other unit from_nth n x
+tail_of-alike Lines one other from_nth n x delim = ap (λ d. tail_of d Lines from_nth n x) (delim refl)
+tail_of-alike Bytes one other false n x delim = refl
+tail_of-alike Bytes one other true n x delim = refl
 
 tail_alike : {run : Run} {first rest : EndsAsked} {sign : Sign} {n : ℕ} {input : List ℕ} → CountAlike first rest → IsTail run rest sign n → HasInput run input → output_of run ≡ tail_of first.delim first.unit (is_plus sign) n input
-tail_alike {first} {rest} {sign} {n} {input} alike does has = grind (arith, common_steps)
+tail_alike {first} {rest} {sign} {n} {input} alike does has =
+    tail_output rest alike.bare.1 does has
+    ∙ ap (λ unit. tail_of rest.delim unit (is_plus sign) n input) (sym alike.unit)
+    ∙ tail_of-alike first.unit rest.delim first.delim (is_plus sign) n input (λ lines. sym (alike.delim lines))
 
 pub first_meet : (head tail : Run) (first rest : EndsAsked) (n : ℕ) (input : List ℕ) → CountAlike first rest → IsHead head first Plain n → IsTail tail rest Plus (n + 1) → HasInput head input → HasInput tail input → output_of head ++ output_of tail ≡ input
 first_meet head tail first rest n input alike one other has has_too =
@@ -148,7 +181,7 @@ is_copied {asked} {input} does has =
     let there : content ≡ one.gives.content = cc in
     let bytes = ap (λ (those : Content). those.bytes) there ∙ one.gives.bytes_are in
     let whole = one.slots ∙ ap (λ (made : Outcome). slots_of made.part) is
-        ∙ ap (λ those. slots_of (tee_made asked (record { bytes = those; breaks_off = content.breaks_off; shown = content.shown })).part) bytes in
+    ∙ ap (λ those. slots_of (tee_made asked (record { bytes = those; breaks_off = content.breaks_off; shown = content.shown })).part) bytes in
     record {
       output = ap (λ slots. (slot_at slots 0).written) whole;
       files = rw (ap (drop 2) whole ∙ copies_are asked.mode input asked.names) (record { named = copies_named asked.mode input asked.names; each = All-map (λ (file : Slot). IsSound asked.mode file × (file.written ≡ input)) (copy asked.mode input) asked.names (λ k name within. ((refl, refl, refl), refl)) });

@@ -8,6 +8,8 @@ use Rattle.ports_core.specs.declared.calling.Calling.TheVariants.{Cutters}
 use Rattle.ports_core.specs.declared.verdict.Verdict.{Verdict}
 use Rattle.seg_core.specs.declared.unit.Unit.{Unit as Counted}
 use Rattle.ends_core.specs.Shown.{head_in, tail_in}
+use Rattle.ends_core.specs.Head.{head_work}
+use Rattle.ends_core.specs.Tail.{tail_work}
 use Rattle.ends_core.specs.laws.WorkLaws.{head_lawful, tail_lawful}
 use Rattle.ends_core.proofs.ShownLemmas.{head_shown_lawful, tail_shown_lawful, verdict-head_shown, verdict-tail_shown, whole-head_shown, whole-tail_shown}
 use Rattle.seg_core.specs.declared.cut.Way.{Way}
@@ -23,13 +25,23 @@ use Rattle.std.proofs.lemmas.Bool.{eq-eqb}
 use Rattle.tools_core.specs.Tasks.{said_by}
 use Rattle.run_core.specs.Input.{Input}
 use Rattle.run_core.specs.Task.{Task, Outcome, after_part, header_text, is_missing, joined, made_by, of_content, of_input, of_inputs, verdict_messages}
-use Rattle.tools_core.specs.Promises.{AllAlike, AreAlike, GivesBytes, IsSteady, give_same, same}
+use Rattle.tools_core.specs.Promises.{AllAlike, AreAlike, GivesBytes, IsSteady, are_same, give_same}
 
 -- a work makes of each text the same, whether its input showed it or nothing
 pub record KnowsNoMore (work : Option (List ℕ) → Work) : Type 0 where
   pub whole : (text : List ℕ) → (work (Some text)).whole text ≡ (work None).whole text
   pub verdict : (text : List ℕ) → (work (Some text)).verdict text ≡ (work None).verdict text
   pub clears : (text : List ℕ) → (work (Some text)).clears ≡ (work None).clears
+
+-- where nothing is shown, they know nothing
+
+pub head_in-None : (delim : ℕ) (unit : Counted) (but_last : Bool) (n : ℕ) → head_in delim unit but_last n None ≡ head_work delim unit but_last n
+head_in-None delim unit true n = refl
+head_in-None delim unit false n = refl
+
+pub tail_in-None : (delim : ℕ) (unit : Counted) (from_nth : Bool) (n : ℕ) → tail_in delim unit from_nth n None ≡ tail_work delim unit from_nth n
+tail_in-None delim unit true n = refl
+tail_in-None delim unit false n = refl
 
 -- the works of `head` and `tail` are lawful, whatever is shown
 
@@ -96,7 +108,7 @@ of_fields task work is_first name bytes breaks_off =
 
 module _ (task : Task) (knows : KnowsNoMore task.work) (is_first : Bool) (name bytes : List ℕ) where
   shown_too : (shown : Option (List ℕ)) → IsSteady shown bytes → of_fields task (task.work shown) is_first name bytes false ≡ of_fields task (task.work None) is_first name bytes false
-  unfolding of_fields
+  unfolding of_fields made_of_end
   shown_too shown (inl none) = ap (λ shown. of_fields task (task.work shown) is_first name bytes false) none
   shown_too shown (inr all) = ap (λ shown. of_fields task (task.work shown) is_first name bytes false) all
       ∙ ap (λ whole. made_of_end task is_first name whole ((task.work (Some bytes)).verdict bytes) (task.work (Some bytes)).clears) (knows.whole bytes)
@@ -105,6 +117,7 @@ module _ (task : Task) (knows : KnowsNoMore task.work) (is_first : Bool) (name b
 
   -- what is made of an input that gives these bytes
   pub steady_made : (input : Input) → input.name ≡ name → GivesBytes input bytes → of_input task is_first input ≡ of_content task (task.work None) is_first name (Some (unshown bytes))
+  unfolding of_fields
   steady_made input named gives =
       ap (λ name. of_content task (task.work input.shown) is_first name input.content) named
       ∙ ap (of_content task (task.work input.shown) is_first name) gives.is
@@ -114,11 +127,11 @@ module _ (task : Task) (knows : KnowsNoMore task.work) (is_first : Bool) (name b
 
 -- both are missing, or none is
 missing_alike : (one other : Input) → AreAlike one other → is_missing one.content ≡ is_missing other.content
-missing_alike one other (same is) = ap (λ (input : Input). is_missing input.content) is
+missing_alike one other (are_same is) = ap (λ (input : Input). is_missing input.content) is
 missing_alike one other (give_same bytes named gives gives_too) = ap is_missing gives.is ∙ sym (ap is_missing gives_too.is)
 
 alike_made : (task : Task) → KnowsNoMore task.work → (is_first : Bool) (one other : Input) → AreAlike one other → of_input task is_first one ≡ of_input task is_first other
-alike_made task knows is_first one other (same is) = ap (of_input task is_first) is
+alike_made task knows is_first one other (are_same is) = ap (of_input task is_first) is
 alike_made task knows is_first one other (give_same bytes named gives gives_too) =
     steady_made task knows is_first other.name bytes one named gives ∙ sym (steady_made task knows is_first other.name bytes other refl gives_too)
 
@@ -135,4 +148,4 @@ all_made_alike task knows is_first (one ∷ ones) (other ∷ others) alike =
 -- inputs are as themselves
 pub all_alike : (inputs : List Input) → AllAlike inputs inputs
 all_alike [] = tt
-all_alike (input ∷ inputs) = (same refl, all_alike inputs)
+all_alike (input ∷ inputs) = (are_same refl, all_alike inputs)

@@ -62,7 +62,7 @@ call_long (ends_call x (enough rest is complete) needed) long = grind (arith, co
 abbrev IsLong : Option Content → Type 0
 IsLong there = (content : Content) × (there ≡ Some content) × (2 ^ 63 ≤ length content.bytes)
 
-step_long : {task : Task} {work : Work} {most : ℕ} {so_far : Part} {header : List ℕ} {slot : Option ℕ} {sources : List Source} {there : Option Content} {step : Step} → RunStep true task work most so_far header slot sources there step → 2 ^ 63 ≤ length step.read → IsLong there
+step_long : {task : Task} {shown : Option (List ℕ)} {most : ℕ} {so_far : Part} {header : List ℕ} {slot : Option ℕ} {sources : List Source} {there : Option Content} {step : Step} → RunStep true task shown most so_far header slot sources there step → 2 ^ 63 ≤ length step.read → IsLong there
 step_long (call_step content call is leaves) long = (content, refl, call_long is long)
 step_long at long = search rules
 

@@ -138,7 +138,7 @@ pub record GivesBytes (input : Input) (bytes : List ℕ) : Type 0 where
 
 -- Two inputs are the same, or have one name, and give the same bytes, whatever they show of these before.
 pub data AreAlike (one other : Input) : Type 0 where
-  same : one ≡ other → AreAlike one other
+  are_same : one ≡ other → AreAlike one other
   give_same : (bytes : List ℕ) → one.name ≡ other.name → GivesBytes one bytes → GivesBytes other bytes
       → AreAlike one other
 

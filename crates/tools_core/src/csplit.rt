@@ -3,7 +3,7 @@ ghost use Rattle.tools_core.specs.Tasks.{csplit_task};
 
 use crate::run::by;
 use csplit_core::{Csplitter, Operands};
-use ports_core::{Calling, Fault, Guarded, Outs, Speaker, Tool, Verdict};
+use ports_core::{Calling, Fault, Guarded, Inputs, Outs, Speaker, Tool, Verdict};
 use run_core::Adapter;
 use std::alloc::Global;
 use words_core::CsplitSettings;

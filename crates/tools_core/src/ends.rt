@@ -1,8 +1,8 @@
 //! `head` and `tail`: the same part of each input, one after another (POSIX.1-2017, XCU head and tail; several files
 //! for `tail`, and when headers go before them, are GNU's).
-ghost use Rattle.std.specs.Prelude.{◌≡◌, ◌<◌, ℕ, List, Some, None, map, length, IfSome, IfNone, IsTrue};
-ghost use Rattle.ports_core.specs.Source.{is_readable};
-ghost use Rattle.ends_core.specs.Shown.{place_of};
+ghost use Rattle.std.specs.Prelude.{◌≡◌, ◌<◌, ℕ, Some, None, map, length, IfSome, IfNone, IsTrue};
+ghost use Rattle.ports_core.specs.Source.{is_readable, source_at};
+ghost use Rattle.ends_core.specs.Shown.{SeenLast};
 ghost use Rattle.run_core.specs.RunSteps.{IsShown, OnlyLooked};
 ghost use Rattle.tools_core.specs.Tasks.{changed_of, has_headers, head_task, is_minus, is_plus, tail_task};
 
@@ -60,13 +60,13 @@ impl<'a, 'b> Adapter for HeadAdapter<'a, 'b> {
         let _ = outs;
         let settings = self.settings;
         let Count { sign, amount } = settings.count;
-        let but_last = is_minus(sign);
-        if but_last {
-            if let Some(found) = last_in(settings, source, buffer, inputs) {
-                return Ok(Head::up_to(found.place));
-            }
+        if !is_minus(sign) {
+            return Head::open(alloc, settings.unit, false, amount, settings.delim);
         }
-        Head::open(alloc, settings.unit, but_last, amount, settings.delim)
+        match last_in(settings, source, buffer, inputs) {
+            Some(found) => Ok(Head::up_to(found.place)),
+            None => Head::open(alloc, settings.unit, true, amount, settings.delim),
+        }
     }
 }
 
@@ -98,13 +98,13 @@ impl<'a, 'b> Adapter for TailAdapter<'a, 'b> {
         let _ = outs;
         let settings = self.settings;
         let Count { sign, amount } = settings.count;
-        let from_nth = is_plus(sign);
-        if !from_nth {
-            if let Some(found) = last_in(settings, source, buffer, inputs) {
-                return Ok(Tail::after(found.place, found.len));
-            }
+        if is_plus(sign) {
+            return Tail::open(alloc, settings.unit, true, amount, settings.delim);
         }
-        Tail::open(alloc, settings.unit, from_nth, amount, settings.delim)
+        match last_in(settings, source, buffer, inputs) {
+            Some(found) => Ok(Tail::after(found.place, found.len)),
+            None => Tail::open(alloc, settings.unit, false, amount, settings.delim),
+        }
     }
 }
 
@@ -117,10 +117,9 @@ fn last_in<I: Inputs>(
 ) -> Option<Found>
     requires room { 0 < length buffer.old }
     requires input { IfSome source (λ slot. IsTrue (is_readable (I.sources inputs.old) slot)) }
-    ensures found { IfSome result (λ found. (text : List ℕ)
-        × IsShown I.told source (I.sources inputs.old) (Some text)
-        × (found.place ≡ place_of settings.now.delim settings.now.unit settings.now.count.amount text)
-        × (found.len ≡ length text)) }
+    ensures found { IfSome result (λ found. (slot : ℕ) × (source ≡ Some slot)
+        × SeenLast I.told (source_at (I.sources inputs.old) slot).left settings.now.delim settings.now.unit
+        settings.now.count.amount found) }
     ensures none { IfNone result (IsShown I.told source (I.sources inputs.old) None) }
     ensures looked { OnlyLooked (length buffer.old) source (I.sources inputs.old) (I.sources inputs.new) }
     ensures laid { I.laid inputs.new ≡ I.laid inputs.old }

@@ -1,14 +1,20 @@
 //! `split`: an input cut into files (POSIX.1-2017, XCU split).
-ghost use Rattle.std.specs.Prelude.{◌≡◌, IfErr, IfOk};
-ghost use Rattle.split_core.specs.Split.{tells_by};
+ghost use Rattle.std.specs.Prelude.{◌≡◌, ◌<◌, ℕ, Bool, List, Option, Some, IfErr, IfOk, IfSome, IsTrue};
+ghost use Rattle.ports_core.specs.Source.{is_readable};
+ghost use Rattle.run_core.specs.RunSteps.{IsShown};
+ghost use Rattle.split_core.specs.ChunkWork.{way_work};
+ghost use Rattle.split_core.specs.Split.{Filing, tells_by};
 ghost use Rattle.tools_core.specs.laws.Props.{CanSplit-prop};
 ghost use Rattle.tools_core.specs.Tasks.{naming_of, said_by, split_task};
 ghost use Rattle.words_core.specs.SplitWords.{CanSplit, IsWidth};
 
+use crate::ends::changed_of;
 use crate::run::by;
-use ports_core::{Calling, Fault, Guarded, Naming, Numbering, Outs, Speaker, Tells, Tool, Verdict};
-use run_core::{Adapter, is_dash};
-use split_core::Splitter;
+use ports_core::{
+    Calling, Fault, Guarded, Inputs, Naming, Numbering, Outs, Speaker, Tells, Tool, Verdict,
+};
+use run_core::Adapter;
+use split_core::{Splitter, Way};
 use std::alloc::Global;
 use words_core::SplitSettings;
 
@@ -68,18 +74,35 @@ impl<'a, 'b> Adapter for SplitAdapter<'a, 'b> {
 fn said_by<I: Inputs>(way: &Way, source: Option<usize>, inputs: &mut I) -> Option<u64>
     requires input { IfSome source (λ slot. IsTrue (is_readable (I.sources inputs.old) slot)) }
     ensures said { (shown : Option (List ℕ)) × IsShown I.told source (I.sources inputs.old) shown
-        × (needs_length way.now ≡ true → result ≡ said_by shown) }
+        × ((elide : Bool) (filing : Filing)
+        → way_work way.now elide filing result ≡ way_work way.now elide filing (said_by shown)) }
+    ensures some { IfSome result (λ size. 0 < size) }
     ensures same { I.sources inputs.new ≡ I.sources inputs.old }
     ensures laid { I.laid inputs.new ≡ I.laid inputs.old }
 {
     let (Way::Chunks(_) | Way::Chunk(_, _)) = way else {
         return None;
     };
-    let count = inputs.shown(source?)?;
-    if count == 0 {
+    match source {
+        Some(slot) => size_shown(slot, inputs),
+        None => None,
+    }
+}
+
+/// How many bytes an input shows, where it shows any.
+fn size_shown<I: Inputs>(slot: usize, inputs: &mut I) -> Option<u64>
+    requires input { IsTrue (is_readable (I.sources inputs.old) slot) }
+    ensures said { (shown : Option (List ℕ)) × IsShown I.told (Some slot) (I.sources inputs.old) shown
+        × (result ≡ said_by shown) }
+    ensures some { IfSome result (λ size. 0 < size) }
+    ensures same { I.sources inputs.new ≡ I.sources inputs.old }
+    ensures laid { I.laid inputs.new ≡ I.laid inputs.old }
+{
+    let size = inputs.shown(slot).unwrap_or(0);
+    if size == 0 {
         return None;
     }
-    Some(count)
+    Some(size)
 }
 
 /// What standard output is told of its files.

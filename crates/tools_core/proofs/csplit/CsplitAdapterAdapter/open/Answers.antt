@@ -2,20 +2,30 @@ use Rattle.ports_core.proofs.SlotSteps.{swept_none}
 use Rattle.std.proofs.Common.{◌∙◌, refl, ap, rules}
 use Rattle.ports_core.proofs.HandedOn.{fault_is}
 use Rattle.words_core.specs.CsplitWords.{CsplitAsked}
-use Rattle.tools_core.proofs.AdapterLemmas.{no_memory, opened_of, opened_short, some_there, csplit_halts}
+use Rattle.run_core.proofs.InputLemmas.{shows_something}
+use Rattle.tools_core.proofs.AdapterLemmas.{csplit_halts, no_memory, none_opened, only_looked_none, opened_of, opened_short, some_there}
 use Rattle.csplit_core.specs.Csplit.{csplit_work}
 use Rattle.std.proofs.lemmas.Result.{on_ok_weaker}
 use Rattle.ports_core.proofs.PartLemmas.{nothing_out}
 use Rattle.tools_core.proofs.csplit.CsplitAdapterAdapter.open.Goals as goal
 
-pub returns-in_err-style-clause-err : goal.returns-in_err-style-clause-err
-returns-in_err-style-clause-err g c = fault_is _ _ _ c.from_residual.ensures.1 (no_memory refl c.requires.streams refl)
+pub returns-in_err-style-clause-opens : goal.returns-in_err-style-clause-opens
+returns-in_err-style-clause-opens g c =
+    let (shown, says) = shows_something g.I.Inputs.told c.args.source (g.I.Inputs.sources c.args.inputs.now) in
+    (shown, says, none_opened _ c.from_residual.result c.from_residual.ensures.0, fault_is _ _ _ c.from_residual.ensures.1 (no_memory refl c.requires.streams refl))
 
-pub returns-clause-ok : goal.returns-clause-ok
-returns-clause-ok g c = search (rules, opened_of, on_ok_weaker, nothing_out, some_there)
-
-pub returns-clause-err : goal.returns-clause-err
-returns-clause-err g c =
+pub returns-clause-opens : goal.returns-clause-opens
+returns-clause-opens g c =
+    let (shown, says) = shows_something g.I.Inputs.told c.args.source (g.I.Inputs.sources c.args.inputs.now) in
     let same = c.in_ok-style.ensures ∙ ap (λ (asked : CsplitAsked). asked.style) c.settings.view_is in
-    opened_short _ _ _ c.open.result _ _ (ap (λ style. csplit_work style c.args.self.now.operands.now) same) c.requires.streams (λ fault breaks none.
-    let (unjudged, stops) = csplit_halts c.in_ok-style.style c.args.self.now.operands.now _ _ fault breaks in (unjudged, stops, swept_none _ _ _ none)) c.open.ensures.cut c.open.ensures.refused c.open.ensures.none
+    let is = ap (λ style. csplit_work style c.args.self.now.operands.now) same in (
+      shown,
+      says,
+      opened_of _ _ _ _ c.open.result is c.open.ensures.holds c.open.ensures.does c.open.ensures.bound c.open.ensures.ready c.open.ensures.owns
+          (on_ok_weaker c.open.result (λ at. at _ (nothing_out _ _ (some_there _ c.requires.streams))) c.open.ensures.outputs),
+      opened_short _ _ _ c.open.result _ _ is c.requires.streams (λ fault breaks none.
+          let (unjudged, stops) = csplit_halts c.in_ok-style.style c.args.self.now.operands.now _ _ fault breaks in (unjudged, stops, swept_none _ _ _ none)) c.open.ensures.cut c.open.ensures.refused c.open.ensures.none,
+    )
+
+pub returns-clause-looked : goal.returns-clause-looked
+returns-clause-looked g c = only_looked_none _ _ _

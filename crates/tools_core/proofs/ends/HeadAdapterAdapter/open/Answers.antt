@@ -1,9 +1,40 @@
-use Rattle.std.proofs.Common.{rules}
-use Rattle.tools_core.proofs.AdapterLemmas.{head_begins, opened_of, whatever, no_memory_for, head_asked}
+use Rattle.std.proofs.Common.{Ok, None, Some, true, false, refl, sym, ◌∙◌, ap, subst}
+use Rattle.std.proofs.lemmas.Bool.{false≢true}
+use Rattle.run_core.specs.RunSteps.{IsShown}
+use Rattle.words_core.specs.EndsWords.{EndsAsked}
+use Rattle.tools_core.specs.Tasks.{is_minus}
+use Rattle.run_core.proofs.InputLemmas.{shows_something}
+use Rattle.tools_core.proofs.AdapterLemmas.{head_by, head_waits, head_begins, head_shown_begins, no_memory_for, opened_still}
 use Rattle.tools_core.proofs.ends.HeadAdapterAdapter.open.Goals as goal
 
-pub returns-clause-ok : goal.returns-clause-ok
-returns-clause-ok g c = search (rules, opened_of, head_asked, whatever, head_begins)
+pub returns-then-not-is_minus-clause-opens : goal.returns-then-not-is_minus-clause-opens
+returns-then-not-is_minus-clause-opens g c =
+    let (shown, says) = shows_something g.I.Inputs.told c.args.source (g.I.Inputs.sources c.args.inputs.now) in
+    let is = head_by shown c.settings.view_is (sym c.is_minus.ensures ∙ c.if-not-is_minus.true) in (
+      shown,
+      says,
+      opened_still _ _ c.open.result is c.open.ensures.holds c.open.ensures.does c.open.ensures.bound c.requires.output (head_begins c.settings.inside.delim c.settings.inside.unit false c.settings.inside.count.amount c.requires.streams),
+      no_memory_for _ _ _ _ c.open.result _ (λ may. absurd (false≢true (may))) c.requires.streams c.open.ensures.err,
+    )
 
-pub returns-clause-err : goal.returns-clause-err
-returns-clause-err g c = no_memory_for _ _ _ _ c.open.result _ (head_asked c.args.shown c.settings.view_is c.is_minus.ensures).1 c.requires.streams c.open.ensures.err
+pub returns-in-Some-clause-opens : goal.returns-in-Some-clause-opens
+returns-in-Some-clause-opens g c =
+    let (slot, at, seen) = c.in-Some.ensures.found in
+    let asked = c.args.self.now.settings.now in
+    let signed = ap (λ (asked : EndsAsked). is_minus asked.count.sign) (sym c.settings.view_is) ∙ sym c.is_minus.ensures ∙ c.if-not-is_minus.false in
+    let is = head_by (Some seen.text) {those = asked} refl signed in (
+      Some seen.text,
+      subst (λ source. IsShown g.I.Inputs.told source (g.I.Inputs.sources c.args.inputs.now) (Some seen.text)) (sym at) (λ t. sym (seen.shown t)),
+      opened_still _ _ (Ok c.up_to.result) is c.up_to.ensures.holds (c.up_to.ensures.does asked.delim asked.unit asked.count.amount seen.text (sym seen.place)) c.up_to.ensures.bound c.requires.output
+          (head_shown_begins asked.delim asked.unit asked.count.amount seen.text c.requires.streams),
+      tt,
+    )
+
+pub returns-in-None-clause-opens : goal.returns-in-None-clause-opens
+returns-in-None-clause-opens g c =
+    let is = head_by None c.settings.view_is (sym c.is_minus.ensures ∙ c.if-not-is_minus.false) in (
+      None,
+      c.in-None.ensures.none,
+      opened_still _ _ c.open-in-None.result is c.open-in-None.ensures.holds c.open-in-None.ensures.does c.open-in-None.ensures.bound c.requires.output (head_begins c.settings.inside.delim c.settings.inside.unit true c.settings.inside.count.amount c.requires.streams),
+      no_memory_for _ _ _ _ c.open-in-None.result _ (λ may. head_waits c.settings.view_is (sym c.is_minus.ensures ∙ c.if-not-is_minus.false)) c.requires.streams c.open-in-None.ensures.err,
+    )
