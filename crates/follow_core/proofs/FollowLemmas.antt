@@ -52,14 +52,12 @@ all_both {told} {printer} {mid} {shares} {more} {now} {new} all rest = record {
   slots = wrote_after _ _ _ _ _ _ _ None (text_all printer shares more all.printer_is) (sym (messages-append shares more)) all.slots (wrote_by told (text_from mid.headers mid.last more) (messages_of more) now new None (ap (λ (p : PrinterState). p.calling) all.printer_is) rest.slots);
 }
 
--- one share more, or a beginning of it
+-- a beginning of one share
 
-pub shared_short : {told : Bool} {printer mid after : PrinterState} {shares : List Share} (share : Share) {old now new : List Slot} {why : Fault}
-    → AllShared told printer shares old mid now → Shared told mid share now after new (Some why) → AllShort told printer (shares ++ share ∷ []) old new why
-shared_short {told} {printer} {mid} {shares} share {now} {new} {why} all one = record {
-  slots = wrote_after _ _ _ _ _ _ new (Some why) (ap (λ rest. text_from printer.headers printer.last shares ++ rest) (sym (append-nil (share_text mid.headers mid.last share)))
-      ∙ text_all printer shares (share ∷ []) all.printer_is)
-      (ap (λ rest. messages_of shares ++ rest) (sym (append-nil (lines_of share))) ∙ sym (messages-append shares (share ∷ []))) all.slots (wrote_by told (share_text mid.headers mid.last share) (lines_of share) now new (Some why) (ap (λ (p : PrinterState). p.calling) all.printer_is) one.slots);
+pub shared_short : {told : Bool} {printer after : PrinterState} {share : Share} {old new : List Slot} {why : Fault}
+    → Shared told printer share old after new (Some why) → AllShort told printer (share ∷ []) old new why
+shared_short {told} {printer} {share} {old} {new} {why} one = record {
+  slots = rw (append-nil (share_text printer.headers printer.last share), append-nil (lines_of share)) one.slots;
 }
 
 -- names that were not looked at yet
@@ -209,14 +207,18 @@ pub visited_short : {told_in told : Bool} {ways : Ways} {looks : List Look} {sna
     → Visits told_in told ways snapshot (ways.first + place)
     (state_at now place).text (state_at now place).standing watched mid slots standing watched_new after new (Err why)
     → VisitedTo told_in told ways looks snapshot place names printer old mid slots watched now before → length watched_new ≡ ways.first + length names
-    → (more : List Share) × Begun told_in ways (texts names) looks snapshot watched_new more × AllShort told printer more old new why
+    → (whole part : List Share) × Begun told_in ways (texts names) looks snapshot watched_new whole part × (printed : PrinterState) × (reached : List Slot) × AllShared told printer whole old printed reached × AllShort told printed part reached new why
 visited_short {told_in} {told} {ways} {looks} {snapshot} {names} {now} {place} {mid} {slots} {new} {watched} {watched_new} {why} within visits sofar many = (
-  sofar.shares ++ stopped.1.share ∷ [],
+  sofar.shares,
+  stopped.1.share ∷ [],
   up_to sofar.fates place sofar.shares stopped.1.share sofar.count (omega (arith, within, size))
       (omega (arith, many, size), λ above. omega (arith, many, size), λ other inside. still other (omega (arith, inside, many, size)))
       (λ t. sofar.are t sofar.fates front) (sofar.found sofar.fates front) (rw (text_there names now sofar.same within) stopped.1.found)
       (λ t. subst (BeginsShare stopped.1.share) (share_is t) (stopped.1.begins t sofar.fates)),
-  shared_short stopped.1.share sofar.shared stopped.1.short,
+  mid,
+  slots,
+  sofar.shared,
+  shared_short stopped.1.short,
 ) where
   number : ℕ
   number = ways.first + place
@@ -331,15 +333,16 @@ look_stopped : {told_in told : Bool} {snapshot : Snapshot} {old : FollowState} {
     → VisitsAll told_in told snapshot old.by_name old.start old.first old.names watched old.printer slots names watched_new printer slots_new (Err why)
     → StopsOn told_in told snapshot old watched slots watched_new slots_new why
 look_stopped {told_in} {told} {snapshot} {old} {watched_new} {slots} {slots_new} {why} looking visits calling ways headers names looks first holds =
-    let (more, begun, short) = visits.stopped ways.first looks (stand_from looking holds) in record {
+    let (whole, part, begun, printer, reached, shared, short) = visits.stopped ways.first looks (stand_from looking holds) in record {
       shares = holds.shares;
       are = holds.are;
       found = holds.found;
-      printer = old.printer;
-      reached = slots;
-      shared = holds.shared;
-      more = more;
-      begun = subst₂ (λ way those. Begun told_in way those looks snapshot watched_new more) (sym holds.asked) holds.same begun;
+      whole = whole;
+      part = part;
+      begun = subst₂ (λ way those. Begun told_in way those looks snapshot watched_new whole part) (sym holds.asked) holds.same begun;
+      printer = printer;
+      reached = reached;
+      shared = all_both holds.shared shared;
       short = short;
     }
 
@@ -540,11 +543,12 @@ makes_none {told} {old} {watched} {slots} unbroken others live can is same = rec
     shares = holds.shares;
     are = holds.are;
     found = holds.found;
+    whole = [];
+    part = [];
+    begun = nothing (unbroken calling ways headers names looks first holds);
     printer = old.printer;
     reached = slots;
-    shared = holds.shared;
-    more = [];
-    begun = nothing (unbroken calling ways headers names looks first holds);
+    shared = rw (append-nil holds.shares) holds.shared;
     short = rw is (record { slots = λ output error others at. (error, refl, subst (λ those. Short told [] those slots fault.Memory) at no_memory) });
   };
   seen_is = tt;

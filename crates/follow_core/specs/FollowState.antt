@@ -93,11 +93,11 @@ pub record Holds (told_in told : Bool) (calling : Calling) (ways : Ways) (header
 
 -- What a look that was stopped gave: nothing; or it came to the name at a place. How each name before that came through
 -- is known, and no call on this one failed, nor on those after it: there are fates up to its number, and from there on
--- none. With these the look gives each name before it a share, and they have it whole; of what it gives this name, the
--- name has a beginning. A name broke only where one of these looks tells so.
+-- none. With these the look gives each name before it a share, which is `whole`; of what it gives this name, the name
+-- has a beginning, which is the one in `part`. A name broke only where one of these looks tells so.
 pub data Begun (told_in : Bool) (ways : Ways) (names : List (List ℕ)) (looks : List Look) (snapshot : Snapshot)
-    (watched : List Watched) : List Share → Type 0 where
-  nothing : AreWatched ways looks names watched → Begun told_in ways names looks snapshot watched []
+    (watched : List Watched) : (whole part : List Share) → Type 0 where
+  nothing : AreWatched ways looks names watched → Begun told_in ways names looks snapshot watched [] []
   up_to : (fates : List Fate) (place : ℕ) (shares : List Share) (share : Share)
       → length fates ≡ ways.first + place → place < length names
       → AreWatched ways (looks ++ record { snapshot = snapshot; fates = fates } ∷ []) names watched
@@ -108,10 +108,10 @@ pub data Begun (told_in : Bool) (ways : Ways) (names : List (List ℕ)) (looks :
       → (told_in ≡ true → BeginsShare share
       (share_of ways looks (record { snapshot = snapshot; fates = fates }) (ways.first + place)
       (slice_index_or names place [])))
-      → Begun told_in ways names looks snapshot watched (shares ++ share ∷ [])
+      → Begun told_in ways names looks snapshot watched shares (share ∷ [])
 
--- Following ended in the look after these: the outputs had all that these give, and got a beginning of what that one
--- gives.
+-- Following ended in the look after these, at one name: the outputs had all that these give, and all that this one gives
+-- the names before, and got a beginning of what it gives that name.
 pub record Halted (told_in told : Bool) (calling : Calling) (ways : Ways) (headers : Bool) (names : List (List ℕ))
     (looks : List Look)
     (snapshot : Snapshot) (first : List Slot) (watched : List Watched) (slots : List Slot)
@@ -119,12 +119,13 @@ pub record Halted (told_in told : Bool) (calling : Calling) (ways : Ways) (heade
   pub shares : List Share
   pub are : told_in ≡ true → shares ≡ shares_of ways names looks
   pub found : AreFound ways names looks shares
+  pub whole : List Share
+  pub part : List Share
+  pub begun : Begun told_in ways names looks snapshot watched whole part
   pub printer : PrinterState
   pub reached : List Slot
-  pub shared : AllShared told (fresh_printer calling headers) shares first printer reached
-  pub more : List Share
-  pub begun : Begun told_in ways names looks snapshot watched more
-  pub short : AllShort told printer more reached slots why
+  pub shared : AllShared told (fresh_printer calling headers) (shares ++ whole) first printer reached
+  pub short : AllShort told printer part reached slots why
 
 -- why a look was stopped: there was no memory, or standard output broke in it, or a fault had ended following before
 pub data IsCause (old : FollowState) (slots slots_new : List Slot) : Fault → Type 0 where

@@ -2,7 +2,7 @@
 use Rattle.std.proofs.Common.{◌≡◌, ℕ, ◌+◌, ◌-◌, ◌<◌, ◌≤◌, ◌⊎◌, inl, inr, min, zero, suc, Bool, true, false, List, [], ◌∷◌, ◌++◌, Option, Some, None, length, refl, if◌then◌else◌, sym, ◌∙◌, ap, subst, arith, get_or, set, length-append, is_some}
 use Rattle.std.proofs.lemmas.Bool.{cases_lt}
 use Rattle.std.proofs.lemmas.Grind.{common_steps}
-use Rattle.watch_core.specs.Snapshot.{Snapshot, forgiving, latest, Finding, Found}
+use Rattle.watch_core.specs.Snapshot.{Snapshot, forgiving, latest, waiting, Finding, Found}
 use Rattle.watch_core.specs.Edits.{World, empty_world, held_in, is_one, led_to}
 use Rattle.ports_core.specs.declared.reason.Reason.{Reason}
 use Rattle.watch_core.specs.Watched.{Watched, Finds, Reopens, open_contents, opens, watched_at}
@@ -44,27 +44,27 @@ world_again (first ∷ next ∷ worlds) (suc n) = world_again (next ∷ worlds) 
 abbrev pub SameWorlds : List World → List World → Type 0
 SameWorlds new old = (n : ℕ) → world_at new n ≡ world_at old n
 
-seen_same : (forgives : Bool) (new old : List World) (n : ℕ) → SameWorlds new old → seen_by forgives new n ≡ seen_by forgives old n
-seen_same forgives new old zero same = refl
-seen_same forgives new old (suc n) same = ap (λ before. before ++ shown forgives (world_at new (suc n)) ∷ []) (seen_same forgives new old n same) ∙ ap (λ world. seen_by forgives old n ++ shown forgives world ∷ []) (same (suc n))
+seen_same : (forgives : Bool) (within : ℕ) (new old : List World) (n : ℕ) → SameWorlds new old → seen_by forgives within new n ≡ seen_by forgives within old n
+seen_same forgives within new old zero same = refl
+seen_same forgives within new old (suc n) same = ap (λ before. before ++ waiting within (shown forgives (world_at new (suc n))) ∷ []) (seen_same forgives within new old n same) ∙ ap (λ world. seen_by forgives within old n ++ waiting within (shown forgives world) ∷ []) (same (suc n))
 
-pub length-seen : (forgives : Bool) (worlds : List World) (n : ℕ) → length (seen_by forgives worlds n) ≡ n
-length-seen forgives worlds zero = refl
-length-seen forgives worlds (suc n) =
-    let both : length (seen_by forgives worlds n ++ shown forgives (world_at worlds (suc n)) ∷ []) ≡ length (seen_by forgives worlds n) + 1 = length-append (seen_by forgives worlds n) _ in
-    let before : length (seen_by forgives worlds n) ≡ n = length-seen forgives worlds n in
+pub length-seen : (forgives : Bool) (within : ℕ) (worlds : List World) (n : ℕ) → length (seen_by forgives within worlds n) ≡ n
+length-seen forgives within worlds zero = refl
+length-seen forgives within worlds (suc n) =
+    let both : length (seen_by forgives within worlds n ++ waiting within (shown forgives (world_at worlds (suc n))) ∷ []) ≡ length (seen_by forgives within worlds n) + 1 = length-append (seen_by forgives within worlds n) _ in
+    let before : length (seen_by forgives within worlds n) ≡ n = length-seen forgives within worlds n in
     omega arith
 
-pub shows_same : (new old : MemWatchState) → new.forgives ≡ old.forgives → SameWorlds new.worlds old.worlds → shows new ≡ shows old
-shows_same new old also same = let is : shows new ≡ shows old = λ i. λ n. shown (also i) (same (n + 1) i) in is
+pub shows_same : (new old : MemWatchState) → new.forgives ≡ old.forgives → new.within ≡ old.within → SameWorlds new.worlds old.worlds → shows new ≡ shows old
+shows_same new old also waits same = let is : shows new ≡ shows old = λ i. λ n. waiting (waits i) (shown (also i) (same (n + 1) i)) in is
 
 -- one more look sees what the watch was to show
 pub turns_on : (watch : MemWatchState) (worlds : List World) → SameWorlds worlds watch.worlds
-    → seen_by watch.forgives worlds (watch.turns + 1) ≡ seen watch ++ shows watch (length (seen watch)) ∷ []
+    → seen_by watch.forgives watch.within worlds (watch.turns + 1) ≡ seen watch ++ shows watch (length (seen watch)) ∷ []
 turns_on watch worlds same =
     let next : watch.turns + 1 ≡ suc watch.turns = omega arith in
-    rw (next) (seen_same watch.forgives worlds watch.worlds (suc watch.turns) same
-    ∙ ap (λ n. seen watch ++ shown watch.forgives (world_at watch.worlds n) ∷ []) (let count : length (seen watch) ≡ watch.turns = length-seen watch.forgives watch.worlds watch.turns in let more : suc watch.turns ≡ length (seen watch) + 1 = omega arith in more))
+    rw (next) (seen_same watch.forgives watch.within worlds watch.worlds (suc watch.turns) same
+    ∙ ap (λ n. seen watch ++ waiting watch.within (shown watch.forgives (world_at watch.worlds n)) ∷ []) (let count : length (seen watch) ≡ watch.turns = length-seen watch.forgives watch.within watch.worlds watch.turns in let more : suc watch.turns ≡ length (seen watch) + 1 = omega arith in more))
 
 -- what is seen of files whether that is forgiven or not
 
@@ -81,27 +81,27 @@ shown_lacks false world process = refl
 shown_lacks true world process = refl
 
 -- any call may have found anything
-pub finds_any : (forgives : Bool) (worlds : List World) (n : ℕ) (name : List ℕ) (finding : Finding) → Found (latest (seen_by forgives worlds n)) name finding
-finds_any forgives worlds zero name finding = refl
-finds_any forgives worlds (suc n) name finding = ap (λ (those : Snapshot). those.finds name finding) (latest-last (seen_by forgives worlds n) _) ∙ shown_finds forgives (world_at worlds (suc n)) name finding
+pub finds_any : (forgives : Bool) (within : ℕ) (worlds : List World) (n : ℕ) (name : List ℕ) (finding : Finding) → Found (latest (seen_by forgives within worlds n)) name finding
+finds_any forgives within worlds zero name finding = refl
+finds_any forgives within worlds (suc n) name finding = ap (λ (those : Snapshot). those.finds name finding) (latest-last (seen_by forgives within worlds n) _) ∙ shown_finds forgives (world_at worlds (suc n)) name finding
 
--- all of a look but whether calls can fail
+-- all of a look but whether calls can fail, and how soon it begins
 abbrev pub kept : Snapshot → Snapshot
-kept snapshot = record snapshot { breaks = false }
+kept snapshot = record snapshot { breaks = false; within = 0 }
 
 -- what the last look sees are the files of its turn
-pub latest_seen : (forgives : Bool) (worlds : List World) (n : ℕ) → world_at worlds 0 ≡ empty_world → kept (latest (seen_by forgives worlds n)) ≡ kept (shown forgives (world_at worlds n))
-latest_seen false worlds zero is = ap (λ world. kept (shown false world)) (sym is)
-latest_seen true worlds zero is = ap (λ world. kept (shown true world)) (sym is)
-latest_seen forgives worlds (suc n) is = ap kept (latest-last (seen_by forgives worlds n) _)
+pub latest_seen : (forgives : Bool) (within : ℕ) (worlds : List World) (n : ℕ) → world_at worlds 0 ≡ empty_world → kept (latest (seen_by forgives within worlds n)) ≡ kept (shown forgives (world_at worlds n))
+latest_seen false within worlds zero is = ap (λ world. kept (shown false world)) (sym is)
+latest_seen true within worlds zero is = ap (λ world. kept (shown true world)) (sym is)
+latest_seen forgives within worlds (suc n) is = ap kept (latest-last (seen_by forgives within worlds n) _)
 
 -- where nothing is forgiven, a call may have failed
-latest_breaks : (forgives : Bool) (worlds : List World) (n : ℕ) → forgives ≡ false → (latest (seen_by forgives worlds n)).breaks ≡ true
-latest_breaks forgives worlds zero is = refl
-latest_breaks forgives worlds (suc n) is = ap (λ (those : Snapshot). those.breaks) (latest-last (seen_by forgives worlds n) _) ∙ rw is refl
+latest_breaks : (forgives : Bool) (within : ℕ) (worlds : List World) (n : ℕ) → forgives ≡ false → (latest (seen_by forgives within worlds n)).breaks ≡ true
+latest_breaks forgives within worlds zero is = refl
+latest_breaks forgives within worlds (suc n) is = ap (λ (those : Snapshot). those.breaks) (latest-last (seen_by forgives within worlds n) _) ∙ rw is refl
 
 pub may_break : (watch : MemWatchState) → watch.forgives ≡ false → (latest (seen watch)).breaks ≡ true
-may_break watch unforgiven = latest_breaks watch.forgives watch.worlds watch.turns unforgiven
+may_break watch unforgiven = latest_breaks watch.forgives watch.within watch.worlds watch.turns unforgiven
 
 -- what was forgiven is
 
@@ -113,22 +113,22 @@ shown_again : (forgives : Bool) (world : World) → shown true world ≡ forgivi
 shown_again false world = refl
 shown_again true world = λ i. record (shown true world) { leads = λ name. sym (forgiven_twice ((shown true world).barred name) (led_to world.links name)) i }
 
-pub forgives_all : {watch : MemWatchState} (new : MemWatchState) {worlds : List World} {turns : ℕ} {names : List Watched} {forgives : Bool} {why : Reason} → record { worlds = worlds; turns = turns; watched = names; forgives = forgives; why = why } ≡ watch
-    → new.worlds ≡ worlds → new.forgives ≡ true → shows new ≡ (λ n. forgiving (shows watch n))
-forgives_all {watch} new {worlds} {turns} {names} {forgives} is same forgiven =
-    (λ i. λ n. shown (forgiven i) (world_at (same i) (n + 1))) ∙ (λ i. λ n. shown_again forgives (world_at worlds (n + 1)) i)
+pub forgives_all : {watch : MemWatchState} (new : MemWatchState) {worlds : List World} {turns : ℕ} {names : List Watched} {forgives : Bool} {within : ℕ} {why : Reason} → record { worlds = worlds; turns = turns; watched = names; forgives = forgives; within = within; why = why } ≡ watch
+    → new.worlds ≡ worlds → new.forgives ≡ true → new.within ≡ within → shows new ≡ (λ n. forgiving (shows watch n))
+forgives_all {watch} new {worlds} {forgives} {within} is same forgiven waits =
+    (λ i. λ n. waiting (waits i) (shown (forgiven i) (world_at (same i) (n + 1)))) ∙ (λ i. λ n. waiting within (shown_again forgives (world_at worlds (n + 1)) i))
     ∙ (λ i. λ n. forgiving (shows (is i) n))
 
-pub forgives_none : {watch : MemWatchState} {worlds : List World} (turns : ℕ) {names : List Watched} {forgives : Bool} {why : Reason} (now : Bool) → record { worlds = worlds; turns = turns; watched = names; forgives = forgives; why = why } ≡ watch
-    → seen watch ≡ [] → seen_by now worlds turns ≡ seen watch
+pub forgives_none : {watch : MemWatchState} {worlds : List World} (turns : ℕ) {names : List Watched} {forgives : Bool} {within : ℕ} {why : Reason} (now : Bool) → record { worlds = worlds; turns = turns; watched = names; forgives = forgives; within = within; why = why } ≡ watch
+    → seen watch ≡ [] → seen_by now within worlds turns ≡ seen watch
 forgives_none zero now is unseen = sym unseen
-forgives_none {watch} {worlds} (suc turns) {forgives} now is unseen = absurd (let count : length (seen watch) ≡ suc turns = ap (λ (those : MemWatchState). length (seen those)) (sym is) ∙ length-seen forgives worlds (suc turns) in let none = ap length unseen in omega (arith, count, none))
+forgives_none {watch} {worlds} (suc turns) {forgives} {within} now is unseen = absurd (let count : length (seen watch) ≡ suc turns = ap (λ (those : MemWatchState). length (seen those)) (sym is) ∙ length-seen forgives within worlds (suc turns) in let none = ap length unseen in omega (arith, count, none))
 
 -- what is so of the files of the last turn is so of the last look
-module _ {watch : MemWatchState} {worlds : List World} (turns : ℕ) {names : List Watched} {world : World} {forgives : Bool} {why : Reason}
-    (is : record { worlds = worlds; turns = turns; watched = names; forgives = forgives; why = why } ≡ watch) (empty : world_at worlds 0 ≡ empty_world) (now : world ≡ world_at worlds turns) where
+module _ {watch : MemWatchState} {worlds : List World} (turns : ℕ) {names : List Watched} {world : World} {forgives : Bool} {within : ℕ} {why : Reason}
+    (is : record { worlds = worlds; turns = turns; watched = names; forgives = forgives; within = within; why = why } ≡ watch) (empty : world_at worlds 0 ≡ empty_world) (now : world ≡ world_at worlds turns) where
   now_seen : kept (shown forgives world) ≡ kept (latest (seen watch))
-  now_seen = ap (λ those. kept (shown forgives those)) now ∙ sym (latest_seen forgives worlds turns empty) ∙ ap (λ (those : MemWatchState). kept (latest (seen those))) is
+  now_seen = ap (λ those. kept (shown forgives those)) now ∙ sym (latest_seen forgives within worlds turns empty) ∙ ap (λ (those : MemWatchState). kept (latest (seen those))) is
 
   item_is : (place : ℕ) {item : Watched} → place < length names → item ≡ get_or names place item → item ≡ watched_at watch.watched place
   item_is place {item} within at = name_there names place item within at ∙ ap (λ (those : MemWatchState). watched_at those.watched place) is
@@ -146,7 +146,7 @@ module _ {watch : MemWatchState} {worlds : List World} (turns : ℕ) {names : Li
     file = file;
     found = sym found;
     names = name_changes names watch.watched place (opens file) item new (ap (λ (those : MemWatchState). those.watched) is) within at changed;
-    opens = finds_any watch.forgives watch.worlds watch.turns _ _;
+    opens = finds_any watch.forgives watch.within watch.worlds watch.turns _ _;
     leads = λ told. leads ∙ ap (λ (snapshot : Snapshot). snapshot.leads item.name) now_seen
         ∙ ap (λ (those : Watched). (latest (seen watch)).leads those.name) (item_is place within at);
   }
@@ -166,26 +166,26 @@ at_last worlds n m some is = by (cases_lt n (length worlds)) where
   by (inr past) = world_past worlds m (grind (arith, common_steps)) ∙ sym (world_past worlds n (omega (arith, past)))
 
 -- the processes that are gone before the next look
-pub gone_next : {watch : MemWatchState} {worlds : List World} {turns next : ℕ} {names : List Watched} {world : World} {forgives : Bool} {why : Reason} (process : ℕ) {gone : Bool}
-    → record { worlds = worlds; turns = turns; watched = names; forgives = forgives; why = why } ≡ watch → turns < length worlds → next ≡ min (turns + 1) (length worlds - 1)
+pub gone_next : {watch : MemWatchState} {worlds : List World} {turns next : ℕ} {names : List Watched} {world : World} {forgives : Bool} {within : ℕ} {why : Reason} (process : ℕ) {gone : Bool}
+    → record { worlds = worlds; turns = turns; watched = names; forgives = forgives; within = within; why = why } ≡ watch → turns < length worlds → next ≡ min (turns + 1) (length worlds - 1)
     → world ≡ world_at worlds next → gone ≡ is_one process world.ended → gone ≡ (shows watch (length (seen watch))).lacks process
-gone_next {worlds} {turns} {next} {forgives} process is within at there gone = gone ∙ ap (λ (those : World). is_one process those.ended)
-    (there ∙ at_last worlds (turns + 1) next (omega (arith, within)) at ∙ ap (λ n. world_at worlds (n + 1)) (sym (length-seen forgives worlds turns)))
-    ∙ shown_lacks forgives (world_at worlds (length (seen_by forgives worlds turns) + 1)) process
+gone_next {worlds} {turns} {next} {forgives} {within} process is inside at there gone = gone ∙ ap (λ (those : World). is_one process those.ended)
+    (there ∙ at_last worlds (turns + 1) next (omega (arith, inside)) at ∙ ap (λ n. world_at worlds (n + 1)) (sym (length-seen forgives within worlds turns)))
+    ∙ shown_lacks forgives (world_at worlds (length (seen_by forgives within worlds turns) + 1)) process
     ∙ ap (λ (those : MemWatchState). (shows those (length (seen those))).lacks process) is
 
-pub turned : {watch : MemWatchState} {worlds : List World} (new : List World) (turns : ℕ) {n : ℕ} {names : List Watched} {forgives : Bool} {why : Reason} → record { worlds = worlds; turns = turns; watched = names; forgives = forgives; why = why } ≡ watch → SameWorlds new worlds → n ≡ turns + 1
-    → seen_by forgives new n ≡ seen watch ++ shows watch (length (seen watch)) ∷ []
-turned {worlds} new turns {n} {names} {forgives} {why} is same next =
-    subst (λ (those : MemWatchState). seen_by forgives new n ≡ seen those ++ shows those (length (seen those)) ∷ []) is
-    (ap (seen_by forgives new) next ∙ turns_on (record { worlds = worlds; turns = turns; watched = names; forgives = forgives; why = why }) new same)
+pub turned : {watch : MemWatchState} {worlds : List World} (new : List World) (turns : ℕ) {n : ℕ} {names : List Watched} {forgives : Bool} {within : ℕ} {why : Reason} → record { worlds = worlds; turns = turns; watched = names; forgives = forgives; within = within; why = why } ≡ watch → SameWorlds new worlds → n ≡ turns + 1
+    → seen_by forgives within new n ≡ seen watch ++ shows watch (length (seen watch)) ∷ []
+turned {worlds} new turns {n} {names} {forgives} {within} {why} is same next =
+    subst (λ (those : MemWatchState). seen_by forgives within new n ≡ seen those ++ shows those (length (seen those)) ∷ []) is
+    (ap (seen_by forgives within new) next ∙ turns_on (record { worlds = worlds; turns = turns; watched = names; forgives = forgives; within = within; why = why }) new same)
 
 -- where nothing more was planned, the last files are added once more
 pub same_again : (worlds : List World) {new : List World} {world : World} → world ≡ world_at worlds (length worlds) → new ≡ worlds ++ world ∷ [] → SameWorlds new worlds
 same_again worlds last is n = ap (λ those. world_at those n) (is ∙ ap (λ those. worlds ++ those ∷ []) last) ∙ world_again worlds n
 
-pub still_shows : {watch : MemWatchState} (new : MemWatchState) {worlds : List World} (turns : ℕ) {names : List Watched} {forgives : Bool} {why : Reason} → new.forgives ≡ forgives → record { worlds = worlds; turns = turns; watched = names; forgives = forgives; why = why } ≡ watch → SameWorlds new.worlds worlds → shows new ≡ shows watch
-still_shows new {worlds} turns {names} {forgives} {why} also is same = shows_same new (record { worlds = worlds; turns = turns; watched = names; forgives = forgives; why = why }) also same ∙ ap shows is
+pub still_shows : {watch : MemWatchState} (new : MemWatchState) {worlds : List World} (turns : ℕ) {names : List Watched} {forgives : Bool} {within : ℕ} {why : Reason} → new.forgives ≡ forgives → new.within ≡ within → record { worlds = worlds; turns = turns; watched = names; forgives = forgives; within = within; why = why } ≡ watch → SameWorlds new.worlds worlds → shows new ≡ shows watch
+still_shows new {worlds} turns {names} {forgives} {within} {why} also waits is same = shows_same new (record { worlds = worlds; turns = turns; watched = names; forgives = forgives; within = within; why = why }) also waits same ∙ ap shows is
 
 -- one look more is planned: the watch is still at one of them, and begins with no file
 pub holds_more : (worlds : List World) {new : List World} (world : World) (turns n : ℕ) → turns < length worlds → world_at worlds 0 ≡ empty_world → new ≡ worlds ++ world ∷ [] → n ≤ turns + 1 → (n < length new) × (world_at new 0 ≡ empty_world)

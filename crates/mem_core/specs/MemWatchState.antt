@@ -1,6 +1,6 @@
 -- What contracts see of a watch in memory.
 use Rattle.std.specs.Prelude.{ℕ, ◌+◌, zero, suc, Bool, false, List, [], ◌∷◌, ◌++◌, length, if◌then◌else◌}
-use Rattle.watch_core.specs.Snapshot.{Snapshot, forgiving}
+use Rattle.watch_core.specs.Snapshot.{Snapshot, forgiving, waiting}
 use Rattle.watch_core.specs.Edits.{Edit, append, bar, truncate, replace, remove, end, World, empty_world, edited_by, seen_in}
 use Rattle.watch_core.specs.Watched.{Watched}
 use Rattle.ports_core.specs.declared.reason.Reason.{Reason}
@@ -16,6 +16,8 @@ pub record MemWatchState : Type 0 where
   pub watched : List Watched
   -- a name that can't be read counts as missing
   pub forgives : Bool
+  -- within how many milliseconds a look begins
+  pub within : ℕ
   -- why calls fail that do
   pub why : Reason
 
@@ -39,15 +41,16 @@ abbrev pub shown : (forgives : Bool) → World → Snapshot
 shown forgives world = if forgives then forgiving (seen_in world) else seen_in world
 
 -- what the first n looks see
-abbrev pub seen_by : (forgives : Bool) → List World → ℕ → List Snapshot
-seen_by forgives worlds zero = []
-seen_by forgives worlds (suc n) = seen_by forgives worlds n ++ shown forgives (world_at worlds (suc n)) ∷ []
+abbrev pub seen_by : (forgives : Bool) → (within : ℕ) → List World → ℕ → List Snapshot
+seen_by forgives within worlds zero = []
+seen_by forgives within worlds (suc n) =
+    seen_by forgives within worlds n ++ waiting within (shown forgives (world_at worlds (suc n))) ∷ []
 
 abbrev pub seen : MemWatchState → List Snapshot
-seen watch = seen_by watch.forgives watch.worlds watch.turns
+seen watch = seen_by watch.forgives watch.within watch.worlds watch.turns
 
 abbrev pub shows : MemWatchState → ℕ → Snapshot
-shows watch n = shown watch.forgives (world_at watch.worlds (n + 1))
+shows watch n = waiting watch.within (shown watch.forgives (world_at watch.worlds (n + 1)))
 
 -- one more look is planned, after these edits
 abbrev pub with_look : List Edit → MemWatchState → MemWatchState
@@ -58,4 +61,4 @@ with_look edits watch = record watch {
 
 -- no name, no file and no look
 abbrev pub no_looks : MemWatchState
-no_looks = record { worlds = empty_world ∷ []; turns = 0; watched = []; forgives = false; why = Other }
+no_looks = record { worlds = empty_world ∷ []; turns = 0; watched = []; forgives = false; within = 1000; why = Other }

@@ -81,6 +81,8 @@ pub struct MemWatch {
     failing_in: Option<u64>,
     /// A name that can't be read counts as missing, and no call fails.
     forgives: bool,
+    /// Within how many milliseconds a look begins, as it was asked for.
+    within: u64,
     /// Why calls fail that do.
     why: Reason,
 }
@@ -93,6 +95,7 @@ impl Model for MemWatch {
       turns = w.turns;
       watched = w.names.items;
       forgives = w.forgives;
+      within = w.within;
       why = w.why;
     } };
 
@@ -120,6 +123,7 @@ impl MemWatch {
             names: Vec::new(alloc),
             failing_in: None,
             forgives: false,
+            within: 1000,
             why: Reason::Other,
         })
     }
@@ -294,9 +298,9 @@ impl Watch for MemWatch {
         world_in(&self.worlds, next).has_ended(process)
     }
 
-    /// It waits for nothing.
+    /// It waits for nothing, and keeps what is asked for.
     fn wait_at_most(&mut self, milliseconds: u64) {
-        let _ = milliseconds;
+        self.within = milliseconds.max(1);
     }
 
     fn forgive(&mut self) {

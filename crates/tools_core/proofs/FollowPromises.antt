@@ -1,8 +1,8 @@
 -- What `tail` writes of one file that only grows, where it follows it and meets no fault.
 use Rattle.std.proofs.lemmas.Grind.{common_steps}
-use Rattle.std.proofs.Common.{◌≡◌, ℕ, ◌+◌, ◌<◌, ◌≤◌, zero, suc, Bool, true, false, List, [], ◌∷◌, ◌++◌, length, drop, Option, Some, None, Ok, refl, sym, ◌∙◌, ap, subst, arith, append_assoc, append-nil, ◌&&◌, cond, is_some, not, ◌||◌, inl, inr, rules}
+use Rattle.std.proofs.Common.{◌≡◌, ℕ, ◌+◌, ◌<◌, ◌≤◌, max, zero, suc, Bool, true, false, List, [], ◌∷◌, ◌++◌, length, drop, Option, Some, None, Ok, refl, sym, ◌∙◌, ap, subst, arith, append_assoc, append-nil, ◌&&◌, cond, is_some, not, ◌||◌, inl, inr, rules}
 use Rattle.std.proofs.Math.Seq.{drop-append_seam as drop_front}
-use Rattle.watch_core.specs.Snapshot.{Snapshot}
+use Rattle.watch_core.specs.Snapshot.{Snapshot, waiting}
 use Rattle.follow_core.specs.Ending.{seen_first, FollowEndsAs, looked, no_room, stopped}
 use Rattle.follow_core.specs.Gain.{gains_later}
 use Rattle.follow_core.specs.Run.{AreKept, name_text}
@@ -178,28 +178,32 @@ wrote_text ways name shows count seen watched new keeps_bytes (looked looks shar
 wrote_text ways name shows count seen watched new keeps_bytes (stopped mid fault why stop is_why says failed) = absurd (status_some fault _ why (sym failed))
 wrote_text ways name shows count seen watched new keeps_bytes (no_room why unseen unwatched says failed) = absurd (omega (arith, failed))
 
-pub follows_text : {run : Run} {count : ℕ} {options : EndsAsked} {followed : Followed} {name : List ℕ} → Follows run count options followed → IsBare options
-    → options.names ≡ name ∷ [] → (run.seen ≡ seen_first (showing run followed) (length run.seen) → AreKept (entries_of (is_name followed) name run.seen))
-    → WroteText (ways_of 0 (is_name followed) (start_of options)) name (showing run followed) count run.seen run.outputs
+-- each look of it, which begins within the pause that it asks for
+abbrev pub paused : Run → Followed → (pause : ℕ) → ℕ → Snapshot
+paused run followed pause n = waiting (max pause 1) (showing run followed n)
+
+pub follows_text : {run : Run} {count : ℕ} {options : EndsAsked} {followed : Followed} {name : List ℕ} → (follows : Follows run count options followed) → IsBare options
+    → options.names ≡ name ∷ [] → (run.seen ≡ seen_first (paused run followed follows.read.0) (length run.seen) → AreKept (entries_of (is_name followed) name run.seen))
+    → WroteText (ways_of 0 (is_name followed) (start_of options)) name (paused run followed follows.read.0) count run.seen run.outputs
 follows_text {run} {count} {options} {followed} {name} follows bare named keeps_bytes =
     let ways = ways_of 0 (is_name followed) (start_of options) in
     let ends = subst (FollowingEndsAt run.calling true true run.breaks_for run.words count run.shows run.seen run.watched run.outputs run.status) follows.read.1 follows.ends in
-    let one = subst (λ names. FollowEndsAs true true run.breaks_for run.calling ways (has_headers options.headers options.names) names count (showing run followed) streams run.seen run.watched run.outputs run.status) named ends in
-    let headless = subst (λ headers. FollowEndsAs true true run.breaks_for run.calling ways headers (name ∷ []) count (showing run followed) streams run.seen run.watched run.outputs run.status) bare one in
-    wrote_text ways name (showing run followed) count run.seen run.watched run.outputs keeps_bytes (subst (FollowEndsAs true true run.breaks_for run.calling ways false (name ∷ []) count (showing run followed) streams run.seen run.watched run.outputs) follows.well headless)
+    let one = subst (λ names. FollowEndsAs true true run.breaks_for run.calling ways (has_headers options.headers options.names) names count (paused run followed follows.read.0) streams run.seen run.watched run.outputs run.status) named ends in
+    let headless = subst (λ headers. FollowEndsAs true true run.breaks_for run.calling ways headers (name ∷ []) count (paused run followed follows.read.0) streams run.seen run.watched run.outputs run.status) bare one in
+    wrote_text ways name (paused run followed follows.read.0) count run.seen run.watched run.outputs keeps_bytes (subst (FollowEndsAs true true run.breaks_for run.calling ways false (name ∷ []) count (paused run followed follows.read.0) streams run.seen run.watched run.outputs) follows.well headless)
 
 pub tells_all : (run : Run) (options : EndsAsked) (followed : Followed) (name came : List ℕ) (file n : ℕ) → Follows run (n + 1) options followed → IsBare options → options.names ≡ name ∷ [] → OnlyGrows (length run.seen) (showing run followed) name file
     → (showing run followed n).holds file ≡ (showing run followed 0).holds file ++ came
     → (slot_at run.outputs 0).written ≡ tail_of options.delim options.unit (is_plus options.count.sign) options.count.amount ((showing run followed 0).holds file) ++ came
 tells_all run options followed name came file n follows bare named grows is =
     let ways = ways_of 0 (is_name followed) (start_of options) in
-    let wrote = follows_text follows bare named (λ saw. rw saw (kept_in (is_name followed) (showing run followed) grows)) in
-    let grew = subst (λ k. OnlyGrows k (showing run followed) name file) (sym wrote.count_is) grows in
-    let made : length wrote.looks ≡ n + 1 = all_made ways (showing run followed) wrote.looks grew wrote.saw wrote.kept wrote.few wrote.full in
+    let wrote = follows_text follows bare named (λ saw. rw saw (kept_in (is_name followed) (paused run followed follows.read.0) grows)) in
+    let grew = subst (λ k. OnlyGrows k (paused run followed follows.read.0) name file) (sym wrote.count_is) grows in
+    let made : length wrote.looks ≡ n + 1 = all_made ways (paused run followed follows.read.0) wrote.looks grew wrote.saw wrote.kept wrote.few wrote.full in
     let all : length wrote.looks ≡ suc n = made ∙ (let e : n + 1 ≡ suc n = omega arith in e) in
     wrote.is
-    ∙ ap (λ those. name_text ways.start (entries_of (is_name followed) name those)) (wrote.seen_is ∙ wrote.saw ∙ ap (seen_first (showing run followed)) all)
-    ∙ growing_text (is_name followed) (showing run followed) ways.start came (omega (arith, all)) grew is
+    ∙ ap (λ those. name_text ways.start (entries_of (is_name followed) name those)) (wrote.seen_is ∙ wrote.saw ∙ ap (seen_first (paused run followed follows.read.0)) all)
+    ∙ growing_text (is_name followed) (paused run followed follows.read.0) ways.start came (omega (arith, all)) grew is
 
 -- A run of the program is a run of one of both kinds, by what its words ask for.
 

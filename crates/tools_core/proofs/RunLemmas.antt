@@ -1,5 +1,5 @@
 -- How a run ends, by its words.
-use Rattle.std.proofs.Common.{◌≡◌, ℕ, List, [], ◌∷◌, Option, Some, None, option_map, Result, Ok, Err, refl, sym, ◌∙◌, ap, subst, Bool, true, false, length, map, Bor, inl, inr, codes, arith}
+use Rattle.std.proofs.Common.{◌≡◌, ℕ, List, [], ◌∷◌, Option, Some, None, option_map, Result, Ok, Err, refl, sym, ◌∙◌, ap, subst, Bool, true, false, length, map, Bor, inl, inr, codes, arith, max}
 use Rattle.ports_core.specs.declared.reason.Reason.{Reason}
 use Rattle.ports_core.specs.declared.fault.Fault.{Fault}
 use Rattle.ports_core.specs.declared.tool.Tool.{Tool}
@@ -21,7 +21,7 @@ use Rattle.words_core.specs.Words.{about_or, topic_in, work_for, program_asked, 
 use Rattle.tools_core.specs.Outcome.{speaker, or_cutters, RefusesFor, RunEndsAt, TeeEndsAs, names_at}
 use Rattle.tools_core.specs.Tasks.{by, speaker_of, tool_of}
 use Rattle.ports_core.specs.declared.calling.Calling.{Calling}
-use Rattle.ports_core.specs.declared.calling.Calling.TheVariants.{Cutters}
+use Rattle.ports_core.specs.declared.calling.Calling.TheVariants.{Cutters, OwnName}
 use Rattle.tools_core.specs.About.{no_text}
 use Rattle.words_core.proofs.LimitLemmas.{read-can}
 use Rattle.std.proofs.lemmas.Bool.{false≢true}
@@ -44,7 +44,7 @@ use Rattle.tee_core.specs.Run.{IsAsFound, all_copied, forgives, EndsAs as TeeCop
 use Rattle.operand_core.specs.Reading.{no_memory}
 use Rattle.words_core.specs.declared.settings.Headers.{Headers}
 use Rattle.ports_core.specs.declared.fault.UsageKind.TheVariants.{BadFollow}
-use Rattle.watch_core.specs.Snapshot.{Snapshot}
+use Rattle.watch_core.specs.Snapshot.{Snapshot, waiting}
 use Rattle.watch_core.specs.Watched.{Watched}
 use Rattle.follow_core.specs.Ending.{no_room as no_room_yet, shows_by}
 use Rattle.words_core.specs.declared.value.Followed.{Followed}
@@ -197,13 +197,19 @@ module _ (calling : Calling) (told_in told : Bool) (breaks_for : ℕ → Reason 
 
 -- Lemmas on how a run that follows ends, by its words.
 
+-- how soon looks begin doesn't depend on what they forgive
+pub shows_by-waiting : (calling : Calling) (by_name : Bool) (milliseconds : ℕ) (shows : ℕ → Snapshot) → shows_by calling by_name (λ n. waiting milliseconds (shows n)) ≡ (λ n. waiting milliseconds (shows_by calling by_name shows n))
+shows_by-waiting OwnName true milliseconds shows = refl
+shows_by-waiting OwnName false milliseconds shows = refl
+shows_by-waiting Cutters by_name milliseconds shows = refl
+
 module _ (calling : Calling) (told_in told : Bool) (breaks_for : ℕ → Reason → Bool) (words : List (List ℕ)) (looks : ℕ) (shows : ℕ → Snapshot) (seen : List Snapshot) (watched : List Watched) (new : List Slot) (status : ℕ) (unseen : seen ≡ []) (unwatched : watched ≡ []) where
   -- words that weren't read for want of memory
 
   unread_tail : (asked : TailSettings) (followed : Option Followed) → speaker words ≡ tool.Tail → RefusesFor told words Memory new status → FollowsTail calling told_in told breaks_for words asked followed looks shows seen watched new status
   unread_tail asked None speaks refuses = (unseen, unwatched, refused_memory words (Usage BadFollow 0) refuses)
   unread_tail asked (Some followed) speaks refuses =
-      let (most, are, above) = most_made told_in asked.process (shows_by calling (is_name followed) shows) looks 0 (omega arith) (λ t. omega arith) in
+      let (most, are, above) = most_made told_in asked.process (λ n. waiting (max asked.pause 1) (shows_by calling (is_name followed) shows n)) looks 0 (omega arith) (λ t. omega arith) in
       let (why, says) = memory_by calling speaks refuses.says in
       ends_by asked.process most are (no_room_yet why unseen unwatched (λ output error since are. let is_error : standard_error ≡ error = ap (λ (slots : List Slot). slot_at slots 1) are in (
         refuses.error,

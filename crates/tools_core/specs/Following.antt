@@ -1,13 +1,13 @@
 -- What a run of `tail` leaves that follows its files, by its words: POSIX.1-2017, XCU tail, `-f`; names that are
 -- followed are GNU's.
-use Rattle.std.specs.Prelude.{◌≡◌, ℕ, Bool, true, false, List, [], Option, Some, None, Result, Ok, Err, ◌⊎◌}
+use Rattle.std.specs.Prelude.{◌≡◌, ℕ, max, Bool, true, false, List, [], Option, Some, None, Result, Ok, Err, ◌⊎◌}
 use Rattle.ports_core.specs.Slot.{Slot, streams}
 use Rattle.ports_core.specs.declared.calling.Calling.{Calling}
 use Rattle.ports_core.specs.declared.reason.Reason.{Reason}
 use Rattle.ports_core.specs.declared.fault.Fault.{Fault}
 use Rattle.ports_core.specs.declared.fault.Fault.TheVariants.{Usage}
 use Rattle.ports_core.specs.declared.fault.UsageKind.TheVariants.{BadFollow}
-use Rattle.watch_core.specs.Snapshot.{Snapshot}
+use Rattle.watch_core.specs.Snapshot.{Snapshot, waiting}
 use Rattle.watch_core.specs.Watched.{Watched}
 use Rattle.follow_core.specs.declared.start.Start.{Start}
 use Rattle.follow_core.specs.Ending.{FollowEndsBy, shows_by}
@@ -35,15 +35,15 @@ abbrev pub is_name : Followed → Bool
 is_name Descriptor = false
 is_name Name = true
 
--- these files are followed, in as many looks or until this process is gone, and the run ends so that it gave exactly
--- what these looks give; by its own name `tail` that follows names takes one that can't be read for one that is missing
-abbrev pub FollowsAs : Calling → (told_in told : Bool) → (ℕ → Reason → Bool) → EndsAsked → Followed
-    → (process : Option ℕ) → (looks : ℕ)
+-- these files are followed, in as many looks or until the process is gone that is asked for, and the run ends so that
+-- it gave exactly what these looks give; each begins within the pause that is asked for, 1 ms at least; by its own name
+-- `tail` that follows names takes one that can't be read for one that is missing
+abbrev pub FollowsAs : Calling → (told_in told : Bool) → (ℕ → Reason → Bool) → TailSettings → Followed → (looks : ℕ)
     → (ℕ → Snapshot) → List Snapshot → List Watched → List Slot → (status : ℕ) → Type 0
-FollowsAs calling told_in told breaks_for asked followed process looks shows seen watched new status =
-    FollowEndsBy process told_in told breaks_for calling (ways_of 0 (is_name followed) (start_of asked))
-    (has_headers asked.headers asked.names) asked.names looks (shows_by calling (is_name followed) shows) streams seen
-    watched new status
+FollowsAs calling told_in told breaks_for asked followed looks shows seen watched new status =
+    FollowEndsBy asked.process told_in told breaks_for calling (ways_of 0 (is_name followed) (start_of asked.ends))
+    (has_headers asked.ends.headers asked.ends.names) asked.ends.names looks
+    (λ n. waiting (max asked.pause 1) (shows_by calling (is_name followed) shows n)) streams seen watched new status
 
 -- the words are refused for this, and no name was watched and no look made
 abbrev pub RefusesUnseen : Bool → List (List ℕ) → Fault → List Snapshot → List Watched → List Slot → ℕ → Type 0
@@ -59,7 +59,7 @@ abbrev pub FollowsTail : Calling → (told_in told : Bool) → (ℕ → Reason �
     → Option Followed → ℕ
     → (ℕ → Snapshot) → List Snapshot → List Watched → List Slot → ℕ → Type 0
 FollowsTail calling told_in told breaks_for words asked (Some followed) looks shows seen watched new status =
-    FollowsAs calling told_in told breaks_for asked.ends followed asked.process looks shows seen watched new status
+    FollowsAs calling told_in told breaks_for asked followed looks shows seen watched new status
 FollowsTail calling told_in told breaks_for words asked None looks shows seen watched new status =
     RefusesToFollow told words seen watched new status
 

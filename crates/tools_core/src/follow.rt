@@ -10,7 +10,7 @@ use follow_core::{Limits, Start, follow_files};
 use ports_core::{Calling, Fault, Outs, UsageKind};
 use std::alloc::Global;
 use watch_core::Watch;
-use words_core::{EndsSettings, Followed, Settings, read_words};
+use words_core::{EndsSettings, Followed, Settings, TailSettings, read_words};
 
 /// What is wrong with words that follow nothing.
 const NOT_FOLLOWED: Fault = Fault::Usage(UsageKind::BadFollow, 0);
@@ -67,14 +67,7 @@ pub(crate) fn follow_asked<W: Watch, O: Outs>(
 {
     match settings {
         Settings::Tail(tail) => match tail.followed {
-            Some(followed) => {
-                watch.wait_at_most(tail.pause);
-                let limits = Limits {
-                    looks,
-                    process: tail.process,
-                };
-                follow_tail(alloc, calling, &tail.ends, followed, limits, watch, outs)
-            }
+            Some(followed) => follow_tail(alloc, calling, tail, followed, looks, watch, outs),
             None => refuse_words(alloc, words, &NOT_FOLLOWED, outs),
         },
         _ => refuse_words(alloc, words, &NOT_FOLLOWED, outs),
@@ -85,26 +78,30 @@ pub(crate) fn follow_asked<W: Watch, O: Outs>(
 fn follow_tail<W: Watch, O: Outs>(
     alloc: Global,
     calling: Calling,
-    settings: &EndsSettings<'_>,
+    settings: &TailSettings<'_>,
     followed: Followed,
-    limits: Limits,
+    looks: u64,
     watch: &mut W,
     outs: &mut O,
 ) -> u8
     requires unseen { W.seen watch.old ≡ [] }
     requires unwatched { W.watched watch.old ≡ [] }
     requires outputs { O.slots outs.old ≡ streams }
-    ensures { FollowsAs calling W.told O.told O.breaks_for settings.now followed limits.process limits.looks
-        (W.shows watch.old)
+    ensures { FollowsAs calling W.told O.told O.breaks_for settings.now followed looks (W.shows watch.old)
         (W.seen watch.new) (W.watched watch.new) (O.slots outs.new) result }
 {
+    watch.wait_at_most(settings.pause);
+    let limits = Limits {
+        looks,
+        process: settings.process,
+    };
     follow_files(
         alloc,
         calling,
-        &settings.names,
-        start_of(settings),
+        &settings.ends.names,
+        start_of(&settings.ends),
         is_name(followed),
-        has_headers(settings),
+        has_headers(&settings.ends),
         limits,
         watch,
         outs,

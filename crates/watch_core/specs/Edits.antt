@@ -85,6 +85,7 @@ seen_in world = record {
   barred = is_barred_in world.bars;
   breaks = true;
   lacks = λ process. is_one process world.ended;
+  within = 1000;
 }
 
 -- the files at each look, where a look comes after each of these lists of edits

@@ -1,5 +1,5 @@
 -- What one look can see: which file each name leads to, what each file holds, and which processes are gone; and how it
--- is where a name that can't be read counts as missing.
+-- is where a name that can't be read counts as missing; and how soon it begins.
 use Rattle.std.specs.Prelude.{◌≡◌, ℕ, Bool, true, false, List, [], ◌∷◌, Option, None, if◌then◌else◌}
 
 -- what a call on a name finds
@@ -27,6 +27,8 @@ pub record Snapshot : Type 0 where
   -- Before the look it can be found that no process of this number runs. Of any watch it is known of those that were
   -- found to be gone, and of no others.
   pub lacks : ℕ → Bool
+  -- within how many milliseconds after the look before it begins where nothing is seen to change
+  pub within : ℕ
 
 abbrev pub no_files : Snapshot
 no_files = record {
@@ -36,6 +38,7 @@ no_files = record {
   barred = λ name. false;
   breaks = true;
   lacks = λ process. false;
+  within = 1000;
 }
 
 -- this look where it forgives: a name that can't be read counts as missing, and no call fails
@@ -44,6 +47,10 @@ forgiving snapshot = record snapshot {
   leads = λ name. if snapshot.barred name then None else snapshot.leads name;
   breaks = false;
 }
+
+-- this look where it begins within so many milliseconds
+abbrev pub waiting : (milliseconds : ℕ) → Snapshot → Snapshot
+waiting milliseconds snapshot = record snapshot { within = milliseconds }
 
 -- a call on this name found this
 abbrev pub Found : Snapshot → List ℕ → Finding → Type 0

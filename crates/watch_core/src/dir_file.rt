@@ -5,7 +5,7 @@ use ports_core::{MOST_BYTES, PIECE, Reason};
 use std::alloc::Global;
 use std::fs::{File, Metadata};
 use std::io;
-use std::io::{ErrorKind, Read};
+use std::io::{ErrorKind, Read, Seek, SeekFrom};
 use std::os::unix::fs::FileExt;
 
 /// How many bytes are read at once, at the most, to count those of a file that doesn't tell its length.
@@ -122,7 +122,7 @@ impl Placed {
     fn has_changed(&mut self, told: Option<u64>, is_at_rest: bool) -> bool {
         let told = match told {
             Some(len) => Some(len),
-            None => len_of(&self.file),
+            None => self.len_now(),
         };
         let changed = told != self.told;
         // One that is empty isn't read for ever.
@@ -131,6 +131,17 @@ impl Placed {
         }
         self.told = told;
         changed
+    }
+
+    /// How many bytes it has, as the system says. None where that can't be told. The place of its end costs the system half of what all
+    /// that it tells of a file does, and no read goes by that place. A file of which it said that it has no bytes may have no end to go to.
+    fn len_now(&mut self) -> Option<u64> {
+        if matches!(self.told, Some(len) if len > 0)
+            && let Ok(len) = self.file.seek(SeekFrom::End(0))
+        {
+            return Some(len);
+        }
+        len_of(&self.file)
     }
 }
 

@@ -72,7 +72,7 @@ pub struct DirWatch<R: Files<File = File> + Clock + Drop> {
 impl<R: Files<File = File> + Clock + Drop> Model for DirWatch<R> {
     ghost Value = { DirWatchState };
 
-    ghost view = { λ w. record { turns = w.turns; watched = w.names.items; forgives = w.forgives } };
+    ghost view = { λ w. record { turns = w.turns; watched = w.names.items; forgives = w.forgives; within = w.most } };
 }
 
 impl<R: Files<File = File> + Clock + Drop> DirWatch<R> {
@@ -197,7 +197,7 @@ fn keep(names: &mut Vec<DirName>, name: DirName) -> bool
 impl<R: Files<File = File> + Clock + Drop> Watch for DirWatch<R> {
     ghost seen = { λ watch. seen watch };
 
-    ghost shows = { λ watch n. files_by watch.forgives };
+    ghost shows = { λ watch n. files_by watch.forgives watch.within };
 
     ghost watched = { λ watch. watch.watched };
 

@@ -1,7 +1,7 @@
-ghost use Rattle.std.specs.Prelude.{◌≡◌, ◌≤◌, ◌<◌, ◌^◌, ◌++◌, ◌∷◌, [], ℕ, List, Bool, true, length, option_map, take, IfOk, IfErr, OnOk, IfSome, IsTrue};
+ghost use Rattle.std.specs.Prelude.{◌≡◌, ◌≤◌, ◌<◌, ◌^◌, ◌++◌, ◌∷◌, [], ℕ, List, Bool, true, length, max, option_map, take, IfOk, IfErr, OnOk, IfSome, IsTrue};
 ghost use Rattle.ports_core.specs.Slot.{changed_at};
 ghost use Rattle.ports_core.specs.declared.reason.Reason.{Reason};
-ghost use Rattle.watch_core.specs.Snapshot.{Snapshot, Found, forgiving, holds_many, latest, leads_to, reads_as};
+ghost use Rattle.watch_core.specs.Snapshot.{Snapshot, Found, forgiving, holds_many, latest, leads_to, reads_as, waiting};
 ghost use Rattle.watch_core.specs.Watched.{Watched, Reopens, Finds, GaveFrom, watched_at, added, breaks, is_watchable, is_readable, open_contents};
 
 use ports_core::{Fault, Reason};
@@ -69,12 +69,13 @@ pub trait Watch {
         ensures seen { seen self.new ≡ seen self.old }
         ensures shows { shows self.new ≡ shows self.old };
 
-    /// Has it begin each look within this number of milliseconds, 1 at least, where nothing is seen to change before. What looks see
-    /// doesn't depend on it.
+    /// Has it begin each look within this number of milliseconds, 1 at least, where nothing is seen to change before. What looks find
+    /// doesn't depend on it. Called before the first look.
     fn wait_at_most(&mut self, milliseconds: u64)
+        requires { seen self.old ≡ [] }
+        ensures shows { shows self.new ≡ (λ n. waiting (max milliseconds 1) (shows self.old n)) }
         ensures watched { watched self.new ≡ watched self.old }
-        ensures seen { seen self.new ≡ seen self.old }
-        ensures shows { shows self.new ≡ shows self.old };
+        ensures seen { seen self.new ≡ seen self.old };
 
     /// From now on a name that is there but can't be opened or read counts as missing, and no call on a name fails. Called before the
     /// first look.

@@ -134,8 +134,10 @@ pub record VisitsAll (told_in told : Bool) (snapshot : Snapshot) (by_name : Bool
       printer_new slots_new watched_new names_new failed)
   pub stopped : IfErr result (λ why. (from : ℕ) (looks : List Look)
       → StandFrom told_in (ways_of from by_name start) looks first names watched
-      → (more : List Share) × Begun told_in (ways_of from by_name start) (texts names) looks snapshot watched_new more
-      × AllShort told printer more slots slots_new why)
+      → (whole part : List Share)
+      × Begun told_in (ways_of from by_name start) (texts names) looks snapshot watched_new whole part
+      × (mid : PrinterState) × (reached : List Slot) × AllShared told printer whole slots mid reached
+      × AllShort told mid part reached slots_new why)
   pub ready : OnOk result (AllReady names_new first watched_new)
   pub count : length watched_new ≡ length watched
   pub others : (number : ℕ) → ((place : ℕ) → place < length names → number ≡ first + place → ⊥)

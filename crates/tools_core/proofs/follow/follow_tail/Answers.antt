@@ -1,6 +1,12 @@
-use Rattle.tools_core.proofs.RunLemmas.{ends_names}
+use Rattle.std.proofs.Common.{ap, max}
+use Rattle.words_core.specs.declared.tail_words.TailSettings.{TailSettings}
+use Rattle.tools_core.specs.Following.{is_name}
+use Rattle.tools_core.proofs.RunLemmas.{ends_names, shows_by-waiting}
 use Rattle.tools_core.proofs.follow.follow_tail.Goals as goal
 
 pub returns : goal.returns
 returns g c =
-    rw (c.is_name.ensures, c.start_of.ensures, c.has_headers.ensures, ends_names c.deref.ensures.value c.settings.view_is, c.requires.outputs) at c.follow_files.ensures
+    let process = ap (λ (those : TailSettings). those.process) c.settings.view_is in
+    let pause = ap (λ (those : TailSettings). those.pause) c.settings.view_is in
+    let names = ends_names c.deref.ensures.value (ap (λ (those : TailSettings). those.ends) c.settings.view_is) in
+    rw (c.is_name.ensures, c.start_of.ensures, c.has_headers.ensures, names, c.requires.outputs, c.wait_at_most.ensures.shows, process, pause, shows_by-waiting c.args.calling (is_name c.args.followed) (max c.args.settings.now.pause 1) (g.W.Watch.shows c.args.watch.now)) at c.follow_files.ensures

@@ -8,10 +8,10 @@ pub returns-in_default-clause-err : goal.returns-in_default-clause-err
 returns-in_default-clause-err g c = (refl, one_changes _ c.args.place (breaks (λ file. Open)) c.self.view_is c.requires c.index_mut-2.ensures.value c.in_default.ensures.broke)
 
 pub returns-clause-ok : goal.returns-clause-ok
-returns-clause-ok g c = opened_some _ c.self.view_is c.requires c.index_mut-2.ensures.value c.in-Ok.ensures.opened c.in-Ok.ensures.found (finds_any c.args.self.now.forgives c.args.self.now.turns _ _)
+returns-clause-ok g c = opened_some _ c.self.view_is c.requires c.index_mut-2.ensures.value c.in-Ok.ensures.opened c.in-Ok.ensures.found (finds_any c.args.self.now.forgives c.args.self.now.within c.args.self.now.turns _ _)
 
 pub returns-in_default-clause-breaks : goal.returns-in_default-clause-breaks
 returns-in_default-clause-breaks g c = may_break c.self.view_is c.if-self.false
 
 pub returns-then-self-clause-ok : goal.returns-then-self-clause-ok
-returns-then-self-clause-ok g c = opened_some _ c.self.view_is c.requires c.index_mut.ensures.value c.open_forgiving.ensures.opened c.open_forgiving.ensures.found (finds_any c.args.self.now.forgives c.args.self.now.turns _ _)
+returns-then-self-clause-ok g c = opened_some _ c.self.view_is c.requires c.index_mut.ensures.value c.open_forgiving.ensures.opened c.open_forgiving.ensures.found (finds_any c.args.self.now.forgives c.args.self.now.within c.args.self.now.turns _ _)
