@@ -3,7 +3,8 @@ use Rattle.std.proofs.lemmas.Grind.{common_steps}
 use Rattle.std.proofs.Common.{◌≡◌, ℕ, ◌+◌, ◌-◌, ◌≤◌, Bool, true, false, List, [], ◌++◌, length, refl, sym, ◌∙◌, ap, arith, inl, inr, Option, None, subst, ◌<◌, min, Some, Result, Err, OnOk, take, drop, IfNone, rules, suc, ◌∷◌, map, append_assoc}
 use Rattle.std.proofs.lemmas.Bool.{cases_lt}
 use Rattle.std.proofs.lemmas.List.{append-nil, length-take-le, length-drop, take-append-le, take_all, drop_all, drop-drop, map-append}
-use Rattle.seg_core.specs.Line.{line_count, first_lines, after_lines, but_last_lines, last_lines}
+use Rattle.seg_core.specs.Line.{line_count, first_lines, after_lines, but_last_lines}
+use Rattle.seg_core.specs.inner.Lines.{last_lines}
 use Rattle.csplit_core.specs.Csplit.{settled_of, whole_of}
 use Rattle.ports_core.specs.Draft.{Draft, share, made_of, shares_of, draft_part, with_bytes, with_next, told_of_files, size_of_file, part_of as part_by}
 use Rattle.ports_core.proofs.ShareLemmas.{next_shares, bytes_begin, next_begins}

@@ -1,6 +1,7 @@
 //! Lines that wait, and what leaves them.
 ghost use Rattle.std.specs.Prelude.{◌≡◌, ◌+◌, ◌<◌, ◌≤◌, ◌^◌, ◌++◌, [], length, take, IfOk, IfErr, OnOk};
-ghost use Rattle.seg_core.specs.Line.{but_last_lines, last_lines};
+ghost use Rattle.seg_core.specs.Line.{but_last_lines};
+ghost use Rattle.seg_core.specs.inner.Lines.{last_lines};
 ghost use Rattle.seg_core.specs.Window.{without_first};
 ghost use Rattle.ports_core.specs.Draft.{with_bytes};
 ghost use Rattle.ports_core.specs.FileWriter.{IsReady, seen_writer, size_of};

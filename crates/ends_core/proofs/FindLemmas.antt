@@ -6,7 +6,8 @@ use Rattle.std.proofs.lemmas.Option.{none-some}
 use Rattle.std.proofs.Math.Seq.{take-add}
 use Rattle.std.proofs.lemmas.List.{length-take, length-drop, length-replicate, drop-drop, take-append-drop, take-take, take_at, drop_at, drop_all, drop-append-le, drop-take}
 use Rattle.std.specs.List.{onto_first}
-use Rattle.seg_core.specs.Line.{BeginsAt, FallsShort, after_lines, delimiters, ends_with, last_lines, line_count, lines_of}
+use Rattle.seg_core.specs.Line.{BeginsAt, FallsShort, after_lines, delimiters, ends_with, line_count, lines_of}
+use Rattle.seg_core.specs.inner.Lines.{last_lines}
 use Rattle.seg_core.proofs.Delimiters.{delimiters-append}
 use Rattle.seg_core.proofs.LineCounts.{ends_with-append, ends_with-some}
 use Rattle.seg_core.proofs.LinesOf.{joined-lines_of, lines_of-append}

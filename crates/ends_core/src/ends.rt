@@ -9,7 +9,7 @@ ghost use Rattle.ends_core.specs.Tail.{tail_work};
 ghost use Rattle.ends_core.specs.Shown.{head_shown, place_of, tail_shown};
 ghost use Rattle.seg_core.specs.declared.unit.Unit.{Unit as Counted};
 ghost use Rattle.ends_core.specs.inner.Stage.{EndsBadly, FullLacksNone, IsSilent, SameAsked, passed, due, due_at_end, is_full, left_waiting, unused_of, wanted_by};
-ghost use Rattle.ends_core.specs.Stage.{Holds, IsAsked, all_but_last, delim_of, missing_of, terms, from_the_nth, left_of, may_lack, past_of, stretch_of, the_first, the_last, unit_of, waiting_of, work};
+ghost use Rattle.ends_core.specs.Stage.{Holds, IsAsked, all_but_last, delim_of, missing_of, terms, from_the_nth, left_of, may_lack, past_of, the_first, the_last, unit_of, waiting_of, work};
 ghost use Rattle.ends_core.specs.laws.WorkLaws.{lawful};
 ghost use Rattle.ports_core.specs.Inputs.{PassesOver};
 ghost use Rattle.ends_core.specs.inner.Kept.{Writes};
@@ -29,7 +29,7 @@ pub enum Ends {
     First(u64, Front),
     /// All but the last, which are kept.
     ButLast(Kept),
-    /// All from the nth on: which n that is, and those that are still to be passed over.
+    /// All from the nth on: which n that is, at most 2^64, and those that are still to be passed over.
     FromNth(u128, Front),
     /// The last, which are kept and written at the end.
     Last(Kept),

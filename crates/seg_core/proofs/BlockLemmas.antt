@@ -1,16 +1,14 @@
 -- A text in blocks.
-use Rattle.std.proofs.Common.{◌≡◌, ℕ, zero, suc, ◌+◌, ◌-◌, ◌^◌, ◌<◌, ◌≤◌, List, [], ◌∷◌, ◌++◌, length, take, drop, get_or, set, refl, sym, ap, subst, ◌∙◌, arith, append-nil, append_assoc, length-append, length-drop, drop-drop, take-append-drop, take_at, drop_at}
-use Rattle.std.proofs.lemmas.List.Elements.{All-set, All-cons, All-take, All-drop}
+use Rattle.std.proofs.Common.{◌≡◌, ℕ, zero, suc, ◌+◌, ◌-◌, ◌^◌, ◌<◌, ◌≤◌, List, [], ◌∷◌, ◌++◌, length, take, drop, get_or, set, refl, sym, ap, ◌∙◌, arith, append-nil, append_assoc, length-append, length-drop, drop-drop, take_at, drop_at}
+use Rattle.std.proofs.lemmas.List.Elements.{All-set, All-take, All-drop}
 use Rattle.std.proofs.Math.Seq.{drop-append-add, take-append-add}
-use Rattle.seg_core.specs.Line.{delimiters, ends_with, first_lines, line_count, after_lines, last_lines, but_last_lines}
+use Rattle.seg_core.specs.Line.{delimiters, first_lines, but_last_lines}
 use Rattle.seg_core.specs.Blocks.{BlockState, text_of, HasCount, HaveCounts, IsCounted}
 use Rattle.seg_core.specs.inner.Blocks.{count_of, Gone}
 use Rattle.seg_core.proofs.Delimiters.{delimiters-append, delimiters-take-drop}
-use Rattle.seg_core.proofs.LineCounts.{line_count-drop, ends_with-append}
+use Rattle.seg_core.proofs.LineCounts.{line_count-drop}
 use Rattle.seg_core.proofs.LastLines.{few_from_nothing}
 use Rattle.seg_core.proofs.FirstLines.{first_lines-append, first_lines-short}
-use Rattle.seg_core.proofs.EndLines.{count_last}
-use Rattle.seg_core.proofs.FrontLines.{last_lines-front, length-after_lines-le}
 use Rattle.std.proofs.lemmas.Grind.{common_steps}
 
 pub text_of-append : (front back : List BlockState) → text_of (front ++ back) ≡ text_of front ++ text_of back
@@ -35,14 +33,6 @@ text_set blocks n new part is was now = absurd (omega arith)
 -- from the i-th block on
 pub text_from : (blocks : List BlockState) (i : ℕ) (block : BlockState) → i < length blocks → block ≡ get_or blocks i block → text_of (drop i blocks) ≡ block.bytes ++ text_of (drop (i + 1) blocks)
 text_from blocks i block here is = grind (arith, common_steps)
-
--- where nothing stands after the i-th block, and this isn't empty, the text ends as it does
-pub ends_in : (delim : ℕ) (blocks : List BlockState) (i : ℕ) {block : BlockState} → i < length blocks → block ≡ get_or blocks i block → text_of (drop (i + 1) blocks) ≡ [] → 0 < length block.bytes → ends_with delim (text_of blocks) ≡ ends_with delim block.bytes
-ends_in delim blocks i {block} here is none some =
-    let last : text_of (drop i blocks) ≡ block.bytes = text_from blocks i block here is ∙ ap (λ x. block.bytes ++ x) none ∙ append-nil block.bytes in
-    let whole : text_of blocks ≡ text_of (take i blocks) ++ block.bytes =
-    ap text_of (sym (take-append-drop i blocks)) ∙ text_of-append (take i blocks) (drop i blocks) ∙ ap (λ x. text_of (take i blocks) ++ x) last in
-    ap (ends_with delim) whole ∙ ends_with-append delim (text_of (take i blocks)) block.bytes some
 
 -- the count of the i-th block
 pub counted_at : (delim : ℕ) (blocks : List BlockState) (i : ℕ) {block : BlockState} → i < length blocks → block ≡ get_or blocks i block → HaveCounts delim blocks → block.count ≡ delimiters delim block.bytes
@@ -131,24 +121,6 @@ counted_drop {delim} n {blocks} so_far within left is each = grind (arith, commo
 pub counted_put : {delim most : ℕ} {blocks new : List BlockState} (piece : List ℕ) {len count : ℕ} (more : ℕ) → IsCounted delim most blocks len count → len + length piece < 2 ^ 63 → but_last_lines delim most (text_of blocks ++ piece) ≡ [] → text_of new ≡ text_of blocks ++ piece → more ≡ delimiters delim piece → HaveCounts delim new
     → IsCounted delim most new (len + length piece) (count + more)
 counted_put {delim} {most} {blocks} piece more so_far fits within grown is each = grind (arith, common_steps, few_from_nothing, length-append, delimiters-append)
-
--- and once what is left of a block of bytes is put at the front
-pub counted_front : {delim most : ℕ} {blocks new : List BlockState} (front : BlockState) (bytes : List ℕ) {len count : ℕ} (long more : ℕ)
-    → IsCounted delim most blocks len count → len + length bytes < 2 ^ 63
-    → front.bytes ≡ after_lines delim (line_count delim (bytes ++ text_of blocks) - most) bytes → front.count ≡ delimiters delim front.bytes
-    → new ≡ front ∷ blocks → long ≡ length front.bytes → more ≡ front.count → IsCounted delim most new (len + long) (count + more)
-counted_front {delim} {most} {blocks} front bytes {len} {count} long more so_far fits left is now long_is more_is =
-    let text = text_of blocks in
-    let over = line_count delim (bytes ++ text) - most in
-    let last : front.bytes ++ text ≡ last_lines delim most (bytes ++ text) = ap (λ x. x ++ text) left ∙ sym (last_lines-front delim most bytes text so_far.few) in
-    let lines = ap (line_count delim) last in
-    let few = count_last delim most (bytes ++ text) in
-    let short = length-after_lines-le delim over bytes in
-    let same = ap length left in
-    let all = length-append front.bytes text in
-    let both = delimiters-append delim front.bytes text in
-    subst (λ bs. IsCounted delim most bs (len + long) (count + more)) (sym {A = List BlockState} now)
-    (record { few = omega arith; fits = omega arith; long = omega arith; counted = omega arith; each = All-cons (HasCount delim) front blocks is so_far.each })
 
 -- fresh blocks after those of which the last was filled
 pub extended : {old mid : List BlockState} (filled fresh : List BlockState) {new : List BlockState} (near : List ℕ) {far piece : List ℕ} → new ≡ filled ++ fresh → text_of filled ≡ text_of mid ++ near → text_of fresh ≡ far → mid ≡ old → piece ≡ near ++ far

@@ -3,7 +3,8 @@ use Rattle.std.proofs.lemmas.Grind.{common_steps}
 use Rattle.std.proofs.Common.{◌≡◌, ℕ, ◌+◌, ◌-◌, ◌≤◌, min, List, [], ◌++◌, length, drop, sym, ap, ◌∙◌, arith}
 use Rattle.std.proofs.lemmas.List.{length-append, length-drop, drop-append-le}
 use Rattle.std.proofs.Math.Seq.{drop-append-add}
-use Rattle.seg_core.specs.Line.{line_count, last_lines, but_last_lines}
+use Rattle.seg_core.specs.Line.{line_count, but_last_lines}
+use Rattle.seg_core.specs.inner.Lines.{last_lines}
 use Rattle.seg_core.proofs.FirstLines.{length-first_lines-le, after_lines-is_drop, lines_of-after_lines}
 use Rattle.seg_core.proofs.LastLines.{but_last_lines-few}
 

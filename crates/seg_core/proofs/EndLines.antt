@@ -2,7 +2,8 @@
 use Rattle.std.proofs.lemmas.Grind.{common_steps}
 use Rattle.std.proofs.Common.{◌≡◌, ℕ, zero, suc, ◌<◌, ◌≤◌, List, [], ◌∷◌, ◌++◌, ap, arith}
 use Rattle.std.proofs.lemmas.List.{drop_all, drop-drop, drop-append-le}
-use Rattle.seg_core.specs.Line.{joined, lines_of, delimiters, line_count, after_lines, last_lines}
+use Rattle.seg_core.specs.Line.{joined, lines_of, delimiters, line_count, after_lines}
+use Rattle.seg_core.specs.inner.Lines.{last_lines}
 use Rattle.seg_core.proofs.FirstLines.{first_lines-full, length-first_lines-le, after_lines-is_drop, lines_of-after_lines}
 use Rattle.seg_core.proofs.LineCounts.{line_count-some, line_count-front, line_count_near}
 use Rattle.seg_core.proofs.Carried.{line_count-last}

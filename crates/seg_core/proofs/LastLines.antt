@@ -1,14 +1,10 @@
 -- The last lines of a text, and of a text that goes on.
 use Rattle.std.proofs.lemmas.Grind.{common_steps}
 use Rattle.std.proofs.Common.{◌≡◌, ℕ, zero, suc, ◌+◌, ◌-◌, ◌<◌, ◌≤◌, true, List, [], ◌∷◌, ◌++◌, length, take, drop, refl, sym, ap, ◌∙◌, arith, take-append-drop, take-take, append_assoc, length-append, length-take-le}
-use Rattle.seg_core.specs.Line.{delimiters, ends_with, first_lines, line_count, last_lines, but_last_lines, BeginsAt}
+use Rattle.seg_core.specs.Line.{delimiters, ends_with, first_lines, line_count, but_last_lines, BeginsAt}
 use Rattle.seg_core.proofs.Delimiters.{delimiters-append, delimiters-take-drop}
-use Rattle.seg_core.proofs.FirstLines.{first_lines-all, first_lines-full, first_lines_then_rest}
+use Rattle.seg_core.proofs.FirstLines.{first_lines-all, first_lines-full}
 use Rattle.seg_core.proofs.LineCounts.{line_count-closed, line_count-le-length, ends_with-append, ends_with-some}
-
--- a text is what stands before its last lines, and these
-pub but_last_then_last : (delim n : ℕ) (x : List ℕ) → but_last_lines delim n x ++ last_lines delim n x ≡ x
-but_last_then_last delim n x = first_lines_then_rest delim (line_count delim x - n) x
 
 pub but_last_lines-few : (delim n : ℕ) (x : List ℕ) → line_count delim x ≤ n → but_last_lines delim n x ≡ []
 but_last_lines-few delim n x few = grind (arith, common_steps)

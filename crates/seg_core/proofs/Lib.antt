@@ -11,6 +11,5 @@ pub mod BlockLemmas
 pub mod Taken
 pub mod Carried
 pub mod EndLines
-pub mod FrontLines
 pub mod EndOfLast
 pub mod Lanes

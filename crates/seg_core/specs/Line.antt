@@ -66,10 +66,6 @@ line_count delim x = length (lines_of delim x)
 abbrev pub after_lines : ℕ → ℕ → List ℕ → List ℕ
 after_lines delim n x = joined (drop n (lines_of delim x))
 
--- the last n lines of a text, or all of it where it has no more
-abbrev pub last_lines : ℕ → ℕ → List ℕ → List ℕ
-last_lines delim n x = after_lines delim (line_count delim x - n) x
-
 -- what stands before the last n lines of a text
 abbrev pub but_last_lines : ℕ → ℕ → List ℕ → List ℕ
 but_last_lines delim n x = first_lines delim (line_count delim x - n) x

@@ -43,20 +43,7 @@ impl ByteWindow {
         ensures ok { IfOk result (λ window. window ≡ record { most = most; held = []; grown = (0 == most) }) }
         ensures err { IfErr result (λ fault. fault ≡ Fault.Memory) }
     {
-        ByteWindow::with_room(alloc, most, 0)
-    }
-
-    /// The same window, with room for the next `coming` bytes where there is memory for them now.
-    /// It asks for more only once more came in.
-    ///
-    /// # Errors
-    ///
-    /// `Memory` where there is no room for a window without bytes.
-    pub fn with_room(alloc: Global, most: u64, coming: u64) -> Result<Self, Fault>
-        ensures ok { IfOk result (λ window. window ≡ record { most = most; held = []; grown = (0 == most) }) }
-        ensures err { IfErr result (λ fault. fault ≡ Fault.Memory) }
-    {
-        match empty_ring(alloc, coming.min(most) as usize) {
+        match HeapCircularBuffer::with_capacity(alloc, 0) {
             Ok(ring) => Ok(ByteWindow {
                 alloc,
                 most,
@@ -153,16 +140,6 @@ impl ByteWindow {
         self.ring.fill_from_slice(piece);
         self.grown = self.grown || needed as u64 == self.most;
         Ok(())
-    }
-}
-
-// A ring without bytes, and with this much room, or none where there is no memory for so much.
-fn empty_ring(alloc: Global, room: usize) -> Result<HeapCircularBuffer<u8>, AllocError>
-    ensures { IfOk result (λ ring. (ring.items ≡ []) × (ring.capacity ≤ room)) }
-{
-    match HeapCircularBuffer::with_capacity(alloc, room) {
-        Err(AllocError) if 0 < room => HeapCircularBuffer::with_capacity(alloc, 0),
-        tried => tried,
     }
 }
 

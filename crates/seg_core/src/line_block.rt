@@ -37,19 +37,11 @@ impl Block {
     {
         let mut room: Vec<u8> = Vec::with_capacity(alloc, BLOCK)?;
         room.extend_from_slice(bytes)?;
-        Ok(Block::of(room, count))
-    }
-
-    /// A block of these bytes, of which `count` are delimiters.
-    pub(crate) fn of(bytes: Vec<u8>, count: usize) -> Block
-        requires { count ≤ length bytes.items }
-        ensures { result ≡ record { bytes = bytes.items; count = count } }
-    {
-        Block {
-            bytes,
+        Ok(Block {
+            bytes: room,
             start: 0,
             count,
-        }
+        })
     }
 
     /// The bytes that it holds.

@@ -2,7 +2,7 @@
 //! them is moved.
 ghost use Rattle.std.specs.Prelude.{◌≡◌, ℕ, ◌^◌, ◌≤◌, ◌<◌, List, [], ◌++◌, length, take, drop, IfOk, OnOk, OnErr};
 ghost use Rattle.std.specs.VecDeque.{deque_len, deque_capacity};
-ghost use Rattle.seg_core.specs.Line.{after_lines, delimiters, ends_with, first_lines};
+ghost use Rattle.seg_core.specs.Line.{delimiters, first_lines};
 ghost use Rattle.seg_core.specs.inner.Blocks.{Gone, count_of, first_of};
 ghost use Rattle.seg_core.specs.Blocks.{HaveCounts, text_of};
 
@@ -185,16 +185,13 @@ pub(crate) fn reach_in(queue: &VecDeque<Block>, lines: u64, delim: u8) -> u64
     unreachable!()
 }
 
-// Where the first `lines` lines of a block end; its own end where fewer are complete.
+// Where the first `lines` lines of a block end, all of which are complete.
 fn end_of(block: &Block, lines: u64, delim: u8) -> u64
+    requires enough { lines ≤ block.now.count }
     requires counted { block.now.count ≡ delimiters delim block.now.bytes }
     ensures { result ≡ length (first_lines delim lines block.now.bytes) }
 {
-    let count = block.delimiters() as u64;
-    if count < lines {
-        return block.len() as u64;
-    }
-    let after = count - lines;
+    let after = block.delimiters() as u64 - lines;
     if after < lines {
         // The place is nearer to the block's end, so it is looked for from there: the last of these
         // lines ends with the delimiter that has `after` others after it.
@@ -207,28 +204,4 @@ fn end_of(block: &Block, lines: u64, delim: u8) -> u64
         Reach::Ends(end) => end as u64,
         Reach::Short(_) => unreachable!(),
     }
-}
-
-/// Whether the last byte of all is a delimiter; not where there is none.
-pub(crate) fn ends_with_delimiter(queue: &VecDeque<Block>, delim: u8) -> bool
-    ensures { result ≡ ends_with delim (text_of queue.now.items) }
-{
-    let mut left = queue.len();
-    while 0 < left {
-        left -= 1;
-        if let Some(last) = queue[left].bytes().last() {
-            return *last == delim;
-        }
-    }
-    false
-}
-
-/// Drops the first `lines` lines of a block; all of it where fewer are complete.
-pub(crate) fn drop_lines(block: &mut Block, lines: u64, delim: u8)
-    requires counted { block.old.count ≡ delimiters delim block.old.bytes }
-    ensures left { block.new.bytes ≡ after_lines delim lines block.old.bytes }
-    ensures counted { block.new.count ≡ delimiters delim block.new.bytes }
-{
-    let end = end_of(block, lines, delim);
-    block.drop_front(end as usize, delim);
 }

@@ -1,13 +1,13 @@
 //! The last lines of what came in.
 ghost use Rattle.std.specs.Prelude.{◌≡◌, ℕ, ◌+◌, ◌-◌, ◌^◌, ◌<◌, ◌≤◌, ◌==◌, List, [], ◌++◌, length, take, drop, min, IsOk, IfOk, IfErr, IfSome, OnOk, None};
-ghost use Rattle.seg_core.specs.Line.{after_lines, but_last_lines, delimiters, first_lines, last_lines, line_count};
+ghost use Rattle.seg_core.specs.Line.{but_last_lines, delimiters, first_lines, line_count};
 ghost use Rattle.seg_core.specs.Window.{without_first};
 
 use crate::fault::Fault;
 use crate::line::count_delimiters;
 use crate::line_back::{last_delimiter_off, reach_back};
 use crate::line_block::Block;
-use crate::line_blocks::{drop_front, drop_lines, ends_with_delimiter, extend, front_of, reach_in};
+use crate::line_blocks::{drop_front, extend, front_of, reach_in};
 use crate::line_reach::ReachBack;
 use std::alloc::{AllocError, Global};
 use std::collections::VecDeque;
@@ -211,85 +211,6 @@ impl LineWindow {
         self.len += piece.len() as u64;
         self.delimiters += count as u64;
         Ok(())
-    }
-
-    /// This many zero bytes, to be filled for `put_front`.
-    ///
-    /// # Errors
-    ///
-    /// `Memory` where there is no room for them.
-    pub fn front_block(&self, len: usize) -> Result<Vec<u8>, Fault>
-        ensures ok { IfOk result (λ block. length block.items ≡ len) }
-        ensures err { IfErr result (λ fault. fault ≡ Fault.Memory) }
-    {
-        match vec![in self.alloc; 0u8; len] {
-            Ok(block) => Ok(block),
-            Err(AllocError) => Err(Fault::Memory),
-        }
-    }
-
-    /// Puts a block before what it holds, and drops what stands before the last `most` lines of
-    /// both. The block isn't copied.
-    ///
-    /// # Errors
-    ///
-    /// `Memory` where there is no room for one more block, or where both together have more than
-    /// 2^63-1 bytes. The window then stays as it was.
-    pub fn put_front(&mut self, block: Vec<u8>) -> Result<(), Fault>
-        requires some { 0 < length block.items }
-        ensures ok { OnOk result (self.new
-            ≡ record {
-              most = self.old.most;
-              delim = self.old.delim;
-              held = last_lines self.old.delim self.old.most (block.items ++ self.old.held);
-            }) }
-        ensures err { IfErr result (λ fault. (fault ≡ Fault.Memory) × (self.new ≡ self.old)) }
-    {
-        if block.len() as u64 > MOST_HELD - self.len {
-            return Err(Fault::Memory);
-        }
-        let block = self.needed_of(block);
-        let len = block.len() as u64;
-        let delimiters = block.delimiters() as u64;
-        match self.blocks.push_front(block) {
-            Ok(()) => {}
-            Err(_) => return Err(Fault::Memory),
-        }
-        self.len += len;
-        self.delimiters += delimiters;
-        Ok(())
-    }
-
-    // What is left of a block once that is dropped which stands before the last `most` lines of it
-    // and of what is held after it.
-    fn needed_of(&self, bytes: Vec<u8>) -> Block
-        requires some { 0 < length bytes.items }
-        requires fits { length bytes.items + length self.now.held < 2 ^ 63 }
-        ensures left { result.bytes
-            ≡ after_lines self.now.delim
-            (line_count self.now.delim (bytes.items ++ self.now.held) - self.now.most) bytes.items }
-        ensures counted { result.count ≡ delimiters self.now.delim result.bytes }
-    {
-        let count = count_delimiters(&bytes, self.delim);
-        let lines = self.lines_with(&bytes, count);
-        let mut block = Block::of(bytes, count);
-        drop_lines(&mut block, lines.saturating_sub(self.most), self.delim);
-        block
-    }
-
-    // How many lines a block, which has `count` delimiters, has together with what is held after it.
-    fn lines_with(&self, block: &[u8], count: usize) -> u64
-        requires some { 0 < length block.now }
-        requires fits { length block.now + length self.now.held < 2 ^ 63 }
-        requires counted { count ≡ delimiters self.now.delim block.now }
-        ensures { result ≡ line_count self.now.delim (block.now ++ self.now.held) }
-    {
-        let is_closed = if self.len == 0 {
-            block[block.len() - 1] == self.delim
-        } else {
-            ends_with_delimiter(&self.blocks, self.delim)
-        };
-        self.delimiters + count as u64 + u64::from(!is_closed)
     }
 }
 

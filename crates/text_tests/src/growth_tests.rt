@@ -18,11 +18,9 @@ use std::process::Abort;
 #[derive(Clone, Copy, Debug)]
 enum Call {
     ByteWindow,
-    ByteRoom,
     BytePut,
     LineWindow,
     LinePut,
-    LineFront,
     Expression,
     PlainExpression,
     Bre,
@@ -32,11 +30,9 @@ enum Call {
 
 const CALLS: &[Call] = &[
     Call::ByteWindow,
-    Call::ByteRoom,
     Call::BytePut,
     Call::LineWindow,
     Call::LinePut,
-    Call::LineFront,
     Call::Expression,
     Call::PlainExpression,
     Call::Bre,
@@ -67,11 +63,9 @@ fn calls_succeed_or_are_refused(rt: HostRuntime) {
 fn succeeds(rt: &impl Abort, alloc: Global, call: Call) -> bool {
     match call {
         Call::ByteWindow => ByteWindow::new(alloc, 4).is_ok(),
-        Call::ByteRoom => ByteWindow::with_room(alloc, 4, 0).is_ok(),
         Call::BytePut => byte_put(rt, alloc),
         Call::LineWindow => LineWindow::new(alloc, 2, NEWLINE).is_ok(),
         Call::LinePut => line_put(rt, alloc),
-        Call::LineFront => line_front(alloc),
         _ => reads(alloc, call),
     }
 }
@@ -114,17 +108,6 @@ fn line_put(rt: &impl Abort, alloc: Global) -> bool {
     assert!(rt; keep_lines(&mut window, b"a\nb").is_ok());
     assert!(rt; window.front() == b"a\nb".as_slice());
     false
-}
-
-/// A block that is put in at the front.
-fn line_front(alloc: Global) -> bool {
-    let Ok(mut window) = LineWindow::new(alloc, 2, NEWLINE) else {
-        return false;
-    };
-    match window.front_block(3) {
-        Ok(block) => !block.is_empty() && window.put_front(block).is_ok(),
-        Err(_) => false,
-    }
 }
 
 fn plain_expression(alloc: Global) -> bool {

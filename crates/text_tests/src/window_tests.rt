@@ -1,6 +1,6 @@
 //! Each call of the windows once, and windows over a long text beside a plain slow program.
 ghost use Rattle.std.specs.Prelude.{◌≡◌, ◌+◌, ◌-◌, ◌++◌, length, drop, OnOk};
-ghost use Rattle.seg_core.specs.Line.{last_lines};
+ghost use Rattle.seg_core.specs.inner.Lines.{last_lines};
 
 use seg_core::byte_window::ByteWindow;
 use seg_core::fault::Fault;

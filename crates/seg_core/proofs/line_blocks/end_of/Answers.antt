@@ -1,11 +1,7 @@
 use Rattle.std.proofs.lemmas.Grind.{common_steps}
 use Rattle.std.proofs.Common.{arith}
-use Rattle.seg_core.proofs.FirstLines.{first_lines-short}
 use Rattle.seg_core.proofs.LastLines.{begins_first}
 use Rattle.seg_core.proofs.line_blocks.end_of.Goals as goal
-
-pub returns-then-count-lines : goal.returns-then-count-lines
-returns-then-count-lines c = grind (arith, common_steps, first_lines-short)
 
 pub returns-then-after-lines : goal.returns-then-after-lines
 returns-then-after-lines c = grind (arith, common_steps, begins_first)
