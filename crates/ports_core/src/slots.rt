@@ -1,4 +1,4 @@
-ghost use Rattle.std.specs.Prelude.{◌≡◌, [], ◌≤◌, ◌<◌, ◌+◌, ◌-◌, ◌^◌, ◌∷◌, ◌++◌, ℕ, List, false, length, string_bytes, IsTrue, IfOk, IfSome, IfNone};
+ghost use Rattle.std.specs.Prelude.{◌≡◌, [], ◌≤◌, ◌<◌, ◌+◌, ◌-◌, ◌^◌, ◌∷◌, ◌++◌, ℕ, List, false, length, string_bytes, IsTrue, IfOk, IfSome, IfNone, OnOk, vec_capacity, vec_len};
 ghost use Rattle.ports_core.specs.Slot.{with_lost};
 
 use std::alloc::{AllocError, Global};
@@ -59,6 +59,7 @@ impl<S: Unopened + Drop> Slots<S> {
         ensures lost { IfNone result
             (with_lost (S.unopened []) self.new.kept.items self.new.lost
             ≡ with_lost (S.unopened []) self.old.kept.items self.old.lost ++ S.unopened [] ∷ []) }
+        ensures room { IfSome result (λ _. vec_len self.new.kept < vec_capacity self.new.kept) }
     {
         restore(alloc, &mut self.kept, &mut self.lost);
         if self.lost > 0 {
@@ -72,14 +73,15 @@ impl<S: Unopened + Drop> Slots<S> {
         Some(copy)
     }
 
-    /// Adds an output after the others, and returns whether there was memory for it. If there was none, one that can't
-    /// be opened is added in its place.
+    /// Adds an output after the others, and returns whether there was memory for it, as there is after `room_for`. If there was
+    /// none, one that can't be opened is added in its place.
     pub fn keep(&mut self, slot: S) -> bool
         requires { self.old.lost ≡ 0 }
         ensures kept { IsTrue result
             → with_lost (S.unopened []) self.new.kept.items self.new.lost ≡ self.old.kept.items ++ slot ∷ [] }
         ensures lost { result ≡ false
             → with_lost (S.unopened []) self.new.kept.items self.new.lost ≡ self.old.kept.items ++ S.unopened [] ∷ [] }
+        ensures always { vec_len self.old.kept < vec_capacity self.old.kept → IsTrue result }
     {
         if self.kept.push(slot).is_ok() {
             return true;
@@ -111,6 +113,7 @@ fn copy_with_room<S: Drop>(
 ) -> Result<String, AllocError>
     ensures name { IfOk result (λ copy. string_bytes copy ≡ name.now) }
     ensures same { kept.new.items ≡ kept.old.items }
+    ensures room { OnOk result (vec_len kept.new < vec_capacity kept.new) }
 {
     let copy = String::from_str(alloc, name)?;
     kept.reserve(1)?;
