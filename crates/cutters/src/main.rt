@@ -20,18 +20,24 @@ use words_core::{Args, ArgsFault, read_args};
 /// The output for messages.
 const STANDARD_ERROR: usize = 1;
 
-/// The highest number that the system has for a standard stream.
+/// The number that the system has for standard input.
+const STANDARD_INPUT: RawFd = 0;
+
+/// The highest number that it has for a standard stream.
 const LAST_STANDARD: RawFd = 2;
 
 /// Runs the tool that the program's words name, over standard input, standard output and standard error.
 fn main(rt: HostRuntime) -> ExitCode {
     let alloc = rt.alloc();
-    let _places = [stand_in(rt), stand_in(rt), stand_in(rt)];
+    let places = [stand_in(rt), stand_in(rt), stand_in(rt)];
     let files = InputFiles::new(alloc);
     let mut outs = DirOut::new(rt, alloc, rt.stdout(), rt.stderr(), &files);
     let status = match read_args(&rt, alloc) {
         Ok(args) => {
             let mut inputs = DirIn::new(rt, alloc, rt.stdin(), &files);
+            if takes(&places[0], STANDARD_INPUT) {
+                inputs.standard_is_closed();
+            }
             run_args(rt, alloc, &args, &mut inputs, &mut outs)
         }
         Err(ArgsFault::NotUtf8(word)) => refuse_word(alloc, word, &mut outs),
@@ -51,6 +57,14 @@ fn stand_in(rt: HostRuntime) -> Option<File> {
             Some(folder)
         }
         Err(_) => None,
+    }
+}
+
+/// Whether a folder stands in the place of this number.
+fn takes(place: &Option<File>, number: RawFd) -> bool {
+    match place {
+        Some(folder) => folder.as_raw_fd() == number,
+        None => false,
     }
 }
 
