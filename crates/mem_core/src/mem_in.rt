@@ -25,6 +25,8 @@ struct MemSource {
     last: usize,
     /// The last read told the end: it gave nothing, though there was room.
     ended: bool,
+    /// How many reads were made, at most 2^64-1.
+    reads: u64,
 }
 
 impl Model for MemSource {
@@ -39,6 +41,7 @@ impl Model for MemSource {
       reached = s.reached;
       last = s.last;
       ended = s.ended;
+      reads = s.reads;
     } };
 
     ghost invariant = { λ s. (s.given ≤ length s.bytes.items) × (s.last ≤ s.given) };
@@ -59,6 +62,7 @@ impl MemSource {
             reached: 0,
             last: 0,
             ended: false,
+            reads: 0,
         }
     }
 
@@ -75,6 +79,7 @@ impl MemSource {
             reached: 0,
             last: 0,
             ended: false,
+            reads: 0,
         }
     }
 
@@ -89,6 +94,7 @@ impl MemSource {
         ensures broken { IfNone result (self.new ≡ fails (length buffer.old) self.old) }
     {
         self.asked = self.asked.max(buffer.len());
+        self.reads = self.reads.saturating_add(1);
         let left = self.bytes.len() - self.given;
         if left == 0 && self.breaks_off && !buffer.is_empty() {
             self.is_broken = true;
