@@ -1,10 +1,12 @@
 //! `cutters`: the tools that cut files, in one program.
 #![tactic(auto)]
 
-ghost use Rattle.std.specs.Prelude.{◌≡◌, IfOk, map, string_bytes};
+ghost use Rattle.std.specs.Prelude.{◌≡◌, [], false, IfOk, map, string_bytes};
+ghost use Rattle.ports_core.specs.declared.fault.Fault.{Fault};
 ghost use Rattle.ports_core.specs.Slot.{streams};
 ghost use Rattle.ports_core.specs.Source.{IsFresh};
-ghost use Rattle.tools_core.specs.Program.{FailsAtOnce, RanAs};
+ghost use Rattle.tools_core.specs.Outcome.{RefusesFor};
+ghost use Rattle.tools_core.specs.Program.{RanAs};
 
 use ports_core::{
     Calling, DirIn, DirOut, Fault, InputFiles, Reason, Speaker, Tool, say, write_whole,
@@ -103,7 +105,7 @@ fn words_of<'a>(alloc: Global, args: &'a [String]) -> Result<Vec<&'a str>, Alloc
 /// Says that there is no memory for the words, and returns the status.
 fn refuse(alloc: Global, outs: &mut DirOut<'_, HostRuntime>) -> u8
     requires { outs.old ≡ streams }
-    ensures { FailsAtOnce outs.new result }
+    ensures { RefusesFor false [] Fault.Memory outs.new result }
 {
     let speaker = Speaker {
         calling: Calling::Cutters,

@@ -2,38 +2,15 @@
 //! status.
 
 use crate::tee_tests::{Case, Left, SOUND, check};
-use ports_core::{Calling, Fault, OnBroken, Reason};
+use ports_core::{Calling, Fault, OnBroken as On, Reason};
 use std::alloc::Global;
 use std::process::Abort;
 use std::test::Fail;
 
-/// How a run ends in a mode.
-#[derive(Clone, Copy)]
-struct Ended<'a> {
-    on_broken: OnBroken,
-    output: &'a [u8],
-    files: &'a [&'a [u8]],
-    /// The messages of `cutters tee`.
-    told: &'a [u8],
-    /// Those of `tee`.
-    own: &'a [u8],
-    status: u8,
-}
-
-/// Outputs that break, and how a run ends with that.
-#[derive(Clone, Copy)]
-struct Breaking<'a> {
-    /// Outputs, and how many bytes each takes.
-    limits: &'a [(usize, usize)],
-    /// Why it breaks.
-    causes: &'a [(usize, Reason)],
-    ended: &'a [Ended<'a>],
-}
-
 #[test]
 fn each_mode_ends_as_it_says(rt: HostRuntime) -> Result<(), Fail> {
     for breaking in BREAKING {
-        for ended in breaking.ended {
+        for ended in breaking.2 {
             check_both_ways(&rt, rt.alloc(), breaking, ended)?;
         }
     }
@@ -44,327 +21,158 @@ fn each_mode_ends_as_it_says(rt: HostRuntime) -> Result<(), Fail> {
 fn check_both_ways(
     rt: &impl Abort,
     alloc: Global,
-    breaking: &Breaking<'static>,
-    ended: &Ended<'static>,
+    breaking: &Breaking,
+    ended: &Ended,
 ) -> Result<(), Fault> {
-    check(
-        rt,
-        alloc,
-        &case_of(breaking, ended, Calling::Cutters, ended.told),
-    )?;
-    check(
-        rt,
-        alloc,
-        &case_of(breaking, ended, Calling::OwnName, ended.own),
-    )
+    let (told, own) = ended.3;
+    let called = case_of(breaking, ended, Calling::Cutters, told);
+    check(rt, alloc, &called)?;
+    check(rt, alloc, &case_of(breaking, ended, Calling::OwnName, own))
 }
 
 /// The run that such a row speaks of.
 fn case_of(
-    breaking: &Breaking<'static>,
-    ended: &Ended<'static>,
+    breaking: &Breaking,
+    ended: &Ended,
     calling: Calling,
     messages: &'static [u8],
 ) -> Case<'static> {
     Case {
         calling,
         piece: 2,
-        limits: breaking.limits,
-        causes: breaking.causes,
-        on_broken: ended.on_broken,
+        limits: breaking.0,
+        causes: breaking.1,
+        on_broken: ended.0,
         left: Left {
-            output: ended.output,
-            files: ended.files,
+            output: ended.1,
+            files: ended.2,
             messages,
-            status: ended.status,
+            status: ended.4,
         },
         ..SOUND
     }
 }
 
-const BREAKING: &[Breaking<'static>] = &[
+/// What is said of outputs that broke: the messages of `cutters tee`, and those of `tee`.
+type Said = (&'static [u8], &'static [u8]);
+
+const S_GONE: Said = (b"tee: cannot write 's'\n", b"tee: cannot write 's'\n");
+
+const SILENT: Said = (b"", b"");
+
+const T_FULL: Said = (
+    b"tee: cannot write 't'\n",
+    b"tee: cannot write 't': No space left on device\n",
+);
+
+const T_FULL_S_GONE: Said = (
+    b"tee: cannot write 't'\ntee: cannot write 's'\n",
+    b"tee: cannot write 't': No space left on device\ntee: cannot write 's'\n",
+);
+
+const S_GONE_T_FULL: Said = (
+    b"tee: cannot write 's'\ntee: cannot write 't'\n",
+    b"tee: cannot write 's'\ntee: cannot write 't': No space left on device\n",
+);
+
+const ALL_GONE: Said = (
+    b"tee: cannot write 'standard output'\ntee: cannot write 's'\ntee: cannot write 't'\n",
+    b"tee: cannot write 'standard output'\ntee: cannot write 's'\ntee: cannot write 't'\n",
+);
+
+const GONE_BOTH_FULL: Said = (
+    b"tee: cannot write 'standard output'\ntee: cannot write 's'\ntee: cannot write 't'\n",
+    b"tee: cannot write 'standard output'\ntee: cannot write 's': No space left on device\ntee: cannot write 't': No space left on device\n",
+);
+
+const BOTH_FULL: Said = (
+    b"tee: cannot write 's'\ntee: cannot write 't'\n",
+    b"tee: cannot write 's': No space left on device\ntee: cannot write 't': No space left on device\n",
+);
+
+/// How a run ends in a mode: standard output, the files, what is said, and the status.
+type Ended = (On, &'static [u8], &'static [&'static [u8]], Said, u8);
+
+/// Outputs that break, as `Case` has them, and how a run ends with that.
+type Breaking = (
+    &'static [(usize, usize)],
+    &'static [(usize, Reason)],
+    &'static [Ended],
+);
+
+const BREAKING: &[Breaking] = &[
     // `s` is gone in the second piece.
-    Breaking {
-        limits: &[(2, 3)],
-        causes: &[(2, Reason::Gone)],
-        ended: &[
-            Ended {
-                on_broken: OnBroken::Warn,
-                output: b"abcdef",
-                files: &[b"abc", b"abcdef"],
-                told: b"tee: cannot write 's'\n",
-                own: b"tee: cannot write 's'\n",
-                status: 1,
-            },
-            Ended {
-                on_broken: OnBroken::Exit,
-                output: b"abcd",
-                files: &[b"abc", b"abcd"],
-                told: b"tee: cannot write 's'\n",
-                own: b"tee: cannot write 's'\n",
-                status: 1,
-            },
-            Ended {
-                on_broken: OnBroken::WarnNoPipe,
-                output: b"abcdef",
-                files: &[b"abc", b"abcdef"],
-                told: b"",
-                own: b"",
-                status: 0,
-            },
-            Ended {
-                on_broken: OnBroken::ExitNoPipe,
-                output: b"abcdef",
-                files: &[b"abc", b"abcdef"],
-                told: b"",
-                own: b"",
-                status: 0,
-            },
-            Ended {
-                on_broken: OnBroken::Signal,
-                output: b"abcd",
-                files: &[b"abc", b"abcd"],
-                told: b"",
-                own: b"",
-                status: 141,
-            },
+    (
+        &[(2, 3)],
+        &[(2, Reason::Gone)],
+        &[
+            (On::Warn, b"abcdef", &[b"abc", b"abcdef"], S_GONE, 1),
+            (On::Exit, b"abcd", &[b"abc", b"abcd"], S_GONE, 1),
+            (On::WarnNoPipe, b"abcdef", &[b"abc", b"abcdef"], SILENT, 0),
+            (On::ExitNoPipe, b"abcdef", &[b"abc", b"abcdef"], SILENT, 0),
+            (On::Signal, b"abcd", &[b"abc", b"abcd"], SILENT, 141),
         ],
-    },
+    ),
     // `t` is full in the second piece.
-    Breaking {
-        limits: &[(3, 2)],
-        causes: &[(3, Reason::Full)],
-        ended: &[
-            Ended {
-                on_broken: OnBroken::Warn,
-                output: b"abcdef",
-                files: &[b"abcdef", b"ab"],
-                told: b"tee: cannot write 't'\n",
-                own: b"tee: cannot write 't': No space left on device\n",
-                status: 1,
-            },
-            Ended {
-                on_broken: OnBroken::Exit,
-                output: b"abcd",
-                files: &[b"abcd", b"ab"],
-                told: b"tee: cannot write 't'\n",
-                own: b"tee: cannot write 't': No space left on device\n",
-                status: 1,
-            },
-            Ended {
-                on_broken: OnBroken::WarnNoPipe,
-                output: b"abcdef",
-                files: &[b"abcdef", b"ab"],
-                told: b"tee: cannot write 't'\n",
-                own: b"tee: cannot write 't': No space left on device\n",
-                status: 1,
-            },
-            Ended {
-                on_broken: OnBroken::ExitNoPipe,
-                output: b"abcd",
-                files: &[b"abcd", b"ab"],
-                told: b"tee: cannot write 't'\n",
-                own: b"tee: cannot write 't': No space left on device\n",
-                status: 1,
-            },
-            Ended {
-                on_broken: OnBroken::Signal,
-                output: b"abcdef",
-                files: &[b"abcdef", b"ab"],
-                told: b"tee: cannot write 't'\n",
-                own: b"tee: cannot write 't': No space left on device\n",
-                status: 1,
-            },
+    (
+        &[(3, 2)],
+        &[(3, Reason::Full)],
+        &[
+            (On::Warn, b"abcdef", &[b"abcdef", b"ab"], T_FULL, 1),
+            (On::Exit, b"abcd", &[b"abcd", b"ab"], T_FULL, 1),
+            (On::WarnNoPipe, b"abcdef", &[b"abcdef", b"ab"], T_FULL, 1),
+            (On::ExitNoPipe, b"abcd", &[b"abcd", b"ab"], T_FULL, 1),
+            (On::Signal, b"abcdef", &[b"abcdef", b"ab"], T_FULL, 1),
         ],
-    },
+    ),
     // `t` is full in the first piece, and `s` gone in the second.
-    Breaking {
-        limits: &[(2, 3), (3, 1)],
-        causes: &[(2, Reason::Gone), (3, Reason::Full)],
-        ended: &[
-            Ended {
-                on_broken: OnBroken::Warn,
-                output: b"abcdef",
-                files: &[b"abc", b"a"],
-                told: b"tee: cannot write 't'\ntee: cannot write 's'\n",
-                own: b"tee: cannot write 't': No space left on device\ntee: cannot write 's'\n",
-                status: 1,
-            },
-            Ended {
-                on_broken: OnBroken::Exit,
-                output: b"ab",
-                files: &[b"ab", b"a"],
-                told: b"tee: cannot write 't'\n",
-                own: b"tee: cannot write 't': No space left on device\n",
-                status: 1,
-            },
-            Ended {
-                on_broken: OnBroken::WarnNoPipe,
-                output: b"abcdef",
-                files: &[b"abc", b"a"],
-                told: b"tee: cannot write 't'\n",
-                own: b"tee: cannot write 't': No space left on device\n",
-                status: 1,
-            },
-            Ended {
-                on_broken: OnBroken::ExitNoPipe,
-                output: b"ab",
-                files: &[b"ab", b"a"],
-                told: b"tee: cannot write 't'\n",
-                own: b"tee: cannot write 't': No space left on device\n",
-                status: 1,
-            },
-            Ended {
-                on_broken: OnBroken::Signal,
-                output: b"abcd",
-                files: &[b"abc", b"a"],
-                told: b"tee: cannot write 't'\n",
-                own: b"tee: cannot write 't': No space left on device\n",
-                status: 141,
-            },
+    (
+        &[(2, 3), (3, 1)],
+        &[(2, Reason::Gone), (3, Reason::Full)],
+        &[
+            (On::Warn, b"abcdef", &[b"abc", b"a"], T_FULL_S_GONE, 1),
+            (On::Exit, b"ab", &[b"ab", b"a"], T_FULL, 1),
+            (On::WarnNoPipe, b"abcdef", &[b"abc", b"a"], T_FULL, 1),
+            (On::ExitNoPipe, b"ab", &[b"ab", b"a"], T_FULL, 1),
+            (On::Signal, b"abcd", &[b"abc", b"a"], T_FULL, 141),
         ],
-    },
+    ),
     // `s` is gone in the first piece, and `t` full in the second.
-    Breaking {
-        limits: &[(2, 1), (3, 3)],
-        causes: &[(2, Reason::Gone), (3, Reason::Full)],
-        ended: &[
-            Ended {
-                on_broken: OnBroken::Warn,
-                output: b"abcdef",
-                files: &[b"a", b"abc"],
-                told: b"tee: cannot write 's'\ntee: cannot write 't'\n",
-                own: b"tee: cannot write 's'\ntee: cannot write 't': No space left on device\n",
-                status: 1,
-            },
-            Ended {
-                on_broken: OnBroken::Exit,
-                output: b"ab",
-                files: &[b"a", b"ab"],
-                told: b"tee: cannot write 's'\n",
-                own: b"tee: cannot write 's'\n",
-                status: 1,
-            },
-            Ended {
-                on_broken: OnBroken::WarnNoPipe,
-                output: b"abcdef",
-                files: &[b"a", b"abc"],
-                told: b"tee: cannot write 't'\n",
-                own: b"tee: cannot write 't': No space left on device\n",
-                status: 1,
-            },
-            Ended {
-                on_broken: OnBroken::ExitNoPipe,
-                output: b"abcd",
-                files: &[b"a", b"abc"],
-                told: b"tee: cannot write 't'\n",
-                own: b"tee: cannot write 't': No space left on device\n",
-                status: 1,
-            },
-            Ended {
-                on_broken: OnBroken::Signal,
-                output: b"ab",
-                files: &[b"a", b"ab"],
-                told: b"",
-                own: b"",
-                status: 141,
-            },
+    (
+        &[(2, 1), (3, 3)],
+        &[(2, Reason::Gone), (3, Reason::Full)],
+        &[
+            (On::Warn, b"abcdef", &[b"a", b"abc"], S_GONE_T_FULL, 1),
+            (On::Exit, b"ab", &[b"a", b"ab"], S_GONE, 1),
+            (On::WarnNoPipe, b"abcdef", &[b"a", b"abc"], T_FULL, 1),
+            (On::ExitNoPipe, b"abcd", &[b"a", b"abc"], T_FULL, 1),
+            (On::Signal, b"ab", &[b"a", b"ab"], SILENT, 141),
         ],
-    },
+    ),
     // All are gone in the second piece.
-    Breaking {
-        limits: &[(0, 2), (2, 3), (3, 2)],
-        causes: &[(0, Reason::Gone), (2, Reason::Gone), (3, Reason::Gone)],
-        ended: &[
-            Ended {
-                on_broken: OnBroken::Warn,
-                output: b"ab",
-                files: &[b"abc", b"ab"],
-                told: b"tee: cannot write 'standard output'\ntee: cannot write 's'\ntee: cannot write 't'\n",
-                own: b"tee: cannot write 'standard output'\ntee: cannot write 's'\ntee: cannot write 't'\n",
-                status: 1,
-            },
-            Ended {
-                on_broken: OnBroken::Exit,
-                output: b"ab",
-                files: &[b"abc", b"ab"],
-                told: b"tee: cannot write 'standard output'\ntee: cannot write 's'\ntee: cannot write 't'\n",
-                own: b"tee: cannot write 'standard output'\ntee: cannot write 's'\ntee: cannot write 't'\n",
-                status: 1,
-            },
-            Ended {
-                on_broken: OnBroken::WarnNoPipe,
-                output: b"ab",
-                files: &[b"abc", b"ab"],
-                told: b"",
-                own: b"",
-                status: 0,
-            },
-            Ended {
-                on_broken: OnBroken::ExitNoPipe,
-                output: b"ab",
-                files: &[b"abc", b"ab"],
-                told: b"",
-                own: b"",
-                status: 0,
-            },
-            Ended {
-                on_broken: OnBroken::Signal,
-                output: b"ab",
-                files: &[b"abc", b"ab"],
-                told: b"",
-                own: b"",
-                status: 141,
-            },
+    (
+        &[(0, 2), (2, 3), (3, 2)],
+        &[(0, Reason::Gone), (2, Reason::Gone), (3, Reason::Gone)],
+        &[
+            (On::Warn, b"ab", &[b"abc", b"ab"], ALL_GONE, 1),
+            (On::Exit, b"ab", &[b"abc", b"ab"], ALL_GONE, 1),
+            (On::WarnNoPipe, b"ab", &[b"abc", b"ab"], SILENT, 0),
+            (On::ExitNoPipe, b"ab", &[b"abc", b"ab"], SILENT, 0),
+            (On::Signal, b"ab", &[b"abc", b"ab"], SILENT, 141),
         ],
-    },
+    ),
     // Standard output is gone in the third piece, with which the files are full.
-    Breaking {
-        limits: &[(0, 4), (2, 4), (3, 5)],
-        causes: &[(0, Reason::Gone), (2, Reason::Full), (3, Reason::Full)],
-        ended: &[
-            Ended {
-                on_broken: OnBroken::Warn,
-                output: b"abcd",
-                files: &[b"abcd", b"abcde"],
-                told: b"tee: cannot write 'standard output'\ntee: cannot write 's'\ntee: cannot write 't'\n",
-                own: b"tee: cannot write 'standard output'\ntee: cannot write 's': No space left on device\ntee: cannot write 't': No space left on device\n",
-                status: 1,
-            },
-            Ended {
-                on_broken: OnBroken::Exit,
-                output: b"abcd",
-                files: &[b"abcd", b"abcde"],
-                told: b"tee: cannot write 'standard output'\ntee: cannot write 's'\ntee: cannot write 't'\n",
-                own: b"tee: cannot write 'standard output'\ntee: cannot write 's': No space left on device\ntee: cannot write 't': No space left on device\n",
-                status: 1,
-            },
-            Ended {
-                on_broken: OnBroken::WarnNoPipe,
-                output: b"abcd",
-                files: &[b"abcd", b"abcde"],
-                told: b"tee: cannot write 's'\ntee: cannot write 't'\n",
-                own: b"tee: cannot write 's': No space left on device\ntee: cannot write 't': No space left on device\n",
-                status: 1,
-            },
-            Ended {
-                on_broken: OnBroken::ExitNoPipe,
-                output: b"abcd",
-                files: &[b"abcd", b"abcde"],
-                told: b"tee: cannot write 's'\ntee: cannot write 't'\n",
-                own: b"tee: cannot write 's': No space left on device\ntee: cannot write 't': No space left on device\n",
-                status: 1,
-            },
-            Ended {
-                on_broken: OnBroken::Signal,
-                output: b"abcd",
-                files: &[b"abcd", b"abcde"],
-                told: b"tee: cannot write 's'\ntee: cannot write 't'\n",
-                own: b"tee: cannot write 's': No space left on device\ntee: cannot write 't': No space left on device\n",
-                status: 141,
-            },
+    (
+        &[(0, 4), (2, 4), (3, 5)],
+        &[(0, Reason::Gone), (2, Reason::Full), (3, Reason::Full)],
+        &[
+            (On::Warn, b"abcd", &[b"abcd", b"abcde"], GONE_BOTH_FULL, 1),
+            (On::Exit, b"abcd", &[b"abcd", b"abcde"], GONE_BOTH_FULL, 1),
+            (On::WarnNoPipe, b"abcd", &[b"abcd", b"abcde"], BOTH_FULL, 1),
+            (On::ExitNoPipe, b"abcd", &[b"abcd", b"abcde"], BOTH_FULL, 1),
+            (On::Signal, b"abcd", &[b"abcd", b"abcde"], BOTH_FULL, 141),
         ],
-    },
+    ),
 ];
 
 /// What can't be opened, closed or read has its reason after a tool's own name.
@@ -379,7 +187,7 @@ fn each_fault_has_its_reason(rt: HostRuntime) -> Result<(), Fail> {
 /// `tee s t` by its own name, in one piece.
 const OWN: Case<'static> = Case {
     calling: Calling::OwnName,
-    on_broken: OnBroken::Signal,
+    on_broken: On::Signal,
     ..SOUND
 };
 
@@ -460,7 +268,7 @@ const REASONS: &[Case<'static>] = &[
         piece: 2,
         breaks_at: Some(4),
         breaks_as: Reason::Device,
-        on_broken: OnBroken::WarnNoPipe,
+        on_broken: On::WarnNoPipe,
         limits: &[(0, 1)],
         causes: &[(0, Reason::Gone)],
         left: Left {

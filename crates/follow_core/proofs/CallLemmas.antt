@@ -3,8 +3,9 @@ use Rattle.std.proofs.lemmas.Grind.{common_steps}
 use Rattle.std.proofs.Common.{subst₂, ◌≡◌, ℕ, Bool, List, [], ◌∷◌, ◌++◌, ◌⊎◌, inl, inr, ◌∙◌, ap, subst, ◌+◌, ◌<◌, length, take, true, false, not, if◌then◌else◌, Some, None, Option, refl, sym, arith, append_assoc, length-append, ◌-◌, ◌≤◌, drop, bytes_eq, nat_lt, is_none, option_map, suc, zero, IsTrue, is_some, rules}
 use Rattle.ports_core.specs.Slot.{Slot, with_written, with_broken, told_of, is_open, changed_at}
 use Rattle.ports_core.specs.Message.{OnError, SaysFor, SaysOn, PrintsOn}
-use Rattle.ports_core.specs.Text.{message_of}
+use Rattle.ports_core.specs.Text.{line_of, message_of}
 use Rattle.ports_core.specs.declared.calling.Calling.{Calling}
+use Rattle.ports_core.specs.declared.calling.Calling.TheVariants.{Cutters, OwnName}
 use Rattle.ports_core.specs.declared.reason.Reason.{Reason}
 use Rattle.ports_core.proofs.MessageLemmas.{printed_open}
 use Rattle.follow_core.specs.Sharing.{CameTo, WroteBy, CanPrint}
@@ -47,11 +48,16 @@ use Rattle.ports_core.specs.declared.fault.Fault.TheVariants as fault
 
 -- the message of a failure that was said
 
+-- that memory is exhausted is said without a reason
+unreasoned : (calling : Calling) (why : Reason) {said : List ℕ} → said ≡ line_of (tail_by calling) why (message_of fault.Memory []) → said ≡ failure_text fault.Memory []
+unreasoned OwnName why is = is
+unreasoned Cutters why is = is
+
 opening_said : {told : Bool} {calling : Calling} {why : Reason} (place : ℕ) (name : List ℕ) {old new : Slot} → SaysFor told (tail_by calling) why (message_of (fault.Open place) name) old new → Tells told calling (failure_text (fault.Open place) name) old new
-opening_said {why} place name says = record { said = says.said; is = inr (name, inl (refl, elim says.is [ inl same ↦ inl (why, same) | inr memory ↦ inr memory ])); printed = says.printed }
+opening_said {calling} {why} place name says = record { said = says.said; is = inr (name, inl (refl, elim says.is [ inl same ↦ inl (why, same) | inr memory ↦ inr (unreasoned calling why memory) ])); printed = says.printed }
 
 reading_said : {told : Bool} {calling : Calling} {why : Reason} (place : ℕ) (name : List ℕ) {old new : Slot} → SaysFor told (tail_by calling) why (message_of (fault.Read place) name) old new → Tells told calling (failure_text (fault.Read place) name) old new
-reading_said {why} place name says = record { said = says.said; is = inr (name, inr (refl, elim says.is [ inl same ↦ inl (why, same) | inr memory ↦ inr memory ])); printed = says.printed }
+reading_said {calling} {why} place name says = record { said = says.said; is = inr (name, inr (refl, elim says.is [ inl same ↦ inl (why, same) | inr memory ↦ inr (unreasoned calling why memory) ])); printed = says.printed }
 
 -- of a name that can't be read, or opened
 pub failure_said : {told : Bool} {calling : Calling} {why : Reason} (read : Bool) (place : ℕ) (name : List ℕ) {old new : List Slot} → SaysOn told (tail_by calling) why (message_of (if read then fault.Read place else fault.Open place) name) old new

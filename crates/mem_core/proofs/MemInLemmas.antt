@@ -3,7 +3,7 @@ use Rattle.std.proofs.Common.{◌≡◌, ℕ, ◌+◌, ◌-◌, ◌<◌, ◌≤�
 use Rattle.std.proofs.lemmas.List.{drop-take, take-append-drop}
 use Rattle.std.proofs.lemmas.Bool.{cond_both, le-leb, lt-ltb}
 use Rattle.ports_core.specs.Slot.{changed_at}
-use Rattle.ports_core.specs.Source.{Content, Opens, OpensNothing, Source, broke, cut, gets_back, gives, is_readable, missing, no_room, skips, source_of}
+use Rattle.ports_core.specs.Source.{Content, Opens, OpensNothing, Source, broke, counted, cut, gets_back, gives, is_readable, missing, no_room, skips, source_of}
 use Rattle.ports_core.specs.declared.fault.Fault.TheVariants as fault
 use Rattle.ports_core.proofs.SourceLemmas.{one_changes, readable_within}
 use Rattle.mem_core.specs.MemInState.{MemInState, Laid, laid_at, laid_in, breaks_in, content_in, content_of, with_break}
@@ -12,8 +12,8 @@ use Rattle.mem_core.specs.MemInState.{MemInState, Laid, laid_at, laid_in, breaks
 
 module _ (shown : Option (List ℕ)) where
   -- the input that an input in memory is seen as
-  abbrev pub seen_as : List ℕ → ℕ → Bool → Bool → Bool → ℕ → ℕ → ℕ → Bool → Source
-  seen_as bytes given breaks_off is_open is_broken asked reached last ended = record {
+  abbrev pub seen_as : List ℕ → ℕ → Bool → Bool → Bool → ℕ → ℕ → ℕ → Bool → ℕ → Source
+  seen_as bytes given breaks_off is_open is_broken asked reached last ended reads = record {
     left = record { bytes = drop given bytes; breaks_off = breaks_off; shown = shown };
     is_open = is_open;
     is_broken = is_broken;
@@ -22,6 +22,7 @@ module _ (shown : Option (List ℕ)) where
     reached = reached;
     last = last;
     ended = ended;
+    reads = reads;
   }
 
   both_taken : (bytes : List ℕ) (given n : ℕ) → take (given + n) bytes ≡ take given bytes ++ take n (drop given bytes)
@@ -31,39 +32,40 @@ module _ (shown : Option (List ℕ)) where
   rest_left bytes given n = sym (drop-drop n given bytes)
 
   -- n bytes more were taken
-  goes_on : (bytes : List ℕ) (given n reached asked last : ℕ) (breaks_off is_open is_broken ended : Bool)
-      → seen_as bytes (given + n) breaks_off is_open is_broken asked reached last ended
-      ≡ record (skips n (seen_as bytes given breaks_off is_open is_broken asked reached last ended)) { last = last }
-  goes_on bytes given n reached asked last breaks_off is_open is_broken ended =
-      ap (λ those. record (seen_as bytes (given + n) breaks_off is_open is_broken asked reached last ended) { left = record { bytes = those; breaks_off = breaks_off; shown = shown } }) (rest_left bytes given n)
-      ∙ ap (λ those. record (skips n (seen_as bytes given breaks_off is_open is_broken asked reached last ended)) { taken = those; last = last }) (both_taken bytes given n)
+  goes_on : (bytes : List ℕ) (given n reached asked last reads : ℕ) (breaks_off is_open is_broken ended : Bool)
+      → seen_as bytes (given + n) breaks_off is_open is_broken asked reached last ended reads
+      ≡ record (skips n (seen_as bytes given breaks_off is_open is_broken asked reached last ended reads)) { last = last }
+  goes_on bytes given n reached asked last reads breaks_off is_open is_broken ended =
+      ap (λ those. record (seen_as bytes (given + n) breaks_off is_open is_broken asked reached last ended reads) { left = record { bytes = those; breaks_off = breaks_off; shown = shown } }) (rest_left bytes given n)
+      ∙ ap (λ those. record (skips n (seen_as bytes given breaks_off is_open is_broken asked reached last ended reads)) { taken = those; last = last }) (both_taken bytes given n)
 
-  pub skipped : (bytes : List ℕ) (given n reached asked last : ℕ) {now : ℕ} (breaks_off is_open is_broken ended : Bool) → now ≡ (if n == 0 then last else 0)
-      → seen_as bytes (given + n) breaks_off is_open is_broken asked reached now ended ≡ skips n (seen_as bytes given breaks_off is_open is_broken asked reached last ended)
-  skipped bytes given n reached asked last {now} breaks_off is_open is_broken ended is =
-      goes_on bytes given n reached asked now breaks_off is_open is_broken ended
-      ∙ ap (λ those. record (skips n (seen_as bytes given breaks_off is_open is_broken asked reached last ended)) { last = those }) is
+  pub skipped : (bytes : List ℕ) (given n reached asked last reads : ℕ) {now : ℕ} (breaks_off is_open is_broken ended : Bool) → now ≡ (if n == 0 then last else 0)
+      → seen_as bytes (given + n) breaks_off is_open is_broken asked reached now ended reads ≡ skips n (seen_as bytes given breaks_off is_open is_broken asked reached last ended reads)
+  skipped bytes given n reached asked last reads {now} breaks_off is_open is_broken ended is =
+      goes_on bytes given n reached asked now reads breaks_off is_open is_broken ended
+      ∙ ap (λ those. record (skips n (seen_as bytes given breaks_off is_open is_broken asked reached last ended reads)) { last = those }) is
 
-  pub read_on : (bytes : List ℕ) (given n size : ℕ) {most now : ℕ} (reached asked last : ℕ) (breaks_off is_open is_broken ended : Bool) {ends : Bool}
-      → given + n ≤ length bytes → most ≡ max asked size → now ≡ max reached (given + n) → ends ≡ (n == 0 && not (size == 0))
-      → seen_as bytes (given + n) breaks_off is_open is_broken most now n ends ≡ gives size n (seen_as bytes given breaks_off is_open is_broken asked reached last ended)
-  read_on bytes given n size {most} {now} reached asked last breaks_off is_open is_broken ended {ends} within greatest is ending =
-      goes_on bytes given n now most n breaks_off is_open is_broken ends ∙ ap (λ asks. record (skips n (seen_as bytes given breaks_off is_open is_broken asks now n ends)) { last = n }) greatest
-      ∙ ap (λ those. record (skips n (seen_as bytes given breaks_off is_open is_broken (max asked size) now n ends)) { last = those }) (sym (omega (arith, within, length-take n (drop given bytes), length-drop given bytes)))
-      ∙ ap (λ far. record (gives size n (seen_as bytes given breaks_off is_open is_broken asked reached last ended)) { reached = far; ended = ends })
+  pub read_on : (bytes : List ℕ) (given n size : ℕ) {most now : ℕ} (reached asked last : ℕ) (breaks_off is_open is_broken ended : Bool) {ends : Bool} (reads : ℕ) {count : ℕ}
+      → given + n ≤ length bytes → most ≡ max asked size → now ≡ max reached (given + n) → ends ≡ (n == 0 && not (size == 0)) → count ≡ counted reads
+      → seen_as bytes (given + n) breaks_off is_open is_broken most now n ends count ≡ gives size n (seen_as bytes given breaks_off is_open is_broken asked reached last ended reads)
+  read_on bytes given n size {most} {now} reached asked last breaks_off is_open is_broken ended {ends} reads {count} within greatest is ending once =
+      goes_on bytes given n now most n count breaks_off is_open is_broken ends ∙ ap (λ asks. record (skips n (seen_as bytes given breaks_off is_open is_broken asks now n ends count)) { last = n }) greatest
+      ∙ ap (λ those. record (skips n (seen_as bytes given breaks_off is_open is_broken (max asked size) now n ends count)) { last = those }) (sym (omega (arith, within, length-take n (drop given bytes), length-drop given bytes)))
+      ∙ ap (λ far. record (gives size n (seen_as bytes given breaks_off is_open is_broken asked reached last ended reads)) { reached = far; ended = ends; reads = count })
       (is ∙ ap (max reached) (sym (ap length (sym (both_taken bytes given n)) ∙ omega (arith, within, length-take (given + n) bytes))))
-      ∙ ap (λ ends. record (gives size n (seen_as bytes given breaks_off is_open is_broken asked reached last ended)) { ended = ends }) ending
+      ∙ ap (λ ends. record (gives size n (seen_as bytes given breaks_off is_open is_broken asked reached last ended reads)) { ended = ends; reads = count }) ending
+      ∙ ap (λ count. record (gives size n (seen_as bytes given breaks_off is_open is_broken asked reached last ended reads)) { reads = count }) once
 
-  pub set_back : (bytes : List ℕ) (given n reached asked last : ℕ) (breaks_off is_open is_broken ended : Bool) → given ≤ length bytes → n ≤ given
-      → seen_as bytes (given - n) breaks_off is_open is_broken asked reached (last - n) ended ≡ gets_back n (seen_as bytes given breaks_off is_open is_broken asked reached last ended)
-  set_back bytes given n reached asked last breaks_off is_open is_broken ended within few =
+  pub set_back : (bytes : List ℕ) (given n reached asked last reads : ℕ) (breaks_off is_open is_broken ended : Bool) → given ≤ length bytes → n ≤ given
+      → seen_as bytes (given - n) breaks_off is_open is_broken asked reached (last - n) ended reads ≡ gets_back n (seen_as bytes given breaks_off is_open is_broken asked reached last ended reads)
+  set_back bytes given n reached asked last reads breaks_off is_open is_broken ended within few =
       let at : length (take given bytes) - n ≡ given - n = omega (arith, within, length-take given bytes) in
       let joined : drop (given - n) (take given bytes) ++ drop given bytes ≡ drop (given - n) bytes = between bytes (given - n) given (omega arith) in
       ap (set_to (take (given - n) bytes)) (sym joined)
       ∙ ap (λ those. set_to those (drop (given - n) (take given bytes) ++ drop given bytes)) (sym (take-take (given - n) given bytes (omega arith)))
       ∙ ap (λ k. set_to (take k (take given bytes)) (drop k (take given bytes) ++ drop given bytes)) (sym at) where
         set_to : List ℕ → List ℕ → Source
-        set_to taken left = record { left = record { bytes = left; breaks_off = breaks_off; shown = shown }; is_open = is_open; is_broken = is_broken; asked = asked; taken = taken; reached = reached; last = last - n; ended = ended }
+        set_to taken left = record { left = record { bytes = left; breaks_off = breaks_off; shown = shown }; is_open = is_open; is_broken = is_broken; asked = asked; taken = taken; reached = reached; last = last - n; ended = ended; reads = reads }
 
         between : (bytes : List ℕ) (from given : ℕ) → from ≤ given → drop from (take given bytes) ++ drop given bytes ≡ drop from bytes
         between bytes from given less =

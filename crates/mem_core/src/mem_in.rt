@@ -27,6 +27,8 @@ struct MemSource {
     last: usize,
     /// The last read told the end: it gave nothing, though there was room.
     ended: bool,
+    /// How many reads were made, at most 2^64-1.
+    reads: u64,
 }
 
 impl Model for MemSource {
@@ -45,6 +47,7 @@ impl Model for MemSource {
       reached = s.reached;
       last = s.last;
       ended = s.ended;
+      reads = s.reads;
     } };
 
     ghost invariant = { λ s. (s.given ≤ length s.bytes.items) × (s.last ≤ s.given) };
@@ -70,6 +73,7 @@ impl MemSource {
             reached: 0,
             last: 0,
             ended: false,
+            reads: 0,
         }
     }
 
@@ -87,6 +91,7 @@ impl MemSource {
             reached: 0,
             last: 0,
             ended: false,
+            reads: 0,
         }
     }
 
@@ -101,6 +106,7 @@ impl MemSource {
         ensures broken { IfNone result (self.new ≡ fails (length buffer.old) self.old) }
     {
         self.asked = self.asked.max(buffer.len());
+        self.reads = self.reads.saturating_add(1);
         let left = self.bytes.len() - self.given;
         if left == 0 && self.breaks_off && !buffer.is_empty() {
             self.is_broken = true;

@@ -174,4 +174,68 @@ const ROWS: &[Row<'static>] = &[
             ..TWO_BYTES
         },
     },
+    Row {
+        words: &["csplit", "f", "2"],
+        broken: Broken::Output(2, 1, Reason::Full),
+        own: Left {
+            files: &[("xx00", b"1")],
+            removed: &["xx00"],
+            messages: b"csplit: cannot write 'xx00': No space left on device\n",
+            status: 1,
+            ..NOTHING
+        },
+        other: Left {
+            files: &[("xx00", b"1")],
+            removed: &["xx00"],
+            messages: b"csplit: cannot write 'xx00'\n",
+            status: 1,
+            ..NOTHING
+        },
+    },
+    Row {
+        words: &["csplit", "f", "2"],
+        broken: Broken::Output(0, 1, Reason::Gone),
+        own: Left {
+            output: b"2",
+            files: &[("xx00", b"1\n")],
+            removed: &["xx00"],
+            status: 141,
+            ..NOTHING
+        },
+        other: Left {
+            output: b"2",
+            files: &[("xx00", b"1\n")],
+            removed: &["xx00"],
+            messages: b"csplit: cannot write 'standard output'\n",
+            status: 1,
+        },
+    },
+    Row {
+        words: &["head", "--help"],
+        broken: Broken::Output(0, 0, Reason::Gone),
+        own: Left {
+            status: 141,
+            ..NOTHING
+        },
+        other: Left {
+            messages: b"head: cannot write 'standard output'\n",
+            status: 1,
+            ..NOTHING
+        },
+    },
+    Row {
+        words: &["tail", "--version"],
+        broken: Broken::Output(0, 4, Reason::Gone),
+        own: Left {
+            output: b"tail",
+            status: 141,
+            ..NOTHING
+        },
+        other: Left {
+            output: b"tail",
+            messages: b"tail: cannot write 'standard output'\n",
+            status: 1,
+            ..NOTHING
+        },
+    },
 ];

@@ -1,10 +1,11 @@
 -- Lemmas on what a run reads of its input, and on how it ends.
 use Rattle.std.proofs.lemmas.Grind.{common_steps}
-use Rattle.std.proofs.Common.{◌≡◌, ℕ, ◌+◌, ◌<◌, ◌≤◌, ◌^◌, List, [], ◌∷◌, ◌++◌, length, take, Bool, true, false, Option, Some, None, IsTrue, ◌⊎◌, refl, sym, ◌∙◌, ap, subst, arith, length-append, length-take, append-nil, All, zero, suc, map, not, ◌&&◌, ◌||◌, if◌then◌else◌, is_none, get_or, replicate, set}
-use Rattle.std.specs.List.{concat}
-use Rattle.std.proofs.lemmas.Bool.{false≢true}
-use Rattle.ports_core.specs.Slot.{Slot, changed_at, adds, closes, opened, streams, told_of}
-use Rattle.ports_core.specs.Source.{Content, Source, source_at, unshown, is_readable, fails, gives, BrokeOff, Gave, IsFresh}
+use Rattle.std.proofs.Common.{◌≡◌, ℕ, ◌+◌, ◌<◌, ◌≤◌, ◌^◌, List, [], ◌∷◌, ◌++◌, length, take, Bool, true, false, Option, Some, None, IsTrue, ◌⊎◌, refl, sym, ◌∙◌, ap, subst, arith, length-append, length-take, append-nil, inl, inr, All, zero, suc, map, not, ◌&&◌, ◌||◌, if◌then◌else◌, is_none, get_or, replicate, set}
+use Rattle.std.specs.List.{concat, list_any}
+use Rattle.std.proofs.lemmas.Bool.{cases_Bool, false≢true}
+use Rattle.std.proofs.lemmas.Bool.Decides.{nat_tests}
+use Rattle.ports_core.specs.Slot.{Slot, changed_at, slot_at, adds, closes, opened, streams, told_of}
+use Rattle.ports_core.specs.Source.{Content, Source, counted, source_at, unshown, is_readable, fails, gives, BrokeOff, Gave, IsFresh}
 use Rattle.ports_core.specs.declared.fault.Fault.{Fault}
 use Rattle.ports_core.specs.declared.fault.Fault.TheVariants.{Read, Memory}
 use Rattle.ports_core.specs.declared.on_broken.OnBroken.{OnBroken}
@@ -14,7 +15,7 @@ use Rattle.ports_core.specs.declared.reason.Reason.{Reason}
 use Rattle.ports_core.specs.declared.slot.Mode.{Mode}
 use Rattle.ports_core.proofs.InputsLemmas.{HasRead, changed_source, came_broken, came_sound, still_readable, read_broken, read_failed, read_more, read_none_more, read_to_end, of_content}
 use Rattle.ports_core.specs.Inputs.{CameFrom, largest_piece, OfContent, empty}
-use Rattle.tee_core.specs.Run.{EachStandsFor, StandsFor, lost_for, output_slot, GaveLast, IsRead, LeavesOf, to_end, to_break, to_limit, to_broken_output, EndsAs, copied, no_room, file_whole, file_unopened, file_cut, file_unclosed, FilesLeft, no_file, one_file, ComesIn, IsAsFound, OutputLeft, output_whole, output_cut, Break, all_copied, any_is, are_sound, forgives, gone_status, is_done, is_same, lost_as, messages_of, output_names, said_before, said_in, standing_of, standings_before, status_for, status_of, tee_called}
+use Rattle.tee_core.specs.Run.{AreSound, EachStandsFor, StandsFor, lost_for, output_slot, GaveLast, IsRead, LeavesOf, to_end, to_break, to_limit, to_broken_output, EndsAs, copied, no_room, FileLeft, file_whole, file_unopened, file_cut, file_unclosed, FilesLeft, no_file, one_file, ComesIn, IsAsFound, OutputLeft, output_whole, output_cut, Break, all_copied, any_is, are_sound, ends_run, forgives, gone_status, is_done, is_same, lost_as, messages_of, output_names, said_before, said_in, standing_of, standings_before, status_for, status_of, tee_called}
 use Rattle.tee_core.specs.declared.standing.Standing.{Standing}
 use Rattle.tee_core.specs.declared.standing.Standing.TheVariants.{Sound, Broken, Gone}
 use Rattle.tee_core.specs.inner.Steps.{Copies, CopiesRead, HasCopied, Sees, is_lost}
@@ -104,9 +105,23 @@ pub gave_last : (pieces : List (List ℕ)) (size : ℕ) (sources new : List Sour
 gave_last pieces size sources new {n = n} can gave is before piece same =
     ap (λ (source : Source). source.last) (changed_source 0 (gives size n) sources new can is) ∙ sym (ap length gave.front) ∙ ap length (last_same pieces before _ piece same)
 
+-- each piece took one read, and there are no more pieces than bytes
+
+few_pieces : (pieces : List (List ℕ)) → AreSized pieces → length pieces ≤ length (concat pieces)
+few_pieces [] sized = omega arith
+few_pieces (piece ∷ pieces) sized =
+    let rest = few_pieces pieces (λ k byte within. sized (suc k) byte (omega arith)) in
+    let some = (sized 0 piece (omega arith)).0 in omega (arith, rest, some, length-append piece (concat pieces))
+
+pub reads_once : {x : List ℕ} (pieces : List (List ℕ)) {was now : ℕ} → x ≡ concat pieces → AreSized pieces → length x < 2 ^ 63 → was ≡ length pieces → now ≡ counted was → now ≡ length pieces + 1
+reads_once {x} pieces {was} joined sized few so_far is = let most = few_pieces pieces sized in let all = ap length joined in grind (arith, nat_tests, most, all)
+
+pub reads_more : {x : List ℕ} (pieces : List (List ℕ)) (piece : List ℕ) {was now : ℕ} → x ≡ concat pieces → AreSized pieces → length x < 2 ^ 63 → was ≡ length pieces → now ≡ counted was → now ≡ length (pieces ++ piece ∷ [])
+reads_more pieces piece joined sized few so_far is = let once = reads_once pieces joined sized few so_far is in omega (arith, once, length-append pieces (piece ∷ []))
+
 pub reads_copied : {told_in : Bool} (told : Bool) {calling : Calling} {mode : Mode} {on_broken : OnBroken} {names : List (List ℕ)} {content : Content} {source : Source} {slots : List Slot} {known : List Standing} {fault : Option Fault} {came : List ℕ} {pieces : List (List ℕ)} {is_vain : Bool} → came ≡ concat pieces → is_done on_broken known ≡ is_vain → AreSized pieces → length came < 2 ^ 63
-    → (fault ≡ Some (Read 0)) ⊎ (source.is_broken ≡ false) → (fault ≡ None → is_vain ≡ false → source.ended ≡ true) → (told_in ≡ true → is_vain ≡ true → GaveLast pieces source) → IsRead content (LeavesOf told_in source) is_vain came fault → Copies told calling mode on_broken names pieces [] slots known → CopiesRead told_in told calling mode on_broken names content source slots known fault
-reads_copied {told_in} told {content} {source} {known} {fault} {came} {pieces} joined vain sized few met ended last read copies = grind (arith, common_steps)
+    → (fault ≡ Some (Read 0)) ⊎ (source.is_broken ≡ false) → (fault ≡ None → is_vain ≡ false → source.ended ≡ true) → (told_in ≡ true → is_vain ≡ true → GaveLast pieces source) → source.reads ≡ length pieces + (if is_vain then 0 else 1) → IsRead content (LeavesOf told_in source) is_vain came fault → Copies told calling mode on_broken names pieces [] slots known → CopiesRead told_in told calling mode on_broken names content source slots known fault
+reads_copied {told_in} told {content} {source} {known} {fault} {came} {pieces} joined vain sized few met ended last reads read copies = grind (arith, common_steps)
 
 -- why outputs stand as they do
 
@@ -152,7 +167,7 @@ pub ends_copied : {told_in : Bool} (told : Bool) {breaks_for : ℕ → Reason �
     → ComesIn told_in content source (is_done on_broken before) pieces fault
     → HasCopied told calling mode on_broken names pieces fault before slots known → EndsAs told_in told breaks_for calling mode on_broken names content source slots status
 ends_copied {told_in} told {on_broken = on_broken} {content} {source} {pieces} {fault} is stand read left =
-    copied pieces fault left.first left.broke left.output left.error left.files (rw left.before_are read) left.goes_on left.output_left left.files_left (rw left.known_are at stand) left.said left.are
+    copied pieces fault left.first left.broke left.output left.error left.files (subst (λ standings. ComesIn told_in content source (is_done on_broken standings) pieces fault) (sym left.before_are) read) left.goes_on left.output_left left.files_left (rw left.known_are at stand) left.said left.are
     (is ∙ ap (λ standings. status_for on_broken standings fault) left.known_are)
 
 -- there was no memory
@@ -204,6 +219,26 @@ whole_files told mode pieces _ _ _ sound (one_file name names _ broke _ files (f
 whole_files told mode pieces _ _ _ sound (one_file name names _ broke _ files (file_cut before that after n is within) rest) = absurd (false≢true sound)
 whole_files told mode pieces _ _ _ sound (one_file name names _ broke _ files file_unclosed rest) = absurd (false≢true sound)
 
+-- outputs of which none is broken never broke
+
+output_sound : {told : Bool} {pieces : List (List ℕ)} {first : Option Break} {output : Slot} → output.is_broken ≡ false → OutputLeft told pieces first output → first ≡ None
+output_sound whole output_whole = refl
+output_sound whole (output_cut before piece after n is within) = absurd (false≢true (sym whole))
+
+file_sound : {told : Bool} {mode : Mode} {pieces : List (List ℕ)} {name : List ℕ} {first : Option Break} {file : Slot} → file.is_broken ≡ false → FileLeft told mode pieces name first file → first ≡ None
+file_sound whole file_whole = refl
+file_sound whole (file_unopened kept named) = absurd (false≢true (sym whole))
+file_sound whole (file_cut before piece after n is within) = absurd (false≢true (sym whole))
+file_sound whole file_unclosed = absurd (false≢true (sym whole))
+
+files_sound : {told : Bool} {mode : Mode} {pieces names : List (List ℕ)} {broke : List (Option Break)} {files : List Slot} → ((place : ℕ) → (slot_at files place).is_broken ≡ false) → FilesLeft told mode pieces names broke files → are_sound broke ≡ true
+files_sound whole no_file = refl
+files_sound whole (one_file name names first broke file files left rest) = rw (file_sound (whole 0) left) (files_sound (λ place. whole (suc place)) rest)
+
+pub all_sound_if : {told : Bool} {mode : Mode} {pieces names : List (List ℕ)} {first : Option Break} {broke : List (Option Break)} {output error : Slot} {files new : List Slot} → OutputLeft told pieces first output → FilesLeft told mode pieces names broke files → new ≡ output ∷ error ∷ files → AreSound new → are_sound (first ∷ broke) ≡ true
+all_sound_if left rest is whole =
+    let those = rw is at whole in rw (output_sound (those 0 (λ same. omega (arith, same))) left) (files_sound (λ place. those (suc (suc place)) (λ same. omega (arith, same))) rest)
+
 -- where it is no fault that one is gone, and none failed, nothing broke
 pub sound_if : (broke : List (Option Break)) → any_is Broken (map standing_of broke) ≡ false → any_is Gone (map standing_of broke) ≡ false → are_sound broke ≡ true
 sound_if [] whole left = refl
@@ -220,7 +255,7 @@ gone_fails WarnNoPipe failed strict zero_is = false≢true (sym strict)
 gone_fails ExitNoPipe failed strict zero_is = false≢true (sym strict)
 gone_fails Signal failed strict zero_is = omega (arith, zero_is)
 
-pub status_zero : (on_broken : OnBroken) (broke : List (Option Break)) (fault : Option Fault) → forgives on_broken ≡ false → status_of on_broken broke fault ≡ 0 → (is_none fault ≡ true) × (are_sound broke ≡ true)
+status_zero : (on_broken : OnBroken) (broke : List (Option Break)) (fault : Option Fault) → forgives on_broken ≡ false → status_of on_broken broke fault ≡ 0 → (is_none fault ≡ true) × (are_sound broke ≡ true)
 status_zero on_broken broke fault strict = by (any_is Gone (map standing_of broke)) (any_is Broken (map standing_of broke)) (is_none fault) refl refl refl where
   by : (gone broken ended : Bool) → any_is Gone (map standing_of broke) ≡ gone → any_is Broken (map standing_of broke) ≡ broken → is_none fault ≡ ended
       → (if gone then gone_status on_broken (not ended || broken) else if not ended || broken then 1 else 0) ≡ 0 → (ended ≡ true) × (are_sound broke ≡ true)
@@ -236,22 +271,42 @@ read_whole Leaves left sound (to_limit x piece rest is many within leaves) = abs
 read_whole Leaves left sound (to_broken_output x rest is leaves) = absurd (false≢true (sym left))
 
 -- where nothing broke the run goes on
-none_stand : (one : Standing) → is_same Sound one ≡ false → (call : ℕ) (broke : List (Option Break)) → are_sound broke ≡ true → any_is one (standings_before call broke) ≡ false
-none_stand one differs call [] sound = refl
-none_stand one differs call (None ∷ broke) sound = rw differs (none_stand one differs call broke sound)
-none_stand one differs call (Some broke ∷ rest) sound = absurd (false≢true sound)
+none_ends : (on_broken : OnBroken) (call : ℕ) (broke : List (Option Break)) → are_sound broke ≡ true → list_any (λ standing. ends_run standing on_broken) (standings_before call broke) ≡ false
+none_ends on_broken call [] sound = refl
+none_ends on_broken call (None ∷ broke) sound = none_ends on_broken call broke sound
+none_ends on_broken call (Some broke ∷ rest) sound = absurd (false≢true sound)
 
 pub sound_goes_on : (on_broken : OnBroken) (call : ℕ) (first : Option Break) (broke : List (Option Break)) → are_sound (first ∷ broke) ≡ true → is_done on_broken (standings_before call (first ∷ broke)) ≡ false
-sound_goes_on Warn call first broke sound = rw (sound_first first (are_sound broke) sound).0
-sound_goes_on Exit call first broke sound = rw (none_stand Broken refl call (first ∷ broke) sound, none_stand Gone refl call (first ∷ broke) sound) refl
-sound_goes_on WarnNoPipe call first broke sound = rw (sound_first first (are_sound broke) sound).0
-sound_goes_on ExitNoPipe call first broke sound = rw (none_stand Broken refl call (first ∷ broke) sound, (sound_first first (are_sound broke) sound).0) refl
-sound_goes_on Signal call first broke sound = rw (none_stand Gone refl call (first ∷ broke) sound, (sound_first first (are_sound broke) sound).0) refl
+sound_goes_on on_broken call first broke sound = rw (none_ends on_broken call (first ∷ broke) sound, (sound_first first (are_sound broke) sound).0) refl
 
-pub whole_if : {told_in : Bool} (told : Bool) {breaks_for : ℕ → Reason → Bool} {calling : Calling} {mode : Mode} {on_broken : OnBroken} {names : List (List ℕ)} {content : Content} {source : Source} {new : List Slot} {status : ℕ} → status ≡ 0 → forgives on_broken ≡ false → EndsAs told_in told breaks_for calling mode on_broken names content source new status → new ≡ all_copied told mode names content.bytes
-whole_if told zero_is strict (no_room error said left at one) = absurd (omega (arith, zero_is, one))
-whole_if told {mode = mode} {on_broken} {names} zero_is strict (copied pieces fault first broke output error files read some output_left files_left stand said at is) =
-    let good = status_zero on_broken (first ∷ broke) fault strict (sym is ∙ zero_is) in let sounds = sound_first first (are_sound broke) good.1 in
+-- where none broke, the status tells whether the reading ended well
+none_lost : (one : Standing) → is_same Sound one ≡ false → (broke : List (Option Break)) → are_sound broke ≡ true → any_is one (map standing_of broke) ≡ false
+none_lost one differs [] sound = refl
+none_lost one differs (None ∷ broke) sound = rw differs (none_lost one differs broke sound)
+none_lost one differs (Some other ∷ broke) sound = absurd (false≢true sound)
+
+pub sound_status : (on_broken : OnBroken) (broke : List (Option Break)) (fault : Option Fault) → are_sound broke ≡ true → status_of on_broken broke fault ≡ (if is_none fault then 0 else 1)
+sound_status on_broken broke fault sound = rw (none_lost Gone refl broke sound, none_lost Broken refl broke sound) (by (is_none fault)) where
+  by : (ended : Bool) → ◌≡◌ {A = ℕ} (if not ended || false then 1 else 0) (if ended then 0 else 1)
+  by true = refl
+  by false = refl
+
+none_faulty : (ended : Bool) → ◌≡◌ {A = ℕ} (if ended then 0 else 1) 0 → ended ≡ true
+none_faulty true is = refl
+none_faulty false is = absurd (omega (arith, is))
+
+-- a run with the status 0 met no fault, and nothing broke, where that is so of one that forgives
+pub well_of : {told : Bool} {mode : Mode} (on_broken : OnBroken) {pieces names : List (List ℕ)} (fault : Option Fault) {first : Option Break} {broke : List (Option Break)} {output error : Slot} {files new : List Slot} → OutputLeft told pieces first output → FilesLeft told mode pieces names broke files → new ≡ output ∷ error ∷ files
+    → (forgives on_broken ≡ true → AreSound new) → status_of on_broken (first ∷ broke) fault ≡ 0 → (is_none fault ≡ true) × (are_sound (first ∷ broke) ≡ true)
+well_of on_broken fault {first} {broke} left rest at sound zero_is = elim (cases_Bool (forgives on_broken)) [
+  | inl forgiving ↦ let all = all_sound_if left rest at (sound forgiving) in (none_faulty (is_none fault) (sym (sound_status on_broken (first ∷ broke) fault all) ∙ zero_is), all)
+  | inr strict ↦ status_zero on_broken (first ∷ broke) fault strict zero_is
+]
+
+pub whole_if : {told_in : Bool} (told : Bool) {breaks_for : ℕ → Reason → Bool} {calling : Calling} {mode : Mode} {on_broken : OnBroken} {names : List (List ℕ)} {content : Content} {source : Source} {new : List Slot} {status : ℕ} → status ≡ 0 → (forgives on_broken ≡ true → AreSound new) → EndsAs told_in told breaks_for calling mode on_broken names content source new status → new ≡ all_copied told mode names content.bytes
+whole_if told zero_is sound (no_room error said left at one) = absurd (omega (arith, zero_is, one))
+whole_if told {mode = mode} {on_broken} {names} zero_is sound (copied pieces fault first broke output error files read some output_left files_left stand said at is) =
+    let good = well_of on_broken fault output_left files_left at sound (sym is ∙ zero_is) in let sounds = sound_first first (are_sound broke) good.1 in
     let silent = quiet fault (length pieces) (first ∷ broke) good.0 good.1 in
     at ∙ ap (λ slot. slot ∷ error ∷ files) (whole_output told pieces first output sounds.0 output_left)
     ∙ ap (λ slot. adds (told_of told (concat pieces)) standard_output ∷ slot ∷ files) (rw silent at said)
@@ -262,6 +317,6 @@ whole_if told {mode = mode} {on_broken} {names} zero_is strict (copied pieces fa
           ap (λ texts. (texts ++ []) ++ said_in on_broken (suc pieces) (output_names names) broke) (nothing_before on_broken (suc pieces) (output_names names) broke sound) ∙ nothing_in on_broken (suc pieces) (output_names names) broke sound
       quiet (Some fault) pieces broke ended sound = absurd (false≢true ended)
 
-pub whole_of : {told_in : Bool} (told : Bool) {breaks_for : ℕ → Reason → Bool} {calling : Calling} {mode : Mode} {on_broken : OnBroken} {names : List (List ℕ)} (there : Content) {source : Source} {new : List Slot} {status : ℕ} → told_in ≡ true → status ≡ 0 → forgives on_broken ≡ false
+pub whole_of : {told_in : Bool} (told : Bool) {breaks_for : ℕ → Reason → Bool} {calling : Calling} {mode : Mode} {on_broken : OnBroken} {names : List (List ℕ)} (there : Content) {source : Source} {new : List Slot} {status : ℕ} → told_in ≡ true → status ≡ 0 → (forgives on_broken ≡ true → AreSound new)
     → OfContent told_in there (λ content. EndsAs told_in told breaks_for calling mode on_broken names content source new status × CameFrom told_in content source) → new ≡ all_copied told mode names there.bytes
-whole_of told {mode = mode} {names = names} there tells zero_is strict (content, is, holds) = cc (whole_if told zero_is strict holds.0, is tells)
+whole_of told {mode = mode} {names = names} there tells zero_is sound (content, is, holds) = cc (whole_if told zero_is sound holds.0, is tells)

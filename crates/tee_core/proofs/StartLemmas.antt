@@ -4,6 +4,7 @@ use Rattle.std.proofs.lemmas.Grind.{common_steps}
 use Rattle.std.proofs.Common.{◌≡◌, ℕ, ◌+◌, ◌-◌, ◌^◌, ◌<◌, ◌≤◌, zero, suc, List, [], ◌∷◌, ◌++◌, length, map, take, drop, get_or, Bor, true, inl, inr, refl, sym, ◌∙◌, ap, arith, append_assoc, length-append, replicate, Bool, false, Option, Some, None}
 use Rattle.std.proofs.lemmas.List.{append-nil, get_or-append-add, get_or_append_left, length-map}
 use Rattle.std.proofs.lemmas.Bool.{false≢true}
+use Rattle.std.specs.List.{list_any}
 use Rattle.ports_core.specs.Slot.{Slot, no_slot, slot_at, opened, unopened, is_open, FailsToOpen, broke, changed_at, streams}
 use Rattle.ports_core.specs.declared.on_broken.OnBroken.{OnBroken}
 use Rattle.ports_core.specs.declared.on_broken.OnBroken.TheVariants.{Warn, Exit, WarnNoPipe, ExitNoPipe, Signal}
@@ -15,7 +16,7 @@ use Rattle.tee_core.specs.Outputs.{IsOutput, IsReady, IsUsable}
 use Rattle.tee_core.specs.TeeState.{TeeState}
 use Rattle.ports_core.proofs.Runs.{adds-nil}
 use Rattle.ports_core.specs.Streams.{standard_output, standard_error}
-use Rattle.tee_core.specs.Run.{Break, EachFile, no_file, one_file, output_whole, any_is, fault_in, is_done, is_same, output_names, standing_of, standings_before}
+use Rattle.tee_core.specs.Run.{Break, EachFile, no_file, one_file, output_whole, ends_run, fault_in, is_done, output_names, standing_of, standings_before}
 use Rattle.tee_core.specs.inner.Steps.{Copies, FileHas, has_all, has_none, HasStreams, IsTeeOf, SaysTo, Sees, SeesAll, broken_of, said_since}
 use Rattle.tee_core.specs.declared.standing.Standing.{Standing}
 use Rattle.tee_core.specs.declared.standing.Standing.TheVariants.{Sound, Broken, Gone}
@@ -159,17 +160,13 @@ opened_streams {names} opens = grind (arith, common_steps, length-since)
 
 -- nothing broke before a run
 
-none_before : (one : Standing) → is_same Sound one ≡ false → (whens : List (Option Break)) → any_is one (standings_before 0 whens) ≡ false
-none_before one differs [] = refl
-none_before one differs (None ∷ whens) = rw differs (none_before one differs whens)
-none_before one differs (Some lost ∷ whens) = let rest = none_before one differs whens in grind (arith, nat_tests, differs, rest)
+none_before : (on_broken : OnBroken) (whens : List (Option Break)) → list_any (λ standing. ends_run standing on_broken) (standings_before 0 whens) ≡ false
+none_before on_broken [] = refl
+none_before on_broken (None ∷ whens) = none_before on_broken whens
+none_before on_broken (Some lost ∷ whens) = let rest = none_before on_broken whens in grind (arith, nat_tests, rest)
 
 goes_at_first : (on_broken : OnBroken) (whens : List (Option Break)) → is_done on_broken (standings_before 0 (None ∷ whens)) ≡ false
-goes_at_first Warn whens = refl
-goes_at_first Exit whens = rw (none_before Broken refl whens, none_before Gone refl whens) refl
-goes_at_first WarnNoPipe whens = refl
-goes_at_first ExitNoPipe whens = rw (none_before Broken refl whens) refl
-goes_at_first Signal whens = rw (none_before Gone refl whens) refl
+goes_at_first on_broken whens = rw (none_before on_broken whens) refl
 
 standing_none : (count : ℕ) → map standing_of (replicate count None) ≡ replicate count Sound
 standing_none zero = refl

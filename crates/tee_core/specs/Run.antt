@@ -1,7 +1,7 @@
 -- What a run of `tee` leaves, of its input and of what broke when.
-use Rattle.std.specs.Prelude.{is_none, ◌≡◌, ℕ, ◌≤◌, ◌<◌, ◌^◌, zero, suc, ◌==◌, ◌&&◌, ◌||◌, not, nat_lt, All, Bool, true, false, List, [], ◌∷◌, ◌++◌, length, map, take, Option, Some, None, ◌⊎◌, codes, if◌then◌else◌, get_or, IsTrue}
-use Rattle.std.specs.List.{concat}
-use Rattle.ports_core.specs.Slot.{Slot, opened, unopened, adds, breaks, closes, told_of}
+use Rattle.std.specs.Prelude.{is_none, ◌≡◌, ℕ, ◌≤◌, ◌<◌, ◌^◌, zero, suc, ◌==◌, ◌&&◌, ◌||◌, ◌+◌, not, nat_lt, All, Bool, true, false, List, [], ◌∷◌, ◌++◌, length, map, take, Option, Some, None, ◌⊎◌, codes, if◌then◌else◌, get_or, IsTrue}
+use Rattle.std.specs.List.{concat, list_any}
+use Rattle.ports_core.specs.Slot.{Slot, opened, slot_at, unopened, adds, breaks, closes, told_of}
 use Rattle.ports_core.specs.Inputs.{largest_piece}
 use Rattle.ports_core.specs.Source.{Content, Source, source_of}
 use Rattle.ports_core.specs.Text.{Message, message_of}
@@ -82,23 +82,24 @@ abbrev pub any_is : Standing → List Standing → Bool
 any_is one [] = false
 any_is one (standing ∷ standings) = is_same standing one || any_is one standings
 
--- Whether a run ends, where its outputs stand so: each once none is left; one that exits, with the first that broke;
--- without those that are gone, with the first that broke otherwise; one that goes by the signal, with the first that is
--- gone.
+-- an output that stands so ends a run, whatever is left
+abbrev pub ends_run : Standing → OnBroken → Bool
+ends_run Broken Exit = true
+ends_run Broken ExitNoPipe = true
+ends_run Gone Exit = true
+ends_run Gone Signal = true
+ends_run standing on_broken = false
+
+-- Whether a run ends, where its outputs stand so: with the first that ends it, and each once none is left.
 abbrev pub is_done : OnBroken → List Standing → Bool
-is_done Warn standings = not (any_is Sound standings)
-is_done Exit standings = any_is Broken standings || any_is Gone standings
-is_done WarnNoPipe standings = not (any_is Sound standings)
-is_done ExitNoPipe standings = any_is Broken standings || not (any_is Sound standings)
-is_done Signal standings = any_is Gone standings || not (any_is Sound standings)
+is_done on_broken standings =
+    list_any (λ standing. ends_run standing on_broken) standings || not (any_is Sound standings)
 
 -- nothing is said of an output that is gone
 abbrev pub is_quiet : OnBroken → Bool
 is_quiet Warn = false
 is_quiet Exit = false
-is_quiet WarnNoPipe = true
-is_quiet ExitNoPipe = true
-is_quiet Signal = true
+is_quiet on_broken = true
 
 -- there is a message for an output that stands so
 abbrev pub is_told : OnBroken → Standing → Bool
@@ -155,11 +156,10 @@ has_failed standings fault = not (is_none fault) || any_is Broken standings
 
 -- the status where an output is gone: one that goes by the signal has the status of a tool that the signal stopped
 abbrev pub gone_status : OnBroken → Bool → ℕ
-gone_status Warn failed = 1
-gone_status Exit failed = 1
+gone_status Signal failed = 141
 gone_status WarnNoPipe failed = if failed then 1 else 0
 gone_status ExitNoPipe failed = if failed then 1 else 0
-gone_status Signal failed = 141
+gone_status on_broken failed = 1
 
 abbrev pub status_for : OnBroken → List Standing → Option Fault → ℕ
 status_for on_broken standings fault = if any_is Gone standings
@@ -170,11 +170,13 @@ status_of on_broken broke fault = status_for on_broken (map standing_of broke) f
 
 -- an output that is gone is no fault
 abbrev pub forgives : OnBroken → Bool
-forgives Warn = false
-forgives Exit = false
 forgives WarnNoPipe = true
 forgives ExitNoPipe = true
-forgives Signal = false
+forgives on_broken = false
+
+-- no output is broken but standard error, of which nothing is said here
+abbrev pub AreSound : List Slot → Type 0
+AreSound slots = (place : ℕ) → (place ≡ 1 → ⊥) → (slot_at slots place).is_broken ≡ false
 
 -- How an input is read: to its end; or until it breaks off; or up to a piece with which it has more bytes than any tool
 -- takes; or, where the outputs that broke end the run, up to the piece in which that came, so that nothing after it is
@@ -202,9 +204,10 @@ GaveLast pieces source = (before : List (List ℕ)) (piece : List ℕ) → piece
     → source.last ≡ length piece
 
 -- An input came in these pieces, each of a size that one read gives, and together no more bytes than any tool takes. A
--- read failed only where that is the fault that is told. Where the reading ended with the input, a read told the end;
--- where the outputs that broke ended it, the last read gave the last piece. As that may come with any piece, each is what
--- one read gave.
+-- read failed only where that is the fault that is told. There was one read for each piece, and none but the one more with
+-- which the reading ended: it told the end, failed, or gave the piece that made it too long. Where the outputs that broke
+-- ended it, there was no such read, and the last one gave the last piece. As that may come with any piece, each is what one
+-- read gave.
 pub record ComesIn (told : Bool) (content : Content) (source : Source) (is_vain : Bool) (pieces : List (List ℕ))
     (fault : Option Fault) : Type 0 where
   pub read : IsRead content (LeavesOf told source) is_vain (concat pieces) fault
@@ -213,6 +216,7 @@ pub record ComesIn (told : Bool) (content : Content) (source : Source) (is_vain 
   pub met : (fault ≡ Some (Read 0)) ⊎ (source.is_broken ≡ false)
   pub ended : fault ≡ None → is_vain ≡ false → source.ended ≡ true
   pub last : told ≡ true → is_vain ≡ true → GaveLast pieces source
+  pub reads : source.reads ≡ length pieces + (if is_vain then 0 else 1)
 
 -- Standard output: it has all that was copied; or it broke in a piece, and has a beginning.
 pub data OutputLeft (told : Bool) (pieces : List (List ℕ)) : Option Break → Slot → Type 0 where

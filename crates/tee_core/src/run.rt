@@ -11,7 +11,7 @@ ghost use Rattle.ports_core.specs.Message.{SaysOn};
 ghost use Rattle.ports_core.specs.Source.{source_at, is_readable, IsFresh};
 ghost use Rattle.ports_core.specs.Inputs.{CameFrom, KeepsOthers, OfContent, AsksAtMost, largest_piece};
 ghost use Rattle.tee_core.specs.Opening.{Opens};
-ghost use Rattle.tee_core.specs.Run.{EachStandsFor, EndsAs, all_copied, forgives, is_done, lost_for, output_names, output_slot, said_of_input, status_for, tee_called};
+ghost use Rattle.tee_core.specs.Run.{AreSound, EachStandsFor, EndsAs, all_copied, forgives, is_done, lost_for, output_names, output_slot, said_of_input, status_for, tee_called};
 ghost use Rattle.tee_core.specs.inner.Steps.{HasCopied, Copies, CopiesRead, HasStreams, IsTeeOf, SaysTo, Sees, SeesAll, broken_of, is_lost, said_since, tells};
 ghost use Rattle.tee_core.specs.declared.standing.Standing.{Standing};
 ghost use Rattle.tee_core.specs.declared.standing.Standing.TheVariants.{Sound};
@@ -63,7 +63,7 @@ pub fn run_tee<I: Inputs, O: Outs>(
         (λ content. EndsAs I.told O.told O.breaks_for calling mode on_broken (map (λ name. name.now) names.now) content
         (source_at (I.sources inputs.new) 0) (O.slots outs.new) result
         × CameFrom I.told content (source_at (I.sources inputs.new) 0)) }
-    ensures whole { I.told ≡ true → result ≡ 0 → forgives on_broken ≡ false
+    ensures whole { I.told ≡ true → result ≡ 0 → (forgives on_broken ≡ true → AreSound (O.slots outs.new))
         → O.slots outs.new
         ≡ all_copied O.told mode (map (λ name. name.now) names.now) (source_at (I.sources inputs.old) 0).left.bytes }
     ensures others { KeepsOthers 0 (I.sources inputs.old) (I.sources inputs.new) }
@@ -168,6 +168,7 @@ fn copy_pieces<I: Inputs, O: Outs>(
     requires room { 0 < length buffer.old }
     requires most { length buffer.old ≤ largest_piece }
     requires input { IsTrue (is_readable (I.sources inputs.old) 0) }
+    requires unread { (source_at (I.sources inputs.old) 0).reads ≡ 0 }
     requires tee { IsTeeOf (map (λ name. name.now) job.now.names.now) tee.old }
     requires copies { (mode : Mode) × Copies O.told job.now.calling mode job.now.on_broken
         (map (λ name. name.now) job.now.names.now) [] [] (O.slots outs.old) known.old }

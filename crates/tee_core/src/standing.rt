@@ -1,6 +1,7 @@
 //! How outputs stand, and what follows for a run.
 ghost use Rattle.std.specs.Prelude.{◌≡◌};
-ghost use Rattle.tee_core.specs.Run.{any_is, gone_status, has_failed, is_done, is_quiet, is_same, is_told, lost_for, status_for};
+ghost use Rattle.std.specs.List.{list_any};
+ghost use Rattle.tee_core.specs.Run.{any_is, ends_run, gone_status, has_failed, is_done, is_quiet, is_same, is_told, lost_for, status_for};
 
 use ports_core::{Fault, OnBroken, Reason};
 
@@ -29,11 +30,30 @@ pub(crate) fn lost_for(why: Reason) -> Standing
 pub(crate) fn is_done(on_broken: OnBroken, known: &[Standing]) -> bool
     ensures { result ≡ is_done on_broken known.now }
 {
-    match on_broken {
-        OnBroken::Warn | OnBroken::WarnNoPipe => !any_is(Standing::Sound, known),
-        OnBroken::Exit => any_is(Standing::Broken, known) || any_is(Standing::Gone, known),
-        OnBroken::ExitNoPipe => any_is(Standing::Broken, known) || !any_is(Standing::Sound, known),
-        OnBroken::Signal => any_is(Standing::Gone, known) || !any_is(Standing::Sound, known),
+    any_ends(on_broken, known) || !any_is(Standing::Sound, known)
+}
+
+/// Whether any of them ends a run.
+fn any_ends(on_broken: OnBroken, mut standings: &[Standing]) -> bool
+    ensures { result ≡ list_any (λ standing. ends_run standing on_broken) standings.entry.now }
+{
+    while let [standing, rest @ ..] = standings {
+        if ends_run(*standing, on_broken) {
+            return true;
+        }
+        standings = rest;
+    }
+    false
+}
+
+/// Whether an output that stands so ends a run, whatever is left.
+fn ends_run(standing: Standing, on_broken: OnBroken) -> bool
+    ensures { result ≡ ends_run standing on_broken }
+{
+    match (standing, on_broken) {
+        (Standing::Broken, OnBroken::Exit | OnBroken::ExitNoPipe) => true,
+        (Standing::Gone, OnBroken::Exit | OnBroken::Signal) => true,
+        _ => false,
     }
 }
 

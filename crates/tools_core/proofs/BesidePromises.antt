@@ -27,7 +27,7 @@ use Rattle.run_core.specs.Input.{World, shown_of, input_of, inputs_at, inputs_fr
 use Rattle.run_core.specs.Reading.{AreDone, IsLeft}
 use Rattle.run_core.specs.RunEnds.{EndsAs, as_defined}
 use Rattle.run_core.specs.Task.{Task, made_by, status_of}
-use Rattle.tee_core.proofs.EndLemmas.{sound_goes_on}
+use Rattle.tee_core.proofs.EndLemmas.{sound_goes_on, sound_status}
 use Rattle.tee_core.specs.Run as tee
 use Rattle.tee_core.specs.declared.standing.Standing.TheVariants.{Sound}
 use Rattle.tee_core.specs.Run.{Break, FilesLeft, tee_called, IsRead, LeavesOf, are_sound, messages_of, said_of_input}
@@ -40,7 +40,7 @@ use Rattle.tools_core.specs.Outcome.{DoesAsked}
 use Rattle.tools_core.specs.Promises.{Completes, FindAlike, HasLong, IsUnstopped, Ran, Run, Unstopped}
 use Rattle.tools_core.specs.Tasks.{csplit_task, head_task, names_of, split_task, tail_task}
 use Rattle.tools_core.proofs.SameLemmas.{all_alike}
-use Rattle.tools_core.proofs.LeftLemmas.{sound_status, gone, met_by, outputs_of, quiet_outputs, slot_of}
+use Rattle.tools_core.proofs.LeftLemmas.{gone, met_by, outputs_of, quiet_outputs, slot_of}
 
 -- Of an input a tool reads a front: as far as it has enough of it, and no further.
 
@@ -247,7 +247,7 @@ tee_well breaks_for calling asked world few = record {
   fault = met_by content.breaks_off
 
   source : Source
-  source = record (source_of content) { left = record content { bytes = [] }; is_broken = content.breaks_off; taken = content.bytes; reached = length content.bytes; ended = true }
+  source = record (source_of content) { left = record content { bytes = [] }; is_broken = content.breaks_off; taken = content.bytes; reached = length content.bytes; ended = true; reads = length pieces + 1 }
 
   lines : TookLines (tee_called calling) (said_of_input fault) standard_error
   lines = took_lines (tee_called calling) (said_of_input fault) standard_error refl
@@ -264,6 +264,7 @@ tee_well breaks_for calling asked world few = record {
         met = met_or_sound content.breaks_off;
         ended = λ none some. refl;
         last = λ told vain. absurd (false≢true (sym (sound_goes_on asked.on_broken (suc (length pieces)) None (unbroken asked.names) (all_sound asked.names)) ∙ vain));
+        reads = ap (λ vain. length pieces + cond vain 0 1) (sym (sound_goes_on asked.on_broken (suc (length pieces)) None (unbroken asked.names) (all_sound asked.names)));
       })
       (sound_goes_on asked.on_broken (length pieces) None (unbroken asked.names) (all_sound asked.names)) tee.output_whole (copies_left asked.mode pieces asked.names) (stand_sound breaks_for asked.names)
       (rw (quiet_outputs asked.on_broken asked.names (None ∷ unbroken asked.names) (length pieces) fault (all_sound asked.names)) lines.says) refl refl

@@ -62,7 +62,7 @@ use Rattle.tee_core.specs.Run as tee
 use Rattle.tee_core.specs.declared.standing.Standing.{Standing}
 use Rattle.tee_core.specs.declared.standing.Standing.TheVariants.{Sound, Broken, Gone}
 use Rattle.tee_core.specs.Run.{Break, IsRead, are_sound, tee_called, messages_of, output_names, said_in, said_of_input}
-use Rattle.tee_core.proofs.EndLemmas.{nothing_before, nothing_in, sound_first, sound_goes_on, whole_files, whole_output}
+use Rattle.tee_core.proofs.EndLemmas.{nothing_before, nothing_in, sound_first, sound_goes_on, sound_status, whole_files, whole_output}
 use Rattle.words_core.specs.TeeWords.{TeeAsked}
 use Rattle.words_core.specs.Words.{settings_of}
 use Rattle.words_core.specs.declared.settings.Settings.{Settings}
@@ -544,18 +544,6 @@ met_status false = refl
 
 pub quiet_outputs : (on_broken : OnBroken) (names : List (List ℕ)) (broke : List (Option Break)) (pieces : ℕ) (fault : Option Fault) → are_sound broke ≡ true → messages_of on_broken names broke pieces fault ≡ said_of_input fault
 quiet_outputs on_broken names broke pieces fault sound = search (rules, nothing_before, nothing_in)
-
--- where none broke, the status tells whether the reading ended well
-none_lost : (one : Standing) → tee.is_same Sound one ≡ false → (broke : List (Option Break)) → are_sound broke ≡ true → tee.any_is one (map tee.standing_of broke) ≡ false
-none_lost one differs [] sound = refl
-none_lost one differs (None ∷ broke) sound = rw differs (none_lost one differs broke sound)
-none_lost one differs (Some other ∷ broke) sound = absurd (false≢true sound)
-
-pub sound_status : (on_broken : OnBroken) (broke : List (Option Break)) (fault : Option Fault) → are_sound broke ≡ true → tee.status_of on_broken broke fault ≡ cond (is_none fault) 0 1
-sound_status on_broken broke fault sound = rw (none_lost Gone refl broke sound, none_lost Broken refl broke sound) (by (is_none fault)) where
-  by : (ended : Bool) → ◌≡◌ {A = ℕ} (cond (not ended || false) 1 0) (cond ended 0 1)
-  by true = refl
-  by false = refl
 
 pub tee_left : {breaks_for : ℕ → Reason → Bool} {calling : Calling} {asked : TeeAsked} {content : Content} {source : Source} {new : List Slot} {status : ℕ} (ends : tee.EndsAs true true breaks_for calling asked.mode asked.on_broken asked.names content source new status) → IsCopied ends → IsLeft (tee_called calling) (tee_made asked content) new status
 tee_left {asked} {content} (tee.copied pieces fault first broke output error files comes some left rest stand says slots is) (sound, all) =

@@ -18,7 +18,7 @@ use Rattle.words_core.specs.Spelling.{given_by, IsRefused}
 use Rattle.words_core.specs.Value.{then_check}
 use Rattle.words_core.specs.Table.{ToolRow, row_named, tools}
 use Rattle.words_core.specs.Words.{about_or, topic_in, work_for, program_asked, settings_for, settings_of, tool_settings, topic_named, CanRun, HasBadOperands, looks}
-use Rattle.tools_core.specs.Outcome.{speaker, or_cutters, RefusesFor, RunEndsAt, TeeEndsAs, names_at}
+use Rattle.tools_core.specs.Outcome.{speaker, RefusesFor, RunEndsAt, TeeEndsAs, names_at}
 use Rattle.tools_core.specs.Tasks.{by, speaker_of, tool_of}
 use Rattle.ports_core.specs.declared.calling.Calling.{Calling}
 use Rattle.ports_core.specs.declared.calling.Calling.TheVariants.{Cutters, OwnName}
@@ -40,7 +40,7 @@ use Rattle.run_core.specs.RunSteps.{world_of}
 use Rattle.run_core.proofs.InputLemmas.{none_touched}
 use Rattle.seg_core.specs.declared.count.Count.{Count}
 use Rattle.seg_core.specs.declared.unit.Unit.{Unit as Counted}
-use Rattle.tee_core.specs.Run.{IsAsFound, all_copied, forgives, EndsAs as TeeCopies}
+use Rattle.tee_core.specs.Run.{AreSound, IsAsFound, all_copied, forgives, EndsAs as TeeCopies}
 use Rattle.operand_core.specs.Reading.{no_memory}
 use Rattle.words_core.specs.declared.settings.Headers.{Headers}
 use Rattle.ports_core.specs.declared.fault.UsageKind.TheVariants.{BadFollow}
@@ -80,7 +80,7 @@ by_topic : (topic : Option Topic) {settings : Settings} → program_asked topic 
 by_topic (Some topic) {settings} is = let same : About tool.Cutters topic ≡ settings = cc in rw (← same) (refl, tt)
 by_topic None is = absurd (cc)
 
-named : (calling : Calling) (row : Option ToolRow) (name : List ℕ) (words : List (List ℕ)) (settings : Settings) → tool_settings calling name words row ≡ Ok settings → or_cutters (option_map (λ row. row.tool) row) ≡ tool_of settings
+named : (calling : Calling) (row : Option ToolRow) (name : List ℕ) (words : List (List ℕ)) (settings : Settings) → tool_settings calling name words row ≡ Ok settings → unwrap_or (option_map (λ row. row.tool) row) tool.Cutters ≡ tool_of settings
 named calling (Some row) name words settings is = by_given calling (given_by calling row words) is
 named calling None name words settings is = sym (by_topic (topic_named name) is).0
 
@@ -120,7 +120,7 @@ finds_standard {laid} sources {content} there = record {
 
 pub tee_runs : {told_in told : Bool} {breaks_for : ℕ → Reason → Bool} {calling : Calling} {laid : ℕ → List ℕ → Option Content} {asked : TeeAsked} {mode : Mode} {on_broken : OnBroken} {names : List (List ℕ)} (old : List Source) {sources : List Source} {new : List Slot} {status : ℕ} → mode ≡ asked.mode → on_broken ≡ asked.on_broken → names ≡ asked.names
     → OfContent told_in (source_at old 0).left (λ content. TeeCopies told_in told breaks_for calling mode on_broken names content (source_at sources 0) new status × CameFrom told_in content (source_at sources 0))
-    → (told_in ≡ true → status ≡ 0 → forgives on_broken ≡ false → new ≡ all_copied told mode names (source_at old 0).left.bytes) → RunsOver told_in (world_of laid old) (codes "-" ∷ []) (λ found. TeeEndsAs calling told_in told breaks_for asked found sources new status)
+    → (told_in ≡ true → status ≡ 0 → (forgives on_broken ≡ true → AreSound new) → new ≡ all_copied told mode names (source_at old 0).left.bytes) → RunsOver told_in (world_of laid old) (codes "-" ∷ []) (λ found. TeeEndsAs calling told_in told breaks_for asked found sources new status)
 tee_runs {told} {mode} {names} old mode_is broken_is names_is (content, there, (ends, came)) whole = (
   standard_input content ∷ [],
   finds_standard old there,
@@ -129,7 +129,7 @@ tee_runs {told} {mode} {names} old mode_is broken_is names_is (content, there, (
     input = refl;
     ends = rw (mode_is, broken_is, names_is) at ends;
     came = came;
-    whole = λ t well told_of. rw (mode_is, names_is) at (whole t well (ap forgives broken_is ∙ told_of) ∙ ap (λ (those : Content). all_copied told mode names those.bytes) (sym (there t)));
+    whole = λ t well sound. rw (mode_is, names_is) at (whole t well (λ forgiving. sound (ap forgives (sym broken_is) ∙ forgiving)) ∙ ap (λ (those : Content). all_copied told mode names those.bytes) (sym (there t)));
   },
 )
 
@@ -160,8 +160,9 @@ refused_memory words fault refuses = record {
 
 -- what is said of the words is said by the tool that they ask for
 pub memory_by : {told : Bool} (calling : Calling) {which tool : Tool} {old new : Slot} → which ≡ tool → Says told (by Cutters which) (message_of Memory []) old new → Says told (by calling tool) (message_of Memory []) old new
-memory_by {told} calling {which} {old} {new} is (why, says) =
-    let spoken : Says told (by calling which) (message_of Memory []) old new = (why, record { said = says.said; is = says.is; printed = says.printed }) in rw is at spoken
+memory_by {told} OwnName {which} {old} {new} is (why, says) =
+    let spoken : Says told (by OwnName which) (message_of Memory []) old new = (why, record { said = says.said; is = says.is; printed = says.printed }) in rw is at spoken
+memory_by Cutters is says = rw is at says
 
 says_as : {told : Bool} (calling : Calling) (words : List (List ℕ)) {settings : Settings} {new : List Slot} {status : ℕ} → settings_of calling words ≡ Ok settings → (refuses : RefusesFor told words Memory new status)
     → SaysAll told (speaker_of calling settings) (message_of Memory [] ∷ []) standard_error refuses.error

@@ -35,7 +35,7 @@ use Rattle.tee_core.specs.Run.{Break, FilesLeft, IsRead, OutputLeft, are_sound, 
 use Rattle.tee_core.specs.Run as tee
 use Rattle.tee_core.specs.declared.standing.Standing.{Standing}
 use Rattle.tee_core.specs.declared.standing.Standing.TheVariants.{Sound, Broken, Gone}
-use Rattle.tee_core.proofs.EndLemmas.{sound_goes_on, sound_if, status_zero}
+use Rattle.tee_core.proofs.EndLemmas.{sound_goes_on, sound_if, sound_status, well_of}
 use Rattle.words_core.specs.Words.{HasBadOperands}
 use Rattle.words_core.specs.TeeWords.{TeeAsked}
 use Rattle.words_core.specs.declared.settings.Settings.{Settings}
@@ -48,7 +48,7 @@ use Rattle.tools_core.specs.Outcome.{DoesAsked, refuser, speaker, word_of}
 use Rattle.tools_core.specs.Tasks.{by, names_of, speaker_of, tool_of}
 use Rattle.tools_core.specs.Promises.{BrokeAt, Completes, Does, HasGone, HasLong, IsCalled, IsCopied, IsGone, IsSilent, IsStopped, IsTask, IsUnstopped, Ran, Run, SaysLines, SaysWhy, StopsRun, Tells, TellsMet, Unstopped, WhyBroken, broken_off, failing, named, removes_files}
 use Rattle.tools_core.proofs.BeginLemmas.{broken_tells, IsLoud, IsMarked, TellsOfInput, failing_stops, marked_at, tee_lines, tee_tells, unsound_broke}
-use Rattle.tools_core.proofs.LeftLemmas.{HasLine, LeftBy, sound_status, all_tell, completes_left, left_at, left_says, one_line, ran_over, slots_at, swept_gone, swept_kept, speaker_is, AreLive, IsSoundAt, has_after, has_before, inputs_fit, live_begin, outputs_live, says_line, step_live, task_lives}
+use Rattle.tools_core.proofs.LeftLemmas.{HasLine, LeftBy, all_tell, completes_left, left_at, left_says, one_line, ran_over, slots_at, swept_gone, swept_kept, speaker_is, AreLive, IsSoundAt, has_after, has_before, inputs_fit, live_begin, outputs_live, says_line, step_live, task_lives}
 use Rattle.tools_core.proofs.RunLemmas.{memory_by, runs_as_named}
 
 -- What was read of an input is a beginning of it.
@@ -358,8 +358,9 @@ bad_stops run asked fault bad = absurd bad
 
 -- no reason stands in its line, so it is the same however the program was called
 usage_by : {old new : Slot} (calling : Calling) {which tool : Tool} (kind : UsageKind) (place : ℕ) (name : List ℕ) → which ≡ tool → Says true (by Cutters which) (message_of (Usage kind place) name) old new → Says true (by calling tool) (message_of (Usage kind place) name) old new
-usage_by {old} {new} calling {which} kind place name is (why, says) =
-    let spoken : Says true (by calling which) (message_of (Usage kind place) name) old new = (why, record { said = says.said; is = says.is; printed = says.printed }) in rw is at spoken
+usage_by {old} {new} OwnName {which} kind place name is (why, says) =
+    let spoken : Says true (by OwnName which) (message_of (Usage kind place) name) old new = (why, record { said = says.said; is = says.is; printed = says.printed }) in rw is at spoken
+usage_by Cutters kind place name is says = rw is at says
 
 refused_by : {old new : Slot} (run : Run) (asked : Settings) (fault : Fault) → HasBadOperands asked fault → speaker run.words ≡ tool_of asked → Says true (refuser run.words) (message_of fault (word_of run.words fault)) old new → Says true (speaker_of run.calling asked) (message_of fault (word_of run.words fault)) old new
 refused_by run asked Memory bad is says = memory_by run.calling is says
@@ -379,30 +380,17 @@ ran_so {run} {asked} ran = elim (ran_over ran) [
 
 -- a `tee` that met no fault has copied all, where nothing is said of what is gone
 
-none_failed : (ended : Bool) → ◌≡◌ {A = ℕ} (cond ended 0 1) 0 → ended ≡ true
-none_failed true is = refl
-none_failed false is = absurd (omega (arith, is))
-
 whole_copied : (run : Run) (asked : TeeAsked) {content : Content} {source : Source} (ends : tee.EndsAs true true run.breaks_for run.calling asked.mode asked.on_broken asked.names content source run.outputs run.status)
-    → run.status ≡ 0 → (tee.forgives asked.on_broken ≡ true → (place : ℕ) → (place ≡ 1 → ⊥) → (slot_at run.outputs place).is_broken ≡ false) → IsCopied ends
-whole_copied run asked {content} (tee.copied pieces fault first broke output error files comes some left rest stand says slots is) well unforgiven =
-    let all = sound (cases_Bool (are_sound (first ∷ broke))) in
-    let ended = none_failed (is_none fault) (sym (sound_status asked.on_broken (first ∷ broke) fault all) ∙ sym is ∙ well) in (
-      all,
-      elim (read_or _ (sound_goes_on asked.on_broken (suc (length pieces)) first broke all) comes.read) [
+    → run.status ≡ 0 → (tee.forgives asked.on_broken ≡ true → tee.AreSound run.outputs) → IsCopied ends
+whole_copied run asked (tee.copied pieces fault first broke output error files comes some left rest stand says slots is) well sound =
+    let good = well_of asked.on_broken fault left rest slots sound (sym is ∙ well) in (
+      good.1,
+      elim (read_or _ (sound_goes_on asked.on_broken (suc (length pieces)) first broke good.1) comes.read) [
         | inl same ↦ same
-        | inr (met, many) ↦ absurd (false≢true (ap is_none (sym met) ∙ ended))
+        | inr (met, many) ↦ absurd (false≢true (ap is_none (sym met) ∙ good.0))
       ],
-    ) where
-      sound : (are_sound (first ∷ broke) ≡ true) ⊎ (are_sound (first ∷ broke) ≡ false) → are_sound (first ∷ broke) ≡ true
-      sound (inl is) = is
-      sound (inr unsound) =
-          let (place, differs, broken) = unsound_broke {error = error} left rest unsound in
-          elim (cases_Bool (tee.forgives asked.on_broken)) [
-            | inl forgiving ↦ absurd (false≢true (sym (unforgiven forgiving place differs) ∙ rw slots broken))
-            | inr strict ↦ (status_zero asked.on_broken (first ∷ broke) fault strict (sym is ∙ well)).1
-          ]
-whole_copied run asked (tee.no_room error says unread slots is) well unforgiven = absurd (omega (arith, is, well))
+    )
+whole_copied run asked (tee.no_room error says unread slots is) well sound = absurd (omega (arith, is, well))
 
 pub silent_completes : {run : Run} (asked : Settings) → Does run asked → IsSilent run asked → Completes run asked
 silent_completes {run} (Tee asked) does silent = elim (ran_over does.ran) [

@@ -1,47 +1,77 @@
--- What a run of `tee` leaves that is to end with the first output that breaks.
-use Rattle.std.proofs.Common.{◌≡◌, ◌⊎◌, ◌||◌, ℕ, ◌≤◌, ◌<◌, ◌^◌, zero, suc, Bool, true, false, List, [], ◌∷◌, ◌++◌, length, take, Option, None, Some, cond, nat_lt, inl, inr, refl, sym, ◌∙◌, ap, arith, append-nil, append_assoc, All, length-append}
-use Rattle.std.proofs.lemmas.Bool.{or_parts, false≢true}
+-- What a run of `tee` leaves, and what ended it.
+use Rattle.std.proofs.Common.{◌≡◌, ◌⊎◌, ◌||◌, ℕ, ◌≤◌, ◌<◌, ◌^◌, ◌+◌, get_or, map, not, zero, suc, Bool, true, false, List, [], ◌∷◌, ◌++◌, length, take, Option, None, Some, cond, if◌then◌else◌, nat_lt, inl, inr, refl, sym, ◌∙◌, ap, subst, arith, append-nil, append_assoc, All, length-append}
+use Rattle.std.proofs.lemmas.Bool.{lt-ltb, not-true, or_parts, false≢true}
 use Rattle.std.proofs.lemmas.Bool.Decides.{nat_tests}
 use Rattle.std.proofs.Math.Bool.{or-true}
-use Rattle.std.specs.List.{concat}
+use Rattle.std.specs.List.{concat, list_any}
+use Rattle.std.proofs.lemmas.List.Folds.{concat-append}
 use Rattle.ports_core.specs.Inputs.{largest_piece}
 use Rattle.ports_core.specs.Slot.{Slot, slot_at}
 use Rattle.ports_core.specs.Source.{Content, Source, source_at}
 use Rattle.ports_core.specs.Streams.{streams_with}
 use Rattle.ports_core.specs.declared.fault.Fault.{Fault}
 use Rattle.ports_core.specs.declared.fault.Fault.TheVariants.{Memory}
-use Rattle.ports_core.specs.declared.on_broken.OnBroken.TheVariants.{Exit}
+use Rattle.ports_core.specs.declared.on_broken.OnBroken.{OnBroken}
+use Rattle.ports_core.specs.declared.slot.State.TheVariants.{Unopened}
 use Rattle.ports_core.specs.declared.slot.Mode.{Mode}
-use Rattle.ports_core.proofs.PartLemmas.{begins_itself, take_begins_after}
+use Rattle.ports_core.proofs.PartLemmas.{begins_itself, begins_more, begins_trans, take_begins_after}
+use Rattle.ports_core.specs.Part.{IsBeginning}
 use Rattle.tee_core.specs.Run as tee
-use Rattle.tee_core.specs.Run.{Break, FileLeft, FilesLeft, IsRead, LeavesOf, OutputLeft, is_done, lost_as, standings_before}
+use Rattle.tee_core.specs.Run.{Break, FileLeft, FilesLeft, IsRead, LeavesOf, OutputLeft, any_is, ends_run, is_done, is_same, lost_as, standing_before, standing_of, standings_before}
+use Rattle.tee_core.specs.declared.standing.Standing.{Standing}
 use Rattle.tee_core.specs.declared.standing.Standing.TheVariants.{Sound}
 use Rattle.words_core.specs.TeeWords.{TeeAsked}
 use Rattle.words_core.specs.declared.settings.Settings.TheVariants.{Tee}
-use Rattle.tools_core.specs.Promises.{EndsWithBreak, HasUpTo, Ran, Run, TellsMet}
+use Rattle.tools_core.specs.Promises.{EndsWithBreak, HasUpTo, OneIs, Ran, Run, Tells, TellsMet}
 use Rattle.ports_core.specs.Text.{message_of}
 use Rattle.tools_core.proofs.LeftLemmas.{one_line, ran_over, same_content}
 
--- which outputs broke before a call
+-- which outputs end the run that broke before a call
 
-abbrev lost_before : ℕ → Option Break → Bool
-lost_before call None = false
-lost_before call (Some broke) = nat_lt broke.call call
+abbrev Ends : OnBroken → ℕ → Option Break → Bool
+Ends on_broken call when = ends_run (standing_before call when) on_broken
 
-abbrev some_lost : ℕ → List (Option Break) → Bool
-some_lost call [] = false
-some_lost call (when ∷ broke) = lost_before call when || some_lost call broke
+abbrev some_end : OnBroken → ℕ → List (Option Break) → Bool
+some_end on_broken call broke = list_any (λ standing. ends_run standing on_broken) (standings_before call broke)
 
--- the run exits once one did
-lost_is : (call : ℕ) (broke : List (Option Break)) → is_done Exit (standings_before call broke) ≡ some_lost call broke
-lost_is call [] = refl
-lost_is call (None ∷ broke) = lost_is call broke
-lost_is call (Some one ∷ broke) = by (nat_lt one.call call) one.is_gone (lost_is call broke) where
-  by : (early gone : Bool) → is_done Exit (standings_before call broke) ≡ some_lost call broke
-      → is_done Exit (cond early (lost_as gone) Sound ∷ standings_before call broke) ≡ (early || some_lost call broke)
-  by true true later = or-true _
-  by true false later = refl
-  by false gone later = later
+-- one that ends it in the last call, and no sooner
+ends_now : (on_broken : OnBroken) (call at : ℕ) (gone : Bool) → Ends on_broken call (Some (record { call = at; is_gone = gone })) ≡ false → ends_run (lost_as gone) on_broken ≡ true → nat_lt at call ≡ false
+ends_now on_broken call at gone late ends = by (nat_lt at call) late where
+  by : (sooner : Bool) → ends_run (cond sooner (lost_as gone) Sound) on_broken ≡ false → sooner ≡ false
+  by true late = absurd (false≢true (sym late ∙ ends))
+  by false late = refl
+
+-- one that ended it does so as it stands in the end
+ends_still : (on_broken : OnBroken) (call : ℕ) (when : Option Break) → Ends on_broken call when ≡ true → ends_run (standing_of when) on_broken ≡ true
+ends_still on_broken call None ends = absurd (false≢true ends)
+ends_still on_broken call (Some one) ends = by (nat_lt one.call call) ends where
+  by : (sooner : Bool) → ends_run (cond sooner (lost_as one.is_gone) Sound) on_broken ≡ true → ends_run (lost_as one.is_gone) on_broken ≡ true
+  by true ends = ends
+  by false ends = absurd (false≢true ends)
+
+-- one that could not be opened ended it before any later call
+first_ends : (on_broken : OnBroken) (call : ℕ) (gone : Bool) → ends_run (lost_as gone) on_broken ≡ true → Ends on_broken (suc call) (Some (record { call = 0; is_gone = gone })) ≡ true
+first_ends on_broken call gone ends = by (nat_lt 0 (suc call)) (lt-ltb 0 (suc call) (omega arith)) where
+  by : (sooner : Bool) → sooner ≡ true → ends_run (cond sooner (lost_as gone) Sound) on_broken ≡ true
+  by true is = ends
+  by false is = absurd (false≢true is)
+
+lost_gone : (gone : Bool) → true ≡ not (is_same Sound (lost_as gone))
+lost_gone true = refl
+lost_gone false = refl
+
+never_sound : (gone : Bool) → lost_as gone ≡ Sound → ⊥
+never_sound true is = cc
+never_sound false is = cc
+
+-- one that is sound in the end was so before
+sound_before : (call : ℕ) (when : Option Break) → standing_of when ≡ Sound → is_same (standing_before call when) Sound ≡ true
+sound_before call None is = refl
+sound_before call (Some one) is = absurd (never_sound one.is_gone is)
+
+either : (one other : Bool) → (one || other) ≡ true → (one ≡ true) ⊎ (other ≡ true)
+either true other some = inl refl
+either false other some = inr some
 
 -- all pieces but the last, and the last
 
@@ -70,40 +100,67 @@ last_small [] sizes = omega arith
 last_small (piece ∷ []) sizes = (sizes 0 piece (omega arith)).1
 last_small (piece ∷ next ∷ pieces) sizes = last_small (next ∷ pieces) (λ k byte within. sizes (suc k) byte (omega arith))
 
--- an output that has all of them, or broke in the last one
+-- how outputs are left
 
-has_whole : (pieces : List (List ℕ)) {output : Slot} → output.written ≡ concat pieces → HasUpTo (front_of pieces) (last_of pieces) output
-has_whole pieces is = let all = is ∙ all_are pieces in record {
-  some = (last_of pieces, all);
-  no_more = rw all (begins_itself _);
-  sound = λ sound. all;
-}
+-- in the last call of a run over these pieces, in which so many reads were made
+module _ (run : Run) (on_broken : OnBroken) (pieces : List (List ℕ)) where
+  abbrev IsUpTo : Standing → Slot → Type 0
+  IsUpTo = HasUpTo run on_broken (front_of pieces) (last_of pieces)
 
-has_cut : {pieces : List (List ℕ)} (before : List (List ℕ)) (piece : List ℕ) (after : List (List ℕ)) (n : ℕ) {output : Slot} → pieces ≡ before ++ piece ∷ after → nat_lt (suc (length before)) (length pieces) ≡ false
-    → output.written ≡ concat before ++ take n piece → output.is_broken ≡ true → HasUpTo (front_of pieces) (last_of pieces) output
-has_cut before piece [] n is late has broken = let (front, last) = front_is before piece in rw (is, front, last) (record {
-  some = (take n piece, has);
-  no_more = rw has (take_begins_after n (concat before) piece);
-  sound = λ sound. absurd (cc);
-})
-has_cut before piece (next ∷ after) n is late has broken = let size = ap length is ∙ length-append before (piece ∷ next ∷ after) in absurd (grind (arith, nat_tests, size, late))
+  -- where one ended the run before a piece came, nothing was read
+  abbrev NoneRead : Bool → Type 0
+  NoneRead ends = ends ≡ true → pieces ≡ [] → (source_at run.inputs 0).reads ≡ 0
 
-output_up_to : {pieces : List (List ℕ)} {when : Option Break} {output : Slot} → lost_before (length pieces) when ≡ false → OutputLeft true pieces when output → HasUpTo (front_of pieces) (last_of pieces) output
-output_up_to {pieces} late tee.output_whole = has_whole pieces refl
-output_up_to late (tee.output_cut before piece after n is few) = has_cut before piece after n is late refl refl
+  has_whole : (standing : Standing) (output : Slot) → output.is_broken ≡ not (is_same Sound standing) → (output.state ≡ Unopened → ⊥) → output.written ≡ concat pieces → IsUpTo standing output
+  has_whole standing output broken opened is = let all = is ∙ all_are pieces in record {
+    broken = broken;
+    no_more = rw all (begins_itself _);
+    sound = λ sound. all;
+    some = λ ends. (last_of pieces, all);
+    unopened = λ ends unopened. absurd (opened unopened);
+  }
 
-file_up_to : {mode : Mode} {pieces : List (List ℕ)} {name : List ℕ} {when : Option Break} {file : Slot} → lost_before (length pieces) when ≡ false → FileLeft true mode pieces name when file → HasUpTo (front_of pieces) (last_of pieces) file
-file_up_to {pieces = pieces} late tee.file_whole = has_whole pieces refl
-file_up_to {pieces = []} late (tee.file_unopened kept named) = has_whole [] refl
-file_up_to {pieces = piece ∷ pieces} late (tee.file_unopened kept named) = absurd (grind (arith, nat_tests, late))
-file_up_to late (tee.file_cut before piece after n is few) = has_cut before piece after n is late refl refl
-file_up_to {pieces = pieces} late tee.file_unclosed = has_whole pieces refl
+  has_cut : (before : List (List ℕ)) (piece : List ℕ) (after : List (List ℕ)) (n : ℕ) (gone : Bool) (output : Slot) → pieces ≡ before ++ piece ∷ after → Ends on_broken (length pieces) (Some (record { call = suc (length before); is_gone = gone })) ≡ false
+      → output.written ≡ concat before ++ take n piece → output.is_broken ≡ true → (output.state ≡ Unopened → ⊥) → IsUpTo (lost_as gone) output
+  has_cut before piece after n gone output is late has broken opened = record {
+    broken = broken ∙ lost_gone gone;
+    no_more = rw has (begins_trans _ _ _ (take_begins_after n (concat before) piece) (rw (sym (all_are pieces) ∙ ap concat is ∙ concat-append before (piece ∷ after) ∙ sym (append_assoc (concat before) piece (concat after))) (begins_more _ _)));
+    sound = λ sound. absurd (never_sound gone sound);
+    some = λ ends. last_one after is (ends_now on_broken (length pieces) (suc (length before)) gone late ends);
+    unopened = λ ends unopened. absurd (opened unopened);
+  } where
+    last_one : (after : List (List ℕ)) → pieces ≡ before ++ piece ∷ after → nat_lt (suc (length before)) (length pieces) ≡ false → IsBeginning (front_of pieces) output.written
+    last_one [] is late = (take n piece, has ∙ ap (λ front. front ++ take n piece) (sym (ap front_of is ∙ (front_is before piece).0)))
+    last_one (next ∷ after) is late = let size = ap length is ∙ length-append before (piece ∷ next ∷ after) in absurd (grind (arith, nat_tests, size, late))
 
-files_up_to : {mode : Mode} {pieces names : List (List ℕ)} {broke : List (Option Break)} {files : List Slot} (place : ℕ) → some_lost (length pieces) broke ≡ false → FilesLeft true mode pieces names broke files → place < length files
-    → HasUpTo (front_of pieces) (last_of pieces) (slot_at files place)
-files_up_to place late tee.no_file within = absurd (omega arith)
-files_up_to {pieces = pieces} zero late (tee.one_file name names when broke file files left rest) within = file_up_to (or_parts (lost_before (length pieces) when) (some_lost (length pieces) broke) late).0 left
-files_up_to {pieces = pieces} (suc place) late (tee.one_file name names when broke file files left rest) within = files_up_to place (or_parts (lost_before (length pieces) when) (some_lost (length pieces) broke) late).1 rest (omega arith)
+  output_up_to : {when : Option Break} {output : Slot} → Ends on_broken (length pieces) when ≡ false → OutputLeft true pieces when output → IsUpTo (standing_of when) output
+  output_up_to late tee.output_whole = has_whole Sound _ refl (λ is. cc) refl
+  output_up_to late (tee.output_cut {is_gone = gone} before piece after n is few) = has_cut before piece after n gone _ is late refl refl (λ is. cc)
+
+  file_up_to : {mode : Mode} {name : List ℕ} {when : Option Break} {file : Slot} → Ends on_broken (length pieces) when ≡ false → NoneRead (Ends on_broken (suc (length pieces)) when) → FileLeft true mode pieces name when file → IsUpTo (standing_of when) file
+  file_up_to late none tee.file_whole = has_whole Sound _ refl (λ is. cc) refl
+  file_up_to late none (tee.file_unopened {is_gone = gone} kept named) = record {
+    broken = lost_gone gone;
+    no_more = (front_of pieces ++ last_of pieces, refl);
+    sound = λ sound. absurd (never_sound gone sound);
+    some = λ ends. rw (at_first ends) (begins_itself []);
+    unopened = λ ends unopened. none (first_ends on_broken (length pieces) gone ends) (at_first ends);
+  } where
+    at_first : ends_run (lost_as gone) on_broken ≡ true → pieces ≡ []
+    at_first ends = by pieces (ends_now on_broken (length pieces) 0 gone late ends) where
+      by : (pieces : List (List ℕ)) → nat_lt 0 (length pieces) ≡ false → pieces ≡ []
+      by [] none = refl
+      by (piece ∷ pieces) none = absurd (grind (arith, nat_tests, none))
+  file_up_to late none (tee.file_cut {is_gone = gone} before piece after n is few) = has_cut before piece after n gone _ is late refl refl (λ is. cc)
+  file_up_to late none (tee.file_unclosed {is_gone = gone}) = has_whole (lost_as gone) _ (lost_gone gone) (λ is. cc) refl
+
+  files_up_to : {mode : Mode} {names : List (List ℕ)} {broke : List (Option Break)} {files : List Slot} (place : ℕ) → some_end on_broken (length pieces) broke ≡ false → NoneRead (some_end on_broken (suc (length pieces)) broke) → FilesLeft true mode pieces names broke files → place < length files
+      → IsUpTo (get_or (map standing_of broke) place Sound) (slot_at files place)
+  files_up_to place late none tee.no_file within = absurd (omega arith)
+  files_up_to zero late none (tee.one_file name names when broke file files left rest) within =
+      file_up_to (or_parts (Ends on_broken (length pieces) when) (some_end on_broken (length pieces) broke) late).0 (λ ends. none (rw ends refl)) left
+  files_up_to (suc place) late none (tee.one_file name names when broke file files left rest) within =
+      files_up_to place (or_parts (Ends on_broken (length pieces) when) (some_end on_broken (length pieces) broke) late).1 (λ ends. none (rw ends (or-true _))) rest (omega arith)
 
 -- what was read, and what is left
 
@@ -114,56 +171,79 @@ read_up_to source few (tee.to_break x is breaks leaves) = ([], is ∙ sym (appen
 read_up_to source few (tee.to_limit x piece rest is many within leaves) = let size = ap length is ∙ length-append (x ++ piece) rest in absurd (omega (arith, size, many, few))
 read_up_to source few (tee.to_broken_output x rest is leaves) = (rest, is, leaves refl, inr refl)
 
--- which output broke
+-- which output ended it
 
-output_broke : {pieces : List (List ℕ)} {when : Option Break} {output : Slot} (call : ℕ) → lost_before call when ≡ true → OutputLeft true pieces when output → output.is_broken ≡ true
-output_broke call broke tee.output_whole = absurd (false≢true broke)
-output_broke call broke (tee.output_cut before piece after n is few) = refl
+files_end : {mode : Mode} {pieces names : List (List ℕ)} {broke : List (Option Break)} {files : List Slot} (on_broken : OnBroken) (call : ℕ) → some_end on_broken call broke ≡ true → FilesLeft true mode pieces names broke files
+    → (place : ℕ) × (place < length files) × (ends_run (get_or (map standing_of broke) place Sound) on_broken ≡ true)
+files_end on_broken call some tee.no_file = absurd (false≢true some)
+files_end on_broken call some (tee.one_file name names when broke file files left rest) = elim (either (Ends on_broken call when) (some_end on_broken call broke) some) [
+  | inl here ↦ (0, omega arith, ends_still on_broken call when here)
+  | inr later ↦ let (place, within, ends) = files_end on_broken call later rest in (suc place, omega (arith, within), ends)
+]
 
-file_broke : {mode : Mode} {pieces : List (List ℕ)} {name : List ℕ} {when : Option Break} {file : Slot} (call : ℕ) → lost_before call when ≡ true → FileLeft true mode pieces name when file → file.is_broken ≡ true
-file_broke call broke tee.file_whole = absurd (false≢true broke)
-file_broke call broke (tee.file_unopened kept named) = refl
-file_broke call broke (tee.file_cut before piece after n is few) = refl
-file_broke call broke tee.file_unclosed = refl
+-- where none is left no file is sound
+files_lost : {mode : Mode} {pieces names : List (List ℕ)} {broke : List (Option Break)} {files : List Slot} (call place : ℕ) → any_is Sound (standings_before call broke) ≡ false → FilesLeft true mode pieces names broke files → place < length files → get_or (map standing_of broke) place Sound ≡ Sound → ⊥
+files_lost call place none tee.no_file within sound = omega (arith, within)
+files_lost call zero none (tee.one_file name names when broke file files left rest) within sound =
+    false≢true (sym (or_parts (is_same (standing_before call when) Sound) (any_is Sound (standings_before call broke)) none).0 ∙ sound_before call when sound)
+files_lost call (suc place) none (tee.one_file name names when broke file files left rest) within sound =
+    files_lost call place (or_parts (is_same (standing_before call when) Sound) (any_is Sound (standings_before call broke)) none).1 rest (omega arith) sound
 
-files_broke : {mode : Mode} {pieces names : List (List ℕ)} {broke : List (Option Break)} {files : List Slot} (call : ℕ) → some_lost call broke ≡ true → FilesLeft true mode pieces names broke files
-    → (place : ℕ) × ((slot_at files place).is_broken ≡ true)
-files_broke call some tee.no_file = absurd (false≢true some)
-files_broke call some (tee.one_file name names when broke file files left rest) =
-    by (lost_before call when) refl some (λ later. let (place, broken) = files_broke call later rest in (suc place, broken)) where
-      by : (test : Bool) → lost_before call when ≡ test → (test || some_lost call broke) ≡ true
-          → (some_lost call broke ≡ true → (place : ℕ) × ((slot_at (file ∷ files) place).is_broken ≡ true))
-          → (place : ℕ) × ((slot_at (file ∷ files) place).is_broken ≡ true)
-      by true is some later = (0, file_broke call is left)
-      by false is some later = later some
+-- how each output stands: standard error, of which nothing is said, as if it were sound
+abbrev stand_at : Option Break → List (Option Break) → ℕ → Standing
+stand_at first broke zero = standing_of first
+stand_at first broke (suc zero) = Sound
+stand_at first broke (suc (suc place)) = get_or (map standing_of broke) place Sound
 
-one_broke : {mode : Mode} {pieces names : List (List ℕ)} {first : Option Break} {broke : List (Option Break)} {output error : Slot} {files : List Slot} (call : ℕ) → some_lost call (first ∷ broke) ≡ true
-    → OutputLeft true pieces first output → FilesLeft true mode pieces names broke files → (place : ℕ) × (place ≡ 1 → ⊥) × ((slot_at (output ∷ error ∷ files) place).is_broken ≡ true)
-one_broke {first} {broke} {output} {error} {files} call some left rest = by (lost_before call first) refl some where
-  by : (test : Bool) → lost_before call first ≡ test → (test || some_lost call broke) ≡ true → (place : ℕ) × (place ≡ 1 → ⊥) × ((slot_at (output ∷ error ∷ files) place).is_broken ≡ true)
-  by true is some = (0, (λ same. omega (arith, same)), output_broke call is left)
-  by false is some = let (place, broken) = files_broke call some rest in (suc (suc place), (λ same. omega (arith, same)), broken)
+none_sound : {mode : Mode} {pieces names : List (List ℕ)} {broke : List (Option Break)} {files : List Slot} (call : ℕ) (first : Option Break) → any_is Sound (standings_before call (first ∷ broke)) ≡ false → FilesLeft true mode pieces names broke files
+    → (place : ℕ) → (place ≡ 1 → ⊥) → place < suc (suc (length files)) → stand_at first broke place ≡ Sound → ⊥
+none_sound {broke = broke} call first none rest zero differs within sound = false≢true (sym (or_parts (is_same (standing_before call first) Sound) (any_is Sound (standings_before call broke)) none).0 ∙ sound_before call first sound)
+none_sound call first none rest (suc zero) differs within sound = differs refl
+none_sound {broke = broke} call first none rest (suc (suc place)) differs within sound = files_lost call place (or_parts (is_same (standing_before call first) Sound) (any_is Sound (standings_before call broke)) none).1 rest (omega arith) sound
 
-ends_with_break : (run : Run) (asked : TeeAsked) {mode : Mode} {names : List (List ℕ)} → length run.world.standard.bytes < 2 ^ 63 → tee.EndsAs true true run.breaks_for run.calling mode Exit names run.world.standard (source_at run.inputs 0) run.outputs run.status → EndsWithBreak run (Tee asked)
+-- where an output ended the run before a piece came, no read was made
+none_read : {pieces : List (List ℕ)} {reads : ℕ} (on_broken : OnBroken) (first : Option Break) (broke : List (Option Break)) → reads ≡ length pieces + (if is_done on_broken (standings_before (suc (length pieces)) (first ∷ broke)) then 0 else 1)
+    → some_end on_broken (suc (length pieces)) (first ∷ broke) ≡ true → pieces ≡ [] → reads ≡ 0
+none_read {pieces} on_broken first broke is ends none =
+    is ∙ ap (λ ends. length pieces + cond (ends || not (any_is Sound (standings_before (suc (length pieces)) (first ∷ broke)))) 0 1) ends ∙ ap (λ (those : List (List ℕ)). length those + 0) none
+
+ends_with_break : (run : Run) (asked : TeeAsked) {mode : Mode} {names : List (List ℕ)} → length run.world.standard.bytes < 2 ^ 63 → tee.EndsAs true true run.breaks_for run.calling mode asked.on_broken names run.world.standard (source_at run.inputs 0) run.outputs run.status → EndsWithBreak run asked
 ends_with_break run asked few (tee.copied pieces fault first broke output error files comes goes left rest stand says slots is) =
     let (more, bytes, unread, over) = read_up_to (source_at run.inputs 0) few comes.read in
-    let late = or_parts (lost_before (length pieces) first) (some_lost (length pieces) broke) (sym (lost_is (length pieces) (first ∷ broke)) ∙ goes) in record {
+    let (early, later) = or_parts (Ends asked.on_broken (length pieces) first) (some_end asked.on_broken (length pieces) broke) (or_parts (some_end asked.on_broken (length pieces) (first ∷ broke)) _ goes).0 in record {
       before = front_of pieces;
       last = last_of pieces;
       rest = more;
       read = bytes ∙ ap (λ those. those ++ more) (all_are pieces);
       left = unread;
       small = last_small pieces comes.sizes;
-      outputs = rw slots (at late.0 late.1);
+      stands = stand_at first broke;
+      outputs = λ place differs within. (stands_at place differs, subst (λ outputs. HasUpTo run asked.on_broken (front_of pieces) (last_of pieces) (stand_at first broke place) (slot_at outputs place)) (sym slots) (at early later place differs (rw slots at within)));
       ended = elim over [
         | inl all ↦ inl all
-        | inr vain ↦ inr (inl (rw slots (one_broke (suc (length pieces)) (sym (lost_is (suc (length pieces)) (first ∷ broke)) ∙ vain) left rest)))
+        | inr vain ↦ inr (ended vain)
       ];
     } where
-      at : lost_before (length pieces) first ≡ false → some_lost (length pieces) broke ≡ false → (place : ℕ) → (place ≡ 1 → ⊥) → place < length (output ∷ error ∷ files) → HasUpTo (front_of pieces) (last_of pieces) (slot_at (output ∷ error ∷ files) place)
-      at early late zero differs within = output_up_to early left
-      at early late (suc zero) differs within = absurd (differs refl)
-      at early late (suc (suc place)) differs within = files_up_to place late rest (omega arith)
+      stands_at : (place : ℕ) → (place ≡ 1 → ⊥) → tee.StandsFor (run.breaks_for place) (stand_at first broke place)
+      stands_at zero differs = stand 0
+      stands_at (suc zero) differs = absurd (differs refl)
+      stands_at (suc (suc place)) differs = stand (suc place)
+
+      at : Ends asked.on_broken (length pieces) first ≡ false → some_end asked.on_broken (length pieces) broke ≡ false → (place : ℕ) → (place ≡ 1 → ⊥) → place < length (output ∷ error ∷ files)
+          → HasUpTo run asked.on_broken (front_of pieces) (last_of pieces) (stand_at first broke place) (slot_at (output ∷ error ∷ files) place)
+      at early later zero differs within = output_up_to run asked.on_broken pieces early left
+      at early later (suc zero) differs within = absurd (differs refl)
+      at early later (suc (suc place)) differs within = files_up_to run asked.on_broken pieces place later (λ ends. none_read asked.on_broken first broke comes.reads (rw ends (or-true _))) rest (omega arith)
+
+      ended : is_done asked.on_broken (standings_before (suc (length pieces)) (first ∷ broke)) ≡ true → OneIs run (stand_at first broke) (λ standing. ends_run standing asked.on_broken ≡ true)
+          ⊎ (OneIs run (stand_at first broke) (λ standing. standing ≡ Sound) → ⊥) ⊎ (((source_at run.inputs 0).reads ≡ 0) × Tells run (Tee asked) Memory [])
+      ended vain = elim (either (some_end asked.on_broken (suc (length pieces)) (first ∷ broke)) _ vain) [
+        | inl one ↦ inl (elim (either (Ends asked.on_broken (suc (length pieces)) first) _ one) [
+          | inl here ↦ (0, (λ same. omega (arith, same)), rw slots (omega arith), ends_still asked.on_broken (suc (length pieces)) first here)
+          | inr there ↦ let (place, within, ends) = files_end asked.on_broken (suc (length pieces)) there rest in (suc (suc place), (λ same. omega (arith, same)), rw slots (omega (arith, within)), ends)
+        ])
+        | inr none ↦ inr (inl (λ one. none_sound (suc (length pieces)) first (not-true _ none) rest one.0 one.1 (rw slots at one.2) one.3))
+      ]
 ends_with_break run asked few (tee.no_room error says (there, unread, same) slots is) = record {
   before = [];
   last = [];
@@ -171,16 +251,17 @@ ends_with_break run asked few (tee.no_room error says (there, unread, same) slot
   read = refl;
   left = ap (λ (source : Source). source.left.bytes) unread ∙ ap (λ (content : Content). content.bytes) (same refl);
   small = omega arith;
-  outputs = rw slots at;
-  ended = inr (inr ([], [], record { are = one_line (TellsMet run (Tee asked)) (message_of Memory []) (Memory, [], inl tt, refl); said = rw slots says }));
+  stands = λ place. Sound;
+  outputs = λ place differs within. (tt, subst (λ outputs. HasUpTo run asked.on_broken [] [] Sound (slot_at outputs place)) (sym slots) (at place differs (rw slots at within)));
+  ended = inr (inr (inr (ap (λ (source : Source). source.reads) unread, ([], [], record { are = one_line (TellsMet run (Tee asked)) (message_of Memory []) (Memory, [], inl tt, refl); said = rw slots says }))));
 } where
-  at : (place : ℕ) → (place ≡ 1 → ⊥) → place < 2 → HasUpTo [] [] (slot_at (streams_with error) place)
-  at zero differs within = has_whole [] refl
+  at : (place : ℕ) → (place ≡ 1 → ⊥) → place < 2 → HasUpTo run asked.on_broken [] [] Sound (slot_at (streams_with error) place)
+  at zero differs within = has_whole run asked.on_broken [] Sound _ refl (λ is. cc) refl
   at (suc zero) differs within = absurd (differs refl)
   at (suc (suc place)) differs within = absurd (omega arith)
 
-pub tee_stops : (run : Run) (asked : TeeAsked) → Ran run (Tee asked) → asked.on_broken ≡ Exit → length run.world.standard.bytes < 2 ^ 63 → EndsWithBreak run (Tee asked)
-tee_stops run asked ran stops few = elim (ran_over ran) [
-  | inl does ↦ ends_with_break run asked few (rw (stops, ← (same_content refl does.input)) at does.ends)
+pub tee_stops : (run : Run) (asked : TeeAsked) → Ran run (Tee asked) → length run.world.standard.bytes < 2 ^ 63 → EndsWithBreak run asked
+tee_stops run asked ran few = elim (ran_over ran) [
+  | inl does ↦ ends_with_break run asked few (rw (← (same_content refl does.input)) at does.ends)
   | inr (fault, bad, refuses) ↦ absurd bad
 ]

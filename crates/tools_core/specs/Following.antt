@@ -56,8 +56,7 @@ RefusesToFollow told words seen watched new status =
     RefusesUnseen told words (Usage BadFollow 0) seen watched new status
 
 abbrev pub FollowsTail : Calling → (told_in told : Bool) → (ℕ → Reason → Bool) → List (List ℕ) → TailSettings
-    → Option Followed → ℕ
-    → (ℕ → Snapshot) → List Snapshot → List Watched → List Slot → ℕ → Type 0
+    → Option Followed → ℕ → (ℕ → Snapshot) → List Snapshot → List Watched → List Slot → ℕ → Type 0
 FollowsTail calling told_in told breaks_for words asked (Some followed) looks shows seen watched new status =
     FollowsAs calling told_in told breaks_for asked followed looks shows seen watched new status
 FollowsTail calling told_in told breaks_for words asked None looks shows seen watched new status =
@@ -66,8 +65,7 @@ FollowsTail calling told_in told breaks_for words asked None looks shows seen wa
 -- What was asked for was followed; or the words were refused: for operands that can't be read, where they have such
 -- ones, and else since they follow nothing.
 abbrev pub FollowingEndsAt : Calling → (told_in told : Bool) → (ℕ → Reason → Bool) → List (List ℕ) → ℕ → (ℕ → Snapshot)
-    → List Snapshot → List Watched
-    → List Slot → ℕ → Result Settings Fault → Type 0
+    → List Snapshot → List Watched → List Slot → ℕ → Result Settings Fault → Type 0
 FollowingEndsAt calling told_in told breaks_for words looks shows seen watched new status (Ok (Tail asked)) =
     FollowsTail calling told_in told breaks_for words asked asked.followed looks shows seen watched new status
 FollowingEndsAt calling told_in told breaks_for words looks shows seen watched new status (Ok settings) =
@@ -79,8 +77,7 @@ FollowingEndsAt calling told_in told breaks_for words looks shows seen watched n
 -- a run of these words, over looks that would see this and of which these were made, left the outputs so, and returned
 -- this status
 abbrev pub FollowingEnds : Calling → (told_in told : Bool) → (ℕ → Reason → Bool) → List (List ℕ) → ℕ → (ℕ → Snapshot)
-    → List Snapshot → List Watched
-    → List Slot → ℕ → Type 0
+    → List Snapshot → List Watched → List Slot → ℕ → Type 0
 FollowingEnds calling told_in told breaks_for words looks shows seen watched new status =
     FollowingEndsAt calling told_in told breaks_for words looks shows seen watched new status
     (settings_of calling words)

@@ -1,4 +1,5 @@
 -- What a whole run does, by its words.
+use Rattle.std.specs.Option.{unwrap_or}
 use Rattle.std.specs.Prelude.{◌≡◌, ℕ, Bool, true, false, List, [], ◌∷◌, Option, Some, None, Result, Ok, Err, ◌⊎◌, slice_index_or}
 use Rattle.ports_core.specs.Slot.{Slot}
 use Rattle.ports_core.specs.Source.{Content, Source, source_at}
@@ -18,7 +19,7 @@ use Rattle.ports_core.specs.Inputs.{CameFrom}
 use Rattle.run_core.specs.Input.{Input, standard_input}
 use Rattle.run_core.specs.RunEnds.{EndsAs}
 use Rattle.ports_core.specs.Streams.{standard_error, streams_with}
-use Rattle.tee_core.specs.Run.{all_copied, forgives, EndsAs as TeeCopies}
+use Rattle.tee_core.specs.Run.{AreSound, all_copied, forgives, EndsAs as TeeCopies}
 use Rattle.words_core.specs.declared.settings.Settings.{Settings}
 use Rattle.words_core.specs.declared.settings.Settings.TheVariants.{Head, Tail, Split, Csplit, Tee, About}
 use Rattle.words_core.specs.CsplitWords.{CsplitAsked}
@@ -29,13 +30,9 @@ use Rattle.tools_core.specs.About.{TellsText}
 use Rattle.tools_core.specs.Tasks.{by, csplit_task, head_task, tail_task, split_task, names_of}
 
 -- who refuses words: their tool, or the program where they name none
-abbrev pub or_cutters : Option Tool → Tool
-or_cutters (Some tool) = tool
-or_cutters None = tool.Cutters
-
 abbrev pub speaker : List (List ℕ) → Tool
 speaker [] = tool.Cutters
-speaker (name ∷ words) = or_cutters (tool_named name)
+speaker (name ∷ words) = unwrap_or (tool_named name) tool.Cutters
 
 -- in the line no reason stands, so it is the same however the program was called
 abbrev pub refuser : List (List ℕ) → Speaker
@@ -62,7 +59,7 @@ pub record TeeEndsAs (calling : Calling) (told_in told : Bool) (breaks_for : ℕ
       (source_at sources 0) new status
   pub came : CameFrom told_in content (source_at sources 0)
   -- where nothing broke: standard output and every file have the input's bytes
-  pub whole : told_in ≡ true → status ≡ 0 → forgives asked.on_broken ≡ false
+  pub whole : told_in ≡ true → status ≡ 0 → (forgives asked.on_broken ≡ true → AreSound new)
       → new ≡ all_copied told asked.mode asked.names content.bytes
 
 -- a run did what these settings ask for
@@ -98,8 +95,7 @@ RefusesOperands told words settings new status = (fault : Fault) × HasBadOperan
 -- A run did what was asked for; or it refused its operands, or the words: then no input was opened or read, and all are
 -- as they were.
 abbrev pub RunEndsAt : Calling → Bool → Bool → (ℕ → Reason → Bool) → List (List ℕ) → List Input
-    → (old sources : List Source)
-    → List Slot → ℕ → Result Settings Fault → Type 0
+    → (old sources : List Source) → List Slot → ℕ → Result Settings Fault → Type 0
 RunEndsAt calling told_in told breaks_for words inputs old sources new status (Ok settings) =
     DoesAsked calling told_in told breaks_for settings inputs sources new status
     ⊎ ((sources ≡ old) × RefusesOperands told words settings new status)
@@ -108,8 +104,7 @@ RunEndsAt calling told_in told breaks_for words inputs old sources new status (E
 
 -- a run of these words, called so, on these inputs left inputs and outputs so, and returned this status
 abbrev pub RunEnds : Calling → Bool → Bool → (ℕ → Reason → Bool) → List (List ℕ) → List Input
-    → (old sources : List Source)
-    → List Slot → ℕ → Type 0
+    → (old sources : List Source) → List Slot → ℕ → Type 0
 RunEnds calling told_in told breaks_for words inputs old sources new status =
     RunEndsAt calling told_in told breaks_for words inputs old sources new status (settings_of calling words)
 

@@ -30,8 +30,7 @@ ProgramEndsAt calling told_in told_watched told breaks_for words laid sources so
     (Some looks) = (sources_new ≡ sources) × FollowingEnds calling told_watched told breaks_for words looks shows seen
     watched new status
 ProgramEndsAt calling told_in told_watched told breaks_for words laid sources sources_new shows seen watched new status
-    None =
-    (seen ≡ []) × (watched ≡ []) × RunsOver told_in (world_of laid sources) (names_read calling words)
+    None = (seen ≡ []) × (watched ≡ []) × RunsOver told_in (world_of laid sources) (names_read calling words)
     (λ found. RunEnds calling told_in told breaks_for words found sources sources_new new status)
 
 -- by what the words ask for
@@ -40,18 +39,12 @@ abbrev pub ProgramEnds : Calling → (told_in told_watched told : Bool) → (ℕ
     → List Slot → ℕ → Type 0
 ProgramEnds calling told_in told_watched told breaks_for words laid sources sources_new shows seen watched new status =
     ProgramEndsAt calling told_in told_watched told breaks_for words laid sources sources_new shows seen watched new
-    status
-    (looks_at (settings_of calling words))
-
--- there was no memory for the words: that is told, and nothing else was done
-abbrev pub FailsAtOnce : List Slot → ℕ → Type 0
-FailsAtOnce new status = RefusesFor false [] Memory new status
+    status (looks_at (settings_of calling words))
 
 -- A run over real inputs, outputs and files, which don't tell their bytes, ended as these words ask for, in this order;
--- or there was no memory for the words.
+-- or there was no memory for the words: that is told, and nothing else was done.
 abbrev pub RanAs : Calling → List (List ℕ) → List Source → List Source → List Slot → ℕ → Type 0
 RanAs calling words sources sources_new new status =
     ((seen : List Snapshot) × (watched : List Watched)
     × ProgramEnds calling false false false (λ slot why. true) words (λ slot name. None) sources sources_new
-    (λ n. any_files) seen watched
-    new status) ⊎ ((sources_new ≡ sources) × FailsAtOnce new status)
+    (λ n. any_files) seen watched new status) ⊎ ((sources_new ≡ sources) × RefusesFor false [] Memory new status)

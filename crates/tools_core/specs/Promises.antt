@@ -44,7 +44,9 @@ use Rattle.run_core.specs.Feeding.{is_enough}
 use Rattle.run_core.specs.Input.{Input, World, inputs_at, is_dash}
 use Rattle.run_core.specs.RunEnds.{EndsAs, RunsOver, as_defined, no_room, stopped}
 use Rattle.run_core.specs.Task.{Task}
-use Rattle.tee_core.specs.Run.{EndsAs as TeeCopies, are_sound, copied, forgives, is_quiet, no_room as no_memory}
+use Rattle.tee_core.specs.Run.{AreSound, EndsAs as TeeCopies, StandsFor, are_sound, copied, ends_run, forgives, is_quiet, is_same, no_room as no_memory}
+use Rattle.tee_core.specs.declared.standing.Standing.{Standing}
+use Rattle.tee_core.specs.declared.standing.Standing.TheVariants.{Sound}
 use Rattle.words_core.specs.declared.settings.Settings.{Settings}
 use Rattle.words_core.specs.declared.settings.Settings.TheVariants.{Head, Tail, Split, Csplit, Tee, About}
 use Rattle.words_core.specs.EndsWords.{EndsAsked}
@@ -54,6 +56,7 @@ use Rattle.seg_core.specs.declared.cut.Way.TheVariants as way
 use Rattle.split_core.specs.Chunks.{IsInChunk, IsInPiece}
 use Rattle.split_core.specs.ChunkWork.{kept}
 use Rattle.words_core.specs.SplitWords.{SplitAsked}
+use Rattle.words_core.specs.TeeWords.{TeeAsked}
 use Rattle.words_core.specs.Words.{HasBadOperands, settings_of}
 use Rattle.watch_core.specs.Snapshot.{Snapshot}
 use Rattle.follow_core.specs.Ending.{shows_by}
@@ -109,8 +112,7 @@ forgives_gone asked = false
 pub record Does (run : Run) (asked : Settings) : Type 0 where
   pub ran : Ran run asked
   pub well : run.status ≡ 0
-  pub unforgiven : forgives_gone asked ≡ true
-      → (place : ℕ) → (place ≡ 1 → ⊥) → (slot_at run.outputs place).is_broken ≡ false
+  pub unforgiven : forgives_gone asked ≡ true → AreSound run.outputs
 
 -- What lies at a name that is the only one: at `-` standard input, at any other a file, which is opened as input 1.
 abbrev pub lying_at : World → List ℕ → Option Content
@@ -526,8 +528,7 @@ pub record Completes (run : Run) (asked : Settings) : Type 0 where
   pub does : DoesAsked run.calling true true run.breaks_for asked (inputs_at run.world (names_of asked)) run.inputs
       run.outputs run.status
   pub unstopped : Unstopped run.breaks_for run.calling asked (inputs_at run.world (names_of asked)) run.inputs
-      run.outputs
-      run.status does
+      run.outputs run.status does
 
 -- Such a fault stopped the run, which told it; or, of `tee`, an output broke: it went on with the others or ended with
 -- that, and no more is said here of that run.
@@ -557,29 +558,38 @@ pub record LeaveAlike (asked : Settings) (one other : Run) : Type 0 where
   pub outputs : (place : ℕ) → (place ≡ 1 → ⊥) → IsAlike (slot_at one.outputs place) (slot_at other.outputs place)
   pub said : SayAlike asked one other
 
--- an output has all of these pieces, or at least those before the last, where it is broken
-pub record HasUpTo (before last : List ℕ) (output : Slot) : Type 0 where
-  pub some : IsBeginning before output.written
+-- An output of `tee` stands so. One that is sound has all of these pieces, and any other a beginning; one that ended the
+-- run has all before the last, and where it couldn't be opened, nothing was read.
+pub record HasUpTo (run : Run) (on_broken : OnBroken) (before last : List ℕ) (standing : Standing) (output : Slot)
+    : Type 0 where
+  pub broken : output.is_broken ≡ not (is_same Sound standing)
   pub no_more : IsBeginning output.written (before ++ last)
-  pub sound : output.is_broken ≡ false → output.written ≡ before ++ last
+  pub sound : standing ≡ Sound → output.written ≡ before ++ last
+  pub some : ends_run standing on_broken ≡ true → IsBeginning before output.written
+  pub unopened : ends_run standing on_broken ≡ true → output.state ≡ state.Unopened
+      → (source_at run.inputs 0).reads ≡ 0
 
--- an output but standard error is broken
-abbrev pub HasBroken : Run → Type 0
-HasBroken run = (place : ℕ) × (place ≡ 1 → ⊥) × ((slot_at run.outputs place).is_broken ≡ true)
+-- one of the outputs but standard error stands so
+abbrev pub OneIs : Run → (ℕ → Standing) → (Standing → Type 0) → Type 0
+OneIs run stands Is = (place : ℕ) × (place ≡ 1 → ⊥) × (place < length run.outputs) × Is (stands place)
 
--- A run of `tee` ended with the first output that broke, or with its input, or told that it found no memory to begin: the
--- input was read up to `last`, which is no longer than a piece, and the rest is left. Each output that is sound has all
--- that was read, and each that is broken all but a part of `last`.
-pub record EndsWithBreak (run : Run) (asked : Settings) : Type 0 where
+-- A run of `tee` ended with its input, with an output whose breaking ends such a run, once none was left, or told that
+-- it found no memory to begin, and read nothing. The input was read up to `last`, which is no longer than a piece, and
+-- the rest is left. Each output stands as it broke, for a reason for which it can.
+pub record EndsWithBreak (run : Run) (asked : TeeAsked) : Type 0 where
   pub before : List ℕ
   pub last : List ℕ
   pub rest : List ℕ
   pub read : run.world.standard.bytes ≡ (before ++ last) ++ rest
   pub left : (source_at run.inputs 0).left.bytes ≡ rest
   pub small : length last ≤ largest_piece
+  pub stands : ℕ → Standing
   pub outputs : (place : ℕ) → (place ≡ 1 → ⊥) → place < length run.outputs
-      → HasUpTo before last (slot_at run.outputs place)
-  pub ended : (rest ≡ []) ⊎ HasBroken run ⊎ Tells run asked fault.Memory []
+      → StandsFor (run.breaks_for place) (stands place)
+      × HasUpTo run asked.on_broken before last (stands place) (slot_at run.outputs place)
+  pub ended : (rest ≡ []) ⊎ OneIs run stands (λ standing. ends_run standing asked.on_broken ≡ true)
+      ⊎ (OneIs run stands (λ standing. standing ≡ Sound) → ⊥)
+      ⊎ (((source_at run.inputs 0).reads ≡ 0) × Tells run (Tee asked) fault.Memory [])
 
 -- its words ask `tail` to follow files so, in this many looks, whatever pauses they ask for, and name no process
 abbrev pub AsksToFollow : Run → EndsAsked → Followed → (looks : ℕ) → Type 0

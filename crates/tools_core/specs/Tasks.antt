@@ -28,14 +28,12 @@ use Rattle.words_core.specs.EndsWords.{EndsAsked}
 use Rattle.words_core.specs.SplitWords.{SplitAsked}
 
 abbrev pub is_minus : Sign → Bool
-is_minus Plain = false
 is_minus Minus = true
-is_minus Plus = false
+is_minus sign = false
 
 abbrev pub is_plus : Sign → Bool
-is_plus Plain = false
-is_plus Minus = false
 is_plus Plus = true
+is_plus sign = false
 
 -- whether a header goes before each input: as an option says, and else where there are several
 abbrev pub has_headers : Headers → List (List ℕ) → Bool

@@ -6,7 +6,6 @@ ghost use Rattle.ends_core.specs.Ends.{tail_of};
 ghost use Rattle.follow_core.specs.Run.{AreKept, name_text};
 ghost use Rattle.follow_core.specs.Version.{entries_of};
 ghost use Rattle.ports_core.specs.Slot.{slot_at};
-ghost use Rattle.ports_core.specs.declared.on_broken.OnBroken.TheVariants.{Exit};
 ghost use Rattle.ports_core.specs.Source.{source_of};
 ghost use Rattle.seg_core.specs.Line.{joined, line_count, lines_of};
 ghost use Rattle.seg_core.specs.declared.count.Sign.TheVariants.{Minus, Plain, Plus};
@@ -57,16 +56,18 @@ pub fn head_and_tail_meet()
 {}
 
 /// After `tee` standard output and each file that is named once have the input's bytes; with `-a` each file has them after
-/// those that it had. With `--output-error=exit` a run, whatever its status, leaves input unread only where an output broke, or
-/// where there was no memory, which is told. Then each output that is sound has all that was read, and each that is broken all
-/// but a part of its last 65,536 bytes at most.
+/// those that it had. A run, whatever its status, leaves input unread only where an output ended it, where none was left, or
+/// where there was no memory, which is told. With `--output-error=exit` each output ends it that breaks, with `exit-nopipe` each
+/// but one whose reader is gone, and by the tool's own name, where nothing else is asked for, one whose reader is gone. Then each
+/// output that is sound has all that was read, each that ended the run all but a part of its last 65,536 bytes at most, and each
+/// other one a beginning. Nothing was read where there was no memory, or where a file that couldn't be opened ended the run.
 pub fn tee_copies()
     ensures output { (tee : Run) (asked : TeeAsked) (input : List ℕ) → Does tee (Tee asked) → HasInput tee input
         → output_of tee ≡ input }
     ensures files { (tee : Run) (asked : TeeAsked) (input : List ℕ) → Does tee (Tee asked) → HasInput tee input
         → AreCopies asked.mode asked.names input (files_of tee) }
-    ensures stops { (tee : Run) (asked : TeeAsked) → Ran tee (Tee asked) → asked.on_broken ≡ Exit
-        → length tee.world.standard.bytes < 2 ^ 63 → EndsWithBreak tee (Tee asked) }
+    ensures stops { (tee : Run) (asked : TeeAsked) → Ran tee (Tee asked) → length tee.world.standard.bytes < 2 ^ 63
+        → EndsWithBreak tee asked }
 {}
 
 /// How an input comes changes nothing: two runs that are asked for the same, over inputs of the same bytes, leave the same

@@ -2,6 +2,7 @@
 -- written (GNU coreutils manual, csplit; C standard and POSIX, `fprintf`). Before and after it stand texts, where two `%` are one.
 use Rattle.std.specs.Prelude.{ℕ, ◌-◌, ◌==◌, ◌&&◌, ◌||◌, Bool, not, nat_le, List, [], ◌∷◌, length, take, drop, Option, Some, None, if◌then◌else◌}
 use Rattle.std.specs.List.{list_any, prefix_len}
+use Rattle.std.specs.Option.{unwrap_or}
 use Rattle.seg_core.specs.Count.{after_digits, leading_digits, value_of}
 use Rattle.ports_core.specs.declared.form.Base.{Base}
 use Rattle.ports_core.specs.declared.form.Base.TheVariants.{Decimal, Octal, Hex, Capitals}
@@ -73,8 +74,7 @@ filling_by flags None = if has_flag 45 flags then BlanksAfter
 
 -- without a precision there is at least one digit
 abbrev pub digits_by : Option ℕ → ℕ
-digits_by (Some digits) = digits
-digits_by None = 1
+digits_by precision = unwrap_or precision 1
 
 -- what they say together; the width and the precision are at most 255
 abbrev pub form_of : List ℕ → ℕ → Option ℕ → Option Base → Option Form

@@ -1,6 +1,7 @@
 -- A first word of a hyphen, digits and letters, as `-5c` of `head` and `-20f` of `tail`, and one of a `+`, as `+5` of
 -- `tail`: GNU's, from before POSIX. What follows the hyphen or the `+` is the text. 45 is a hyphen.
 use Rattle.std.specs.Prelude.{ℕ, ◌*◌, ◌^◌, ◌==◌, ◌&&◌, ◌||◌, nat_lt, Bool, true, false, List, [], ◌∷◌, length, filter, codes, is_some, Option, Some, None, Result, Ok, Err, if◌then◌else◌}
+use Rattle.std.specs.Option.{unwrap_or}
 use Rattle.seg_core.specs.Count.{after_digits, is_number, leading_digits, sized, value_of}
 use Rattle.seg_core.specs.declared.count.Count.{Count}
 use Rattle.seg_core.specs.declared.count.Sign.{Sign}
@@ -32,15 +33,10 @@ unit_of letter =
 abbrev pub is_unit : ℕ → Bool
 is_unit letter = is_some (unit_of letter)
 
--- this unit, or else another
-abbrev pub unit_or : Measured × ℕ → Option (Measured × ℕ) → Measured × ℕ
-unit_or other None = other
-unit_or other (Some unit) = unit
-
 -- what the first unit among letters says; without one lines are counted
 abbrev pub unit_in : List ℕ → Measured × ℕ
 unit_in [] = (Lines, 1)
-unit_in (letter ∷ letters) = unit_or (unit_in letters) (unit_of letter)
+unit_in (letter ∷ letters) = unwrap_or (unit_of letter) (unit_in letters)
 
 -- Which letters may follow the digits.
 

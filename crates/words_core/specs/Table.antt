@@ -83,12 +83,7 @@ head_table =
     (codes "write COUNT lines; with - all but the last COUNT")
     ∷ option (codes "-c" ∷ codes "--bytes" ∷ []) (Value (Amount Bytes)) (codes "COUNT")
     (codes "write COUNT bytes; with - all but the last COUNT")
-    ∷ quiet_row
-    ∷ verbose_row
-    ∷ zero_row
-    ∷ help_row
-    ∷ version_row
-    ∷ []
+    ∷ quiet_row ∷ verbose_row ∷ zero_row ∷ help_row ∷ version_row ∷ []
 
 -- the options of `tail`: those of `head`, and how files are followed
 abbrev pub tail_table : List OptionRow
@@ -97,26 +92,17 @@ tail_table =
     (codes "write COUNT lines; with + all from line COUNT on")
     ∷ option (codes "-c" ∷ codes "--bytes" ∷ []) (Value (Amount Bytes)) (codes "COUNT")
     (codes "write COUNT bytes; with + all from byte COUNT on")
-    ∷ quiet_row
-    ∷ verbose_row
-    ∷ zero_row
+    ∷ quiet_row ∷ verbose_row ∷ zero_row
     ∷ option (codes "-f" ∷ codes "--follow" ∷ []) (Optional (asks.Follow Descriptor) Follow) (codes "HOW")
     (codes "follow what is appended, by descriptor or name")
-    ∷ option (codes "-F" ∷ []) (Nothing asks.FollowNames) []
-    (codes "the same as --follow=name --retry")
-    ∷ option (codes "--retry" ∷ []) (Nothing asks.Retry) []
-    (codes "with --follow=name, wait for missing names")
-    ∷ option (codes "--looks" ∷ []) (Value Looks) (codes "NUMBER")
-    (codes "end after NUMBER checks of what is followed")
+    ∷ option (codes "-F" ∷ []) (Nothing asks.FollowNames) [] (codes "the same as --follow=name --retry")
+    ∷ option (codes "--retry" ∷ []) (Nothing asks.Retry) [] (codes "with --follow=name, wait for missing names")
+    ∷ option (codes "--looks" ∷ []) (Value Looks) (codes "NUMBER") (codes "end after NUMBER checks of what is followed")
     ∷ option (codes "-s" ∷ codes "--sleep-interval" ∷ []) (Value Pause) (codes "SECONDS")
     (codes "check what is followed within this time")
-    ∷ option (codes "--pid" ∷ []) (Value Process) (codes "PID")
-    (codes "end once the process PID is gone")
-    ∷ option (codes "--max-unchanged-stats" ∷ []) (Value NoEffect) (codes "NUMBER")
-    (codes "taken without effect")
-    ∷ help_row
-    ∷ version_row
-    ∷ []
+    ∷ option (codes "--pid" ∷ []) (Value Process) (codes "PID") (codes "end once the process PID is gone")
+    ∷ option (codes "--max-unchanged-stats" ∷ []) (Value NoEffect) (codes "NUMBER") (codes "taken without effect")
+    ∷ help_row ∷ version_row ∷ []
 
 -- the options of `split`
 abbrev pub split_table : List OptionRow
@@ -141,15 +127,10 @@ split_table =
     (codes "with -n, make no empty files")
     ∷ option (codes "-t" ∷ codes "--separator" ∷ []) (Value Separator) (codes "BYTE")
     (codes "lines end with BYTE, not with a newline")
-    ∷ option (codes "--additional-suffix" ∷ []) (Value Ending) (codes "TEXT")
-    (codes "names end with TEXT")
-    ∷ option (codes "-u" ∷ codes "--unbuffered" ∷ []) (Nothing asks.NoEffect) []
-    (codes "taken without effect")
-    ∷ option (codes "--verbose" ∷ []) (Nothing asks.Verbose) []
-    (codes "write each name before its file is opened")
-    ∷ help_row
-    ∷ version_row
-    ∷ []
+    ∷ option (codes "--additional-suffix" ∷ []) (Value Ending) (codes "TEXT") (codes "names end with TEXT")
+    ∷ option (codes "-u" ∷ codes "--unbuffered" ∷ []) (Nothing asks.NoEffect) [] (codes "taken without effect")
+    ∷ option (codes "--verbose" ∷ []) (Nothing asks.Verbose) [] (codes "write each name before its file is opened")
+    ∷ help_row ∷ version_row ∷ []
 
 -- the options of `csplit`
 abbrev pub csplit_table : List OptionRow
@@ -160,28 +141,22 @@ csplit_table =
     (codes "numbers in names have this many digits, not 2")
     ∷ option (codes "-b" ∷ codes "--suffix-format" ∷ []) (Value Format) (codes "FORMAT")
     (codes "write numbers as printf does, as in %03d.txt")
-    ∷ option (codes "-k" ∷ codes "--keep-files" ∷ []) (Nothing asks.KeepFiles) []
-    (codes "keep files after a fault")
+    ∷ option (codes "-k" ∷ codes "--keep-files" ∷ []) (Nothing asks.KeepFiles) [] (codes "keep files after a fault")
     ∷ option (codes "-s" ∷ codes "-q" ∷ codes "--quiet" ∷ codes "--silent" ∷ []) (Nothing asks.Quiet) []
     (codes "write no sizes")
     ∷ option (codes "-z" ∷ codes "--elide-empty-files" ∷ []) (Nothing asks.ElideEmptyFiles) []
     (codes "make no empty files")
     ∷ option (codes "--suppress-matched" ∷ []) (Nothing asks.SuppressMatched) []
     (codes "leave out the line at each cut")
-    ∷ help_row
-    ∷ version_row
-    ∷ []
+    ∷ help_row ∷ version_row ∷ []
 
 -- the options of `tee`
 abbrev pub tee_table : List OptionRow
 tee_table =
-    option (codes "-a" ∷ codes "--append" ∷ []) (Nothing asks.Append) []
-    (codes "append to the files")
+    option (codes "-a" ∷ codes "--append" ∷ []) (Nothing asks.Append) [] (codes "append to the files")
     ∷ option (codes "-p" ∷ codes "--output-error" ∷ []) (Optional (asks.OnBroken WarnNoPipe) OnBroken) (codes "MODE")
     (codes "go on (warn) or exit once an output is broken")
-    ∷ help_row
-    ∷ version_row
-    ∷ []
+    ∷ help_row ∷ version_row ∷ []
 
 -- The tools. A hyphen and digits as the first word count lines for `head`, `tail` and `split`; for `head` and `tail`
 -- letters may follow the digits.
@@ -226,8 +201,7 @@ tools =
       number = None;
       operands = codes "[FILE]...";
       does = codes "copies its input to standard output and files";
-    }
-    ∷ []
+    } ∷ []
 
 -- a row of the table that the code walks, as one of these
 

@@ -16,8 +16,7 @@ use Rattle.words_core.specs.Value.{then_check}
 
 -- without options nothing is followed, and a pause lasts a second at most
 abbrev pub unfollowed : EndsAsked → TailSettings
-unfollowed ends =
-    record { ends = ends; followed = None; looks = 2 ^ 63 - 1; pause = 1000; process = None }
+unfollowed ends = record { ends = ends; followed = None; looks = 2 ^ 63 - 1; pause = 1000; process = None }
 
 -- With one more option: the last that says what is followed decides, and so do the last number of looks, the last
 -- pause and the last process; what is written of each input at first is what `head` is asked for.

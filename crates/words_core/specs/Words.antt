@@ -98,21 +98,13 @@ looks settings = 2 ^ 63 - 1
 
 -- What is asked for has operands that can't be read, and this fault tells the first: so it is of `csplit` alone.
 abbrev pub HasBadOperands : Settings → Fault → Type 0
-HasBadOperands (Head asked) fault = ⊥
-HasBadOperands (Tail asked) fault = ⊥
-HasBadOperands (Split asked) fault = ⊥
 HasBadOperands (Csplit asked) fault = HasBadOperand asked fault
-HasBadOperands (Tee asked) fault = ⊥
-HasBadOperands (About tool topic) fault = ⊥
+HasBadOperands settings fault = ⊥
 
 -- what is asked for has no operands that can't be read
 abbrev pub HasOperands : Settings → Type 0
-HasOperands (Head asked) = Unit {0}
-HasOperands (Tail asked) = Unit {0}
-HasOperands (Split asked) = Unit {0}
 HasOperands (Csplit asked) = HasRead asked
-HasOperands (Tee asked) = Unit {0}
-HasOperands (About tool topic) = Unit {0}
+HasOperands settings = Unit {0}
 
 -- what is asked for can be done
 abbrev pub CanRun : Settings → Type 0

@@ -1,10 +1,10 @@
 use Rattle.std.proofs.Common.{◌≡◌, ◌+◌, length, length-take, ◌∷◌, ap, ◌++◌, ◌∙◌, [], take, Some, inl, inr, arith, refl, sym}
 use Rattle.std.proofs.lemmas.Bool.{false≢true}
-use Rattle.ports_core.specs.Source.{source_at}
-use Rattle.ports_core.proofs.InputsLemmas.{asked_again, ended_now, keeps_again, keeps_itself, keeps_others, nothing_read, read_more, sound_at, still_readable}
+use Rattle.ports_core.specs.Source.{Source, fails, gives, source_at}
+use Rattle.ports_core.proofs.InputsLemmas.{asked_again, changed_source, ended_now, keeps_again, keeps_itself, keeps_others, nothing_read, read_more, sound_at, still_readable}
 use Rattle.tee_core.proofs.CopyLemmas.{joined_more}
 use Rattle.tee_core.specs.Run.{to_break, to_broken_output, to_end, to_limit}
-use Rattle.tee_core.proofs.EndLemmas.{counted_more, gave_last, gave_none, more_sized, none_sized, reads_copied, seen_broken, seen_ended, seen_more, seen_so_far}
+use Rattle.tee_core.proofs.EndLemmas.{counted_more, gave_last, gave_none, more_sized, none_sized, reads_copied, reads_more, reads_once, seen_broken, seen_ended, seen_more, seen_so_far}
 use Rattle.tee_core.proofs.run.copy_pieces.Goals as goal
 
 pub pieces-init : goal.pieces-init
@@ -22,6 +22,7 @@ pieces-init g c = record {
   others = keeps_itself _ _;
   read = λ told. nothing_read _ _;
   last = λ told. gave_none (source_at (g.I.Inputs.sources c.args.inputs.now) 0);
+  reads = c.requires.unread;
   asked = λ within. within;
 }
 
@@ -44,6 +45,7 @@ pieces-preserved g c =
       others = keeps_again _ _ _ _ so_far.others (keeps_others _ _ _ _ c.in-Ok.ensures.rest);
       read = λ told. read_more _ _ _ _ _ _ _ _ _ (so_far.read told) so_far.readable (c.in-Ok.ensures.bytes told) c.in-Ok.ensures.rest;
       last = λ told. gave_last so_far.pieces _ _ _ so_far.readable (c.in-Ok.ensures.bytes told) c.in-Ok.ensures.rest;
+      reads = reads_more so_far.pieces (take c.in-Ok.n c.read.new.buffer) so_far.joined so_far.sized (omega (arith, so_far.counted, so_far.small)) so_far.reads (ap (λ (source : Source). source.reads) (changed_source 0 (gives _ c.in-Ok.n) _ _ so_far.readable c.in-Ok.ensures.rest));
       asked = λ within. asked_again _ _ _ _ _ _ so_far.readable c.in-Ok.ensures.rest (omega (arith, c.pieces.auto.buffer)) (so_far.asked within);
     }
 
@@ -53,7 +55,7 @@ pub returns-in-Err-clause-copies : goal.returns-in-Err-clause-copies
 returns-in-Err-clause-copies g c mode at =
     let so_far = c.pieces.invariant in
     let (content, is, bytes, ended, leaves, breaks) = seen_broken _ _ _ _ _ _ so_far.read so_far.readable c.in-Err.ensures.break_off c.in-Err.ensures.err.1 in
-    let copied = reads_copied _ so_far.joined (sym c.is_done.ensures ∙ c.pieces-test.true) so_far.sized (omega (arith, so_far.counted, so_far.small)) (inl (ap Some c.in-Err.ensures.err.0)) (λ none. absurd (cc)) (λ told vain. absurd (false≢true vain))
+    let copied = reads_copied _ so_far.joined (sym c.is_done.ensures ∙ c.pieces-test.true) so_far.sized (omega (arith, so_far.counted, so_far.small)) (inl (ap Some c.in-Err.ensures.err.0)) (λ none. absurd (cc)) (λ told vain. absurd (false≢true vain)) (reads_once so_far.pieces so_far.joined so_far.sized (omega (arith, so_far.counted, so_far.small)) so_far.reads (ap (λ (source : Source). source.reads) (changed_source 0 (fails _) _ _ so_far.readable c.in-Err.ensures.err.1)))
     (rw c.in-Err.ensures.err.0 (to_break _ bytes ended leaves)) (so_far.copies mode at) in
     (content, is, (copied, breaks))
 
@@ -64,7 +66,7 @@ returns-then-n-eq0-clause-copies g c mode at =
     let so_far = c.pieces.invariant in
     let (content, is, bytes, ended, leaves, breaks) = seen_ended _ _ _ _ _ _ so_far.read so_far.readable c.in-Ok.ensures.bytes c.if-n-eq0.true (omega (arith, c.requires.room, c.pieces.auto.buffer)) c.in-Ok.ensures.rest in
     let copied = reads_copied _ so_far.joined (sym c.is_done.ensures ∙ c.pieces-test.true) so_far.sized (omega (arith, so_far.counted, so_far.small)) (inr (sound_at (g.I.Inputs.sources c.read.new.self) 0 (still_readable _ _ _ _ c.in-Ok.n c.in-Ok.ensures.rest so_far.readable)))
-    (λ none left. ended_now _ _ c.in-Ok.n _ _ so_far.readable c.in-Ok.ensures.rest c.if-n-eq0.true (omega (arith, c.requires.room, c.pieces.auto.buffer))) (λ told vain. absurd (false≢true vain))
+    (λ none left. ended_now _ _ c.in-Ok.n _ _ so_far.readable c.in-Ok.ensures.rest c.if-n-eq0.true (omega (arith, c.requires.room, c.pieces.auto.buffer))) (λ told vain. absurd (false≢true vain)) (reads_once so_far.pieces so_far.joined so_far.sized (omega (arith, so_far.counted, so_far.small)) so_far.reads (ap (λ (source : Source). source.reads) (changed_source 0 (gives _ c.in-Ok.n) _ _ so_far.readable c.in-Ok.ensures.rest)))
     (to_end _ bytes ended leaves) (so_far.copies mode at) in
     (content, is, (copied, breaks))
 
@@ -75,7 +77,7 @@ returns-in_default-clause-copies g c mode at =
     let so_far = c.pieces.invariant in
     let (content, rest, is, bytes, leaves, breaks) = seen_more _ _ _ _ _ _ so_far.read so_far.readable c.in-Ok.ensures.bytes c.in-Ok.ensures.rest in
     let long : length (so_far.came ++ take c.in-Ok.n c.read.new.buffer) ≡ c.pieces.fed + c.in-Ok.n = sym (counted_more so_far.came c.read.new.buffer c.in-Ok.n so_far.counted (omega (arith, c.in-Ok.ensures.bound, c.read.auto.buffer)) refl) in
-    let copied = reads_copied _ so_far.joined (sym c.is_done.ensures ∙ c.pieces-test.true) so_far.sized (omega (arith, so_far.counted, so_far.small)) (inr (sound_at (g.I.Inputs.sources c.read.new.self) 0 (still_readable _ _ _ _ c.in-Ok.n c.in-Ok.ensures.rest so_far.readable))) (λ none. absurd (cc)) (λ told vain. absurd (false≢true vain))
+    let copied = reads_copied _ so_far.joined (sym c.is_done.ensures ∙ c.pieces-test.true) so_far.sized (omega (arith, so_far.counted, so_far.small)) (inr (sound_at (g.I.Inputs.sources c.read.new.self) 0 (still_readable _ _ _ _ c.in-Ok.n c.in-Ok.ensures.rest so_far.readable))) (λ none. absurd (cc)) (λ told vain. absurd (false≢true vain)) (reads_once so_far.pieces so_far.joined so_far.sized (omega (arith, so_far.counted, so_far.small)) so_far.reads (ap (λ (source : Source). source.reads) (changed_source 0 (gives _ c.in-Ok.n) _ _ so_far.readable c.in-Ok.ensures.rest)))
     (to_limit so_far.came (take c.in-Ok.n c.read.new.buffer) rest bytes (omega (arith, long, c.in_default.ensures)) (omega (arith, c.requires.most, c.read.auto.buffer, c.pieces.auto.buffer, length-take c.in-Ok.n c.read.new.buffer)) leaves) (so_far.copies mode at) in
     (content, is, (copied, breaks))
 
@@ -85,6 +87,6 @@ pub returns-clause-copies : goal.returns-clause-copies
 returns-clause-copies g c mode at =
     let so_far = c.pieces.invariant in
     let (content, rest, is, bytes, leaves, breaks) = seen_so_far _ _ _ _ so_far.read so_far.readable in
-    let copied = reads_copied _ so_far.joined (sym c.is_done.ensures ∙ c.pieces-test.false) so_far.sized (omega (arith, so_far.counted, so_far.small)) (inr (sound_at (g.I.Inputs.sources c.pieces.inputs) 0 so_far.readable)) (λ none left. absurd (false≢true (sym left))) (λ told vain. so_far.last told)
+    let copied = reads_copied _ so_far.joined (sym c.is_done.ensures ∙ c.pieces-test.false) so_far.sized (omega (arith, so_far.counted, so_far.small)) (inr (sound_at (g.I.Inputs.sources c.pieces.inputs) 0 so_far.readable)) (λ none left. absurd (false≢true (sym left))) (λ told vain. so_far.last told) (omega (arith, so_far.reads))
     (to_broken_output _ rest bytes leaves) (so_far.copies mode at) in
     (content, is, (copied, breaks))

@@ -25,6 +25,7 @@ invariant-pieces g l = record {
   others : KeepsOthers 0 (g.I.Inputs.sources l.fn.inputs) (g.I.Inputs.sources l.inputs);
   read : g.I.Inputs.told ≡ true → HasRead (source_at (g.I.Inputs.sources l.fn.inputs) 0).left came 0 (g.I.Inputs.sources l.inputs);
   last : g.I.Inputs.told ≡ true → GaveLast pieces (source_at (g.I.Inputs.sources l.inputs) 0);
+  reads : (source_at (g.I.Inputs.sources l.inputs) 0).reads ≡ length pieces;
   asked : (source_at (g.I.Inputs.sources l.fn.inputs) 0).asked ≤ length l.fn.buffer → (source_at (g.I.Inputs.sources l.inputs) 0).asked ≤ length l.fn.buffer;
 }
 

@@ -2,7 +2,7 @@ use Rattle.tee_core.proofs.EndLemmas.{ends_at_once, whole_of}
 use Rattle.tee_core.proofs.run.run_tee.Goals as goal
 
 pub returns-in-Ok-clause-whole : goal.returns-in-Ok-clause-whole
-returns-in-Ok-clause-whole g c = λ tells zero_is strict. whole_of _ _ tells zero_is strict c.in-Ok.ensures.copied
+returns-in-Ok-clause-whole g c = λ tells zero_is sound. whole_of _ _ tells zero_is sound c.in-Ok.ensures.copied
 
 pub returns-in-Err-clause-ends : goal.returns-in-Err-clause-ends
 returns-in-Err-clause-ends g c =

@@ -8,5 +8,5 @@ pub returns-clause-rest : goal.returns-clause-rest
 returns-clause-rest c =
     let s = c.self.inside in
     let within : s.given + c.min-n.result ≤ length s.bytes.items = omega arith in
-    read_on (option_map (λ v. v.items) s.shown) s.bytes.items s.given c.min-n.result (length c.args.buffer.now) s.reached s.asked s.last s.breaks_off s.is_open s.is_broken s.ended within (omega arith) (omega arith) (grind (arith, nat_tests))
+    read_on (option_map (λ v. v.items) s.shown) s.bytes.items s.given c.min-n.result (length c.args.buffer.now) s.reached s.asked s.last s.breaks_off s.is_open s.is_broken s.ended s.reads within (omega arith) (omega arith) (grind (arith, nat_tests)) (grind (arith, nat_tests))
     ∙ ap (gives (length c.args.buffer.now) c.min-n.result) c.self.view_is
