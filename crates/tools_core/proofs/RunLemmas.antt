@@ -1,4 +1,5 @@
 -- How a run ends, by its words.
+use Rattle.std.specs.Option.{unwrap_or}
 use Rattle.std.proofs.Common.{◌≡◌, ℕ, List, [], ◌∷◌, Option, Some, None, option_map, Result, Ok, Err, refl, sym, ◌∙◌, ap, subst, Bool, true, false, length, map, Bor, inl, inr, codes, arith, max}
 use Rattle.ports_core.specs.declared.reason.Reason.{Reason}
 use Rattle.ports_core.specs.declared.fault.Fault.{Fault}
