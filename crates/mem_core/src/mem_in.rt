@@ -1,6 +1,6 @@
 ghost use Rattle.std.specs.Prelude.{◌≡◌, ◌++◌, ◌∷◌, [], ℕ, ◌+◌, ◌≤◌, ◌<◌, List, Bool, Option, Some, None, true, false, length, option_map, take, drop, map, string_bytes, IsTrue, IfOk, IfErr, IfSome, IfNone, OnOk, OnErr};
 ghost use Rattle.ports_core.specs.Slot.{changed_at};
-ghost use Rattle.ports_core.specs.Source.{Source, Content, source_of, missing, gives, gets_back, fails, looks, skips, unshown, Gave, BrokeOff, Shows, ShowsAll, ShowsOf, count_shown, holds, cut};
+ghost use Rattle.ports_core.specs.Source.{Source, Content, source_at, source_of, missing, gives, gets_back, fails, looks, skips, unshown, Gave, BrokeOff, Shows, ShowsAll, ShowsOf, count_shown, holds, cut};
 ghost use Rattle.mem_core.specs.MemInState.{MemInState, Laid, laid_at, laid_in, breaks_in, content_in, content_of, file_of, showing, shown_by, with_break};
 
 use crate::failing::{Cause, planned};
@@ -164,6 +164,12 @@ impl MemSource {
         self.given += count as usize;
         self.last = if count == 0 { self.last } else { 0 };
         true
+    }
+
+    fn unread(&self) -> &[u8]
+        ensures { result.now ≡ self.now.left.bytes }
+    {
+        &self.bytes[self.given..]
     }
 
     fn give_back(&mut self, count: u64)
@@ -344,6 +350,16 @@ impl MemIn {
             return Ok(());
         }
         Ok(self.breaks.push(Break { slot, at })?)
+    }
+
+    /// The bytes of an input that are left to read; none where there is no input of that number.
+    pub fn unread(&self, slot: usize) -> &[u8]
+        ensures { result.now ≡ (source_at self.now.sources slot).left.bytes }
+    {
+        match self.sources.get(slot) {
+            Some(source) => source.unread(),
+            None => &[],
+        }
     }
 
     /// Says why an input breaks or can't be opened, if so. Of several reasons for one input the first counts.

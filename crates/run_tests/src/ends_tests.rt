@@ -234,8 +234,8 @@ const BROKEN: &[Told<'static>] = &[
         b"head: cannot read 'f'\n",
     ),
     (
-        &["head", "-n", "-1", "f", "g"],
-        b"==> f <==\na\n\n==> g <==\n",
+        &["head", "-n", "-0", "f", "g"],
+        b"==> f <==\na\nb\n\n==> g <==\nc",
         b"head: cannot read 'f'\n",
     ),
     (
@@ -248,7 +248,7 @@ const BROKEN: &[Told<'static>] = &[
         b"==> f <==\nb\n\n==> g <==\n",
         b"tail: cannot read 'f'\n",
     ),
-    (&["tail", "f"], b"", b"tail: cannot read 'f'\n"),
+    (&["tail", "f"], b"a\nb\n", b"tail: cannot read 'f'\n"),
     (
         &["head", "-q", "f", "m", "g"],
         b"a\nb\nc",
@@ -334,6 +334,10 @@ const UNSEEN: &[Row<'static>] = &[
     (
         &["head", "-n", "1", "f", "g"],
         b"==> f <==\na\n\n==> g <==\nc",
+    ),
+    (
+        &["head", "-n", "-1", "f", "g"],
+        b"==> f <==\na\n\n==> g <==\n",
     ),
     (&["head", "-c", "2", "f"], b"a\n"),
     (&["head", "-c", "0", "f"], b""),

@@ -9,7 +9,7 @@ ghost use Rattle.seg_core.specs.declared.cut.Cut.TheVariants.{Parts};
 ghost use Rattle.seg_core.specs.declared.cut.Limit.TheVariants.{Bytes};
 ghost use Rattle.seg_core.specs.declared.cut.Way.TheVariants.{Cut};
 ghost use Rattle.ports_core.specs.Slot.{Slot, slot_at, streams};
-ghost use Rattle.ports_core.specs.Source.{source_of};
+ghost use Rattle.ports_core.specs.Source.{source_of, unshown};
 ghost use Rattle.tools_core.specs.Promises.{forgives_gone, AreCopies, Does, CountAlike, HasInput, IsBare, OnlyGrows, Ran, Run, SkipNothing, counted};
 ghost use Rattle.tools_core.specs.Tasks.{is_plus, names_of};
 ghost use Rattle.words_core.specs.CsplitWords.{CsplitAsked};
@@ -33,7 +33,7 @@ use tools_core::{
 
 /// Standard input with these bytes, of which a read gives this many, and no files.
 fn standard_input(alloc: Global, bytes: &[u8], pieces: usize) -> Result<MemIn, Fault>
-    ensures { IfOk result (λ inputs. inputs.sources ≡ source_of (record { bytes = bytes.now; breaks_off = false }) ∷ []) }
+    ensures { IfOk result (λ inputs. inputs.sources ≡ source_of (unshown bytes.now) ∷ []) }
 {
     let mut inputs = MemIn::new(alloc)?;
     inputs.input(bytes)?;

@@ -165,7 +165,12 @@ pub(crate) fn check_twice(rt: &impl Abort, alloc: Global, run: &Run<'_>) -> Resu
 }
 
 /// Runs the words over these inputs.
-fn check_over(rt: &impl Abort, alloc: Global, row: &Run<'_>, mut inputs: MemIn) -> Result<(), Fault>
+pub(crate) fn check_over(
+    rt: &impl Abort,
+    alloc: Global,
+    row: &Run<'_>,
+    mut inputs: MemIn,
+) -> Result<(), Fault>
     requires { IsFresh inputs.sources }
 {
     let mut outs = planned_outs(alloc, row.plans)?;

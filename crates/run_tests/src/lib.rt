@@ -30,6 +30,8 @@ mod promise_tests;
 #[cfg(test)]
 mod refused_tests;
 #[cfg(test)]
+mod shown_tests;
+#[cfg(test)]
 mod split_run_tests;
 #[cfg(test)]
 mod tee_tests;

@@ -8,6 +8,7 @@ pub mod StoppedPromises
 pub mod PromiseLemmas
 pub mod TeePromises
 pub mod SplitPromises
+pub mod ChangedPromises
 pub mod CsplitPromises
 pub mod FollowPromises
 pub mod BesidePromises

@@ -1,7 +1,7 @@
 -- What a run that met no fault leaves: just its part, as its definition says, and nothing on standard error; so what `head`, `tail` and
 -- `tee` leave of one input, and that what any run leaves is a beginning of it.
 use Rattle.std.proofs.lemmas.Grind.{common_steps}
-use Rattle.std.proofs.Common.{◌≡◌, ℕ, Bool, true, false, if◌then◌else◌, List, [], ◌∷◌, Option, Some, None, inl, inr, refl, sym, ◌∙◌, ap, arith, ◌+◌, ◌-◌, ◌++◌, length, map, drop, subst}
+use Rattle.std.proofs.Common.{◌≡◌, ℕ, Bool, true, false, if◌then◌else◌, List, [], ◌∷◌, Option, Some, None, inl, inr, refl, sym, ◌∙◌, ap, arith, ◌+◌, ◌-◌, ◌++◌, map, drop, subst}
 use Rattle.ports_core.specs.declared.reason.Reason.{Reason}
 use Rattle.ports_core.specs.Slot.{Slot, slot_at}
 use Rattle.run_core.specs.Input.{Input, World, shown_of, input_of, inputs_at, is_dash}
@@ -28,7 +28,6 @@ use Rattle.std.proofs.lemmas.List.Elements.{All-map}
 use Rattle.ports_core.specs.Source.{Content, Source}
 use Rattle.ports_core.specs.declared.slot.Mode.{Mode}
 use Rattle.words_core.specs.TeeWords.{TeeAsked}
-use Rattle.ends_core.specs.laws.WorkLaws.{head_lawful, tail_lawful}
 use Rattle.csplit_core.specs.laws.InputLaws as csplit_law
 use Rattle.words_core.specs.Words.{CanRun}
 use Rattle.ports_core.specs.declared.calling.Calling.{Calling}

@@ -1,10 +1,8 @@
 -- Lemmas on inputs that give what they show before they are read: what is made of them is what is made of those that show nothing.
-use Rattle.std.proofs.Common.{◌≡◌, ℕ, ◌&&◌, ◌||◌, ◌⊎◌, if◌then◌else◌, map, Bool, true, false, not, is_some, List, [], ◌∷◌, ◌++◌, Option, Some, None, inl, inr, refl, sym, ◌∙◌, ap, subst, length}
+use Rattle.std.proofs.Common.{◌≡◌, ℕ, ◌&&◌, ◌||◌, if◌then◌else◌, map, Bool, true, false, is_some, List, [], ◌∷◌, Option, Some, None, inl, inr, refl, sym, ◌∙◌, ap, length}
 use Rattle.ports_core.specs.Part.{Part, only_out}
-use Rattle.ports_core.specs.Source.{Content, unshown}
+use Rattle.ports_core.specs.Source.{unshown}
 use Rattle.ports_core.specs.Work.{IsLawful, Work}
-use Rattle.ports_core.specs.declared.calling.Calling.{Calling}
-use Rattle.ports_core.specs.declared.calling.Calling.TheVariants.{Cutters}
 use Rattle.ports_core.specs.declared.verdict.Verdict.{Verdict}
 use Rattle.seg_core.specs.declared.unit.Unit.{Unit as Counted}
 use Rattle.ends_core.specs.Shown.{head_in, tail_in}
@@ -24,7 +22,7 @@ use Rattle.std.proofs.Math.Bool.{or-true}
 use Rattle.std.proofs.lemmas.Bool.{eq-eqb}
 use Rattle.tools_core.specs.Tasks.{said_by}
 use Rattle.run_core.specs.Input.{Input}
-use Rattle.run_core.specs.Task.{Task, Outcome, after_part, header_text, is_missing, joined, made_by, of_content, of_input, of_inputs, verdict_messages}
+use Rattle.run_core.specs.Task.{Task, Outcome, after_part, header_text, is_missing, joined, of_content, of_input, of_inputs, verdict_messages}
 use Rattle.tools_core.specs.Promises.{AllAlike, AreAlike, GivesBytes, IsSteady, are_same, give_same}
 
 -- a work makes of each text the same, whether its input showed it or nothing

@@ -3,8 +3,8 @@ use Rattle.std.proofs.lemmas.Grind.{common_steps}
 use Rattle.std.proofs.Common.{◌≡◌, ℕ, ◌+◌, ◌-◌, ◌/◌, ◌%◌, ◌^◌, ◌<◌, ◌≤◌, zero, suc, List, [], ◌∷◌, ◌++◌, length, inl, inr, refl, sym, ◌∙◌, ap, arith, append_assoc, length-append, Less, nat_cmp, append-nil, div-add-mod', rules, ◌*◌, min, Bool, true, false, IsTrue, not, cond, map, take, drop, subst, filter, get_or, Some, None, All, suc-mul}
 use Rattle.std.specs.Cmp.Lexicographic.{slice_cmp}
 use Rattle.std.specs.List.{flat_map, range_with_len}
-use Rattle.std.specs.Prelude.{Option, ◌==◌, ◌||◌, nat_lt}
-use Rattle.std.proofs.lemmas.Bool.{cases_lt, cond_both, eq-eqb, false≢true, lt-ltb, ltb-false, ltb-true}
+use Rattle.std.specs.Prelude.{Option, nat_lt}
+use Rattle.std.proofs.lemmas.Bool.{cases_lt, cond_both, false≢true, lt-ltb, ltb-false, ltb-true}
 use Rattle.ports_core.specs.Name.{ordered_count, IsWide, keeps_order, Naming, has_name, name_at}
 use Rattle.ports_core.specs.declared.numbering.Numbering.TheVariants.{Formatted}
 use Rattle.ports_core.specs.declared.form.Form.{Form}
@@ -26,9 +26,8 @@ use Rattle.seg_core.specs.declared.cut.Cut.TheVariants.{Round}
 use Rattle.seg_core.specs.declared.cut.Way.{Way}
 use Rattle.seg_core.specs.declared.cut.Way.TheVariants as way
 use Rattle.seg_core.specs.declared.unit.Unit.TheVariants.{Bytes, Lines}
-use Rattle.run_core.specs.Input.{is_dash}
 use Rattle.run_core.specs.Task.{after_part}
-use Rattle.split_core.specs.Chunks.{chunks_in, chunks_of, in_the_end, is_as_said, size_by}
+use Rattle.split_core.specs.Chunks.{chunks_in, chunks_of, in_the_end, size_by}
 use Rattle.split_core.specs.ChunkWork.{files_by, kept, piece_at, way_work}
 use Rattle.split_core.specs.laws.ChunkLaws.{map_same, rest_none}
 use Rattle.split_core.proofs.ChunkLemmas.{all_pieces, count_chunks, join_chunks, lines_in_chunks, longer_chunk, shorter_chunk}

@@ -1,6 +1,6 @@
 -- What people rest on, in a manual's words: what a run leaves, over inputs and outputs that tell their bytes, as those
 -- in memory do.
-use Rattle.std.specs.Prelude.{◌≡◌, ℕ, ◌+◌, ◌^◌, ◌/◌, ◌%◌, ◌<◌, ◌≤◌, ◌==◌, suc, nat_lt, Bool, true, false, not, List, [], ◌∷◌, ◌++◌, length, map, drop, All, slice_index_or, ◌⊎◌, Option, Some, None, Ok, if◌then◌else◌, IsTrue}
+use Rattle.std.specs.Prelude.{◌≡◌, ℕ, ◌+◌, ◌^◌, ◌/◌, ◌%◌, ◌<◌, ◌≤◌, ◌==◌, suc, nat_lt, Bool, true, false, not, List, [], ◌∷◌, ◌++◌, length, map, take, drop, All, slice_index_or, ◌⊎◌, Option, Some, None, Ok, if◌then◌else◌, IsTrue}
 use Rattle.std.specs.List.{concat, flat_map}
 use Rattle.std.specs.declared.cmp.Ordering.TheVariants.{Less}
 use Rattle.std.specs.Ordering.{nat_cmp}
@@ -22,6 +22,7 @@ use Rattle.ports_core.specs.declared.calling.Calling.TheVariants.{OwnName}
 use Rattle.ports_core.specs.Work.{Judges}
 use Rattle.ports_core.specs.declared.fault.Fault.{Fault}
 use Rattle.ports_core.specs.declared.verdict.Verdict.{Verdict}
+use Rattle.ports_core.specs.declared.verdict.Verdict.TheVariants.{Changed}
 use Rattle.ports_core.specs.declared.fault.Fault.TheVariants as fault
 use Rattle.ports_core.specs.declared.on_broken.OnBroken.{OnBroken}
 use Rattle.ports_core.specs.declared.slot.Mode.{Mode}
@@ -53,8 +54,9 @@ use Rattle.words_core.specs.EndsWords.{EndsAsked}
 use Rattle.words_core.specs.declared.value.Followed.{Followed}
 use Rattle.seg_core.specs.declared.cut.Way.{Way}
 use Rattle.seg_core.specs.declared.cut.Way.TheVariants as way
-use Rattle.split_core.specs.Chunks.{IsInChunk, IsInPiece}
-use Rattle.split_core.specs.ChunkWork.{kept}
+use Rattle.split_core.specs.Chunks.{IsInChunk, IsInPiece, chunks_of}
+use Rattle.split_core.specs.ChunkWork.{files_by, kept}
+use Rattle.seg_core.specs.declared.cut.Chunks.{Chunks}
 use Rattle.words_core.specs.SplitWords.{SplitAsked}
 use Rattle.words_core.specs.TeeWords.{TeeAsked}
 use Rattle.words_core.specs.Words.{HasBadOperands, settings_of}
@@ -454,6 +456,24 @@ pub record SaysLines (run : Run) (asked : Settings) (lines : List Message) : Typ
 abbrev pub Tells : Run → Settings → Fault → List ℕ → Type 0
 Tells run asked fault name = (before : List Message) × (after : List Message)
     × SaysLines run asked (before ++ message_of fault name ∷ after)
+
+-- The run has one input, which showed a text that has a byte, and then gave these bytes, which are fewer or more, and
+-- ended after them.
+pub record GivesOther (run : Run) (input : Input) (shown bytes : List ℕ) : Type 0 where
+  pub only : inputs_at run.world (names_read run.calling run.words) ≡ input ∷ []
+  pub showed : input.shown ≡ Some shown
+  pub some : 0 < length shown
+  pub gave : input.content ≡ Some (record { bytes = bytes; breaks_off = false; shown = Some shown })
+  pub other : length bytes ≡ length shown → ⊥
+
+-- The files have what came, up to the length that was shown, each what goes with its chunk of a text of that length. It
+-- was told that the input of this name changed.
+pub record IsCutAsShown (run : Run) (asked : SplitAsked) (chunks : Chunks)
+    (name shown bytes : List ℕ) : Type 0 where
+  pub files : contents_of run ≡ files_by asked.elide (chunks_of chunks (length shown) bytes)
+  pub all : joined (contents_of run) ≡ take (length shown) bytes
+  pub told : Tells run (Split asked) (fault.Verdict Changed) name
+  pub failed : run.status ≡ 1
 
 -- an output can break since nobody reads it any more
 abbrev pub HasGone : Run → Type 0

@@ -16,11 +16,12 @@ ghost use Rattle.seg_core.specs.declared.cut.Way.TheVariants as way;
 ghost use Rattle.seg_core.specs.declared.cut.Chunks.{Chunks};
 ghost use Rattle.seg_core.specs.declared.unit.Unit.TheVariants as unit;
 ghost use Rattle.std.specs.List.{flat_map, range_with_len};
+ghost use Rattle.run_core.specs.Input.{Input};
 ghost use Rattle.split_core.specs.Chunks.{chunks_in};
 ghost use Rattle.operand_core.specs.Reading.{Asks};
 ghost use Rattle.operand_core.specs.declared.operand.Operand.{Operand};
 ghost use Rattle.tools_core.specs.Following.{is_name};
-ghost use Rattle.tools_core.specs.Promises.{AreChunks, AreCopies, AreDealt, AreEven, AreLinePieces, AreListed, AreNumbered, ArePieces, AreSections, AreUncut, BeginInChunks, BeginsEach, Completes, CountAlike, Does, AsksToFollow, EndsWithBreak, FindAlike, Follows, HasInput, HasLong, IsBare, IsHead, IsOfProgram, IsSilent, IsStopped, IsTail, KeepLines, SaysWhy, LeaveAlike, OnlyGrows, Ran, Run, SkipNothing, Splits, WhyBroken, contents_of, files_of, lines_telling, makes_files, output_of, showing, text_at};
+ghost use Rattle.tools_core.specs.Promises.{AreChunks, AreCopies, AreDealt, AreEven, AreLinePieces, AreListed, AreNumbered, ArePieces, AreSections, AreUncut, BeginInChunks, BeginsEach, Completes, CountAlike, Does, AsksToFollow, EndsWithBreak, FindAlike, Follows, GivesOther, HasInput, HasLong, IsBare, IsCutAsShown, IsHead, IsOfProgram, IsSilent, IsStopped, IsTail, KeepLines, SaysWhy, LeaveAlike, OnlyGrows, Ran, Run, SkipNothing, Splits, WhyBroken, contents_of, files_of, lines_telling, makes_files, output_of, showing, text_at};
 ghost use Rattle.tools_core.specs.Tasks.{is_plus};
 ghost use Rattle.words_core.specs.CsplitWords.{CsplitAsked};
 ghost use Rattle.words_core.specs.EndsWords.{EndsAsked};
@@ -97,6 +98,8 @@ pub fn cutting_changes_nothing()
 /// nothing; with `--verbose` it has a line for each file, in their order. With K there is no file, and standard output has
 /// piece K, or with `-n r/K/N` what file K has without `-e`: the lines from the Kth on, each N lines after the one before. So
 /// `split -n K/N`, for K from 1 to N, writes the input, and `-n r/K/N` each of its lines once.
+/// Where an input gives fewer or more bytes than it showed before it was read, the files of `-n N` and `-n l/N` have those that
+/// came, up to the length that was shown and as its chunks are; it is told by its name that it changed, and the status is 1.
 pub fn split_loses_nothing()
     ensures listed { (split : Run) (asked : SplitAsked) (input : List ℕ) → Does split (Split asked)
         → HasInput split input → AreListed asked (files_of split) }
@@ -146,6 +149,9 @@ pub fn split_loses_nothing()
     ensures turns { (runs : ℕ → Run) (asked : ℕ → SplitAsked) (n delim : ℕ) (input : List ℕ) → 0 < n
         → ((place : ℕ) → place < n → Splits (runs place) (asked place) (way.Turn place n delim) input)
         → AreDealt delim n false input (map (λ place. output_of (runs place)) (range_with_len 0 n)) }
+    ensures changed { (split : Run) (asked : SplitAsked) (chunks : Chunks) (input : Input) (shown bytes : List ℕ)
+        → Completes split (Split asked) → GivesOther split input shown bytes → asked.way ≡ way.Chunks chunks
+        → IsCutAsShown split asked chunks input.name shown bytes }
 {}
 
 /// `csplit` loses nothing. Its files are numbered in their order, and no two have one name. Their order is that of their names,

@@ -1,19 +1,19 @@
-use Rattle.std.proofs.Common.{◌≡◌, ℕ, Bool, true, false, cond, List, [], ◌∷◌, Some, sym, ◌∙◌, ap}
-use Rattle.ports_core.specs.Source.{Content}
-use Rattle.run_core.specs.Input.{World, file_input, input_of, inputs_at, is_dash, standard_input}
+use Rattle.std.proofs.Common.{◌≡◌, ℕ, Bool, true, false, cond, List, [], ◌∷◌, Option, Some, refl, sym, ◌∙◌, ap, subst}
+use Rattle.run_core.specs.Input.{World, input_of, is_dash, shown_of}
 use Rattle.tools_core.specs.Outcome.{names_read}
-use Rattle.tools_core.specs.Promises.{FindAlike, HasInput, Run}
+use Rattle.tools_core.specs.Promises.{FindAlike, GivesBytes, HasInput, IsSteady, Run, give_same}
 use Rattle.run_tests.proofs.law_tests.both.Goals as goal
 
--- one input that has these bytes is the same in two runs
+-- the only input of a run gives its bytes, whatever it shows of these before
 
-content_is : (content other : Content) → Some content ≡ Some other → content ≡ other
-content_is content other same = cc
+given_by : (is : Bool) (world : World) (name bytes : List ℕ) (shown : Option (List ℕ)) → cond is (Some world.standard) (world.laid 1 name) ≡ Some (record { bytes = bytes; breaks_off = false; shown = shown }) → IsSteady shown bytes
+    → GivesBytes (input_of world false 1 name is) bytes
+given_by true world name bytes shown holds steady = record { content = record { bytes = bytes; breaks_off = false; shown = shown }; is = holds; bytes_are = refl; ends = refl; steady = subst (λ shown. IsSteady shown bytes) (sym (ap shown_of holds)) steady }
+given_by false world name bytes shown holds steady = record { content = record { bytes = bytes; breaks_off = false; shown = shown }; is = holds; bytes_are = refl; ends = refl; steady = subst (λ shown. IsSteady shown bytes) (sym (ap shown_of holds)) steady }
 
-found_by : (is : Bool) (world other : World) (name : List ℕ) (content : Content) → cond is (Some world.standard) (world.laid 1 name) ≡ Some content → cond is (Some other.standard) (other.laid 1 name) ≡ Some content
-    → input_of world false 1 name is ≡ input_of other false 1 name is
-found_by true world other name content holds holds_too = ap standard_input (content_is world.standard other.standard (holds ∙ sym holds_too))
-found_by false world other name content holds holds_too = ap (file_input name 1) (holds ∙ sym holds_too)
+named_alike : (is : Bool) (world other : World) (name : List ℕ) → (input_of world false 1 name is).name ≡ (input_of other false 1 name is).name
+named_alike true world other name = refl
+named_alike false world other name = refl
 
 name_is : (name other : List ℕ) → name ∷ [] ≡ other ∷ [] → other ≡ name
 name_is name other same = cc
@@ -21,10 +21,13 @@ name_is name other same = cc
 found : (one other : Run) (bytes : List ℕ) → one.calling ≡ other.calling → one.words ≡ other.words → HasInput one bytes → HasInput other bytes → FindAlike one other
 found one other bytes called same has has_too =
     let named : has_too.name ≡ has.name = name_is has.name has_too.name (sym has.only ∙ ap (λ how. names_read how one.words) called ∙ ap (names_read other.calling) same ∙ has_too.only) in
-    ap (inputs_at one.world) has.only
-    ∙ ap (λ input. input ∷ []) (found_by (is_dash has.name) one.world other.world has.name (record { bytes = bytes; breaks_off = false }) has.holds
-    (ap (λ name. cond (is_dash name) (Some other.world.standard) (other.world.laid 1 name)) (sym named) ∙ has_too.holds))
-    ∙ ap (λ name. inputs_at other.world (name ∷ [])) (sym named) ∙ sym (ap (inputs_at other.world) has_too.only)
+    let there = ap (λ name. cond (is_dash name) (Some other.world.standard) (other.world.laid 1 name)) (sym named) ∙ has_too.holds in
+    rw (has.only, has_too.only, named) (
+      give_same bytes (named_alike (is_dash has.name) one.world other.world has.name)
+          (given_by (is_dash has.name) one.world has.name bytes has.shown has.holds has.steady)
+          (given_by (is_dash has.name) other.world has.name bytes has_too.shown there has_too.steady),
+      tt,
+    )
 
 pub returns : goal.returns
 returns c asked read only none strict =

@@ -1,7 +1,7 @@
 use Rattle.std.proofs.Common.{◌≡◌, ℕ, ◌+◌, ◌++◌, true, false, List, [], ◌∷◌, length, Option, Some, None, Ok, subst}
 use Rattle.ends_core.specs.Ends.{tail_of}
 use Rattle.ports_core.specs.Slot.{Slot, slot_at}
-use Rattle.ports_core.specs.Source.{Content, Source, source_of}
+use Rattle.ports_core.specs.Source.{Content, Source, source_of, unshown}
 use Rattle.watch_core.specs.Snapshot.{Snapshot}
 use Rattle.watch_core.specs.Watched.{Watched}
 use Rattle.words_core.specs.EndsWords.{EndsAsked}
@@ -25,12 +25,12 @@ TellAll = (run : Run) (options : EndsAsked) (followed : Followed) (name came : L
 
 -- what standard output has after a run of these words
 grown_so : AreRuns → TellAll → (words : List (List ℕ)) (laid : ℕ → List ℕ → Option Content) (old sources : List Source) (shows : ℕ → Snapshot) (seen : List Snapshot) (watched : List Watched) (outs : List Slot) (status : ℕ)
-    → old ≡ source_of (record { bytes = []; breaks_off = false }) ∷ [] → ProgramEnds Cutters true true true (λ slot why. true) words laid old sources shows seen watched outs status → status ≡ 0
+    → old ≡ source_of (unshown []) ∷ [] → ProgramEnds Cutters true true true (λ slot why. true) words laid old sources shows seen watched outs status → status ≡ 0
     → (options : EndsAsked) (followed : Followed) (name came : List ℕ) (file n pause : ℕ) → settings_of Cutters words ≡ Ok (Tail (record { ends = options; followed = Some followed; looks = n + 1; pause = pause; process = None })) → IsBare options → options.names ≡ name ∷ []
     → ((count : ℕ) → OnlyGrows count shows name file) → (shows n).holds file ≡ (shows 0).holds file ++ came
     → (slot_at outs 0).written ≡ tail_of options.delim options.unit (is_plus options.count.sign) options.count.amount ((shows 0).holds file) ++ came
 grown_so law tells words laid old sources shows seen watched outs status fresh ends well options followed name came file n pause read bare named grows held =
-    let run : Run = record { calling = Cutters; words = words; breaks_for = λ slot why. true; world = record { laid = laid; standard = record { bytes = []; breaks_off = false } }; shows = shows; inputs = sources; seen = seen; watched = watched; outputs = outs; status = status } in
+    let run : Run = record { calling = Cutters; words = words; breaks_for = λ slot why. true; world = record { laid = laid; standard = unshown [] }; shows = shows; inputs = sources; seen = seen; watched = watched; outputs = outs; status = status } in
     let is_of : IsOfProgram run = subst (λ old. ProgramEnds Cutters true true true (λ slot why. true) words laid old sources shows seen watched outs status) fresh ends in
     tells run options followed name came file n (law run options followed (n + 1) is_of (pause, read) well).0 bare named (grows (length seen)) held
 

@@ -1,5 +1,5 @@
 use Rattle.ports_core.proofs.SlotSteps.{swept_none}
-use Rattle.std.proofs.Common.{◌∙◌, refl, ap, rules}
+use Rattle.std.proofs.Common.{◌∙◌, refl, ap}
 use Rattle.ports_core.proofs.HandedOn.{fault_is}
 use Rattle.words_core.specs.CsplitWords.{CsplitAsked}
 use Rattle.run_core.proofs.InputLemmas.{shows_something}
