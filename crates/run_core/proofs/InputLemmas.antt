@@ -12,8 +12,8 @@ use Rattle.run_core.specs.Feeding.{IsUnread, Step, ToldEnd, Uses, is_enough, Fed
 use Rattle.ports_core.specs.Inputs.{CameFrom, KeepsOthers, OfContent, AsksAtMost, empty, largest_piece}
 use Rattle.run_core.specs.Input.{Input, World, IsFor, shown_of, showing, is_dash, input_of, inputs_from, next_slot, has_dash, AreFrom, inputs_at, file_input, standard_input, read_before}
 use Rattle.run_core.specs.Reading.{AreDone, AreUntouched, IsDone, IsUntouched, Leaves, count_after}
-use Rattle.run_core.specs.inner.RunSteps.{TakesOne, KeepsOther, OfSource, HeaderFails, no_room, broke, TookInput, took, cut_off, input_from, TookAll, all, stopped_at, not_begun, HasStreams, OfName, standard_source}
-use Rattle.ports_core.proofs.InputsLemmas.{came_sound, sound_at, fresh_asks, keeps_again}
+use Rattle.run_core.specs.inner.RunSteps.{TakesOne, OfSource, HeaderFails, no_room, broke, TookInput, took, cut_off, input_from, TookAll, all, stopped_at, not_begun, HasStreams, OfName, standard_source}
+use Rattle.ports_core.proofs.InputsLemmas.{came_sound, sound_at, fresh_asks}
 use Rattle.std.proofs.Math.Bool.{and-false, and-true, or-false, or-true, or_assoc}
 use Rattle.ports_core.specs.Slot.{Slot, adds, is_open, slot_at, is_writable, told_of, with_written, streams}
 use Rattle.ports_core.specs.Part.{Part, only_out, OutputsAt}
@@ -80,11 +80,6 @@ looked_can most (Some slot) old new looked can = looked_readable looked can
 pub looked_unread : (most : ℕ) (source : Option ℕ) (old new : List Source) → OnlyLooked most source old new → IfSome source (λ slot. IsUnread (source_at old slot)) → IfSome source (λ slot. IsUnread (source_at new slot))
 looked_unread most None old new looked unread = tt
 looked_unread most (Some slot) old new looked unread = (ap (λ (source : Source). source.taken) looked.looked ∙ unread.0, ap (λ (source : Source). source.reached) looked.looked ∙ unread.1)
-
--- no input but that of the source was touched, first by looks
-pub looked_keeps : (most : ℕ) (source : Option ℕ) (old mid new : List Source) → OnlyLooked most source old mid → KeepsOther source mid new → KeepsOther source old new
-looked_keeps most None old mid new looked keeps = keeps ∙ looked
-looked_keeps most (Some slot) old mid new looked keeps = keeps_again slot old mid new looked.others keeps
 
 -- where a source is there, it shows what it shows
 pub shows_something : (told : Bool) (source : Option ℕ) (sources : List Source) → (shown : Option (List ℕ)) × IsShown told source sources shown

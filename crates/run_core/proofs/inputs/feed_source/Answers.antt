@@ -10,18 +10,25 @@ pub returns-in_err-engine-clause-fed : goal.returns-in_err-engine-clause-fed
 returns-in_err-engine-clause-fed g c =
     let looked = c.in_err-engine.ensures.looked in
     let (shown, says, opened, short) = c.in_err-engine.ensures.opens in
-    rw (handed_on _ _ c.from_residual.ensures.1) (shown, says, of_looked _ _ _ _ _ _ looked
-    (unread_source _ _ _ _ (looked_can _ _ _ _ looked c.requires.input) (looked_unread _ _ _ _ looked c.requires.unread) (λ content unread.
-    (stopped _ short.unjudged _ opens (unread _ refl refl) short.reached short.why short.stop short.swept, λ ends. absurd (false≢true (sym ends ∙ ap not short.unjudged))))))
+    rw (handed_on _ _ c.from_residual.ensures.1) (
+      shown,
+      says,
+      of_looked _ _ _ _ _ _ looked
+          (unread_source _ _ _ _ (looked_can _ _ _ _ looked c.requires.input) (looked_unread _ _ _ _ looked c.requires.unread) (λ content unread.
+          (stopped _ short.unjudged _ opens (unread _ refl refl) short.reached short.why short.stop short.swept, λ ends. absurd (false≢true (sym ends ∙ ap not short.unjudged))))),
+    )
 
 pub returns-in-Some-clause-fed : goal.returns-in-Some-clause-fed
 returns-in-Some-clause-fed g c =
     let looked = c.in_ok-engine.ensures.looked in
     let (shown, says, had, short) = c.in_ok-engine.ensures.opens in
     let can = looked_can _ _ _ _ looked c.requires.input in
-    let unread = looked_unread _ _ _ _ looked c.requires.unread in
-    (shown, says, of_looked _ _ _ _ _ _ looked
-    (rw (c.in-Some.is, ← c.open.auto.buffer, ← had.does) (left_of _ _ _ (still_within c.in-Some.is can c.feed_input.ensures.others)
-    (λ content. fed_so (λ call left. (left.0, λ told. left.1 told (rw c.in-Some.is at unread))))
-    (λ told ends. c.feed_input.ensures.used told ends (rw c.in-Some.is at unread))
-    (c.feed_input.ensures.ends _ _ had.owns (rw (← had.does) at had.outputs)))))
+    let unread = looked_unread _ _ _ _ looked c.requires.unread in (
+      shown,
+      says,
+      of_looked _ _ _ _ _ _ looked
+          (rw (c.in-Some.is, ← c.open.auto.buffer, ← had.does) (left_of _ _ _ (still_within c.in-Some.is can c.feed_input.ensures.others)
+          (λ content. fed_so (λ call left. (left.0, λ told. left.1 told (rw c.in-Some.is at unread))))
+          (λ told ends. c.feed_input.ensures.used told ends (rw c.in-Some.is at unread))
+          (c.feed_input.ensures.ends _ _ had.owns (rw (← had.does) at had.outputs)))),
+    )
