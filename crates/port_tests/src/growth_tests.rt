@@ -19,7 +19,9 @@ use watch_core::Watch;
 enum Call {
     Inputs,
     Input,
+    InputShowing,
     File,
+    FileShowing,
     Break,
     OpenInput,
     Outputs,
@@ -41,7 +43,9 @@ enum Call {
 const CALLS: &[Call] = &[
     Call::Inputs,
     Call::Input,
+    Call::InputShowing,
     Call::File,
+    Call::FileShowing,
     Call::Break,
     Call::OpenInput,
     Call::Outputs,
@@ -99,7 +103,9 @@ fn makes(rt: &impl Abort, alloc: Global, call: Call) -> Result<(), Fault> {
     match call {
         Call::Inputs => MemIn::new(alloc).map(|_| ()),
         Call::Input => input(rt, alloc),
+        Call::InputShowing => input_showing(rt, alloc),
         Call::File => file(rt, alloc),
+        Call::FileShowing => file_showing(rt, alloc),
         Call::Break => break_off(rt, alloc),
         Call::OpenInput => open_input(rt, alloc),
         Call::Outputs => MemOut::new(alloc).map(|_| ()),
@@ -147,11 +153,29 @@ fn input(rt: &impl Abort, alloc: Global) -> Result<(), Fault> {
     first
 }
 
+fn input_showing(rt: &impl Abort, alloc: Global) -> Result<(), Fault> {
+    let mut inputs = MemIn::new(alloc)?;
+    let first = inputs.input_showing(b"abc", b"xyz");
+    if first.is_err() {
+        same(rt, &inputs.input_showing(b"abc", b"xyz"), &Ok(()));
+    }
+    first
+}
+
 fn file(rt: &impl Abort, alloc: Global) -> Result<(), Fault> {
     let mut inputs = MemIn::new(alloc)?;
     let first = inputs.file("f", b"abc");
     if first.is_err() {
         same(rt, &inputs.file("f", b"abc"), &Ok(()));
+    }
+    first
+}
+
+fn file_showing(rt: &impl Abort, alloc: Global) -> Result<(), Fault> {
+    let mut inputs = MemIn::new(alloc)?;
+    let first = inputs.file_showing("f", b"abc", b"xyz");
+    if first.is_err() {
+        same(rt, &inputs.file_showing("f", b"abc", b"xyz"), &Ok(()));
     }
     first
 }

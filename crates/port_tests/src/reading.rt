@@ -15,22 +15,24 @@ pub(crate) enum Call<'a> {
     Read(usize, usize, &'a [u8]),
     /// A read into this much of the buffer returns this fault. It is the last call of a table.
     Fails(usize, Fault),
-    /// So many bytes are left.
-    Left(Option<u64>),
+    /// So many bytes are shown.
+    Shown(Option<u64>),
     /// These bytes are shown from a place on.
     Shows(u64, &'a [u8]),
     /// From a place on, this many bytes can't be shown.
     Hides(u64, usize),
-    /// So many of the bytes that are left are passed over.
-    Skip(u64, u64),
+    /// So many bytes are passed over.
+    Skip(u64),
+    /// So many bytes can't be passed over.
+    Keeps(u64),
 }
 
-/// Inputs of which the first has these bytes, and breaks off after this many.
+/// Inputs of which the first has these bytes and shows them, and breaks off after this many.
 pub(crate) fn broken_input(alloc: Global, bytes: &[u8], at: usize) -> Result<MemIn, Fault>
     ensures { IfOk result (λ inputs. IsTrue (is_readable inputs.sources 0)) }
 {
     let mut inputs = MemIn::new(alloc)?;
-    inputs.input(bytes)?;
+    inputs.input_showing(bytes, bytes)?;
     inputs.break_at(0, at)?;
     Ok(inputs)
 }
@@ -119,10 +121,6 @@ fn answers<I: Inputs>(
             same(rt, &read(rt, inputs, slot, buffer, *size), &Err(*fault));
             false
         }
-        Call::Skip(count, left) => {
-            assert!(rt; passes(inputs, slot, *count, *left));
-            true
-        }
         _ => {
             assert!(rt; is_so(rt, inputs, slot, buffer, call));
             true
@@ -154,22 +152,13 @@ fn begins(buffer: &[u8], front: &[u8]) -> bool {
     buffer.starts_with(front)
 }
 
-/// Passes over bytes of an input that has this many left.
-fn passes<I: Inputs>(inputs: &mut I, slot: usize, count: u64, left: u64) -> bool
+/// Passes over bytes.
+fn passes<I: Inputs>(inputs: &mut I, slot: usize, count: u64) -> bool
     requires { IsTrue (is_readable (I.sources inputs.old) slot) }
     ensures sound { IsTrue (is_readable (I.sources inputs.new) slot) }
     ensures others { (other : ℕ) → nat_eq other slot ≡ false → is_readable (I.sources inputs.new) other ≡ is_readable (I.sources inputs.old) other }
 {
-    if count > left {
-        return false;
-    }
-    let Some(known) = inputs.left(slot) else {
-        return false;
-    };
-    if known != left {
-        return false;
-    }
-    inputs.skip(slot, count, known)
+    inputs.skip(slot, count)
 }
 
 /// Looks at a place, into this much of a buffer.
@@ -189,7 +178,7 @@ fn look<I: Inputs>(
     inputs.read_at(slot, place, &mut buffer[..size])
 }
 
-/// Whether a call that takes nothing from an input returns what it must.
+/// Whether a call that is no read returns what it must.
 fn is_so<I: Inputs>(
     rt: &impl Abort,
     inputs: &mut I,
@@ -202,11 +191,13 @@ fn is_so<I: Inputs>(
     ensures others { (other : ℕ) → nat_eq other slot ≡ false → is_readable (I.sources inputs.new) other ≡ is_readable (I.sources inputs.old) other }
 {
     match call {
-        Call::Left(left) => inputs.left(slot) == *left,
+        Call::Shown(count) => inputs.shown(slot) == *count,
         Call::Shows(place, bytes) => {
             look(rt, inputs, slot, buffer, *place, bytes.len()) && begins(buffer, bytes)
         }
         Call::Hides(place, size) => !look(rt, inputs, slot, buffer, *place, *size),
+        Call::Skip(count) => passes(inputs, slot, *count),
+        Call::Keeps(count) => !passes(inputs, slot, *count),
         _ => false,
     }
 }

@@ -1,30 +1,32 @@
-//! Looking at inputs from their end, and passing over a front of them: in memory, and over real files.
-ghost use Rattle.std.specs.Prelude.{◌≡◌, ℕ, false, nat_eq, IsTrue};
+//! Looking at what inputs show, and passing over a front of them: in memory, and over real files.
+ghost use Rattle.std.specs.Prelude.{IsTrue};
 ghost use Rattle.ports_core.specs.Source.{is_readable};
 
-use crate::folder::{append, is_there, make_file};
+use crate::folder::{is_there, make_file};
 use crate::reading::{Call, ask, broken_input, inputs_of, open_and_ask, open_input};
 use mem_core::MemIn;
 use ports_core::{DirIn, Fault, InputFiles, Inputs};
+use std::alloc::Global;
 use std::fs;
 use std::process::Abort;
 use std::test::Fail;
 
-/// Places count from the next byte that a read gives.
+/// Places count from the first byte that is shown, whatever was read.
 const SIX_LETTERS: &[Call<'static>] = &[
-    Call::Left(Some(6)),
+    Call::Shown(Some(6)),
     Call::Shows(3, b"def"),
     Call::Hides(4, 3),
     Call::Hides(u64::MAX, 3),
     Call::Shows(6, b""),
     Call::Read(3, 1, b"a"),
-    Call::Left(Some(5)),
-    Call::Shows(0, b"bcd"),
-    Call::Skip(4, 5),
-    Call::Left(Some(1)),
-    Call::Read(3, 1, b"fcd"),
-    Call::Skip(0, 0),
+    Call::Shown(Some(6)),
+    Call::Keeps(6),
+    Call::Shows(0, b"abc"),
+    Call::Skip(4),
+    Call::Read(3, 1, b"fbc"),
+    Call::Skip(0),
     Call::Read(3, 0, b""),
+    Call::Shows(3, b"def"),
 ];
 
 #[test]
@@ -36,46 +38,130 @@ fn memory_is_looked_at_from_any_place(rt: HostRuntime) -> Result<(), Fail> {
     Ok(())
 }
 
-/// What is asked of an input that breaks off.
-const BROKEN: &[Call<'static>] = &[Call::Left(None), Call::Shows(1, b"bc")];
+/// What an input gives, what it shows before that, and what is asked of it.
+type Row<'a> = (&'a [u8], &'a [u8], &'a [Call<'a>]);
+
+/// Looks show the one text, and reads give the other; no more of that is passed over than there is.
+const CHANGING: &[Row<'static>] = &[
+    (
+        b"abc",
+        b"uvwxyz",
+        &[
+            Call::Shown(Some(6)),
+            Call::Shows(0, b"uvw"),
+            Call::Shows(3, b"xyz"),
+            Call::Hides(4, 3),
+            Call::Keeps(4),
+            Call::Read(2, 2, b"ab"),
+            Call::Keeps(2),
+            Call::Skip(1),
+            Call::Read(2, 0, b""),
+            Call::Shows(1, b"vw"),
+        ],
+    ),
+    (
+        b"abcdef",
+        b"uv",
+        &[
+            Call::Shown(Some(2)),
+            Call::Shows(1, b"v"),
+            Call::Hides(1, 2),
+            Call::Skip(5),
+            Call::Keeps(2),
+            Call::Read(9, 1, b"f"),
+            Call::Read(9, 0, b""),
+        ],
+    ),
+    (
+        b"",
+        b"uv",
+        &[
+            Call::Shown(Some(2)),
+            Call::Shows(0, b"uv"),
+            Call::Keeps(1),
+            Call::Read(9, 0, b""),
+        ],
+    ),
+    // One that shows nothing is passed over too.
+    (
+        b"abc",
+        b"",
+        &[
+            Call::Shown(None),
+            Call::Hides(0, 1),
+            Call::Hides(0, 0),
+            Call::Skip(2),
+            Call::Keeps(2),
+            Call::Read(9, 1, b"c"),
+        ],
+    ),
+];
 
 #[test]
-fn of_a_broken_input_nothing_is_counted(rt: HostRuntime) -> Result<(), Fail> {
-    let mut inputs = broken_input(rt.alloc(), b"abc", 3)?;
+fn memory_shows_what_it_was_given_to_show(rt: HostRuntime) -> Result<(), Fail> {
+    for row in CHANGING {
+        ask_both(&rt, rt.alloc(), row)?;
+    }
+    Ok(())
+}
+
+/// Asks a file and standard input.
+fn ask_both(rt: &impl Abort, alloc: Global, row: &Row<'_>) -> Result<(), Fault> {
+    let (bytes, shown, calls) = *row;
+    let mut inputs = MemIn::new(alloc)?;
+    inputs.input_showing(bytes, shown)?;
+    inputs.file_showing("f", bytes, shown)?;
+    ask(rt, &mut inputs, 0, calls);
+    open_and_ask(rt, &mut inputs, "f", 1, calls)
+}
+
+/// What is asked of an input of which nothing is shown.
+const UNKNOWN: &[Call<'static>] = &[Call::Shown(None), Call::Hides(0, 1)];
+
+#[test]
+fn memory_shows_files_alone_that_have_a_byte(rt: HostRuntime) -> Result<(), Fail> {
+    let mut inputs = MemIn::new(rt.alloc())?;
+    inputs.input(b"abc")?;
+    inputs.file("f", b"")?;
+    ask(&rt, &mut inputs, 0, UNKNOWN);
+    open_and_ask(&rt, &mut inputs, "f", 1, UNKNOWN)?;
+    Ok(())
+}
+
+/// What is asked of an input that breaks off after three of its six bytes.
+const BROKEN: &[Call<'static>] = &[
+    Call::Shown(Some(6)),
+    Call::Shows(2, b"cdef"),
+    Call::Keeps(4),
+    Call::Skip(1),
+    Call::Read(9, 2, b"bc"),
+    Call::Fails(9, Fault::Read(0)),
+];
+
+#[test]
+fn of_a_broken_input_all_is_shown(rt: HostRuntime) -> Result<(), Fail> {
+    let mut inputs = broken_input(rt.alloc(), b"abcdef", 3)?;
     ask(&rt, &mut inputs, 0, BROKEN);
     Ok(())
 }
 
-/// Once a read gave nothing, no end is known any more.
+/// Once a read gave nothing, nothing is shown any more.
 const SIXTEEN_LETTERS: &[Call<'static>] = &[
-    Call::Left(Some(16)),
+    Call::Shown(Some(16)),
     Call::Shows(7, b"hijklmnop"),
     Call::Hides(8, 9),
     Call::Hides(u64::MAX, 9),
     Call::Read(2, 2, b"ab"),
-    Call::Left(Some(14)),
-    Call::Shows(0, b"cdefghijk"),
-    Call::Skip(13, 14),
+    Call::Shown(Some(16)),
+    Call::Shows(0, b"abcdefghi"),
+    Call::Skip(13),
     Call::Read(9, 1, b"p"),
+    Call::Shown(Some(16)),
     Call::Read(9, 0, b""),
-    Call::Left(None),
+    Call::Shown(None),
     Call::Hides(0, 1),
+    Call::Keeps(0),
 ];
-
-/// Makes all calls for an input, which then passes over nothing.
-fn ask_to_the_end(
-    rt: &impl Abort,
-    inputs: &mut DirIn<'_, HostRuntime>,
-    slot: usize,
-    calls: &[Call<'_>],
-    count: u64,
-)
-    requires { IsTrue (is_readable inputs.old slot) }
-    ensures { (other : ℕ) → nat_eq other slot ≡ false → is_readable inputs.new other ≡ is_readable inputs.old other }
-{
-    assert!(rt; ask(rt, inputs, slot, calls));
-    assert!(rt; !inputs.skip(slot, count, count));
-}
 
 #[test]
 fn files_are_looked_at_from_any_place(rt: HostRuntime) -> Result<(), Fail> {
@@ -83,100 +169,116 @@ fn files_are_looked_at_from_any_place(rt: HostRuntime) -> Result<(), Fail> {
     make_file(&rt, "ports_core_looks", name, b"abcdefghijklmnop")?;
     let noted = InputFiles::new(rt.alloc());
     let mut inputs = inputs_of(rt, &noted);
-    open_input(&rt, &mut inputs, name, 1)?;
-    ask_to_the_end(&rt, &mut inputs, 1, SIXTEEN_LETTERS, 0);
+    open_and_ask(&rt, &mut inputs, name, 1, SIXTEEN_LETTERS)?;
     fs::remove_dir_all(&rt, "ports_core_looks")?;
     Ok(())
 }
 
-/// What is asked of a file with six bytes, of which the first two are passed over.
-const BEFORE: &[Call<'static>] = &[Call::Left(Some(6)), Call::Skip(2, 6)];
+/// What is asked of a file with the bytes `abcdef`, the bytes that it has after that, and what is asked of it then.
+type Change<'a> = (&'a [Call<'a>], &'a [u8], &'a [Call<'a>]);
 
-/// What is asked of it once it has three bytes.
-const SHRUNK: &[Call<'static>] = &[
-    Call::Read(6, 1, b"c"),
-    Call::Read(0, 0, b""),
-    Call::Fails(6, Fault::Read(1)),
-];
-
-/// What is asked of the same file where nothing was passed over.
-const STAYED: &[Call<'static>] = &[Call::Read(6, 3, b"abc"), Call::Read(6, 0, b"")];
-
-#[test]
-fn a_file_that_shrank_breaks(rt: HostRuntime) -> Result<(), Fail> {
-    let name = "ports_core_shrinks/f";
-    make_file(&rt, "ports_core_shrinks", name, b"abcdef")?;
-    let noted = InputFiles::new(rt.alloc());
-    let mut inputs = inputs_of(rt, &noted);
-    open_input(&rt, &mut inputs, name, 1)?;
-    open_input(&rt, &mut inputs, name, 2)?;
-    assert!(rt; ask(&rt, &mut inputs, 1, BEFORE));
-    fs::write(&rt, name, b"abc".as_slice())?;
-    ask(&rt, &mut inputs, 1, SHRUNK);
-    ask(&rt, &mut inputs, 2, STAYED);
-    fs::remove_dir_all(&rt, "ports_core_shrinks")?;
-    Ok(())
-}
-
-/// Of a file with six bytes nothing is passed over.
-const COUNTED: &[Call<'static>] = &[Call::Skip(0, 6)];
-
-/// What is asked of it once it has none.
-const EMPTIED: &[Call<'static>] = &[Call::Fails(6, Fault::Read(1))];
-
-#[test]
-fn a_file_that_was_emptied_breaks(rt: HostRuntime) -> Result<(), Fail> {
-    let name = "ports_core_emptied/f";
-    make_file(&rt, "ports_core_emptied", name, b"abcdef")?;
-    let noted = InputFiles::new(rt.alloc());
-    let mut inputs = inputs_of(rt, &noted);
-    open_input(&rt, &mut inputs, name, 1)?;
-    assert!(rt; ask(&rt, &mut inputs, 1, COUNTED));
-    fs::write(&rt, name, b"".as_slice())?;
-    ask(&rt, &mut inputs, 1, EMPTIED);
-    fs::remove_dir_all(&rt, "ports_core_emptied")?;
-    Ok(())
-}
-
-/// What is asked of a file with six bytes.
-const SMALL: &[Call<'static>] = &[Call::Skip(4, 6)];
-
-/// What is asked of it once it has eight. No read goes on over where it ended when it was opened.
-const GROWN: &[Call<'static>] = &[
-    Call::Read(4, 2, b"ef"),
-    Call::Read(4, 2, b"gh"),
-    Call::Read(4, 0, b""),
+/// A file that changes breaks nowhere. It shows nothing once its last byte can't be looked at.
+const CHANGES: &[Change<'static>] = &[
+    (
+        &[Call::Shown(Some(6)), Call::Skip(2)],
+        b"abc",
+        &[
+            Call::Shown(None),
+            Call::Hides(3, 3),
+            Call::Read(6, 1, b"c"),
+            Call::Read(0, 0, b""),
+            Call::Read(6, 0, b""),
+        ],
+    ),
+    (
+        &[Call::Skip(4)],
+        b"abc",
+        &[Call::Read(6, 0, b""), Call::Read(6, 0, b"")],
+    ),
+    (
+        &[Call::Shown(Some(6))],
+        b"abc",
+        &[Call::Read(6, 3, b"abc"), Call::Read(6, 0, b"")],
+    ),
+    (
+        &[Call::Skip(4)],
+        b"",
+        &[Call::Shown(None), Call::Hides(0, 1), Call::Read(6, 0, b"")],
+    ),
+    (&[Call::Shown(Some(6))], b"", &[Call::Read(6, 0, b"")]),
+    // No read goes on over where it ended when it was opened.
+    (
+        &[Call::Skip(4)],
+        b"abcdefgh",
+        &[
+            Call::Shown(Some(6)),
+            Call::Read(4, 2, b"ef"),
+            Call::Read(4, 2, b"gh"),
+            Call::Read(4, 0, b""),
+        ],
+    ),
+    (
+        &[Call::Shown(Some(6)), Call::Shows(0, b"abc")],
+        b"uvwxyz",
+        &[
+            Call::Shown(Some(6)),
+            Call::Shows(3, b"xyz"),
+            Call::Read(6, 6, b"uvwxyz"),
+        ],
+    ),
 ];
 
 #[test]
-fn a_file_that_grows_is_read_on(rt: HostRuntime) -> Result<(), Fail> {
-    let name = "ports_core_grows/f";
-    make_file(&rt, "ports_core_grows", name, b"abcdef")?;
-    let noted = InputFiles::new(rt.alloc());
-    let mut inputs = inputs_of(rt, &noted);
-    open_input(&rt, &mut inputs, name, 1)?;
-    assert!(rt; ask(&rt, &mut inputs, 1, SMALL));
-    append(&rt, name, b"gh")?;
-    ask(&rt, &mut inputs, 1, GROWN);
-    fs::remove_dir_all(&rt, "ports_core_grows")?;
+fn files_may_change(rt: HostRuntime) -> Result<(), Fail> {
+    for change in CHANGES {
+        ask_around(&rt, rt, change)?;
+    }
+    fs::remove_dir_all(&rt, "ports_core_changes")?;
     Ok(())
 }
 
-/// What is asked of an input that is no file.
-const UNKNOWN: &[Call<'static>] = &[Call::Left(None), Call::Hides(0, 1)];
+/// Asks an input before its file changes, and after that.
+fn ask_around(abort: &impl Abort, rt: HostRuntime, change: &Change<'_>) -> Result<(), Fail> {
+    let (before, bytes, after) = *change;
+    let name = "ports_core_changes/f";
+    make_file(&rt, "ports_core_changes", name, b"abcdef")?;
+    let noted = InputFiles::new(rt.alloc());
+    let mut inputs = inputs_of(rt, &noted);
+    open_input(abort, &mut inputs, name, 1)?;
+    assert!(abort; ask(abort, &mut inputs, 1, before));
+    fs::write(&rt, name, bytes)?;
+    ask(abort, &mut inputs, 1, after);
+    Ok(())
+}
 
 /// What is asked of a device that has no end.
-const ENDLESS: &[Call<'static>] = &[Call::Left(None), Call::Read(1, 1, b"\0")];
+const ENDLESS: &[Call<'static>] = &[Call::Shown(None), Call::Read(1, 1, b"\0")];
 
 #[test]
-fn what_is_no_file_tells_no_length(rt: HostRuntime) -> Result<(), Fail> {
+fn what_is_no_file_shows_nothing(rt: HostRuntime) -> Result<(), Fail> {
     let noted = InputFiles::new(rt.alloc());
     let mut inputs = inputs_of(rt, &noted);
-    open_input(&rt, &mut inputs, ".", 1)?;
-    ask_to_the_end(&rt, &mut inputs, 0, UNKNOWN, 1);
-    ask(&rt, &mut inputs, 1, UNKNOWN);
+    open_and_ask(&rt, &mut inputs, ".", 1, UNKNOWN)?;
     if is_there(&rt, "/dev/zero") {
         open_and_ask(&rt, &mut inputs, "/dev/zero", 2, ENDLESS)?;
     }
     Ok(())
+}
+
+#[test]
+fn standard_input_shows_its_last_byte_or_nothing(rt: HostRuntime) {
+    let noted = InputFiles::new(rt.alloc());
+    let mut inputs = inputs_of(rt, &noted);
+    assert!(rt; shows_all_or_nothing(&mut inputs));
+    ask(&rt, &mut inputs, 0, &[Call::Keeps(1)]);
+}
+
+/// Whether the last byte that standard input shows can be looked at, whatever it is, and no byte where it shows nothing.
+fn shows_all_or_nothing(inputs: &mut DirIn<'_, HostRuntime>) -> bool
+    requires { IsTrue (is_readable inputs.old 0) }
+    ensures { IsTrue (is_readable inputs.new 0) }
+{
+    let shown = inputs.shown(0);
+    let last = shown.unwrap_or(1).saturating_sub(1);
+    inputs.read_at(0, last, &mut [0u8]) == shown.is_some()
 }
