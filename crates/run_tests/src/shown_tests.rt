@@ -3,9 +3,11 @@
 ghost use Rattle.std.specs.Prelude.{IfOk};
 ghost use Rattle.ports_core.specs.Source.{IsFresh};
 
-use crate::left::{File, Left, NOTHING, Plan, Run, check_over, planned_inputs, planned_outs};
+use crate::left::{
+    File, Left, NOTHING, Plan, Run, check_over, differs, planned_inputs, planned_outs,
+};
 use mem_core::MemIn;
-use ports_core::{Fault, Outs};
+use ports_core::Fault;
 use std::alloc::Global;
 use std::process::Abort;
 use std::test::Fail;
@@ -475,8 +477,8 @@ fn changing(alloc: Global, run: &Run<'_>, shown: &[u8], bytes: &[u8]) -> Result<
     Ok(inputs)
 }
 
-/// Words, what standard input gives, what is written, and what is left to read.
-type Taking<'a> = (&'a [&'a str], &'a [u8], &'a [u8], &'a [u8]);
+/// Words, what standard input gives, what of it is written, what is left to read, and what is told.
+type Taking<'a> = (&'a [&'a str], &'a [u8], &'a [u8], &'a [u8], &'a [u8]);
 
 #[test]
 fn standard_input_is_read_to_the_place(rt: HostRuntime) -> Result<(), Fail> {
@@ -489,17 +491,33 @@ fn standard_input_is_read_to_the_place(rt: HostRuntime) -> Result<(), Fail> {
 
 const TAKEN: &[Taking<'static>] = &[
     // All but the last three of the eight bytes that it shows are five. No more is taken, whatever stands there.
-    (&["head", "-c", "-3"], SHOWN, b"a\nb\nc", b"\nd\n"),
-    (&["head", "-c", "-3"], b"0123456789", b"01234", b"56789"),
-    (&["head", "-c", "-3"], b"vwxyz", b"vwxyz", b""),
-    (&["head", "-n", "-1"], SHOWN, b"a\nb\nc\n", b"d\n"),
-    (&["head", "-n", "-9"], SHOWN, b"", SHOWN),
+    (&["head", "-c", "-3"], SHOWN, b"a\nb\nc", b"\nd\n", b""),
+    (
+        &["head", "-c", "-3"],
+        b"0123456789",
+        b"01234",
+        b"56789",
+        b"",
+    ),
+    (&["head", "-c", "-3"], b"vwxyz", b"vwxyz", b"", b""),
+    // Two are fewer.
+    (
+        &["head", "-c", "-3"],
+        b"xy",
+        b"xy",
+        b"",
+        b"head: 'standard input': file changed while it was read\n",
+    ),
+    (&["head", "-n", "-1"], SHOWN, b"a\nb\nc\n", b"d\n", b""),
+    (&["head", "-n", "-9"], SHOWN, b"", SHOWN, b""),
     // The other ways read on: a tail to the end, and a head of one line to where that ends.
-    (&["tail", "-c", "3"], SHOWN, b"\nd\n", b""),
-    (&["head", "-n", "1"], SHOWN, b"a\n", b"b\nc\nd\n"),
+    (&["tail", "-c", "3"], SHOWN, b"\nd\n", b"", b""),
+    (&["head", "-n", "1"], SHOWN, b"a\n", b"b\nc\nd\n", b""),
+    // One chunk ends with its last byte.
+    (&["split", "-n", "2/3"], SHOWN, b"\nc\n", b"d\n", b""),
 ];
 
-/// Runs the words over standard input, which shows a text; it meets no fault.
+/// Runs the words over standard input, which shows a text and comes by this many bytes at once.
 fn check_taken(
     rt: &impl Abort,
     alloc: Global,
@@ -511,27 +529,17 @@ fn check_taken(
     inputs.pieces(pieces.max(1));
     let mut outs = planned_outs(alloc, &[])?;
     let status = run(alloc, row.0, &mut inputs, &mut outs);
-    let is_so = status == 0 && outs.bytes(0) == row.2 && inputs.unread(0) == row.3;
-    assert!(rt; is_so, "of {:?}", row.0);
-    Ok(())
-}
-
-#[test]
-fn standard_input_that_changes_is_told(rt: HostRuntime) -> Result<(), Fail> {
-    let mut inputs = MemIn::new(rt.alloc())?;
-    inputs.input_showing(b"xy", SHOWN)?;
-    let row = Run {
-        words: &["head", "-c", "-3"],
-        files: &[],
-        input: b"",
-        plans: &[],
-        left: Left {
-            output: b"xy",
-            messages: b"head: 'standard input': file changed while it was read\n",
-            status: 1,
-            ..NOTHING
-        },
+    let left = Left {
+        output: row.2,
+        messages: row.4,
+        status: u8::from(!row.4.is_empty()),
+        ..NOTHING
     };
-    check_over(&rt, rt.alloc(), &row, inputs)?;
+    let other = differs(&outs, status, &left);
+    assert!(rt;
+        other.is_empty() && inputs.unread(0) == row.3,
+        "{other} of {:?}",
+        row.0
+    );
     Ok(())
 }
