@@ -14,7 +14,7 @@ use crate::play::{close, feed, feed_all, open_ends, open_splitter};
 use crate::tee_tests::pass as pass_on;
 use crate::told_tests::open as open_telling;
 use csplit_core::{OperandFaultKind, read_operands};
-use ends_core::{Ends, Unit};
+use ends_core::{Ends, Head, Tail, Unit};
 use follow_core::{Follow, Notice, Start, notice_line};
 use mem_core::{Edit, MemOut, MemWatch};
 use ports_core::{Alphabet, Calling, Fault, Guarded, Mode, Naming, Numbering, Outs, Stage, Tells};
@@ -28,6 +28,10 @@ use tee_core::Tee;
 #[derive(Clone, Copy)]
 enum Job<'a> {
     Ends(Side, Unit, u64),
+    /// A head that ends at this place.
+    UpTo(u64),
+    /// A tail that begins at this place, of an input that showed so many bytes.
+    After(u64, u64),
     Split(Cut),
     /// Of files that standard output is told of.
     Told(Cut),
@@ -76,6 +80,8 @@ const ROWS: &[Row<'static>] = &[
         b"b\nc",
         &[],
     ),
+    (Job::UpTo(3), &[b"ab", b"cd"], b"abc", &[]),
+    (Job::After(3, 4), &[b"ab", b"cde"], b"de", &[]),
     (
         Job::Split(Cut::Parts(Limit::Lines(1, b'\n'))),
         &[b"a\nb", b"\n"],
@@ -193,6 +199,8 @@ fn ends(rt: &impl Abort, alloc: Global, row: &Row<'_>, outs: &mut MemOut) -> Res
             let mut engine = open_ends(alloc, asked(side, unit, count))?;
             goes(rt, &mut engine, outs, pieces)
         }
+        Job::UpTo(place) => goes(rt, &mut Head::up_to(place), outs, pieces),
+        Job::After(place, len) => goes(rt, &mut Tail::after(place, len), outs, pieces),
         Job::Split(cut) => {
             let mut engine = open_cut(alloc, cut, outs)?;
             goes(rt, &mut engine, outs, pieces)

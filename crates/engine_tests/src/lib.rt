@@ -40,6 +40,8 @@ mod round_plain;
 #[cfg(test)]
 mod round_tests;
 #[cfg(test)]
+mod shown_tests;
+#[cfg(test)]
 mod tee_gone_tests;
 #[cfg(test)]
 mod tee_tests;
