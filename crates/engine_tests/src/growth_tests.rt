@@ -30,7 +30,7 @@ enum Job<'a> {
     Ends(Side, Unit, u64),
     /// A head that ends at this place.
     UpTo(u64),
-    /// A tail that begins at this place, of an input that showed so many bytes.
+    /// A tail that begins at this place, of an input that showed this number of bytes.
     After(u64, u64),
     Split(Cut),
     /// Of files that standard output is told of.
