@@ -1,6 +1,6 @@
 -- Where the last lines of a text begin, looked for from its end, block by block; and what an input shows there.
 use Rattle.std.proofs.lemmas.Grind.{common_steps}
-use Rattle.std.proofs.Common.{◌≡◌, ℕ, ◌+◌, ◌-◌, ◌<◌, ◌≤◌, ◌==◌, zero, suc, List, [], ◌∷◌, ◌++◌, length, take, drop, replicate, min, Bool, true, false, IsTrue, Option, Some, None, option_map, refl, sym, ◌∙◌, ap, arith, length-append, if◌then◌else◌, rules}
+use Rattle.std.proofs.Common.{◌≡◌, ℕ, ◌+◌, ◌-◌, ◌<◌, ◌≤◌, ◌==◌, zero, suc, List, [], ◌∷◌, ◌++◌, length, take, drop, replicate, min, Bool, true, false, IsTrue, Option, Some, None, option_map, refl, sym, ◌∙◌, ap, arith, length-append, subst, if◌then◌else◌, rules}
 use Rattle.std.proofs.lemmas.Bool.{false≢true}
 use Rattle.std.proofs.lemmas.Option.{none-some}
 use Rattle.std.proofs.Math.Seq.{take-add}
@@ -51,7 +51,7 @@ but_one_shorter x some = search rules
 all_lines : (delim : ℕ) (x : List ℕ) → 0 < length x → line_count delim x ≡ delimiters delim (but_one x) + 1
 all_lines delim x some = ap (line_count delim) (sym (take-append-drop (length x - 1) x)) ∙ lines_and_one delim (but_one x) (drop (length x - 1) x) (one_left x some)
 
--- a text of so many lines after a complete one is the last lines
+-- a text of n lines after a complete one is the last n lines
 last_are : (delim : ℕ) {n : ℕ} (front : List ℕ) {y : List ℕ} → ends_with delim front ≡ true → line_count delim y ≡ n → y ≡ last_lines delim n (front ++ y)
 last_are delim {n} front {y} closed count = grind (arith, common_steps, lines_of-append, drop_at, joined-lines_of)
 
@@ -83,11 +83,11 @@ block_of x from size within =
 pub block_then : (y : List ℕ) (from size : ℕ) → drop from y ≡ take size (drop from y) ++ drop (from + size) y
 block_then y from size = sym (take-append-drop size (drop from y)) ∙ ap (λ rest. take size (drop from y) ++ rest) (drop-drop size from y)
 
--- where the walk from the end stands: so many delimiters are still wanted before this place
+-- where the walk from the end stands: this number of delimiters is still wanted before this place
 abbrev pub IsWanted : ℕ → ℕ → ℕ → ℕ → List ℕ → Type 0
 IsWanted delim count wanted end x = count ≡ wanted + delimiters delim (drop end (but_one x))
 
--- so many in the block, so many fewer before it
+-- those in the block needn't be found before it
 pub wanted_before : {delim count wanted end : ℕ} (from size : ℕ) {found : ℕ} (x : List ℕ) {block : List ℕ} → IsWanted delim count wanted end x → from + size ≡ end → end ≤ length x - 1 → block ≡ take size (drop from x) → FallsShort delim wanted block found
     → IsWanted delim count (wanted - found) from x
 wanted_before {delim} {end} from size x {block} is place within are short =
@@ -131,8 +131,8 @@ pub looked_block : {most slot : ℕ} (size : ℕ) (buffer : List ℕ) {old mid n
     → HasLooked most slot old new
 looked_block {most} size buffer so_far can few is = looked_again {least = most} so_far (looked_once (looked_readable so_far can) (omega (arith, few, length-take size buffer)) is) (omega arith)
 
--- What is known of the text that an input shows, of which its end was looked at from a place on: so many delimiters are still
--- wanted before it. Where inputs don't tell their bytes, any text with that end is one that it may show.
+-- What is known of the text that an input shows, of which its end was looked at from a place on: this number of delimiters is
+-- still wanted before it. Where inputs don't tell their bytes, any text with that end is one that it may show.
 pub record SeenFrom (told : Bool) (left : Content) (delim count wanted end len : ℕ) : Type 0 where
   pub text : List ℕ
   pub shown : told ≡ true → left.shown ≡ Some text
@@ -166,7 +166,10 @@ but_one_end {k} x y within same also =
 pub block_seen : (told : Bool) {left : Content} {delim count wanted end len : ℕ} (from size : ℕ) {block : List ℕ} → SeenFrom told left delim count wanted end len → from + size ≡ end → end ≤ len - 1 → length block ≡ size
     → (told ≡ true → ShowsOf left from block) → (seen : SeenFrom told left delim count wanted end len) × (block ≡ take size (drop from seen.text))
 block_seen true from size {block} seen place within long shows =
-    (seen, shows refl seen.text (seen.shown refl) ∙ ap (λ n. take n (drop from seen.text)) long)
+    let (text, is, there) = shows refl in
+    let shown = seen.shown refl in
+    let same : text ≡ seen.text = cc in
+    (seen, subst (λ those. block ≡ take (length block) (drop from those)) same there ∙ ap (λ n. take n (drop from seen.text)) long)
 block_seen false {left} {delim} {wanted = wanted} {end} {len} from size {block} seen place within long shows =
     let text = take from seen.text ++ (block ++ drop end seen.text) in
     let front : length (take from seen.text) ≡ from = omega (arith, length-take from seen.text, seen.long, place, within) in

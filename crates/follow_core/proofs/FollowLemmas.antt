@@ -772,7 +772,7 @@ until_found process shows from (suc left) fewer = by (is_over process (shows fro
   by true rest is fewer = (from, omega arith, is)
   by false rest is fewer = let (last, at, over) = rest (omega (arith, fewer)) in (last, omega (arith, at), over)
 
--- so many were made, and there may be more
+-- at least those that were made
 pub most_made : (told : Bool) (process : Option ℕ) (shows : ℕ → Snapshot) (count made : ℕ) → made ≤ count → (told ≡ true → made ≤ until_over process shows 0 count)
     → (most : ℕ) × AreMost told process shows count most × (made ≤ most)
 most_made false process shows count made within left = (count, record { are = λ t. absurd (false≢true t); within = omega arith; found = λ fewer. absurd (omega (arith, fewer)) }, within)

@@ -50,12 +50,14 @@ impl Model for MemSource {
       reads = s.reads;
     } };
 
-    ghost invariant = { λ s. (s.given ≤ length s.bytes.items) × (s.last ≤ s.given) };
+    ghost invariant = { λ s. (s.given ≤ length s.bytes.items) × (s.last ≤ s.given)
+        × IfSome s.shown (λ v. 0 < length v.items) };
 }
 
 impl MemSource {
     /// An input that holds these bytes, shows that text and hasn't been read yet.
     fn new(bytes: Vec<u8>, shown: Option<Vec<u8>>) -> Self
+        requires { IfSome shown (λ v. 0 < length v.items) }
         ensures { result ≡ source_of (record {
           bytes = bytes.items;
           breaks_off = false;
@@ -123,7 +125,8 @@ impl MemSource {
     }
 
     fn shown(&self) -> Option<u64>
-        ensures { result ≡ count_shown self.now.left }
+        ensures some { IfSome result (λ n. 0 < n) }
+        ensures counted { result ≡ count_shown self.now.left }
     {
         match &self.shown {
             Some(text) => Some(text.len() as u64),
@@ -206,6 +209,8 @@ impl Model for MemFile {
       bytes = f.bytes.items;
       shown = option_map (λ v. v.items) f.shown;
     } };
+
+    ghost invariant = { λ f. IfSome f.shown (λ v. 0 < length v.items) };
 }
 
 /// Where an input that isn't opened yet is to break off.
@@ -387,7 +392,8 @@ fn laid(alloc: Global, name: &str, bytes: &[u8], shown: &[u8]) -> Result<MemFile
 
 /// A copy of a text that is shown; none of an empty one.
 fn shown_by(alloc: Global, text: &[u8]) -> Result<Option<Vec<u8>>, AllocError>
-    ensures { IfOk result (λ shown. option_map (λ v. v.items) shown ≡ shown_by text.now) }
+    ensures shown { IfOk result (λ shown. option_map (λ v. v.items) shown ≡ shown_by text.now) }
+    ensures some { IfOk result (λ shown. IfSome shown (λ v. 0 < length v.items)) }
 {
     if text.is_empty() {
         return Ok(None);

@@ -17,7 +17,7 @@ use Rattle.ports_core.proofs.CounterLemmas.{first_digit_small, many_characters, 
 
 -- how many digits a number has
 
--- so many are enough
+-- the bound is enough
 enough_up_to : (alphabet : Alphabet) (number bound : ℕ) → number < radix alphabet ^ bound → number < radix alphabet ^ digits_up_to alphabet number bound
 enough_up_to alphabet number zero small = small
 enough_up_to alphabet number (suc bound) small =

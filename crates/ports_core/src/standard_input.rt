@@ -1,4 +1,4 @@
-ghost use Rattle.std.specs.Prelude.{◌≤◌, length, IfOk};
+ghost use Rattle.std.specs.Prelude.{◌<◌, ◌≤◌, length, IfOk};
 
 use crate::input_files::{id_of, is_standard_output};
 use crate::input_place::standard_input_place;
@@ -116,6 +116,7 @@ pub(crate) struct StandardFile<F: Drop> {
     from: u64,
     /// How many bytes came from there on.
     pub(crate) len: u64,
+    ghost some: { 0 < len },
 }
 
 impl<F: FileExt + Drop> StandardFile<F> {

@@ -384,7 +384,7 @@ contained pattern line o = (
 
 -- A pattern's code has its positions.
 
--- a code of so many positions has at most two nodes for each: each step back has its choice
+-- a code has at most two nodes for each of its positions: each step back has its choice
 pub record Weighs (code : List Node) (positions : ℕ) : Type 0 where
   pub exact : weight code ≡ positions
   pub most : length code ≤ 2 * positions

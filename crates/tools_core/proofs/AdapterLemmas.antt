@@ -37,7 +37,7 @@ use Rattle.std.proofs.lemmas.List.{length-replicate}
 use Rattle.std.specs.Option.{unwrap_or}
 use Rattle.words_core.specs.EndsWords.{EndsAsked}
 use Rattle.words_core.specs.SplitWords.{SplitAsked}
-use Rattle.tools_core.specs.Tasks.{is_minus, is_plus, head_task, naming_of, said_by, split_task, tail_task}
+use Rattle.tools_core.specs.Tasks.{is_minus, is_plus, head_task, naming_of, split_task, tail_task}
 use Rattle.std.proofs.lemmas.Bool.{false≢true}
 use Rattle.ports_core.specs.Swept.{Swept}
 use Rattle.csplit_core.specs.Csplit.{csplit_work}
@@ -119,12 +119,12 @@ csplit_halts style operands old new fault breaks = absurd breaks
 -- the work that is asked of `split`
 pub split_asked : (those asked : SplitAsked) (shown : Option (List ℕ)) {naming : Naming} {tells : Tells} (said : Option ℕ) → those ≡ asked
     → naming ≡ naming_of asked → tells ≡ tells_by those.verbose
-    → ((elide : Bool) (filing : Filing) → way_work those.way elide filing said ≡ way_work those.way elide filing (said_by shown))
+    → ((elide : Bool) (filing : Filing) → way_work those.way elide filing said ≡ way_work those.way elide filing (option_map length shown))
     → work_by those.way those.elide naming tells said ≡ (split_task Cutters asked).work shown
 split_asked those asked shown {naming} {tells} said is named told says =
     says those.elide (record { names = naming; verbose = is_verbose tells })
     ∙ rw (named, told, is) (ap (λ verbose. way_work asked.way asked.elide (record { names = naming_of asked; verbose = verbose })
-    (said_by shown)) (verbose_is asked.verbose))
+    (option_map length shown)) (verbose_is asked.verbose))
 
 -- why the work of `split` can't be begun
 pub split_halts : (way : Way) (elide : Bool) (names : Naming) (tells : Tells) (said : Option ℕ) (old new : List Slot) (fault : Fault)
@@ -182,39 +182,13 @@ length_matters (way.Chunks chunks) to_files to_output one other elide filing = a
 length_matters (way.Chunk place chunks) to_files to_output one other elide filing = absurd (to_output place chunks refl)
 length_matters (way.Turn place count delim) to_files to_output one other elide filing = refl
 
--- the length that an input says by what it shows
-
-abbrev pub size_said : Option ℕ → Option ℕ
-size_said None = None
-size_said (Some zero) = None
-size_said (Some (suc n)) = Some (suc n)
-
-pub said_shown : (told : Bool) (slot : ℕ) (sources : List Source) {size : Option ℕ} → (told ≡ true → size ≡ count_shown (source_at sources slot).left)
-    → (shown : Option (List ℕ)) × IsShown told (Some slot) sources shown × (size_said size ≡ said_by shown)
-said_shown told slot sources {size} counts = by told counts where
-  size_told : (shown : Option (List ℕ)) → size_said (option_map length shown) ≡ said_by shown
-  size_told None = refl
-  size_told (Some []) = refl
-  size_told (Some (byte ∷ text)) = refl
-
-  of_size : (size : Option ℕ) → (shown : Option (List ℕ)) × (size_said size ≡ said_by shown)
-  of_size None = (None, refl)
-  of_size (Some zero) = (None, refl)
-  of_size (Some (suc n)) = (Some (replicate (suc n) 0), ap Some (sym (length-replicate (suc n) 0)))
-
-  by : (told : Bool) → (told ≡ true → size ≡ count_shown (source_at sources slot).left) → (shown : Option (List ℕ)) × IsShown told (Some slot) sources shown × (size_said size ≡ said_by shown)
-  by true counts = let shown = (source_at sources slot).left.shown in (shown, (λ t. refl), rw (counts refl) (size_told shown))
-  by false counts = let (shown, says) = of_size size in (shown, (λ t. absurd (false≢true t)), says)
-
-pub size_none : (size : Option ℕ) → unwrap_or size 0 ≡ 0 → size_said size ≡ None
-size_none None is = refl
-size_none (Some zero) is = refl
-size_none (Some (suc n)) is = absurd (omega (arith, is))
-
-pub size_some : (size : Option ℕ) {n : ℕ} → 0 < n → unwrap_or size 0 ≡ n → size_said size ≡ Some n
-size_some None some is = absurd (omega (arith, is, some))
-size_some (Some zero) some is = absurd (omega (arith, is, some))
-size_some (Some (suc n)) some is = ap Some is
+-- the length that an input says by what it shows: of some text, where inputs don't tell theirs
+pub said_shown : (told : Bool) (slot : ℕ) (sources : List Source) {size : Option ℕ}
+    → (told ≡ true → size ≡ count_shown (source_at sources slot).left)
+    → (shown : Option (List ℕ)) × IsShown told (Some slot) sources shown × (size ≡ option_map length shown)
+said_shown true slot sources counts = ((source_at sources slot).left.shown, λ t. refl, counts refl)
+said_shown false slot sources {None} counts = (None, λ t. refl, refl)
+said_shown false slot sources {Some n} counts = (Some (replicate n 0), λ t. absurd (false≢true t), ap Some (sym (length-replicate n 0)))
 
 -- no look was made
 pub only_looked_none : (most : ℕ) (source : Option ℕ) (sources : List Source) → OnlyLooked most source sources sources

@@ -1,6 +1,7 @@
 -- What `split` leaves of an input that gives fewer or more bytes than it showed before.
-use Rattle.std.proofs.Common.{◌≡◌, ℕ, ◌<◌, true, false, List, [], ◌∷◌, length, map, drop, Some, refl, sym, ◌∙◌, ap, subst, arith, append-nil}
-use Rattle.ports_core.specs.Slot.{Slot}
+use Rattle.std.proofs.Common.{◌≡◌, ℕ, ◌<◌, true, false, List, [], ◌∷◌, length, map, drop, Option, Some, None, is_some, refl, sym, ◌∙◌, ap, subst, append-nil}
+use Rattle.ports_core.specs.Part.{Part}
+use Rattle.ports_core.specs.Slot.{Slot, slot_at}
 use Rattle.ports_core.specs.Source.{Content}
 use Rattle.ports_core.specs.Text.{message_of}
 use Rattle.ports_core.specs.Work.{Work}
@@ -10,88 +11,123 @@ use Rattle.ports_core.specs.declared.verdict.Verdict.{Verdict}
 use Rattle.ports_core.specs.declared.verdict.Verdict.TheVariants.{Changed}
 use Rattle.seg_core.specs.Line.{joined as joined_texts}
 use Rattle.seg_core.specs.declared.cut.Chunks.{Chunks}
+use Rattle.seg_core.specs.declared.cut.Way.{Way}
 use Rattle.seg_core.specs.declared.cut.Way.TheVariants as way
-use Rattle.split_core.specs.ChunkWork.{ChunksPlan, HasAllNames, chunks_work, way_work}
+use Rattle.split_core.specs.ChunkWork.{ChunksPlan, HasAllNames, chunk_work, chunks_work, way_work}
+use Rattle.split_core.specs.Chunks.{has_ended}
 use Rattle.split_core.proofs.ChunkAgreedLemmas.{whole_files}
-use Rattle.split_core.proofs.ChunkMadeLemmas.{changed_all, changed_told}
+use Rattle.split_core.proofs.ChunkMadeLemmas.{changed_all, changed_alone, changed_told}
 use Rattle.run_core.specs.Input.{Input, inputs_at}
-use Rattle.run_core.specs.Task.{Outcome, Task, joined, made_by, no_outcome, of_content}
+use Rattle.run_core.specs.Task.{Outcome, Task, joined, made_by, no_outcome, of_content, verdict_messages}
 use Rattle.words_core.specs.SplitWords.{CanSplit, IsInLimits, SplitAsked}
 use Rattle.words_core.specs.declared.settings.Settings.TheVariants.{Split}
 use Rattle.tools_core.specs.Outcome.{names_at}
-use Rattle.tools_core.specs.Promises.{Completes, GivesOther, IsCutAsShown, Run, TellsMet, contents_of, removes_files}
-use Rattle.tools_core.specs.Tasks.{filing_of, naming_of, names_of, said_by, speaker_of, split_task}
+use Rattle.tools_core.specs.Promises.{Completes, GivesOther, IsChunkAsShown, IsCutAsShown, Run, TellsMet, contents_of, removes_files}
+use Rattle.tools_core.specs.Tasks.{filing_of, naming_of, names_of, speaker_of, split_task}
 use Rattle.tools_core.proofs.BeginLemmas.{all_have_names}
 use Rattle.tools_core.proofs.LeftLemmas.{Fits, IsLeft, LeftBy, completes_left, left_says}
 use Rattle.tools_core.proofs.RunLemmas.{can_run}
 use Rattle.tools_core.proofs.SplitPromises.{bytes_written}
 
-said_some : (shown : List ℕ) → 0 < length shown → said_by (Some shown) ≡ Some (length shown)
-said_some [] some = absurd (omega (arith, some))
-said_some (byte ∷ shown) some = refl
+-- what is made of an input that ends, where its work has this whole and this verdict
+abbrev made_at : Task → List ℕ → Part → Option Verdict → Outcome
+made_at task name whole verdict = record {
+  part = whole;
+  messages = verdict_messages task name verdict;
+  failed = is_some verdict;
+  sweeps = false;
+}
 
--- what is made of one input whose work ends with a verdict, where there are no headers and files stay
-judged_made : (task : Task) (work : Work) (name : List ℕ) (content : Content) (verdict : Verdict) → content.breaks_off ≡ false → work.verdict content.bytes ≡ Some verdict → work.clears ≡ false → task.with_header ≡ false
-    → joined (of_content task work true name (Some content)) no_outcome
-    ≡ record { part = work.whole content.bytes; messages = message_of (fault_is.Verdict verdict) (task.subject verdict name) ∷ []; failed = true; sweeps = false }
-judged_made task work name content verdict ends judged stay bare = rw (ends, judged, stay, bare, append-nil (work.whole content.bytes).out, append-nil (work.whole content.bytes).files) refl
+-- so it is of one input without a header, where files stay
+judged_made : (task : Task) (work : Work) (name : List ℕ) (content : Content) (verdict : Option Verdict)
+    → content.breaks_off ≡ false → work.verdict content.bytes ≡ verdict → work.clears ≡ false → task.with_header ≡ false
+    → joined (of_content task work true name (Some content)) no_outcome ≡ made_at task name (work.whole content.bytes) verdict
+judged_made task work name content None ends judged stay bare =
+    rw (ends, judged, stay, bare, append-nil (work.whole content.bytes).out, append-nil (work.whole content.bytes).files) refl
+judged_made task work name content (Some verdict) ends judged stay bare =
+    rw (ends, judged, stay, bare, append-nil (work.whole content.bytes).out, append-nil (work.whole content.bytes).files) refl
 
-pub cut_as_shown : {split : Run} {asked : SplitAsked} {chunks : Chunks} {input : Input} {shown bytes : List ℕ} → Completes split (Split asked) → GivesOther split input shown bytes → asked.way ≡ way.Chunks chunks
-    → IsCutAsShown split asked chunks input.name shown bytes
-cut_as_shown {split} {asked} {chunks} {input} {shown} {bytes} whole gives is = record {
-  files = written ∙ whole_files plan (Some size) bytes some named;
-  all = ap joined_texts written ∙ changed_all plan size bytes some named;
-  told = ([], [], left_says (subst (Fits (TellsMet split (Split asked)) (removes_files (Split asked))) judged all.fits) left);
-  failed = left.is;
-} where
-  plan : ChunksPlan
-  plan = record { chunks = chunks; elide = asked.elide; filing = filing_of asked }
-
-  size : ℕ
-  size = length shown
-
-  work : Work
-  work = chunks_work plan (Some size)
-
+module _ {split : Run} {asked : SplitAsked} {input : Input} {shown bytes : List ℕ}
+    (whole : Completes split (Split asked)) (gives : GivesOther split input shown bytes) where
   task : Task
   task = split_task Cutters asked
 
-  content : Content
-  content = record { bytes = bytes; breaks_off = false; shown = Some shown }
+  -- the run left this, of which each line tells what it met
+  abbrev LeftSo : Outcome → Type 0
+  LeftSo made = Fits (TellsMet split (Split asked)) (removes_files (Split asked)) made
+      × IsLeft (speaker_of split.calling (Split asked)) made split.outputs split.status
 
-  made : Outcome
-  made = record { part = work.whole bytes; messages = message_of (fault_is.Verdict Changed) input.name ∷ []; failed = true; sweeps = false }
+  -- it left what its work makes of what came
+  left_so : (work : Work) (verdict : Option Verdict)
+      → way_work asked.way asked.elide (filing_of asked) (Some (length shown)) ≡ work → work.clears ≡ false
+      → work.verdict bytes ≡ verdict → LeftSo (made_at task input.name (work.whole bytes) verdict)
+  left_so work verdict is stay judged = subst LeftSo made (all.fits, all.left) where
+    all : LeftBy split (Split asked)
+    all = completes_left whole
 
-  can : CanSplit asked
-  can = can_run split.calling split.words whole.read
+    content : Content
+    content = record { bytes = bytes; breaks_off = false; shown = Some shown }
 
-  limits : IsInLimits (way.Chunks chunks)
-  limits = rw is at can.way
+    only : inputs_at split.world (names_of (Split asked)) ≡ input ∷ []
+    only = ap (inputs_at split.world) (sym (ap names_at whole.read)) ∙ gives.only
 
-  some : 0 < chunks.count
-  some = limits.0
+    made : all.made ≡ made_at task input.name (work.whole bytes) verdict
+    made = all.of ∙ ap (made_by task) only
+        ∙ ap (λ outcome. joined outcome no_outcome)
+        (ap (λ shown. of_content task (task.work shown) true input.name input.content) gives.showed
+        ∙ ap (of_content task (task.work (Some shown)) true input.name) gives.gave
+        ∙ ap (λ work. of_content task work true input.name (Some content)) is)
+        ∙ judged_made task work input.name content verdict refl judged stay refl
 
-  named : HasAllNames (way.Chunks chunks) (naming_of asked)
-  named = rw is at (all_have_names asked can.named)
+  -- by the way that was asked for
+  way_is : {way : Way} → asked.way ≡ way → way_work asked.way asked.elide (filing_of asked) (Some (length shown))
+      ≡ way_work way asked.elide (filing_of asked) (Some (length shown))
+  way_is is = ap (λ way. way_work way asked.elide (filing_of asked) (Some (length shown))) is
 
-  all : LeftBy split (Split asked)
-  all = completes_left whole
+  pub cut_as_shown : {chunks : Chunks} → asked.way ≡ way.Chunks chunks
+      → IsCutAsShown split asked chunks input.name shown bytes
+  cut_as_shown {chunks} is = record {
+    files = written ∙ whole_files plan (Some size) bytes some named;
+    all = ap joined_texts written ∙ changed_all plan size bytes some named;
+    told = ([], [], left_says left.0 left.1);
+    failed = left.1.is;
+  } where
+    plan : ChunksPlan
+    plan = record { chunks = chunks; elide = asked.elide; filing = filing_of asked }
 
-  only : inputs_at split.world (names_of (Split asked)) ≡ input ∷ []
-  only = ap (inputs_at split.world) (sym (ap names_at whole.read)) ∙ gives.only
+    size : ℕ
+    size = length shown
 
-  work_is : task.work (Some shown) ≡ work
-  work_is = ap (λ way. way_work way asked.elide (filing_of asked) (said_by (Some shown))) is ∙ ap (chunks_work plan) (said_some shown gives.some)
+    can : CanSplit asked
+    can = can_run split.calling split.words whole.read
 
-  judged : all.made ≡ made
-  judged = all.of ∙ ap (made_by task) only
-      ∙ ap (λ outcome. joined outcome no_outcome) (ap (λ shown. of_content task (task.work shown) true input.name input.content) gives.showed
-      ∙ ap (of_content task (task.work (Some shown)) true input.name) gives.gave
-      ∙ ap (λ work. of_content task work true input.name (Some content)) work_is)
-      ∙ judged_made task work input.name content Changed refl (changed_told plan size bytes gives.other) refl refl
+    limits : IsInLimits (way.Chunks chunks)
+    limits = rw is at can.way
 
-  left : IsLeft (speaker_of split.calling (Split asked)) made split.outputs split.status
-  left = subst (λ made. IsLeft (speaker_of split.calling (Split asked)) made split.outputs split.status) judged all.left
+    some : 0 < chunks.count
+    some = limits.0
 
-  written : contents_of split ≡ map (λ file. file.bytes) (work.whole bytes).files
-  written = ap (λ slots. map (λ (file : Slot). file.written) (drop 2 slots)) left.swept ∙ bytes_written (work.whole bytes).files
+    named : HasAllNames (way.Chunks chunks) (naming_of asked)
+    named = rw is at (all_have_names asked can.named)
+
+    left : LeftSo (made_at task input.name ((chunks_work plan (Some size)).whole bytes) (Some Changed))
+    left = left_so (chunks_work plan (Some size)) (Some Changed) (way_is is) refl (changed_told plan size bytes gives.other)
+
+    written : contents_of split ≡ map (λ file. file.bytes) ((chunks_work plan (Some size)).whole bytes).files
+    written = ap (λ slots. map (λ (file : Slot). file.written) (drop 2 slots)) left.1.swept
+        ∙ bytes_written ((chunks_work plan (Some size)).whole bytes).files
+
+  pub chunk_as_shown : {place : ℕ} {chunks : Chunks} → asked.way ≡ way.Chunk place chunks
+      → IsChunkAsShown split asked place chunks input.name shown bytes
+  chunk_as_shown {place} {chunks} is = record {
+    out = ap (λ slots. (slot_at slots 0).written) (left_so work (work.verdict bytes) (way_is is) refl refl).1.swept;
+    told = λ short. let left = changed short in ([], [], left_says left.0 left.1);
+    failed = λ short. (changed short).1.is;
+  } where
+    work : Work
+    work = chunk_work place chunks (Some (length shown))
+
+    changed : has_ended chunks (length shown) bytes place ≡ false
+        → LeftSo (made_at task input.name (work.whole bytes) (Some Changed))
+    changed short = left_so work (Some Changed) (way_is is) refl 
+        (changed_alone place chunks (length shown) bytes gives.other short)

@@ -1,7 +1,7 @@
 -- What is true of the outcome of any inputs: which messages it has, and that its files are live; and what a run leaves that no fault
 -- stopped: just what its inputs make, but for files that were to be removed.
 use Rattle.std.proofs.lemmas.Grind.{common_steps}
-use Rattle.std.proofs.Common.{◌≡◌, ℕ, ◌+◌, ◌<◌, zero, suc, Bool, true, false, ◌&&◌, ◌||◌, cond, is_some, List, [], ◌∷◌, ◌++◌, length, map, Option, Some, None, inl, inr, ◌⊎◌, refl, sym, ◌∙◌, ap, arith, append_assoc, append-nil, not, subst, All, rules, ◌≤◌, ◌^◌, is_none, Ok, codes, length-append}
+use Rattle.std.proofs.Common.{◌≡◌, ℕ, ◌+◌, ◌<◌, zero, suc, Bool, true, false, ◌&&◌, ◌||◌, cond, is_some, List, [], ◌∷◌, ◌++◌, length, map, Option, Some, None, inl, inr, ◌⊎◌, refl, sym, ◌∙◌, ap, arith, append_assoc, append-nil, not, subst, All, rules, ◌≤◌, ◌^◌, is_none, Ok, codes, length-append, option_map}
 use Rattle.std.proofs.lemmas.Bool.{and_parts, false≢true, not-false, or_cases, or_left, or_parts, or_right, cases_Bool}
 use Rattle.std.proofs.lemmas.List.Elements.{All-append, All-cons, All-head, All-map, All-nil, All-tail}
 use Rattle.ports_core.specs.Slot.{Slot, adds, has_file, slot_at, closes, opened, removes}
@@ -70,7 +70,7 @@ use Rattle.words_core.specs.declared.settings.Settings.TheVariants.{Head, Tail, 
 use Rattle.words_core.specs.Help.{text_about}
 use Rattle.tools_core.specs.About.{TellsText, no_text, text_cut, text_whole}
 use Rattle.tools_core.specs.Outcome.{DoesAsked, RefusesOperands}
-use Rattle.tools_core.specs.Tasks.{csplit_task, filing_of, head_task, is_minus, is_plus, names_of, said_by, speaker_of, split_task, tail_task, by}
+use Rattle.tools_core.specs.Tasks.{csplit_task, filing_of, head_task, is_minus, is_plus, names_of, speaker_of, split_task, tail_task, by}
 
 -- One of the lines
 
@@ -607,8 +607,8 @@ pub task_lives : (calling : Calling) (asked : Settings) (task : Task) → IsTask
 task_lives calling (Head asked) task is = rw is (record { each = head_living asked.delim asked.unit (is_minus asked.count.sign) asked.count.amount; clears_all = head_clears asked.delim asked.unit (is_minus asked.count.sign) asked.count.amount })
 task_lives calling (Tail asked) task is = rw is (record { each = tail_living asked.ends.delim asked.ends.unit (is_plus asked.ends.count.sign) asked.ends.count.amount; clears_all = tail_clears asked.ends.delim asked.ends.unit (is_plus asked.ends.count.sign) asked.ends.count.amount })
 task_lives calling (Split asked) task is = rw is (record {
-  each = λ shown. way_living asked.way asked.elide (filing_of asked) (said_by shown);
-  clears_all = λ shown. way_clears asked.way asked.elide (filing_of asked) (said_by shown);
+  each = λ shown. way_living asked.way asked.elide (filing_of asked) (option_map length shown);
+  clears_all = λ shown. way_clears asked.way asked.elide (filing_of asked) (option_map length shown);
 })
 task_lives calling (Csplit asked) task (operands, asks, is) = rw is (record { each = λ shown. csplit_living asked.style operands; clears_all = λ shown. refl })
 task_lives calling (Tee asked) task is = absurd is

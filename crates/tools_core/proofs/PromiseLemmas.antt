@@ -1,13 +1,13 @@
 -- What a run that met no fault leaves: just its part, as its definition says, and nothing on standard error; so what `head`, `tail` and
 -- `tee` leave of one input, and that what any run leaves is a beginning of it.
 use Rattle.std.proofs.lemmas.Grind.{common_steps}
-use Rattle.std.proofs.Common.{◌≡◌, ℕ, Bool, true, false, if◌then◌else◌, List, [], ◌∷◌, Option, Some, None, inl, inr, refl, sym, ◌∙◌, ap, arith, ◌+◌, ◌-◌, ◌++◌, map, drop, subst}
+use Rattle.std.proofs.Common.{◌≡◌, ℕ, Bool, true, false, if◌then◌else◌, List, [], ◌∷◌, Option, Some, None, inl, inr, refl, sym, ◌∙◌, ap, arith, ◌+◌, ◌-◌, ◌++◌, map, drop, subst, length, option_map}
 use Rattle.ports_core.specs.declared.reason.Reason.{Reason}
 use Rattle.ports_core.specs.Slot.{Slot, slot_at}
 use Rattle.run_core.specs.Input.{Input, World, shown_of, input_of, inputs_at, is_dash}
 use Rattle.run_core.specs.Task.{Outcome, Task, made_by, joined, no_outcome, of_content, header_text}
 use Rattle.words_core.specs.declared.settings.Settings.{Settings}
-use Rattle.tools_core.specs.Tasks.{filing_of, head_task, tail_task, names_of, is_minus, is_plus, said_by}
+use Rattle.tools_core.specs.Tasks.{filing_of, head_task, tail_task, names_of, is_minus, is_plus}
 use Rattle.tools_core.specs.Promises.{GivesBytes, IsSteady, counted, Completes, Does, FindAlike, HasInput, Ran, Run, IsHead, IsTail, IsBare, CountAlike, output_of, AreCopies, IsSound, files_of, BeginsAs, BeginsEach}
 use Rattle.tools_core.proofs.BeginLemmas.{all_have_names, ending, is_way, part_of, bare_begins, begins_kept, begins_whole, lawful_grows, way_grows, still_begins, tee_begins, text_begins}
 use Rattle.tools_core.proofs.LeftLemmas.{Makes, completes_left, left_whole, same_made, slots_of, copies_are, copy, tee_made, left_at, ran_over}
@@ -193,7 +193,7 @@ BeginsMade asked inputs new = (made : Outcome) × Makes asked inputs made × ((p
 begins_made : (breaks_for : ℕ → Reason → Bool) (calling : Calling) (asked : Settings) (inputs : List Input) (sources : List Source) (new : List Slot) (status : ℕ) → CanRun asked → DoesAsked calling true true breaks_for asked inputs sources new status → BeginsMade asked inputs new
 begins_made breaks_for calling (Head asked) inputs sources new status can does = (_, refl, λ place differs. begins_whole (λ shown. lawful_grows (head_in_lawful _ _ _ _ shown)) differs does)
 begins_made breaks_for calling (Tail asked) inputs sources new status can does = (_, refl, λ place differs. begins_whole (λ shown. lawful_grows (tail_in_lawful _ _ _ _ shown)) differs does)
-begins_made breaks_for calling (Split asked) inputs sources new status can does = (_, refl, λ place differs. begins_whole (λ shown. way_grows asked.way asked.elide (filing_of asked) (said_by shown) (is_way asked can) (all_have_names asked can.named)) differs does)
+begins_made breaks_for calling (Split asked) inputs sources new status can does = (_, refl, λ place differs. begins_whole (λ shown. way_grows asked.way asked.elide (filing_of asked) (option_map length shown) (is_way asked can) (all_have_names asked can.named)) differs does)
 begins_made breaks_for calling (Csplit asked) inputs sources new status can does = (_, (does.operands, does.asks, refl), λ place differs. begins_whole (λ shown. lawful_grows (csplit_law.lawful asked.style does.operands)) differs does.ends)
 begins_made breaks_for calling (Tee asked) inputs sources new status can does = (_, (does.content, does.input, refl), λ place differs. tee_begins place differs does.ends)
 begins_made breaks_for calling (About which topic) inputs sources new status can does = (_, refl, λ place differs. text_begins place differs does)

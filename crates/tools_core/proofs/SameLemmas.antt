@@ -1,5 +1,5 @@
 -- Lemmas on inputs that give what they show before they are read: what is made of them is what is made of those that show nothing.
-use Rattle.std.proofs.Common.{◌≡◌, ℕ, ◌&&◌, ◌||◌, if◌then◌else◌, map, Bool, true, false, is_some, List, [], ◌∷◌, Option, Some, None, inl, inr, refl, sym, ◌∙◌, ap, length}
+use Rattle.std.proofs.Common.{◌≡◌, ℕ, ◌&&◌, ◌||◌, if◌then◌else◌, map, Bool, true, false, is_some, List, [], ◌∷◌, Option, Some, None, inl, inr, refl, sym, ◌∙◌, ap, length, option_map}
 use Rattle.ports_core.specs.Part.{Part, only_out}
 use Rattle.ports_core.specs.Source.{unshown}
 use Rattle.ports_core.specs.Work.{IsLawful, Work}
@@ -20,7 +20,6 @@ use Rattle.ports_core.specs.declared.slot.State.TheVariants.{Closed}
 use Rattle.ports_core.specs.declared.verdict.Verdict.TheVariants.{Changed}
 use Rattle.std.proofs.Math.Bool.{or-true}
 use Rattle.std.proofs.lemmas.Bool.{eq-eqb}
-use Rattle.tools_core.specs.Tasks.{said_by}
 use Rattle.run_core.specs.Input.{Input}
 use Rattle.run_core.specs.Task.{Task, Outcome, after_part, header_text, is_missing, joined, of_content, of_input, of_inputs, verdict_messages}
 use Rattle.tools_core.specs.Promises.{AllAlike, AreAlike, GivesBytes, IsSteady, are_same, give_same}
@@ -70,22 +69,20 @@ tail_knows delim unit false n = record {
 tail_knows delim unit true n = record { whole = λ text. refl; verdict = λ text. refl; clears = λ text. refl }
 
 -- the length of the text that was shown is that of what came
+said_so : (text : List ℕ) → is_as_said (Some (length text)) text ≡ true
+said_so text = eq-eqb (length text) (length text) refl
 
-said_so : (text : List ℕ) → (is_as_said (said_by (Some text)) text ≡ true) × (size_by (said_by (Some text)) text ≡ length text)
-said_so [] = (refl, refl)
-said_so (byte ∷ text) = (eq-eqb (length (byte ∷ text)) (length (byte ∷ text)) refl, refl)
-
-pub way_knows : (way : Way) (elide : Bool) (filing : Filing) → KnowsNoMore (λ shown. way_work way elide filing (said_by shown))
+pub way_knows : (way : Way) (elide : Bool) (filing : Filing) → KnowsNoMore (λ shown. way_work way elide filing (option_map length shown))
 way_knows (way.Cut cut) elide filing = record { whole = λ text. refl; verdict = λ text. refl; clears = λ text. refl }
 way_knows (way.Chunks chunks) elide filing = record {
-  whole = λ text. ap (λ size. part_of (manner_of filing) (map (share Closed) (files_by elide (chunks_of chunks size text)))) (said_so text).1;
-  verdict = λ text. ap (λ (b : Bool). if b then None else Some Changed) (said_so text).0;
+  whole = λ text. refl;
+  verdict = λ text. ap (λ (b : Bool). if b then None else Some Changed) (said_so text);
   clears = λ text. refl;
 }
 way_knows (way.Chunk place chunks) elide filing = record {
-  whole = λ text. ap (λ size. piece_at place (chunks_of chunks size text)) (said_so text).1;
-  verdict = λ text. ap (λ (b : Bool). if is_written place chunks (said_by (Some text)) text || b then None else Some Changed) (said_so text).0
-      ∙ ap (λ (b : Bool). if b then None else Some Changed) (or-true (is_written place chunks (said_by (Some text)) text));
+  whole = λ text. refl;
+  verdict = λ text. ap (λ (b : Bool). if is_written place chunks (Some (length text)) text || b then None else Some Changed) (said_so text)
+      ∙ ap (λ (b : Bool). if b then None else Some Changed) (or-true (is_written place chunks (Some (length text)) text));
   clears = λ text. refl;
 }
 way_knows (way.Turn place count delim) elide filing = record { whole = λ text. refl; verdict = λ text. refl; clears = λ text. refl }

@@ -102,7 +102,7 @@ last_small (piece ∷ next ∷ pieces) sizes = last_small (next ∷ pieces) (λ 
 
 -- how outputs are left
 
--- in the last call of a run over these pieces, in which so many reads were made
+-- in the last call of a run over these pieces
 module _ (run : Run) (on_broken : OnBroken) (pieces : List (List ℕ)) where
   abbrev IsUpTo : Standing → Slot → Type 0
   IsUpTo = HasUpTo run on_broken (front_of pieces) (last_of pieces)

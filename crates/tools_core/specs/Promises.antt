@@ -54,7 +54,7 @@ use Rattle.words_core.specs.EndsWords.{EndsAsked}
 use Rattle.words_core.specs.declared.value.Followed.{Followed}
 use Rattle.seg_core.specs.declared.cut.Way.{Way}
 use Rattle.seg_core.specs.declared.cut.Way.TheVariants as way
-use Rattle.split_core.specs.Chunks.{IsInChunk, IsInPiece, chunks_of}
+use Rattle.split_core.specs.Chunks.{IsInChunk, IsInPiece, chunks_of, has_ended, pieces_in}
 use Rattle.split_core.specs.ChunkWork.{files_by, kept}
 use Rattle.seg_core.specs.declared.cut.Chunks.{Chunks}
 use Rattle.words_core.specs.SplitWords.{SplitAsked}
@@ -474,6 +474,14 @@ pub record IsCutAsShown (run : Run) (asked : SplitAsked) (chunks : Chunks)
   pub all : joined (contents_of run) ≡ take (length shown) bytes
   pub told : Tells run (Split asked) (fault.Verdict Changed) name
   pub failed : run.status ≡ 1
+
+-- Standard output has what came of the chunk at this place, of a text of the length that was shown. Unless the chunk got
+-- all that goes with it, it was told that the input of this name changed.
+pub record IsChunkAsShown (run : Run) (asked : SplitAsked) (place : ℕ) (chunks : Chunks)
+    (name shown bytes : List ℕ) : Type 0 where
+  pub out : output_of run ≡ text_at (pieces_in (chunks_of chunks (length shown) bytes)) place
+  pub told : has_ended chunks (length shown) bytes place ≡ false → Tells run (Split asked) (fault.Verdict Changed) name
+  pub failed : has_ended chunks (length shown) bytes place ≡ false → run.status ≡ 1
 
 -- an output can break since nobody reads it any more
 abbrev pub HasGone : Run → Type 0

@@ -2,7 +2,7 @@
 -- files for tail, headers and their options, bytes, and all but the last are GNU's, and so is what split does where an
 -- input breaks off.
 use Rattle.std.specs.Option.{unwrap_or}
-use Rattle.std.specs.Prelude.{ℕ, ◌&&◌, nat_lt, is_none, Bool, true, false, not, List, [], ◌∷◌, length, slice_index_or, codes, Option, Some, None}
+use Rattle.std.specs.Prelude.{ℕ, ◌&&◌, nat_lt, is_none, Bool, true, false, not, List, [], ◌∷◌, length, slice_index_or, codes, Option, Some, None, option_map}
 use Rattle.ports_core.specs.Name.{Naming, numbering_of}
 use Rattle.ports_core.specs.declared.verdict.Verdict.{Verdict}
 use Rattle.ports_core.specs.declared.verdict.Verdict.TheVariants.{Changed, NoMatch, Range}
@@ -86,17 +86,11 @@ naming_of asked = record {
 abbrev pub filing_of : SplitAsked → Filing
 filing_of asked = record { names = naming_of asked; verbose = asked.verbose }
 
--- the length of what an input shows, where it shows a byte
-abbrev pub said_by : Option (List ℕ) → Option ℕ
-said_by None = None
-said_by (Some []) = None
-said_by (Some (byte ∷ text)) = Some (length (byte ∷ text))
-
--- `split`: the input cut into files, or what one of them would have
+-- `split`: the input cut into files, or what one of them would have. It is told the length of what the input shows.
 abbrev pub split_task : Calling → SplitAsked → Task
 split_task calling asked = record {
   speaker = by calling tool.Split;
-  work = λ shown. way_work asked.way asked.elide (filing_of asked) (said_by shown);
+  work = λ shown. way_work asked.way asked.elide (filing_of asked) (option_map length shown);
   opening = λ shown. record { memory = true; files = true };
   subject = changed_of;
   with_header = false;

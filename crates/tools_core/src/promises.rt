@@ -1,6 +1,6 @@
 //! What people rest on, as laws of runs, with no code: each stands on the contract of a function whose body is empty. They
 //! speak of runs over inputs and outputs that tell their bytes, as those in memory do, and of what `run` and `run_follow` ensure of
-//! each; where nothing else is said, of runs whose status is 0. Each run of the program, `run_words`, is one of these.
+//! each; where nothing else is said, of runs whose status is 0. Of which runs of the program they speak, says `program_makes_these_runs`.
 ghost use Rattle.std.specs.Prelude.{◌≡◌, ◌<◌, ◌^◌, ◌⊎◌, ◌+◌, ◌*◌, ◌++◌, ◌∷◌, [], ℕ, List, Ok, true, false, length, map, if◌then◌else◌};
 ghost use Rattle.ends_core.specs.Ends.{tail_of};
 ghost use Rattle.follow_core.specs.Run.{AreKept, name_text};
@@ -21,7 +21,7 @@ ghost use Rattle.split_core.specs.Chunks.{chunks_in};
 ghost use Rattle.operand_core.specs.Reading.{Asks};
 ghost use Rattle.operand_core.specs.declared.operand.Operand.{Operand};
 ghost use Rattle.tools_core.specs.Following.{is_name};
-ghost use Rattle.tools_core.specs.Promises.{AreChunks, AreCopies, AreDealt, AreEven, AreLinePieces, AreListed, AreNumbered, ArePieces, AreSections, AreUncut, BeginInChunks, BeginsEach, Completes, CountAlike, Does, AsksToFollow, EndsWithBreak, FindAlike, Follows, GivesOther, HasInput, HasLong, IsBare, IsCutAsShown, IsHead, IsOfProgram, IsSilent, IsStopped, IsTail, KeepLines, SaysWhy, LeaveAlike, OnlyGrows, Ran, Run, SkipNothing, Splits, WhyBroken, contents_of, files_of, lines_telling, makes_files, output_of, showing, text_at};
+ghost use Rattle.tools_core.specs.Promises.{AreChunks, AreCopies, AreDealt, AreEven, AreLinePieces, AreListed, AreNumbered, ArePieces, AreSections, AreUncut, BeginInChunks, BeginsEach, Completes, CountAlike, Does, AsksToFollow, EndsWithBreak, FindAlike, Follows, GivesOther, HasInput, HasLong, IsBare, IsChunkAsShown, IsCutAsShown, IsHead, IsOfProgram, IsSilent, IsStopped, IsTail, KeepLines, SaysWhy, LeaveAlike, OnlyGrows, Ran, Run, SkipNothing, Splits, WhyBroken, contents_of, files_of, lines_telling, makes_files, output_of, showing, text_at};
 ghost use Rattle.tools_core.specs.Tasks.{is_plus};
 ghost use Rattle.words_core.specs.CsplitWords.{CsplitAsked};
 ghost use Rattle.words_core.specs.EndsWords.{EndsAsked};
@@ -100,6 +100,7 @@ pub fn cutting_changes_nothing()
 /// `split -n K/N`, for K from 1 to N, writes the input, and `-n r/K/N` each of its lines once.
 /// Where an input gives fewer or more bytes than it showed before it was read, the files of `-n N` and `-n l/N` have those that
 /// came, up to the length that was shown and as its chunks are; it is told by its name that it changed, and the status is 1.
+/// With K standard output has what came of that chunk; the same is told unless it got all that goes with it.
 pub fn split_loses_nothing()
     ensures listed { (split : Run) (asked : SplitAsked) (input : List ℕ) → Does split (Split asked)
         → HasInput split input → AreListed asked (files_of split) }
@@ -152,6 +153,9 @@ pub fn split_loses_nothing()
     ensures changed { (split : Run) (asked : SplitAsked) (chunks : Chunks) (input : Input) (shown bytes : List ℕ)
         → Completes split (Split asked) → GivesOther split input shown bytes → asked.way ≡ way.Chunks chunks
         → IsCutAsShown split asked chunks input.name shown bytes }
+    ensures chunk_changed { (one : Run) (asked : SplitAsked) (place : ℕ) (chunks : Chunks) (input : Input)
+        (shown bytes : List ℕ) → Completes one (Split asked) → GivesOther one input shown bytes
+        → asked.way ≡ way.Chunk place chunks → IsChunkAsShown one asked place chunks input.name shown bytes }
 {}
 
 /// `csplit` loses nothing. Its files are numbered in their order, and no two have one name. Their order is that of their names,

@@ -1,11 +1,11 @@
 //! `split`: an input cut into files (POSIX.1-2017, XCU split).
-ghost use Rattle.std.specs.Prelude.{◌≡◌, ◌<◌, ℕ, Bool, List, Option, Some, IfErr, IfOk, IfSome, IsTrue};
+ghost use Rattle.std.specs.Prelude.{◌≡◌, ◌<◌, ℕ, Bool, List, Option, Some, length, option_map, IfErr, IfOk, IfSome, IsTrue};
 ghost use Rattle.ports_core.specs.Source.{is_readable};
 ghost use Rattle.run_core.specs.RunSteps.{IsShown};
 ghost use Rattle.split_core.specs.ChunkWork.{way_work};
 ghost use Rattle.split_core.specs.Split.{Filing, tells_by};
 ghost use Rattle.tools_core.specs.laws.Props.{CanSplit-prop};
-ghost use Rattle.tools_core.specs.Tasks.{naming_of, said_by, split_task};
+ghost use Rattle.tools_core.specs.Tasks.{naming_of, split_task};
 ghost use Rattle.words_core.specs.SplitWords.{CanSplit, IsWidth};
 
 use crate::ends::changed_of;
@@ -70,12 +70,12 @@ impl<'a, 'b> Adapter for SplitAdapter<'a, 'b> {
     }
 }
 
-/// How many bytes a source shows, where that matters and it shows any.
+/// How many bytes a source shows, where that matters and it shows them.
 fn said_by<I: Inputs>(way: &Way, source: Option<usize>, inputs: &mut I) -> Option<u64>
     requires input { IfSome source (λ slot. IsTrue (is_readable (I.sources inputs.old) slot)) }
     ensures said { (shown : Option (List ℕ)) × IsShown I.told source (I.sources inputs.old) shown
         × ((elide : Bool) (filing : Filing)
-        → way_work way.now elide filing result ≡ way_work way.now elide filing (said_by shown)) }
+        → way_work way.now elide filing result ≡ way_work way.now elide filing (option_map length shown)) }
     ensures some { IfSome result (λ size. 0 < size) }
     ensures same { I.sources inputs.new ≡ I.sources inputs.old }
     ensures laid { I.laid inputs.new ≡ I.laid inputs.old }
@@ -84,25 +84,9 @@ fn said_by<I: Inputs>(way: &Way, source: Option<usize>, inputs: &mut I) -> Optio
         return None;
     };
     match source {
-        Some(slot) => size_shown(slot, inputs),
+        Some(slot) => inputs.shown(slot),
         None => None,
     }
-}
-
-/// How many bytes an input shows, where it shows any.
-fn size_shown<I: Inputs>(slot: usize, inputs: &mut I) -> Option<u64>
-    requires input { IsTrue (is_readable (I.sources inputs.old) slot) }
-    ensures said { (shown : Option (List ℕ)) × IsShown I.told (Some slot) (I.sources inputs.old) shown
-        × (result ≡ said_by shown) }
-    ensures some { IfSome result (λ size. 0 < size) }
-    ensures same { I.sources inputs.new ≡ I.sources inputs.old }
-    ensures laid { I.laid inputs.new ≡ I.laid inputs.old }
-{
-    let size = inputs.shown(slot).unwrap_or(0);
-    if size == 0 {
-        return None;
-    }
-    Some(size)
 }
 
 /// What standard output is told of its files.

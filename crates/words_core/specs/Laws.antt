@@ -282,7 +282,7 @@ abbrev pub FollowAsks : List (List ℕ) → TailSettings → Type 0
 FollowAsks words asked = (calling : Calling)
     → settings_of calling (codes "tail" ∷ words ++ codes "f" ∷ []) ≡ Ok (Tail asked)
 
--- of `tail` so many lines or bytes of the file `f`, the last ones or all from that one on
+-- of `tail` this number of the last lines or bytes of the file `f`, or all from that one on
 abbrev pub of_file : Sign → Measured → ℕ → TailSettings
 of_file sign unit amount = unfollowed (record (ten_lines (codes "f" ∷ [])) {
   unit = unit;

@@ -341,8 +341,8 @@ pub fn callings_mean_the_same()
         ≡ record (tee_asked Calling.Cutters given) { on_broken = OnBroken.Signal } }
 {}
 
-/// What a first word of digits and letters asks of `tail`: after a hyphen for so many of the last lines or bytes, and after a
-/// `+` for all from that one on, as `-n` and `-c` do with these, in blocks of 512 bytes too; with `f` it follows. Any other
+/// What a first word of digits and letters asks of `tail`: after a hyphen for that many of the last lines or bytes, and after
+/// a `+` for all from that one on, as `-n` and `-c` do with these, in blocks of 512 bytes too; with `f` it follows. Any other
 /// word of a `+` is a name, and so is this one where it isn't the first, or the program is called by its own.
 #[tactic(auto, unfolding(crate::specs::Spelling::foremost, crate::specs::Table::tools))]
 pub fn starts_ask()

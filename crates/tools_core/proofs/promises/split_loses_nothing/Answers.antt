@@ -3,7 +3,7 @@ use Rattle.seg_core.specs.Line.{line_count}
 use Rattle.split_core.proofs.ChunkLemmas.{line_in_chunk}
 use Rattle.split_core.specs.Chunks.{chunks_in}
 use Rattle.tools_core.specs.Promises.{AreChunks, AreDealt, AreLinePieces, ArePieces, AreUncut, KeepLines}
-use Rattle.tools_core.proofs.ChangedPromises.{cut_as_shown}
+use Rattle.tools_core.proofs.ChangedPromises.{chunk_as_shown, cut_as_shown}
 use Rattle.tools_core.proofs.SplitPromises.{all_alone, all_turns, by_way, byte_pieces, chunk_files, dealt_lines, even_files, is_split, line_byte_pieces, line_ends, line_pieces, one_line_list, turn_alone, turn_lines, whole_line_files, wrote_alone}
 use Rattle.tools_core.proofs.promises.split_loses_nothing.Goals as goal
 
@@ -29,5 +29,6 @@ returns c = record {
   turn_lines = λ one asked place n delim k input splits. turn_lines k splits;
   together = λ runs asked chunks input some each. all_alone runs asked chunks input some each;
   changed = λ split asked chunks input shown bytes. cut_as_shown;
+  chunk_changed = λ one asked place chunks input shown bytes. chunk_as_shown;
   turns = λ runs asked n delim input some each. all_turns runs asked n delim input some each;
 }

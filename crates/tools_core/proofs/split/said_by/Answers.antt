@@ -1,5 +1,6 @@
+use Rattle.std.proofs.Common.{ap}
 use Rattle.run_core.proofs.InputLemmas.{shows_something}
-use Rattle.tools_core.proofs.AdapterLemmas.{length_matters}
+use Rattle.tools_core.proofs.AdapterLemmas.{length_matters, said_shown}
 use Rattle.tools_core.proofs.split.said_by.Goals as goal
 
 pub returns-in_default-clause-said : goal.returns-in_default-clause-said
