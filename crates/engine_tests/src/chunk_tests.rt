@@ -3,7 +3,8 @@ ghost use Rattle.std.specs.Prelude.{◌≡◌, ◌≤◌, ◌<◌, [], length, I
 ghost use Rattle.ports_core.specs.Guard.{HoldsIn};
 ghost use Rattle.ports_core.specs.Slot.{is_writable};
 ghost use Rattle.split_core.specs.Split.{TellsNoSizes};
-ghost use Rattle.split_core.specs.Ways.{Holds, Ready};
+ghost use Rattle.split_core.specs.Alike.{as_if};
+ghost use Rattle.split_core.specs.Ways.{Ready, terms};
 
 use crate::play::{Step, close, feed, has_files, play};
 use mem_core::MemOut;
@@ -578,7 +579,7 @@ pub(crate) fn open(
     requires streams { 2 ≤ length outs.old }
     requires output { IsTrue (is_writable outs.old 0) }
     ensures ready { IfOk result (λ splitter. Ready splitter.stage outs.new) }
-    ensures fresh { IfOk result (λ splitter. HoldsIn Holds splitter []) }
+    ensures fresh { IfOk result (λ splitter. HoldsIn (as_if terms).Holds splitter []) }
 {
     let naming = Naming::new(alloc, "x", Numbering::Widening(Alphabet::Letters, 2), "")?;
     let said = said_by(said);

@@ -9,7 +9,7 @@ use crate::play::{Step, play};
 use ends_core::{Tail, Unit};
 use mem_core::{MemIn, MemOut};
 use ports_core::{Guarded, Inputs, Stage, Tells};
-use split_core::Way;
+use split_core::{Chunks, Way};
 use std::alloc::Global;
 use std::process::Abort;
 use std::test::Fail;
@@ -119,6 +119,19 @@ pub(crate) fn takes_in<S: Stage>(
     let left = inputs.read(slot, &mut [0u8; ROOM]).unwrap_or(ROOM);
     is_taken && taken.saturating_add(left as u64) == bytes.len() as u64
 }
+
+const LINES_OF_TEN: Chunks = Chunks {
+    count: 10,
+    ..LINES_OF_THREE
+};
+
+const LINES_OF_FORTY: Chunks = Chunks {
+    count: 40,
+    ..LINES_OF_THREE
+};
+
+/// 30 bytes, of which the first line has 26.
+const LONG_LINE: &[u8] = b"abcdefghijklmnopqrstuvwxy\n1234";
 
 /// What becomes of an input, how long it says that it is (0: it doesn't say), its text, how many bytes of it are passed over,
 /// and what is done with the splitter after that.
@@ -233,13 +246,168 @@ const CHUNKS: &[ChunkRow<'static>] = &[
             Step::Wrote(b"\nop\nqr\nst\n"),
         ],
     ),
-    // Under lines the last line before the chunk may go on into it.
+    // Of lines all is passed over but the byte before the chunk, which may end a line or not.
     (
         Way::Chunk(2, LINES_OF_THREE),
         30,
         TEXT,
+        19,
+        &[
+            Step::Feed(b"n"),
+            Step::Done(false),
+            Step::Feed(b"\nop\nqr\nst\n"),
+            Step::Wrote(b"op\nqr\nst\n"),
+            Step::Done(true),
+            Step::Close,
+        ],
+    ),
+    (
+        Way::Chunk(4, LINES_OF_TEN),
+        30,
+        TEXT,
+        11,
+        &[
+            Step::Feed(b"\ni"),
+            Step::Wrote(b"i"),
+            Step::Feed(b"j\n"),
+            Step::Wrote(b"ij\n"),
+            Step::Done(true),
+            Step::Close,
+        ],
+    ),
+    (
+        Way::Chunk(
+            2,
+            Chunks {
+                delim: b'n',
+                ..LINES_OF_THREE
+            },
+        ),
+        30,
+        TEXT,
+        19,
+        &[
+            Step::Feed(b"n\nop\nqr\nst\n"),
+            Step::Wrote(b"\nop\nqr\nst\n"),
+            Step::Close,
+        ],
+    ),
+    (
+        Way::Chunk(2, LINES_OF_THREE),
+        12,
+        b"\n\n\n\n\n\n\n\n\n\n\n\n",
+        7,
+        &[
+            Step::Feed(b"\n\n\n\n\n"),
+            Step::Wrote(b"\n\n\n\n"),
+            Step::Done(true),
+        ],
+    ),
+    // A line goes on over the second chunk, which has none, into the third. The last one has no newline.
+    (
+        Way::Chunk(1, LINES_OF_THREE),
+        30,
+        LONG_LINE,
+        9,
+        &[
+            Step::Feed(b"jklmnopqrst"),
+            Step::Done(false),
+            Step::Feed(b"uvwxy"),
+            Step::Done(false),
+            Step::Feed(b"\n"),
+            Step::Done(true),
+            Step::Close,
+            Step::Wrote(b""),
+        ],
+    ),
+    (
+        Way::Chunk(2, LINES_OF_THREE),
+        30,
+        LONG_LINE,
+        19,
+        &[
+            Step::Feed(b"tuvwxy\n1234"),
+            Step::Wrote(b"1234"),
+            Step::Done(true),
+            Step::Close,
+        ],
+    ),
+    // More chunks than bytes: one that has a byte and a line, one that has a byte alone, and one that has none.
+    (
+        Way::Chunk(27, LINES_OF_FORTY),
+        30,
+        TEXT,
+        26,
+        &[
+            Step::Feed(b"\n"),
+            Step::Done(false),
+            Step::Feed(b"st\n"),
+            Step::Wrote(b"st\n"),
+            Step::Done(true),
+        ],
+    ),
+    (
+        Way::Chunk(29, LINES_OF_FORTY),
+        30,
+        TEXT,
+        28,
+        &[Step::Feed(b"t\n"), Step::Done(true), Step::Wrote(b"")],
+    ),
+    (
+        Way::Chunk(35, LINES_OF_FORTY),
+        30,
+        TEXT,
+        29,
+        &[
+            Step::Done(false),
+            Step::Feed(b"\n"),
+            Step::Done(true),
+            Step::Close,
+            Step::Wrote(b""),
+        ],
+    ),
+    // Fewer bytes than were said, and more.
+    (
+        Way::Chunk(2, LINES_OF_THREE),
+        30,
+        TEXT,
+        19,
+        &[
+            Step::Feed(b"n\nop"),
+            Step::CloseFails(CHANGED),
+            Step::Wrote(b"op"),
+        ],
+    ),
+    (
+        Way::Chunk(2, LINES_OF_THREE),
+        15,
+        TEXT,
+        9,
+        &[
+            Step::Feed(b"gh\nij\nkl"),
+            Step::Wrote(b"ij\n"),
+            Step::Done(true),
+            Step::Close,
+        ],
+    ),
+    // Nothing stands before the first chunk, and what one read gives is fed.
+    (
+        Way::Chunk(0, LINES_OF_THREE),
+        30,
+        TEXT,
         0,
-        &[Step::Feed(TEXT), Step::Wrote(b"op\nqr\nst\n"), Step::Close],
+        &[
+            Step::Feed(TEXT),
+            Step::Wrote(b"ab\ncd\nef\ngh\n"),
+            Step::Close,
+        ],
+    ),
+    (
+        Way::Chunk(1, LINES_OF_THREE),
+        15,
+        TEXT,
+        0,
+        &[Step::Feed(TEXT), Step::Wrote(b"ef\ngh\n"), Step::Close],
     ),
     // Where all are written, and where lines are dealt, nothing is passed over.
     (

@@ -1,3 +1,5 @@
+pub mod AlikeLemmas
+mod ChunkAlikeLemmas
 pub mod RoundLemmas
 pub mod AgreedLemmas
 pub mod ChunkLemmas

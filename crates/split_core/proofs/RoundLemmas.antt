@@ -18,7 +18,9 @@ use Rattle.ports_core.specs.declared.verdict.Verdict.TheVariants.{Suffixes}
 use Rattle.ports_core.specs.Engine.{MayGet, TakesIn, EndsWith, EndsThere, StandsAt, is_verdict, cut}
 use Rattle.ports_core.specs.Engine as engine
 use Rattle.ports_core.proofs.SpareLemmas.{none_spare}
+use Rattle.split_core.specs.Alike.{as_if}
 use Rattle.split_core.specs.laws.WorkLaws.{lawful}
+use Rattle.split_core.proofs.AlikeLemmas.{complete_as, verdict_as, waiting_as}
 use Rattle.ports_core.specs.declared.fault.Fault.{Fault}
 use Rattle.ports_core.specs.declared.verdict.Verdict.TheVariants.{Suffixes}
 use Rattle.ports_core.specs.declared.slot.State.{State}
@@ -271,49 +273,58 @@ parts_wait {parts} {x} stands = ap length (stands.waits ∙ sym (waiting_is part
     (ap (are_named (parts_state.filing_of parts).names) (sym (length-map (cut.parts parts.limit x) (share Closed))) ∙ part.all_have_names stands)))
 
 -- as long as the engine goes on, all files have names
-pub all_named : (splitter : Splitter) (x : List ℕ) → ways.Holds splitter x → Judges (ways.work splitter) x Suffixes → ⊥
-all_named (way.Parts parts) x holds judged =
+named_of : (splitter : Splitter) (x : List ℕ) → ways.Holds splitter x → Judges (ways.work splitter) x Suffixes → ⊥
+named_of (way.Parts parts) x holds judged =
     absurd (let well = ap (λ (has : Bool). cond (not has) (Some Suffixes) None) (part.all_have_names holds) in cc)
-all_named (way.Round round) x holds judged = cc
-all_named (way.Chunks state) x holds judged = no_suffixes state x judged
-all_named (way.Turn turn) x holds judged = cc
+named_of (way.Round round) x holds judged = cc
+named_of (way.Chunks state) x holds judged = no_suffixes state x judged
+named_of (way.Turn turn) x holds judged = cc
+
+pub all_named : (splitter : Splitter) (x : List ℕ) → (as_if ways.terms).Holds splitter x
+    → Judges (ways.work splitter) x Suffixes → ⊥
+all_named splitter x is judged = named_of splitter is.other is.holds (sym (verdict_as is.alike) ∙ judged)
 
 -- and unless it writes what one file would have, more can come
-pub goes_on : (splitter : Splitter) (x : List ℕ) → ways.Holds splitter x → ((ways.work splitter).means.output ≡ gets_bytes → ⊥)
-    → (ways.work splitter).is_complete x ≡ false
-goes_on (way.Parts parts) x holds beside = sym (part.never_done holds)
-goes_on (way.Round round) x holds beside = refl
-goes_on (way.Chunks state) x holds beside = open_beside state x (ways.work (way.Chunks state)) refl beside holds
-goes_on (way.Turn turn) x holds beside = refl
+open_of : (splitter : Splitter) (x : List ℕ) → ways.Holds splitter x
+    → ((ways.work splitter).means.output ≡ gets_bytes → ⊥) → (ways.work splitter).is_complete x ≡ false
+open_of (way.Parts parts) x holds beside = sym (part.never_done holds)
+open_of (way.Round round) x holds beside = refl
+open_of (way.Chunks state) x holds beside = open_beside state x (ways.work (way.Chunks state)) refl beside holds
+open_of (way.Turn turn) x holds beside = refl
+
+pub goes_on : (splitter : Splitter) (x : List ℕ) → (as_if ways.terms).Holds splitter x
+    → ((ways.work splitter).means.output ≡ gets_bytes → ⊥) → (ways.work splitter).is_complete x ≡ false
+goes_on splitter x is beside = complete_as is.alike ∙ open_of splitter is.other is.holds beside
 
 -- only one chunk can be complete
-pub never_done : (splitter : Splitter) → ((state : ChunkerState) → splitter ≡ way.Chunks state → ⊥) → (x : List ℕ)
+never_of : (splitter : Splitter) → ((state : ChunkerState) → splitter ≡ way.Chunks state → ⊥) → (x : List ℕ)
     → ways.Holds splitter x → (ways.work splitter).is_complete x ≡ false
-never_done (way.Parts parts) other x holds = sym (part.never_done holds)
-never_done (way.Round round) other x holds = refl
-never_done (way.Chunks state) other x holds = absurd (other state refl)
-never_done (way.Turn turn) other x holds = refl
+never_of (way.Parts parts) other x holds = sym (part.never_done holds)
+never_of (way.Round round) other x holds = refl
+never_of (way.Chunks state) other x holds = absurd (other state refl)
+never_of (way.Turn turn) other x holds = refl
+
+pub never_done : (splitter : Splitter) → ((state : ChunkerState) → splitter ≡ way.Chunks state → ⊥) → (x : List ℕ)
+    → (as_if ways.terms).Holds splitter x → (ways.work splitter).is_complete x ≡ false
+never_done splitter other x is = complete_as is.alike ∙ never_of splitter other is.other is.holds
 
 -- a split into parts isn't complete where any engine of it goes on
 told_beside : (verbose : Bool) → output_by verbose ≡ gets_bytes → ⊥
 told_beside true is = cc
 told_beside false is = cc
 
-pub open_after : (those : Work) (verbose : Bool) → those.means.output ≡ output_by verbose → (after : Splitter) (z : List ℕ)
-    → ways.work after ≡ those → ways.Holds after z → those.is_complete z ≡ false
-open_after those verbose told (way.Chunks state) z same holds =
-    open_beside state z those same (λ is. told_beside verbose (sym told ∙ is)) holds
-open_after those verbose told (way.Parts parts) z same holds =
-    ap (λ (those : Work). those.is_complete z) (sym same) ∙ sym (part.never_done holds)
-open_after those verbose told (way.Round round) z same holds = ap (λ (those : Work). those.is_complete z) (sym same)
-open_after those verbose told (way.Turn turn) z same holds = ap (λ (those : Work). those.is_complete z) (sym same)
+pub open_after : (those : Work) (verbose : Bool) → those.means.output ≡ output_by verbose
+    → (after : Splitter) (z : List ℕ) → ways.work after ≡ those → (as_if ways.terms).Holds after z → those.is_complete z ≡ false
+open_after those verbose told after z same is = ap (λ (those : Work). those.is_complete z) (sym same)
+    ∙ goes_on after z is (λ bytes. told_beside verbose
+    (sym told ∙ ap (λ (those : Work). those.means.output) (sym same) ∙ bytes))
 
 spares : (splitter after : Splitter) (z : List ℕ) (n : ℕ) → ways.work after ≡ ways.work splitter → (ways.work splitter).is_complete z ≡ false
     → IsSpare (ways.work splitter) z n → n ≤ (ways.work splitter).ahead
 spares splitter after z n same going spare = omega (arith, none_spare _ z n (lawful splitter) going spare)
 
 pub spares_none : (most : ℕ) (splitter : Splitter) → ((state : ChunkerState) → splitter ≡ way.Chunks state → ⊥)
-    → MayGet ways.terms splitter most
+    → MayGet (as_if ways.terms) splitter most
 spares_none most (way.Parts parts) other x piece after n holds going within same later spare =
     spares (way.Parts parts) after (x ++ piece) n same
     (open_after _ (parts_state.filing_of parts).verbose refl after (x ++ piece) same later) spare
@@ -323,8 +334,13 @@ spares_none most (way.Turn turn) other x piece after n holds going within same l
     spares (way.Turn turn) after (x ++ piece) n same refl spare
 spares_none most (way.Chunks state) other x piece after n holds going within same later spare = absurd (other state refl)
 
-pub held_is : (splitter : Splitter) (x : List ℕ) → ways.Holds splitter x → held splitter ≡ length ((ways.work splitter).waiting x)
-held_is (way.Parts parts) x holds = parts_wait holds
-held_is (way.Round round) x holds = none_waits holds
-held_is (way.Chunks state) x holds = chunks_wait state x holds
-held_is (way.Turn turn) x holds = refl
+held_of : (splitter : Splitter) (x : List ℕ) → ways.Holds splitter x
+    → held splitter ≡ length ((ways.work splitter).waiting x)
+held_of (way.Parts parts) x holds = parts_wait holds
+held_of (way.Round round) x holds = none_waits holds
+held_of (way.Chunks state) x holds = chunks_wait state x holds
+held_of (way.Turn turn) x holds = refl
+
+pub held_is : (splitter : Splitter) (x : List ℕ) → (as_if ways.terms).Holds splitter x
+    → held splitter ≡ length ((ways.work splitter).waiting x)
+held_is splitter x is = held_of splitter is.other is.holds ∙ ap length (sym (waiting_as is.alike))

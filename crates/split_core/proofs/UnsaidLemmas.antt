@@ -267,7 +267,7 @@ none_waits unit delim place z waiting is within = elim (cases_lt 0 (length waiti
       absurd (omega (arith, begun_some unit delim (max (place - length z) 1) waiting (omega arith) some, ap length (sym is ∙ begun_on unit delim place z waiting early), length-append z (begun_before unit delim (max (place - length z) 1) waiting))))
 ]
 
-start_some : (n size : ℕ) → 0 < n → 0 < size → 0 < chunk_start n size 1
+pub start_some : (n size : ℕ) → 0 < n → 0 < size → 0 < chunk_start n size 1
 start_some n size count some = elim (cases_lt 0 (size / n)) [
   | inl more ↦ omega (arith, more)
   | inr none ↦ (let e : size / n ≡ 0 = omega (arith, none) in omega (arith, div-add-mod' size n, ap (λ q. q * n) e, some))
@@ -321,7 +321,7 @@ fulls_past : (chunk : ℕ) (n : ℕ) (cut : CutUp) → get_or (pieces_in (with_f
 fulls_past chunk zero cut = refl
 fulls_past chunk (suc n) cut = piece_full (pieces_in (with_fulls n cut)) chunk ∙ fulls_past chunk n cut
 
-past_pieces : (chunks : Chunks) (size chunk : ℕ) (z : List ℕ) → before_chunk chunks size chunk z ≡ z → get_or (pieces_in (chunks_within chunks size z)) chunk [] ≡ []
+pub past_pieces : (chunks : Chunks) (size chunk : ℕ) (z : List ℕ) → before_chunk chunks size chunk z ≡ z → get_or (pieces_in (chunks_within chunks size z)) chunk [] ≡ []
 past_pieces chunks size chunk z all = let f = chunk_at chunks size z in let n = ended chunks size z in
     ap (λ pieces. get_or pieces chunk []) (sym (map-range_with_len_more f 0 n n (omega arith))) ∙ by (cases_lt chunk (n + 1)) where
       by : (chunk < ended chunks size z + 1) ⊎ (ended chunks size z + 1 ≤ chunk) → get_or (map (chunk_at chunks size z) (range_with_len 0 (ended chunks size z + 1))) chunk [] ≡ []

@@ -7,6 +7,7 @@ use Rattle.ports_core.specs.Engine.{MayGet}
 use Rattle.ports_core.specs.Work.{IsSpare, Work}
 use Rattle.ports_core.proofs.SpareLemmas.{none_spare, spare_within}
 use Rattle.seg_core.specs.declared.cut.Chunks.{Chunks}
+use Rattle.split_core.specs.Alike.{as_if}
 use Rattle.split_core.specs.Chunks.{chunk_start, has_ended}
 use Rattle.split_core.specs.ChunkWork.{chunk_work}
 use Rattle.split_core.specs.ChunkerState.{ChunkerState, Course, Holds, HoldsBy, IsSaid, course, can_cut, in_files, in_output, work, work_on}
@@ -18,6 +19,7 @@ use Rattle.split_core.specs.inner.Seen.{is_past_on}
 use Rattle.split_core.specs.laws.BegunLaws.{open_within}
 use Rattle.split_core.specs.laws.ChunkLaws.{passed_full, passed_open}
 use Rattle.split_core.specs.laws.WorkLaws.{lawful}
+use Rattle.split_core.proofs.AlikeLemmas.{complete_as}
 use Rattle.split_core.proofs.ChunkerLemmas.{cut_is, is_said, lawful_on, past_is}
 use Rattle.split_core.proofs.ChunkerWays.{holds_can, unsaid_open, works_so}
 use Rattle.split_core.proofs.RoundLemmas.{open_after}
@@ -94,25 +96,35 @@ made_by state on x holds is = works_so state (holds_can state.said state x holds
 
 pub few_of_chunk : (state : ChunkerState) (size chunk most : ℕ) → state.said ≡ Some size → course state.cutter ≡ in_output chunk
     → most ≡ max (chunk_start state.cutter.chunks.count size (chunk + 1) - state.cutter.at) 1
-    → MayGet ways.terms (way.Chunks state) most
+    → MayGet (as_if ways.terms) (way.Chunks state) most
 few_of_chunk state size chunk most said on is x piece after n holds going within same later spare =
-    let it : work state ≡ chunk_work chunk state.cutter.chunks (Some size) = made_by state (in_output chunk) x holds on ∙ ap (chunk_work chunk state.cutter.chunks) said in
-    let can : nat_lt chunk state.cutter.chunks.count ≡ true = sym (ap (λ on. can_cut on state.cutter.chunks.count) on) ∙ holds_can state.said state x holds in
+    let z = holds.other in
+    let chunks = state.cutter.chunks in
+    let it : work state ≡ chunk_work chunk chunks (Some size) =
+    made_by state (in_output chunk) z holds.holds on ∙ ap (chunk_work chunk chunks) said in
+    let can : nat_lt chunk chunks.count ≡ true =
+    sym (ap (λ on. can_cut on chunks.count) on) ∙ holds_can state.said state z holds.holds in
+    let still : (work state).is_complete z ≡ false = sym (complete_as holds.alike) ∙ going in
     omega (
       arith,
-      few_missing chunk state.cutter.chunks size x piece n can (omega (arith, within, is, all_cut state size x said going holds))
-          (sym (ap (λ (those : Work). those.is_complete x) it) ∙ going) (subst (λ (those : Work). IsSpare those (x ++ piece) n) it spare),
+      few_missing chunk chunks size z piece n can
+          (omega (arith, within, is, all_cut state size z said still holds.holds))
+          (sym (ap (λ (those : Work). those.is_complete z) it) ∙ still)
+          (subst (λ (those : Work). IsSpare those (z ++ piece) n) it ((holds.alike.unused piece n).0 spare)),
     )
 
-pub few_of_files : (most : ℕ) (state : ChunkerState) (filing : Filing) (elide : Bool) → course state.cutter ≡ in_files filing elide
-    → MayGet ways.terms (way.Chunks state) most
+pub few_of_files : (most : ℕ) (state : ChunkerState) (filing : Filing) (elide : Bool)
+    → course state.cutter ≡ in_files filing elide → MayGet (as_if ways.terms) (way.Chunks state) most
 few_of_files most state filing elide on x piece after n holds going within same later spare =
+    let made = made_by state (in_files filing elide) holds.other holds.holds on in
     omega (
       arith,
       none_spare (work state) (x ++ piece) n (lawful (way.Chunks state)) (open_after (work state) filing.verbose
-          (ap (λ (those : Work). those.means.output) (made_by state (in_files filing elide) x holds on)) after (x ++ piece) same later) spare,
+          (ap (λ (those : Work). those.means.output) made) after (x ++ piece) same later) spare,
     )
 
-pub few_unsaid : (most : ℕ) (state : ChunkerState) → state.said ≡ None → MayGet ways.terms (way.Chunks state) most
+pub few_unsaid : (most : ℕ) (state : ChunkerState) → state.said ≡ None
+    → MayGet (as_if ways.terms) (way.Chunks state) most
 few_unsaid most state said x piece after n holds going within same later spare =
-    omega (arith, none_spare (work state) (x ++ piece) n (lawful (way.Chunks state)) (unsaid_goes_on state x (x ++ piece) (ap is_some said) holds) spare)
+    let still = unsaid_goes_on state holds.other (x ++ piece) (ap is_some said) holds.holds in
+    omega (arith, none_spare (work state) (x ++ piece) n (lawful (way.Chunks state)) still spare)

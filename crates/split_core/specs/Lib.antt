@@ -1,3 +1,4 @@
+pub mod Alike
 pub mod FilesState
 pub mod Parts
 pub mod Chunks

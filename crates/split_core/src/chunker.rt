@@ -5,10 +5,11 @@ ghost use Rattle.split_core.specs.ChunkerState.{Carries, HasAll, Holds, Ready, c
 ghost use Rattle.split_core.specs.Parts.{uncut};
 ghost use Rattle.ports_core.specs.Engine.{Loads, MayGet};
 ghost use Rattle.ports_core.specs.Source.{is_readable};
+ghost use Rattle.split_core.specs.Alike.{as_if};
 ghost use Rattle.split_core.specs.Ways as ways;
 ghost use Rattle.split_core.specs.declared.splitter.Splitter.TheVariants as way;
 ghost use Rattle.split_core.specs.inner.Seen.{seen_target};
-ghost use Rattle.split_core.specs.inner.Chunker.{EndsAs, PassesAs, StandsAfter, TakesSaid};
+ghost use Rattle.split_core.specs.inner.Chunker.{EndsAs, PassesAs, TakesFront, TakesSaid};
 
 use crate::chunk_cut::chunk_start;
 use crate::chunk_cutter::ChunkCutter;
@@ -109,45 +110,47 @@ impl Chunker {
         }
     }
 
-    /// Passes over what stands before the chunk that is written, where bytes are counted and the input said its length, and
-    /// returns how many bytes these are. 0 where the chunk is empty, or they can't be passed over.
+    /// Passes over what stands before the chunk that is written, where the input said its length, and returns how many bytes
+    /// these are. 0 where they can't be passed over, or the chunk is of bytes and empty.
     pub(crate) fn load<I: Inputs>(&mut self, slot: usize, most: usize, inputs: &mut I) -> u64
         requires fresh { Holds self.old [] }
         requires none { total self.old ≡ 0 }
         requires input { IsTrue (is_readable (I.sources inputs.old) slot) }
-        ensures loads { Loads ways.terms I.told slot result (way.Chunks self.old) (way.Chunks self.new)
+        ensures loads { Loads (as_if ways.terms) I.told slot result (way.Chunks self.old) (way.Chunks self.new)
             (I.sources inputs.old) (I.sources inputs.new) }
         ensures laid { I.laid inputs.new ≡ I.laid inputs.old }
     {
-        let Some((front, place)) = self.front() else {
+        let Some((front, place, is_within)) = self.front() else {
             return 0;
         };
         if !pass_over(slot, front, most, inputs) {
             return 0;
         }
         self.cutter.at = front;
+        self.cutter.is_within = is_within;
         self.cutter.target.place = place;
         front
     }
 
-    /// How many bytes stand before the one chunk that is written, and its place: where that doesn't depend on what they are,
-    /// and the chunk has a byte.
-    fn front(&self) -> Option<(u64, u64)>
-        ensures { IfSome result (λ found. StandsAfter self.now found.0 found.1) }
+    /// How many bytes are passed over before the one chunk that is written, the place of the chunk that was begun with them,
+    /// and whether they end within a line. Of lines these are all but the one before the chunk, which may end a line; what
+    /// stands before that is no matter, and counts as the beginning of a line of the first chunk.
+    fn front(&self) -> Option<(u64, u64, bool)>
+        requires { Holds self.now [] }
+        ensures { IfSome result (TakesFront self.now) }
     {
         let size = self.said?;
-        let (Aim::Output { chunk }, Unit::Bytes) = (
-            &self.cutter.target.aim,
-            self.cutter.chunks.unit,
-        ) else {
+        let Aim::Output { chunk } = &self.cutter.target.aim else {
             return None;
         };
         let count = self.cutter.chunks.count;
-        let front = chunk_start(count, size, *chunk);
-        if front < chunk_start(count, size, *chunk + 1) {
-            return Some((front, *chunk));
+        let start = chunk_start(count, size, *chunk);
+        let end = chunk_start(count, size, *chunk + 1);
+        match self.cutter.chunks.unit {
+            Unit::Bytes if start < end => Some((start, *chunk, false)),
+            Unit::Lines if start > 1 => Some((start - 1, 0, true)),
+            _ => None,
         }
-        None
     }
 
     /// Ends the input: what waits is cut into chunks.
@@ -190,7 +193,7 @@ impl Chunker {
     /// How many bytes the next piece may have: where one chunk is written, as many as are missing to its end; one at least.
     pub(crate) fn most_wanted(&self) -> u64
         ensures some { 0 < result }
-        ensures few { MayGet ways.terms (way.Chunks self.now) result }
+        ensures few { MayGet (as_if ways.terms) (way.Chunks self.now) result }
     {
         match (self.said, &self.cutter.target.aim) {
             (Some(size), Aim::Output { chunk }) => {

@@ -15,7 +15,8 @@ ghost use Rattle.split_core.specs.Place.{beside_output, split_spots};
 ghost use Rattle.split_core.specs.Sections.{AreLineByteParts, byte_parts, line_parts};
 ghost use Rattle.split_core.specs.Split.{Plan, Share, dealt_files, is_short, settled_by, settled_parts, share, split_work, whole_by};
 ghost use Rattle.seg_core.specs.Cut.{IsPositive};
-ghost use Rattle.split_core.specs.Ways.{Holds, work};
+ghost use Rattle.split_core.specs.Alike.{as_if};
+ghost use Rattle.split_core.specs.Ways.{terms, work};
 ghost use Rattle.split_core.specs.declared.splitter.Splitter.{Splitter};
 
 use crate::Limit;
@@ -113,10 +114,9 @@ pub fn lines_are_of_opened_files()
 
 /// An engine that has returned no fault has named all files that its input needs: names that ran out are always told. And
 /// unless it writes what one file would have, more that comes can still change its output.
-#[tactic(auto, using(crate::proofs::RoundLemmas::all_named, crate::proofs::RoundLemmas::goes_on))]
 pub fn all_files_have_names()
-    ensures named { (engine : GuardState Splitter) (x : List ℕ) → HoldsIn Holds engine x
+    ensures named { (engine : GuardState Splitter) (x : List ℕ) → HoldsIn (as_if terms).Holds engine x
         → Judges (work engine.stage) x Suffixes → ⊥ }
-    ensures goes_on { (engine : GuardState Splitter) (x : List ℕ) → HoldsIn Holds engine x
+    ensures goes_on { (engine : GuardState Splitter) (x : List ℕ) → HoldsIn (as_if terms).Holds engine x
         → ((work engine.stage).means.output ≡ gets_bytes → ⊥) → (work engine.stage).is_complete x ≡ false }
 {}

@@ -8,7 +8,8 @@ ghost use Rattle.split_core.specs.Split.{TellsNoSizes, is_verbose, output_by, se
 ghost use Rattle.seg_core.specs.Cut.{IsWay};
 ghost use Rattle.split_core.specs.ChunkWork.{CanGive, CannotBegin, HasAllNames, work_by};
 ghost use Rattle.split_core.specs.Split.{HasNames};
-ghost use Rattle.split_core.specs.Ways.{Holds, Owns, Ready, terms, work};
+ghost use Rattle.split_core.specs.Alike.{as_if};
+ghost use Rattle.split_core.specs.Ways.{Owns, Ready, terms, work};
 ghost use Rattle.ports_core.specs.Engine.{MayGet};
 ghost use Rattle.ports_core.specs.Work.{IsSpare};
 ghost use Rattle.split_core.specs.inner.Ways.{held};
@@ -67,7 +68,7 @@ impl Splitter {
         requires streams { 2 ≤ length (O.slots outs.old) }
         requires tells { TellsNoSizes tells }
         requires output { CanGive way tells (O.slots outs.old) }
-        ensures holds { IfOk result (λ engine. HoldsIn Holds engine []) }
+        ensures holds { IfOk result (λ engine. HoldsIn (as_if terms).Holds engine []) }
         ensures bound { IfOk result (λ engine. engine.fed < 2 ^ 63) }
         ensures does { IfOk result (λ engine. work engine.stage ≡ work_by way elide naming tells said) }
         ensures ready { IfOk result (λ engine. Ready engine.stage (O.slots outs.new)) }
@@ -108,7 +109,7 @@ impl Splitter {
 }
 
 impl Stage for Splitter {
-    ghost terms = { terms };
+    ghost terms = { as_if terms };
 
     fn pass<O: Outs>(&mut self, piece: &[u8], outs: &mut O) -> Result<(), Fault> {
         match self {
@@ -144,7 +145,7 @@ impl Stage for Splitter {
     /// Where one chunk is written, once it and those before it have all that goes with them; else never: that the input needs
     /// more files than there are names is a fault.
     fn is_done(&self) -> bool
-        ensures { (x : List ℕ) → Holds self.now x → result ≡ (work self.now).is_complete x }
+        ensures { (x : List ℕ) → (as_if terms).Holds self.now x → result ≡ (work self.now).is_complete x }
     {
         let Splitter::Chunks(chunker) = self else {
             return false;
@@ -166,7 +167,7 @@ impl Stage for Splitter {
     /// Where one chunk is written, as many as are missing to its end, and one at least; else any number.
     fn wanted(&self) -> u64
         ensures some { 0 < result }
-        ensures few { MayGet terms self.now result }
+        ensures few { MayGet (as_if terms) self.now result }
     {
         let Splitter::Chunks(chunker) = self else {
             return u64::MAX;
@@ -175,7 +176,7 @@ impl Stage for Splitter {
     }
 
     fn unused(&self) -> u64
-        ensures { (x : List ℕ) → Holds self.now x → IsSpare (work self.now) x result }
+        ensures { (x : List ℕ) → (as_if terms).Holds self.now x → IsSpare (work self.now) x result }
     {
         let Splitter::Chunks(chunker) = self else {
             return 0;

@@ -1,6 +1,7 @@
 -- What private calls say: chunks of an input, as a stage.
 use Rattle.std.specs.Option.{is_none}
-use Rattle.std.specs.Prelude.{◌≡◌, ℕ, ◌+◌, ◌-◌, ◌<◌, ◌≤◌, ◌⊎◌, min, Bool, true, false, List, ◌++◌, length, take, Option, Some, None, IfNone, IfSome, Result, Ok, Err}
+use Rattle.std.specs.Prelude.{◌≡◌, ℕ, ◌+◌, ◌-◌, ◌≤◌, ◌⊎◌, min, Bool, true, false, List, ◌++◌, length, take, Option, Some, None, IfNone, IfSome, Result, Ok, Err}
+use Rattle.ports_core.specs.Engine.{TookIn}
 use Rattle.ports_core.specs.FileWriter.{IsWrite}
 use Rattle.ports_core.specs.Part.{Part}
 use Rattle.ports_core.specs.Slot.{Slot}
@@ -8,9 +9,10 @@ use Rattle.ports_core.specs.Work.{Work, IsNeeded, IsSettled, Judges}
 use Rattle.ports_core.specs.declared.fault.Fault.{Fault}
 use Rattle.ports_core.specs.declared.verdict.Verdict.TheVariants.{Changed}
 use Rattle.ports_core.specs.declared.fault.Fault.TheVariants.{Memory, Verdict}
-use Rattle.seg_core.specs.declared.unit.Unit.TheVariants.{Bytes}
-use Rattle.split_core.specs.Chunks.{chunk_start}
-use Rattle.split_core.specs.ChunkerState.{ChunkerState, Holds, can_cut, course, to_output, total, work_on}
+use Rattle.split_core.specs.Alike.{as_if}
+use Rattle.split_core.specs.ChunkerState.{ChunkerState, Holds, can_cut, course, total, work_on}
+use Rattle.split_core.specs.Ways.{terms}
+use Rattle.split_core.specs.declared.splitter.Splitter.TheVariants.{Chunks}
 use Rattle.split_core.specs.inner.Cutter.{Cuts, IsCut, said_work}
 use Rattle.split_core.specs.inner.Seen.{is_past_on}
 use Rattle.split_core.specs.inner.Sends.{Brings}
@@ -19,20 +21,20 @@ use Rattle.split_core.specs.inner.Sends.{Brings}
 abbrev pub made : ChunkerState → Work
 made chunker = work_on (course chunker.cutter) chunker.cutter.chunks chunker.said
 
--- the one chunk that is written has a byte, at its place, and before it stand as many bytes as `front`, whatever they are
-pub record StandsAfter (chunker : ChunkerState) (front place : ℕ) : Type 0 where
-  pub size : ℕ
-  pub said : chunker.said ≡ Some size
-  pub aim : chunker.cutter.target.aim ≡ to_output place
-  pub unit : chunker.cutter.chunks.unit ≡ Bytes
-  pub begins : front ≡ chunk_start chunker.cutter.chunks.count size place
-  pub some : front < chunk_start chunker.cutter.chunks.count size (place + 1)
-
--- these were passed over
-abbrev pub passed_to : ChunkerState → ℕ → ℕ → ChunkerState
-passed_to chunker front place = record chunker {
-  cutter = record chunker.cutter { at = front; target = record chunker.cutter.target { place = place } };
+-- so many bytes were passed over, and the chunk at this place was begun with them; they end within a line, if so
+abbrev pub passed_to : ChunkerState → ℕ → ℕ → Bool → ChunkerState
+passed_to chunker front place within = record chunker {
+  cutter = record chunker.cutter {
+    at = front;
+    is_within = within;
+    target = record chunker.cutter.target { place = place };
+  };
 }
+
+-- whatever these bytes are, that takes them in
+abbrev pub TakesFront : ChunkerState → ℕ × ℕ × Bool → Type 0
+TakesFront chunker front = (x : List ℕ) → front.0 ≡ length x
+    → TookIn (as_if terms) (Chunks chunker) (Chunks (passed_to chunker front.0 front.1 front.2)) x
 
 -- it was asked for the same
 pub record IsLike (chunker next : ChunkerState) : Type 0 where

@@ -41,7 +41,7 @@ begun_first delim byte place x some =
 
 -- From where on it may still get bytes
 
-none_open : (delim : ℕ) (x : List ℕ) → delimiters delim x ≡ 0 → open_from Lines delim x ≡ 0
+pub none_open : (delim : ℕ) (x : List ℕ) → delimiters delim x ≡ 0 → open_from Lines delim x ≡ 0
 none_open delim x none = rw none refl
 
 some_open : (delim : ℕ) (x : List ℕ) → 0 < delimiters delim x → 0 < open_from Lines delim x

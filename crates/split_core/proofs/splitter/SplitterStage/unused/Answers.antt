@@ -1,3 +1,4 @@
+use Rattle.split_core.proofs.AlikeLemmas.{unused_as}
 use Rattle.ports_core.proofs.SpareLemmas.{all_used}
 use Rattle.split_core.proofs.ChunkerWays.{chunks_spare}
 use Rattle.split_core.proofs.RoundLemmas.{never_done}
@@ -7,4 +8,4 @@ pub returns-in_default : goal.returns-in_default
 returns-in_default c x holds = all_used _ x (never_done c.args.self.now c.in_default.not-Chunks x holds)
 
 pub returns : goal.returns
-returns c = rw (c.in-Chunks.is, c.past.ensures) (chunks_spare _)
+returns c = rw (c.in-Chunks.is, c.past.ensures) (λ x is. unused_as is.alike (chunks_spare _ is.other is.holds))
