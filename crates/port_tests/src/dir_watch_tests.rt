@@ -421,6 +421,52 @@ fn looks_wait_for_an_open_file(rt: HostRuntime) -> Result<(), Fail> {
     )
 }
 
+/// So does one after a change of a name that was at rest for seconds: its file grows, and then it leads to another file of that length.
+const RESTED: &[Step<'static>] = &[
+    Step::Make("watch_core_rested/f", b"abc"),
+    Step::Sees(Some(3)),
+    Step::Opens(true),
+    Step::Waits(true),
+    Step::Waits(true),
+    Step::Append("watch_core_rested/f", b"de"),
+    Step::Waits(false),
+    Step::Sees(Some(5)),
+    Step::LatestIsOpen(true),
+    Step::Waits(true),
+    Step::Make("watch_core_rested/g", b"vwxyz"),
+    Step::Rename("watch_core_rested/g", "watch_core_rested/f"),
+    Step::Waits(false),
+    Step::Sees(Some(5)),
+    Step::LatestIsOpen(false),
+];
+
+#[test]
+fn looks_wait_for_a_name_at_rest(rt: HostRuntime) -> Result<(), Fail> {
+    play(&rt, &rt, "watch_core_rested", "watch_core_rested/f", RESTED)
+}
+
+/// How many milliseconds a look is waited for at most.
+const WAITS: &[u64] = &[20, 300];
+
+/// Whether a second look begins after this number of milliseconds or later, and before a second, where that was asked for.
+fn begins_within(rt: HostRuntime, most: u64) -> Result<bool, Fail> {
+    let mut watch = DirWatch::new(rt, rt.alloc());
+    watch.wait_at_most(most);
+    watch.turn()?;
+    let start = Instant::now(&rt)?;
+    watch.turn()?;
+    let passed = start.elapsed(&rt)?;
+    Ok(passed >= Duration::from_millis(most) && passed < Duration::from_secs(1))
+}
+
+#[test]
+fn looks_begin_within_what_was_asked(rt: HostRuntime) -> Result<(), Fail> {
+    for most in WAITS {
+        assert!(rt; begins_within(rt, *most)?, "{most} milliseconds");
+    }
+    Ok(())
+}
+
 /// A file is replaced by a folder, and that by a file again.
 const FORGIVEN: &[Step<'static>] = &[
     Step::Make("watch_core_forgiven/f", b"abc"),

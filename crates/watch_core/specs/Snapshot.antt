@@ -48,7 +48,7 @@ forgiving snapshot = record snapshot {
   breaks = false;
 }
 
--- this look where it begins within so many milliseconds
+-- this look where it begins within this number of milliseconds
 abbrev pub waiting : (milliseconds : ℕ) → Snapshot → Snapshot
 waiting milliseconds snapshot = record snapshot { within = milliseconds }
 

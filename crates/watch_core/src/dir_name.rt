@@ -408,14 +408,32 @@ impl DirName {
         if now < self.pace.due() {
             return false;
         }
-        let is_elsewhere = self.leads_elsewhere(alloc, files);
-        let changed = self.has_grown(now) || is_elsewhere || self.is_unreadable;
+        let changed = self.differs(alloc, files, now) || self.is_unreadable;
         self.pace.go_on(now, changed);
         if changed && matches!(&self.file, Some(DirFile::Stream(_))) {
             // More may be there already, and its writer isn't to wait.
             self.pace.hurry();
         }
         changed
+    }
+
+    /// Whether the name or its open file isn't as looks were told, or something came of that, where it is a stream.
+    fn differs(&mut self, alloc: Global, files: &impl Files<File = File>, now: u64) -> bool
+        ensures { self.new ≡ self.old }
+    {
+        let is_spared = self.spares_name(now);
+        if is_spared && !self.has_grown(None, now) {
+            return false;
+        }
+        // The name is asked first, so that what came to its open file before it led elsewhere is written before the other file.
+        let is_elsewhere = self.leads_elsewhere(alloc, files);
+        self.has_grown(self.led_len(), now) || is_elsewhere || is_spared
+    }
+
+    /// Whether the open file alone is asked at this time: a regular one, to which the name led when it was asked last.
+    fn spares_name(&self, now: u64) -> bool {
+        let is_placed = matches!(&self.file, Some(DirFile::Placed(_)));
+        is_placed && self.led_len().is_some() && !self.pace.asks_where(now)
     }
 
     /// Whether the name leads elsewhere than looks were told, or its file has another length. Where looks ask the open file alone,
@@ -444,15 +462,19 @@ impl DirName {
         find(files, self.name.as_str()).ok()
     }
 
-    /// Whether the open file has another length than looks were told, or something came of it, where it is a stream. Where the name
-    /// leads to it, its length was told with that, and the system isn't asked again.
-    fn has_grown(&mut self, now: u64) -> bool
-        ensures { self.new ≡ self.old }
-    {
-        let told = match (self.led_to, self.opened) {
+    /// How many bytes the open file has, as was told with the name. None where that isn't known to lead to it.
+    fn led_len(&self) -> Option<u64> {
+        match (self.led_to, self.opened) {
             (Some(Some(found)), Some(id)) if found.id == id => Some(found.len),
             _ => None,
-        };
+        }
+    }
+
+    /// Whether the open file has another length than looks were told, or something came of it, where it is a stream. Where its length
+    /// was told with the name, the system isn't asked again.
+    fn has_grown(&mut self, told: Option<u64>, now: u64) -> bool
+        ensures { self.new ≡ self.old }
+    {
         let is_at_rest = self.pace.is_at_rest(now);
         match &mut self.file {
             Some(file) => file.has_changed(told, is_at_rest),
