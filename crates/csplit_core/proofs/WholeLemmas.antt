@@ -55,7 +55,7 @@ none_lost operands x live = grind (arith, common_steps, all_with)
 pub ends_after_all : (total : ℕ) (ending : Ending) → is_final ending ≡ false → whole_end total ending ≡ suc total
 ends_after_all total ending live = grind (arith, common_steps)
 
-rest_is_all : (x : List Line) (current : ℕ) → 1 ≤ current → lines_between current (suc (length x)) x ≡ drop (current - 1) x
+pub rest_is_all : (x : List Line) (current : ℕ) → 1 ≤ current → lines_between current (suc (length x)) x ≡ drop (current - 1) x
 rest_is_all x current some = grind (arith, common_steps)
 
 pub none_lost_at_end : (operands : List Operand) (x : List Line) → is_final (plan false operands x).ending ≡ false → lines_in (whole_sections x (plan false operands x)) ≡ x

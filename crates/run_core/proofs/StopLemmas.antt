@@ -4,29 +4,26 @@ use Rattle.std.proofs.Common.{◌≡◌, ℕ, ◌+◌, ◌<◌, ◌≤◌, suc, 
 use Rattle.std.proofs.lemmas.List.{map-append, append-nil}
 use Rattle.std.proofs.Math.Seq.{take-append-add, drop-append-add}
 use Rattle.ports_core.specs.Slot.{Slot, with_written, told_of, is_open, slot_at, adds, breaks, unopened, with_broken}
-use Rattle.ports_core.specs.Part.{nothing, Part, File, only_out, OutputsAt, IsBeginning, FilesBegin, Begins, IsNext, IsAt, StoppedBetween, file_of, told_file, Marks, Output, gets_none, gets_bytes, gets_lines, gets_openings, lines_for, openings_for, LinesInOrder}
+use Rattle.ports_core.specs.Part.{nothing, Part, File, only_out, OutputsAt, IsBeginning, Begins, IsNext, IsAt, StoppedBetween, file_of, told_file, Marks, Output, gets_none, gets_bytes, gets_lines, gets_openings, lines_for, openings_for, LinesInOrder}
 use Rattle.ports_core.specs.Swept.{Swept, SweptFrom, Cleared}
 use Rattle.ports_core.specs.declared.fault.Fault.{Fault}
 use Rattle.ports_core.specs.declared.fault.Fault.TheVariants.{Write, Open}
-use Rattle.ports_core.proofs.PartLemmas.{begins_itself, due_by, marks_by, outputs_count}
+use Rattle.ports_core.proofs.PartLemmas.{due_by, marks_by, outputs_count}
 use Rattle.ports_core.proofs.SlotSteps.{none_past, swept_none}
 use Rattle.ports_core.proofs.SlotLemmas.{length-changed_at, changed_at-append}
 use Rattle.ports_core.proofs.WriteLemmas.{told_of-append, with_written-append}
 use Rattle.run_core.specs.Task.{after_part}
 use Rattle.run_core.specs.Feeding.{Step, Stops}
 use Rattle.ports_core.specs.Message.{OnError, output_named}
+use Rattle.ports_core.proofs.PartSteps.{front_begins}
 
 -- Lemmas on what is written after what was written before.
-
-files_after : (first low high : List File) → FilesBegin low high → FilesBegin (first ++ low) (first ++ high)
-files_after [] low high begins = begins
-files_after (file ∷ first) low high begins = (refl, refl, refl, inr refl, begins_itself file.bytes, files_after first low high begins)
 
 out_after : (out low : List ℕ) {high : List ℕ} → IsBeginning low high → IsBeginning (out ++ low) (out ++ high)
 out_after out low (rest, is) = (rest, ap (λ bytes. out ++ bytes) is ∙ sym (append_assoc out low rest))
 
 pub begins_after : (first : Part) {low high : Part} → Begins low high → Begins (after_part first low) (after_part first high)
-begins_after first {low} {high} begins = grind (arith, common_steps, out_after, files_after)
+begins_after first {low} {high} begins = grind (arith, common_steps, out_after, front_begins)
 
 pub after_assoc : (first next last : Part) → after_part (after_part first next) last ≡ after_part first (after_part next last)
 after_assoc first next last = simp append_assoc

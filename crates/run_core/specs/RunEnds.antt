@@ -4,7 +4,7 @@ use Rattle.ports_core.specs.Slot.{Slot}
 use Rattle.ports_core.specs.Source.{Content, Source}
 use Rattle.ports_core.specs.Part.{Output, Part, OutputsAt, StoppedBetween, only_out, gets_none, gets_bytes}
 use Rattle.ports_core.specs.Swept.{Swept}
-use Rattle.ports_core.specs.Work.{Needs, Work, no_needs}
+use Rattle.ports_core.specs.Work.{Needs, no_needs}
 use Rattle.ports_core.specs.Text.{message_of, status_after}
 use Rattle.ports_core.specs.Message.{IsWhy, SaysAll, Tells, output_named}
 use Rattle.ports_core.specs.declared.reason.Reason.{Reason}

@@ -1,9 +1,9 @@
 -- What is settled of chunks is what all continuations agree on.
-use Rattle.std.proofs.Common.{◌≡◌, ◌≢◌, ℕ, ◌+◌, ◌-◌, ◌*◌, ◌/◌, ◌%◌, ◌<◌, ◌≤◌, max, zero, suc, Bool, true, false, cond, List, [], ◌∷◌, ◌++◌, length, take, drop, map, get_or, replicate, Option, Some, None, inl, inr, refl, sym, ◌∙◌, ap, subst, arith}
+use Rattle.std.proofs.Common.{◌≡◌, ◌≢◌, ℕ, ◌+◌, ◌-◌, ◌*◌, ◌/◌, ◌<◌, ◌≤◌, max, zero, suc, Bool, true, false, cond, List, [], ◌∷◌, ◌++◌, length, take, drop, map, get_or, replicate, Option, Some, None, inl, inr, refl, sym, ◌∙◌, ap, subst, arith}
 use Rattle.std.proofs.lemmas.Bool.{cases_lt, eq-eqb, ltb-false}
 use Rattle.std.proofs.lemmas.List.{append-nil, drop-append-le, length-append, length-replicate, map-append, take_all}
-use Rattle.std.proofs.lemmas.Nat.{div-add-mod', le-div}
-use Rattle.std.proofs.Math.Nat.{one-mul, zero-mul}
+use Rattle.std.proofs.lemmas.Nat.{le-div}
+use Rattle.std.proofs.Math.Nat.{one-mul}
 use Rattle.std.specs.List.{filter, range_with_len}
 use Rattle.seg_core.specs.Line.{joined}
 use Rattle.seg_core.proofs.FirstLines.{joined-append}
@@ -22,14 +22,16 @@ use Rattle.split_core.specs.Chunks.{before_chunk, begun_before, chunk_at, chunk_
 use Rattle.split_core.specs.ChunkAgreed.{AgreeAt, CanFollow}
 use Rattle.split_core.specs.ChunkWork.{ChunksPlan, chunk_work, chunks_settled, chunks_whole, chunks_work, files_by, kept}
 use Rattle.split_core.specs.inner.Chunks.{HaveEnded}
-use Rattle.split_core.specs.laws.ChunkWorkLaws.{chunk_lawful, chunks_lawful, first_kept, kept-append}
-use Rattle.ports_core.proofs.AgreedLemmas.{common, copies_come, none_comes}
+use Rattle.split_core.specs.laws.ChunkWorkLaws.{chunk_lawful, chunks_lawful, first_kept, kept-append, length-kept}
+use Rattle.ports_core.proofs.AgreedLemmas.{common, copies_come, none_comes, other, other_comes, other_differs, beginning_short}
 use Rattle.split_core.proofs.AgreedLemmas.{bytes_named, each_named, named_bytes}
 use Rattle.split_core.proofs.CutLaws.{bytes_of_shares}
 use Rattle.split_core.proofs.ChunkLemmas.{bytes_filed, few_files, made_few, same_pieces}
-use Rattle.split_core.proofs.RoundLemmas.{named_fewer}
-use Rattle.split_core.specs.laws.BegunLaws.{begin_short, begun_begins, begun_first, begun_first_place, begun_monotone, begun_on, begun_within, open_within}
+use Rattle.split_core.proofs.RoundLemmas.{named_fewer, joined_some}
+use Rattle.split_core.specs.laws.BegunLaws.{begun_begins, begun_first, begun_first_place, begun_monotone, begun_on, begun_within, open_within}
 use Rattle.split_core.specs.laws.ChunkLaws.{all_joined, before_stays, chunks_are, cut_all, ended_is, full_stays, map_parts, passed_open, start_first, start_grows, start_past}
+use Rattle.split_core.proofs.SectionLemmas.{joined_one}
+use Rattle.split_core.proofs.UnsaidLemmas.{start_some}
 
 -- Bytes that are all the same
 
@@ -129,9 +131,9 @@ pub tails_apart : (a b : ℕ) → a ≢ b → (front : List (List ℕ)) (r : Lis
     → IsBeginning bytes (get_or (front ++ other) place [])
     → length bytes ≤ length (get_or (front ++ unless_empty r) place [])
 tails_apart a b differ [] r [] other tail also place bytes first second =
-    omega (arith, begin_short bytes (get_or [] place []) first)
+    omega (arith, beginning_short bytes (get_or [] place []) first)
 tails_apart a b differ [] r (piece ∷ one) [] tail also place bytes first second =
-    omega (arith, begin_short bytes (get_or [] place []) second)
+    omega (arith, beginning_short bytes (get_or [] place []) second)
 tails_apart a b differ [] r (piece ∷ one) (next ∷ other) ((more, is, run), runs) ((rest, are, also), too) zero bytes
     first second = omega (
       arith,
@@ -141,7 +143,7 @@ tails_apart a b differ [] r (piece ∷ one) (next ∷ other) ((more, is, run), r
     )
 tails_apart a b differ [] r (piece ∷ one) (next ∷ other) tail also (suc place) bytes first second =
     omega (arith, apart a b differ bytes _ _ first second (runs_at a one place tail.1) (runs_at b other place also.1))
-tails_apart a b differ (piece ∷ front) r one other tail also zero bytes first second = begin_short bytes piece first
+tails_apart a b differ (piece ∷ front) r one other tail also zero bytes first second = beginning_short bytes piece first
 tails_apart a b differ (piece ∷ front) r one other tail also (suc place) bytes first second =
     tails_apart a b differ front r one other tail also place bytes first second
 
@@ -201,7 +203,7 @@ tail_is chunks size x y c p m run same past =
           arith,
           ap length all,
           length-append x more,
-          begin_short _ _ (begun_monotone chunks.unit chunks.delim
+          beginning_short _ _ (begun_monotone chunks.unit chunks.delim
               (x ++ y) (start_grows chunks.count size (p + 1) i from)),
         )) run
 
@@ -311,28 +313,22 @@ said_longest elide chunks size x place some within = elim (cases_lt (length x) s
     z = [];
     comes = (none_comes, eq-eqb _ _ (omega (arith, length-append x [], within, full)));
     also = (none_comes, eq-eqb _ _ (omega (arith, length-append x [], within, full)));
-    longest = λ front first second. begin_short _ _ (subst (λ z. IsBeginning front
+    longest = λ front first second. beginning_short _ _ (subst (λ z. IsBeginning front
         (get_or (files_by elide (chunks_of chunks size z)) place [])) (append-nil x) first);
   }
 ]
 
 -- Where it wasn't
 
-joined_kept : (elide : Bool) (pieces : List (List ℕ)) → joined (kept elide pieces) ≡ joined pieces
-joined_kept false pieces = refl
-joined_kept true [] = refl
-joined_kept true ([] ∷ pieces) = joined_kept true pieces
-joined_kept true ((byte ∷ piece) ∷ pieces) = ap (λ rest. (byte ∷ piece) ++ rest) (joined_kept true pieces)
-
-joined_made : (r : List ℕ) → joined (unless_empty r) ≡ r
-joined_made [] = refl
-joined_made (byte ∷ r) = append-nil (byte ∷ r)
+pub joined-kept : (elide : Bool) (pieces : List (List ℕ)) → joined (kept elide pieces) ≡ joined pieces
+joined-kept false pieces = refl
+joined-kept true pieces = joined_some pieces
 
 -- the files have all that the pieces have
 pub joined_files : (elide : Bool) (cut : CutUp) → joined (files_by elide cut) ≡ joined (pieces_in cut)
 joined_files elide cut = joined-append (kept elide cut.full) (unless_empty cut.rest)
-    ∙ ap (λ front. front ++ joined (unless_empty cut.rest)) (joined_kept elide cut.full)
-    ∙ ap (λ rest. joined cut.full ++ rest) (joined_made cut.rest ∙ sym (append-nil cut.rest))
+    ∙ ap (λ front. front ++ joined (unless_empty cut.rest)) (joined-kept elide cut.full)
+    ∙ ap (λ rest. joined cut.full ++ rest) (joined_one cut.rest ∙ sym (append-nil cut.rest))
     ∙ sym (joined-append cut.full (cut.rest ∷ []))
 
 at_within : (pieces : List (List ℕ)) (place : ℕ) → length (get_or pieces place []) ≤ length (joined pieces)
@@ -390,36 +386,11 @@ tail_runs : (c : ℕ) (r : List ℕ) (pieces : List (List ℕ)) (place : ℕ) �
 tail_runs c r [] place tail = tt
 tail_runs c r (piece ∷ pieces) place tail = runs_at c pieces place tail.1
 
--- another byte
-abbrev other_than : ℕ → ℕ
-other_than zero = 1
-other_than (suc byte) = 0
-
-other_is : (byte : ℕ) → byte ≢ other_than byte
-other_is zero same = omega (arith, same)
-other_is (suc byte) same = omega (arith, same)
-
-other_small : (byte : ℕ) → other_than byte < 256
-other_small zero = omega arith
-other_small (suc byte) = omega arith
-
 begun_some : (unit : Which) (delim place byte : ℕ) (x : List ℕ) → 0 < place
     → has_bytes (begun_before unit delim place (byte ∷ x)) ≡ true
 begun_some Bytes delim zero byte x some = absurd (omega (arith, some))
 begun_some Bytes delim (suc place) byte x some = refl
 begun_some Lines delim place byte x some = ap has_bytes (begun_first delim byte place x some)
-
-first_some : (n size : ℕ) → 0 < n → 0 < size → 0 < chunk_start n size 1
-first_some n size some has = by (size % n) refl where
-  whole : size / n * n + size % n ≡ size
-  whole = div-add-mod' size n
-
-  by : (rest : ℕ) → size % n ≡ rest → 0 < chunk_start n size 1
-  by (suc rest) is = omega (arith, is)
-  by zero is = by_count (size / n) refl where
-    by_count : (q : ℕ) → size / n ≡ q → 0 < chunk_start n size 1
-    by_count zero none = absurd (omega (arith, whole, is, has, ap (λ q. q * n) none, zero-mul n))
-    by_count (suc q) more = omega (arith, more, one-mul (size / n))
 
 -- the first file has all that begins before the second chunk
 pub first_file : (elide : Bool) (chunks : Chunks) (byte : ℕ) (x : List ℕ) → 0 < chunks.count
@@ -437,7 +408,7 @@ first_file elide chunks byte x some = by chunks.count refl where
       (none_before_first chunks (length all) all)
 
   later : 0 < chunk_start chunks.count (length all) 1
-  later = first_some chunks.count (length all) some (omega arith)
+  later = start_some chunks.count (length all) some (omega arith)
 
   filled : has_bytes (f 0) ≡ true
   filled = ap has_bytes one ∙ begun_some chunks.unit chunks.delim (chunk_start chunks.count (length all) 1) byte x later
@@ -462,7 +433,7 @@ none_longest elide chunks [] place some = record {
   also = (none_comes, refl);
   longest = λ front first second. omega (
     arith,
-    begin_short _ _ first,
+    beginning_short _ _ first,
     at_within (files_by elide (chunks_of chunks 0 [])) place,
     ap length (joined_files elide (chunks_of chunks 0 []) ∙ all_joined chunks 0 [] some),
   );
@@ -478,7 +449,7 @@ none_longest elide chunks (byte ∷ x) zero some =
         arith,
         ap (λ before. length (get_or (before ++ unless_empty r) 0 [])) (none_kept elide),
         ap length (first_made r),
-        begin_short front r
+        beginning_short front r
             (subst (λ files. IsBeginning front (get_or files 0 []))
             (ap (λ z. files_by elide (chunks_of chunks (length z) z)) (append-nil (byte ∷ x)) ∙ file.1) first),
       );
@@ -495,10 +466,10 @@ none_longest elide chunks (byte ∷ x) (suc place) some =
       far_on c = replicate (suc (length (byte ∷ x)) * chunks.count) c
 
       apart_by : (first : ℕ) (piece front : List ℕ) → IsBeginning front (first ∷ piece)
-          → IsRun (other_than first) front → length front ≤ 0
+          → IsRun (other first) front → length front ≤ 0
       apart_by first piece [] begins run = omega arith
       apart_by first piece (next ∷ front) (rest, is) run =
-          absurd (other_is first (ap (λ z. get_or z 0 0) is ∙ run.0))
+          absurd (other_differs first (ap (λ z. get_or z 0 0) is ∙ run.0))
 
       by : (piece : List ℕ)
           → get_or (files_by elide (chunks_of chunks (length (byte ∷ x)) (byte ∷ x))) (suc place) [] ≡ piece
@@ -508,13 +479,13 @@ none_longest elide chunks (byte ∷ x) (suc place) some =
         z = [];
         comes = (none_comes, refl);
         also = (none_comes, refl);
-        longest = λ front first second. omega (arith, ap length is, begin_short _ _ (here front first));
+        longest = λ front first second. omega (arith, ap length is, beginning_short _ _ (here front first));
       }
-      by (first ∷ piece) is = let c = other_than first in record {
+      by (first ∷ piece) is = let c = other first in record {
         y = [];
         z = far_on c;
         comes = (none_comes, refl);
-        also = (copies_come (suc (length (byte ∷ x)) * chunks.count) c (other_small first), refl);
+        also = (copies_come (suc (length (byte ∷ x)) * chunks.count) c (other_comes first), refl);
         longest = λ front one two. omega (
           arith,
           apart_by first piece front (subst (IsBeginning front) is (here front one))
@@ -545,18 +516,12 @@ shares_filed filing count closed those named few =
     ∙ ap (λ rest. closed ++ rest) (bytes_of_shares Open those))
     ∙ each_named filing.names (closed ++ those) (named_fewer filing.names _ count named few)
 
-kept_few : (elide : Bool) (pieces : List (List ℕ)) → length (kept elide pieces) ≤ length pieces
-kept_few false pieces = omega arith
-kept_few true [] = omega arith
-kept_few true ([] ∷ pieces) = omega (arith, kept_few true pieces)
-kept_few true ((byte ∷ piece) ∷ pieces) = omega (arith, kept_few true pieces)
-
 few_kept : (elide : Bool) (cut : CutUp) (count : ℕ) → length (files_by false cut) ≤ count
     → length (files_by elide cut) ≤ count
 few_kept elide cut count few = omega (
   arith,
   few,
-  kept_few elide cut.full,
+  length-kept elide cut.full,
   length-append (kept elide cut.full) (unless_empty cut.rest),
   length-append cut.full (unless_empty cut.rest),
 )
@@ -616,7 +581,7 @@ nothing_at work agreed at those none = (
   those.comes,
   those.also,
   λ front first second.
-      omega (arith, ap length (none those.y), begin_short _ _ first),
+      omega (arith, ap length (none those.y), beginning_short _ _ first),
 )
 
 -- files don't depend on what standard output is told

@@ -6,7 +6,7 @@ use Rattle.seg_core.specs.Line.{joined}
 use Rattle.seg_core.specs.declared.cut.Chunks.{Chunks}
 use Rattle.ports_core.specs.Agreed.{ArePlaced, DifferOn, file_bytes, spot, spots_from}
 use Rattle.ports_core.specs.Part.{IsBeginning}
-use Rattle.ports_core.proofs.AgreedLemmas.{AreFront, copies_come, none_before, none_comes, spot_in, spot_past, stretch_placed}
+use Rattle.ports_core.proofs.AgreedLemmas.{AreFront, copies_come, none_before, none_comes, spot_in, spot_past, stretch_placed, beginning_short}
 use Rattle.ports_core.proofs.PartLemmas.{begins_trans}
 use Rattle.split_core.specs.Chunks.{before_chunk, chunks_of, decided, in_the_end, is_longer, size_by, undecided}
 use Rattle.split_core.specs.ChunkAgreed.{CanFollow, chunk_spots}
@@ -15,7 +15,7 @@ use Rattle.split_core.specs.Parts.{uncut, unless_empty}
 use Rattle.split_core.specs.Place.{beside_output}
 use Rattle.split_core.specs.Split.{are_named}
 use Rattle.split_core.specs.inner.Chunks.{BeginsFirst, GoesOn}
-use Rattle.split_core.specs.laws.BegunLaws.{begin_short, begun_begins}
+use Rattle.split_core.specs.laws.BegunLaws.{begun_begins}
 use Rattle.split_core.specs.laws.ChunkLaws.{all_joined, begin_then_rest, decided_grows}
 use Rattle.split_core.specs.laws.ChunkWorkLaws.{chunks_go_on, decided_ends, first_kept, kept-append, some_begins}
 use Rattle.split_core.proofs.ChunkAgreedLemmas.{IsTail, first_file, joined_files, none_files, run_of, whole_files}
@@ -62,7 +62,7 @@ same_spots [] [] tail place i first less = absurd (omega (arith, less))
 same_spots [] (byte ∷ r) [] place i first less = absurd first
 same_spots [] (byte ∷ r) (piece ∷ tail) place i first less =
     let within : i < length (byte ∷ r) = omega (arith, less, ap length (append-nil (byte ∷ r))) in
-    spot_in place i piece tail (omega (arith, within, begin_short (byte ∷ r) piece first))
+    spot_in place i piece tail (omega (arith, within, beginning_short (byte ∷ r) piece first))
     ∙ sym (spot_in place i (byte ∷ r) [] within)
 same_spots (piece ∷ front) r tail place i first less = elim (cases_lt i (length piece)) [
   | inl here ↦ spot_in place i piece (front ++ tail) here ∙ sym (spot_in place i piece (front ++ unless_empty r) here)

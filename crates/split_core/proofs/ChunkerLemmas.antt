@@ -19,15 +19,12 @@ use Rattle.split_core.specs.inner.Seen.{is_each_on, is_past_at, is_past_on}
 use Rattle.split_core.specs.inner.Sends.{Ends as TargetEnds, part_on, whole_on}
 use Rattle.split_core.specs.Parts.{CutUp}
 use Rattle.split_core.specs.laws.ChunkLaws.{ended_after, has_ended_before, passed_full, start_within}
-use Rattle.split_core.specs.laws.ChunkWorkLaws.{chunk_lawful, chunks_lawful, longer_differs}
+use Rattle.split_core.specs.laws.ChunkWorkLaws.{longer_differs}
 use Rattle.split_core.proofs.CutterLemmas.{cut_of, placed_at}
 use Rattle.split_core.proofs.TargetLemmas.{brings_as, brings_wider}
+use Rattle.split_core.specs.laws.WorkLaws.{work_lawful}
 
 -- What is made
-
-pub lawful_on : (on : Course) (chunks : Chunks) (said : Option ℕ) → can_cut on chunks.count ≡ true → IsLawful (work_on on chunks said)
-lawful_on (in_files filing elide) chunks said can = chunks_lawful _ said (ltb-true _ _ can)
-lawful_on (in_output chunk) chunks said can = chunk_lawful chunk chunks said (ltb-true _ _ can)
 
 settled_is : (on : Course) (chunks : Chunks) (size : ℕ) (x : List ℕ) → (work_on on chunks (Some size)).settled x ≡ part_on on (chunks_of chunks size x)
 settled_is (in_files filing elide) chunks size x = refl
@@ -74,7 +71,7 @@ part_is : {chunker : ChunkerState} {size : ℕ} {x : List ℕ} → IsSaid chunke
 part_is {chunker} {size} {x} has = let on = course chunker.cutter in let chunks = chunker.cutter.chunks in
     let used : take chunker.cutter.at x ≡ has.spare.used = ap (take chunker.cutter.at) has.spare.joined ∙ take_at has.spare.used has.spare.rest chunker.cutter.at (sym has.cut.at) in
     ap (part_so chunker.cutter size) used ∙ ap (part_on on) (sym (cut_of chunks size has.spare.used has.within)) ∙ sym (settled_is on chunks size has.spare.used)
-    ∙ so_used (lawful_on on chunks (Some size) has.cut.can) has.spare
+    ∙ so_used (work_lawful on chunks (Some size) has.cut.can) has.spare
 
 -- A piece
 
@@ -167,7 +164,7 @@ module _ {chunker next : ChunkerState} {size : ℕ} {piece : List ℕ} {x : List
 
   pub part_on_said : part_so chunker.cutter size (has.spare.used ++ done) ≡ (said_work chunker.cutter size).settled (x ++ piece)
   part_on_said = let on = course chunker.cutter in let chunks = chunker.cutter.chunks in
-      ap (part_on on) (sym (cut_of chunks size (has.spare.used ++ done) fits_done)) ∙ sym (settled_is on chunks size (has.spare.used ++ done)) ∙ so_used (lawful_on on chunks (Some size) has.cut.can) spare_on
+      ap (part_on on) (sym (cut_of chunks size (has.spare.used ++ done) fits_done)) ∙ sym (settled_is on chunks size (has.spare.used ++ done)) ∙ so_used (work_lawful on chunks (Some size) has.cut.can) spare_on
 
 used_is : {chunker : ChunkerState} {size : ℕ} {x : List ℕ} (has : IsSaid chunker size x) → take chunker.cutter.at x ≡ has.spare.used
 used_is {chunker} has = ap (take chunker.cutter.at) has.spare.joined ∙ take_at has.spare.used has.spare.rest chunker.cutter.at (sym has.cut.at)
@@ -195,7 +192,7 @@ module _ (chunker : ChunkerState) {size : ℕ} (said : chunker.said ≡ Some siz
       let on = course chunker.cutter in
       let chunks = chunker.cutter.chunks in
       let work = work_on on chunks (Some size) in
-      let lawful = lawful_on on chunks (Some size) can in
+      let lawful = work_lawful on chunks (Some size) can in
       let used = has.spare.used in
       let here : part_so chunker.cutter size (take chunker.cutter.at x ++ bytes) ≡ work.settled (used ++ bytes) =
       ap (λ used. part_so chunker.cutter size (used ++ bytes)) (used_is has) ∙ ap (part_on on) (sym (cut_of chunks size (used ++ bytes) (omega (arith, fits, has.cut.at, length-append used bytes)))) ∙ sym (settled_is on chunks size (used ++ bytes)) in
@@ -348,7 +345,7 @@ whole_said {chunker} {size} {x} has =
     elim has.spare.enough [
       | inl none ↦ here ∙ ap work.whole (sym (has.spare.joined ∙ ap (λ rest. used ++ rest) none ∙ append-nil used))
       | inr complete ↦ here ∙ whole_is on chunks size used ∙ sym (complete_whole on chunks size used has.within complete (chunks_of chunks size used)) ∙ sym (settled_is on chunks size used)
-          ∙ sym (ap work.whole has.spare.joined ∙ ((lawful_on on chunks (Some size) has.cut.can).stays used has.spare.rest complete).whole_stays)
+          ∙ sym (ap work.whole has.spare.joined ∙ ((work_lawful on chunks (Some size) has.cut.can).stays used has.spare.rest complete).whole_stays)
     ]
 
 ends_well : (aim : AimState) (chunks : Chunks) (size : ℕ) (x : List ℕ) {n : ℕ} → (spare : IsSpare (work_on (course_of aim) chunks (Some size)) x n) → IsLawful (work_on (course_of aim) chunks (Some size)) → can_cut (course_of aim) chunks.count ≡ true → length spare.used ≤ size
@@ -384,7 +381,7 @@ module _ {chunker next : ChunkerState} {size : ℕ} {told : Bool} {old new : Lis
     bound = bound;
     comes = end_comes None ends;
     well = λ x holds. let has = is_said said holds in ap (λ (work : Work). work.verdict x) (sym (made_is chunker said))
-        ∙ ends_well chunker.cutter.target.aim chunker.cutter.chunks size x has.spare (lawful_on (course chunker.cutter) chunker.cutter.chunks (Some size) same.can) same.can has.within (elim full [
+        ∙ ends_well chunker.cutter.target.aim chunker.cutter.chunks size x has.spare (work_lawful (course chunker.cutter) chunker.cutter.chunks (Some size) same.can) same.can has.within (elim full [
           | inl past ↦ inl (sym (past_is (cut_is has)) ∙ past)
           | inr all ↦ inr (omega (arith, all, has.cut.at))
         ]);

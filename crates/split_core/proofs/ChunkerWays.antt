@@ -7,13 +7,12 @@ use Rattle.std.proofs.lemmas.Bool.Decides.{nat_tests}
 use Rattle.std.proofs.lemmas.List.{length-append}
 use Rattle.ports_core.specs.Engine.{EndsThere, EndsWith, IsMet, StandsAt, is_verdict}
 use Rattle.ports_core.specs.Engine as engine
-use Rattle.ports_core.specs.Draft.{Manner}
 use Rattle.ports_core.specs.FileWriter.{Breaks, IsWrite}
 use Rattle.ports_core.specs.Part.{OutputsAt, Part, gets_bytes, writes}
 use Rattle.ports_core.specs.Slot.{Slot, is_writable}
 use Rattle.ports_core.specs.Work.{IsSettled, IsSpare, Judges, Means, Needs, Work, on_output}
 use Rattle.ports_core.specs.declared.fault.Fault.{Fault}
-use Rattle.ports_core.specs.declared.fault.Fault.TheVariants.{Memory, Open, Verdict, Write}
+use Rattle.ports_core.specs.declared.fault.Fault.TheVariants.{Memory, Verdict, Write}
 use Rattle.ports_core.specs.declared.verdict.Verdict.{Verdict as Judgement}
 use Rattle.ports_core.specs.declared.verdict.Verdict.TheVariants.{Changed, Suffixes}
 use Rattle.ports_core.specs.inner.Part.{HasLines}
@@ -29,7 +28,7 @@ use Rattle.split_core.specs.declared.splitter.Splitter.TheVariants as way
 use Rattle.split_core.specs.inner.Chunker.{Changes, Comes, Ends, EndsAs, IsLike, LacksRoom, Passes, PassesAs, made}
 use Rattle.split_core.specs.inner.Sends.{AtAim, IsOf, manner_on, output_on}
 use Rattle.split_core.specs.laws.WorkLaws.{lawful}
-use Rattle.split_core.proofs.PartsLemmas.{met_files, told_writable}
+use Rattle.split_core.proofs.PartsLemmas.{met_files, told_writable, unjudged}
 
 -- What is made
 
@@ -59,14 +58,6 @@ settled_lines (in_files filing elide) chunks said x = has_told _ _
 settled_lines (in_output chunk) chunks said x = tt
 
 -- Faults
-
-unjudged : (manner : Manner) (old new : List Slot) (fault : Fault) → Breaks manner old new fault → (fault ≡ Verdict Suffixes → ⊥)
-    → is_verdict fault ≡ false
-unjudged manner old new Memory breaks other = refl
-unjudged manner old new (Write slot) breaks other = refl
-unjudged manner old new (Open slot) breaks other = refl
-unjudged manner old new (Verdict Suffixes) breaks other = absurd (other refl)
-unjudged manner old new fault breaks other = absurd breaks
 
 met_output : (memory : Bool) (needs : Needs) (Lacks : Type 0) (Why : Judgement → Type 0) (old new : List Slot) (chunk : ℕ) (fault : Fault)
     → Breaks (manner_on (in_output chunk)) old new fault → fault ≡ Write 0 → IsMet (on_output memory) needs Lacks Why old new fault

@@ -25,7 +25,7 @@ use Rattle.split_core.specs.inner.Cutter.{Cuts, CutsAs, EndsBefore, EndsFull, En
 use Rattle.split_core.specs.inner.Chunks.{GoesOn as Goes, HaveEnded}
 use Rattle.split_core.specs.inner.Seen.{is_past_at, is_past_on}
 use Rattle.split_core.specs.inner.Sends.{Brings, Changes, GoesOn, HasName, Sends, with_full, with_fulls, with_rest, part_on}
-use Rattle.split_core.specs.laws.BegunLaws.{begun_begins, begun_first, begun_long, begun_stays, begun_within, open_append, open_within}
+use Rattle.split_core.specs.laws.BegunLaws.{begun_begins, begun_first, begun_long, begun_stays, begun_within, open_append, open_within, begun_none}
 use Rattle.split_core.specs.laws.ChunkLaws.{ended_grows, ended_is, ended_only, ends_here, goes_on, passed_full, passed_open, piece_all, start_grows, start_past}
 use Rattle.split_core.specs.laws.ChunkWorkLaws.{chunks_go_on, piece_on, shares_on}
 use Rattle.split_core.specs.laws.ShareLaws.{part_begins}
@@ -35,10 +35,6 @@ use Rattle.split_core.proofs.RoundLemmas.{named_fewer}
 use Rattle.split_core.proofs.TargetLemmas.{brings_as, brings_then, brings_wider, ends_begin, ends_full, piece_full, sends_as, sends_none, sends_then, sends_wider}
 
 -- The lines that begin before a place: all before it, and the rest of the one that it stands in
-
-none_before : (lines : List (List ℕ)) → joined (lines_before 0 lines) ≡ []
-none_before [] = refl
-none_before (line ∷ lines) = refl
 
 begun_from : (delim q : ℕ) (x : List ℕ)
     → begun_before Lines delim (suc q) x ≡ take q x ++ begun_before Lines delim 1 (drop q x)
@@ -62,7 +58,7 @@ begun_line delim {rest = byte ∷ rest} {first} more is line some =
     let e : 1 - length first ≡ 0 = omega (arith, some (omega arith)) in
     ap (λ lines. joined (lines_before 1 lines)) (line (omega arith))
     ∙ ap (λ n. first ++ joined (lines_before n (lines_of delim more))) e
-    ∙ ap (λ past. first ++ past) (none_before (lines_of delim more)) ∙ append-nil first
+    ∙ ap (λ past. first ++ past) (begun_none delim (lines_of delim more)) ∙ append-nil first
 
 pub cut_lines : (delim q w : ℕ) (x : List ℕ) {rest first : List ℕ} (more : List ℕ) → w ≤ length x → w ≤ q → (w < q → w ≡ length x)
     → rest ≡ drop w x → rest ≡ first ++ more → (0 < length rest → lines_of delim rest ≡ first ∷ lines_of delim more)

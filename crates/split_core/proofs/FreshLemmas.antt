@@ -1,7 +1,6 @@
 -- Lemmas on chunks of an input of which no byte came in yet.
-use Rattle.std.proofs.Common.{◌≡◌, ℕ, ◌<◌, Bool, true, false, List, [], Option, Some, None, IfSome, refl, sym, ◌∙◌, ap, subst, arith, inl, drop, Result, zero, suc, max}
+use Rattle.std.proofs.Common.{◌≡◌, ℕ, ◌<◌, Bool, true, false, List, [], Option, Some, None, IfSome, refl, sym, ◌∙◌, ap, subst, arith, inl, Result, zero, suc, max}
 use Rattle.std.proofs.Math.Seq.{drop-nil, take-nil}
-use Rattle.std.proofs.lemmas.Bool.{ltb-true}
 use Rattle.seg_core.specs.declared.cut.Chunks.{Chunks}
 use Rattle.seg_core.specs.declared.unit.Unit.{Unit as Counted}
 use Rattle.seg_core.specs.declared.unit.Unit.TheVariants.{Bytes, Lines}
@@ -20,17 +19,8 @@ use Rattle.split_core.specs.Chunks.{chunks_within, decided, is_within}
 use Rattle.split_core.specs.ChunkerState.{Carries, Course, CutterState, HasAll, HasCut, HoldsBy, TargetState, can_cut, course_of, in_files, in_output, work_on}
 use Rattle.ports_core.proofs.ShareLemmas.{nothing_part}
 use Rattle.split_core.specs.laws.BegunLaws.{begun_of_none}
-use Rattle.split_core.proofs.UnsaidLemmas.{none_ended}
-
--- there are chunks
-pub some_chunks : (on : Course) (count : ℕ) → can_cut on count ≡ true → 0 < count
-some_chunks (in_files filing elide) count can = ltb-true _ _ can
-some_chunks (in_output chunk) count can = omega (arith, ltb-true _ _ can)
-
--- nothing is cut up into nothing
-pub none_within : (chunks : Chunks) (size : ℕ) → 0 < chunks.count → 0 < size → chunks_within chunks size [] ≡ uncut []
-none_within chunks size count some = rw (none_ended chunks size count some)
-    (ap (λ rest. record { full = []; rest = rest }) (ap (drop _) (begun_of_none chunks.unit chunks.delim _) ∙ drop-nil _))
+use Rattle.split_core.proofs.UnsaidLemmas.{none_within}
+use Rattle.split_core.proofs.CutterLemmas.{some_of}
 
 none_so : (unit : Counted) (delim : ℕ) → is_within unit delim [] ≡ false
 none_so Bytes delim = refl
@@ -55,7 +45,7 @@ module _ (chunks : Chunks) (target : TargetState) (can : can_cut (course_of targ
   holds_none (Some size) waiting none long = record {
     spare = record { used = []; rest = []; joined = refl; long = refl; needed = inl refl; enough = inl refl };
     within = omega arith;
-    cut = subst (HasCut cutter []) (sym (none_within chunks size (some_chunks _ _ can) long)) has_none;
+    cut = subst (HasCut cutter []) (sym (none_within chunks size (some_of _ _ can) long)) has_none;
     waits = none;
   }
 
@@ -78,9 +68,9 @@ no_file filing false = nothing_part _
 pub settled_none : (on : Course) (chunks : Chunks) (said : Option ℕ) → can_cut on chunks.count ≡ true
     → IfSome said (λ size. 0 < size) → (work_on on chunks said).settled [] ≡ nothing
 settled_none (in_files filing elide) chunks said can long =
-    ap (λ cut. draft_part (manner_of filing) (draft_by elide cut)) (none_decided chunks 1 said (some_chunks (in_files filing elide) _ can) long) ∙ no_file filing elide
+    ap (λ cut. draft_part (manner_of filing) (draft_by elide cut)) (none_decided chunks 1 said (some_of (in_files filing elide) _ can) long) ∙ no_file filing elide
 settled_none (in_output chunk) chunks said can long =
-    ap (piece_at chunk) (none_decided chunks (max chunk 1) said (some_chunks (in_output chunk) _ can) long) ∙ no_piece chunk
+    ap (piece_at chunk) (none_decided chunks (max chunk 1) said (some_of (in_output chunk) _ can) long) ∙ no_piece chunk
 
 -- there was no memory for what waits, and nothing was written
 pub lacks_memory : (told : Bool) (output : Output) (high : Part) (slots : List Slot) {T : Type 0} (result : Result T Fault) (fault : Fault) → fault ≡ Memory

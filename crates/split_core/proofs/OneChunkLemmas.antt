@@ -9,11 +9,11 @@ use Rattle.seg_core.specs.declared.cut.Chunks.{Chunks}
 use Rattle.seg_core.specs.declared.unit.Unit.{Unit}
 use Rattle.seg_core.specs.declared.unit.Unit.TheVariants.{Bytes, Lines}
 use Rattle.ports_core.specs.Agreed.{ArePlaced, DifferOn, Spot, spot, spots_from}
-use Rattle.ports_core.proofs.AgreedLemmas.{copies_come, none_comes, some_spot, spot_in, spot_past, stretch_placed}
+use Rattle.ports_core.proofs.AgreedLemmas.{copies_come, none_comes, some_spot, spot_in, spot_past, stretch_placed, beginning_short}
 use Rattle.split_core.specs.Chunks.{before_chunk, begun_before, chunk_at, chunk_start, chunks_of, in_the_end, is_as_said, open_from, pieces_in, size_by}
 use Rattle.split_core.specs.ChunkAgreed.{CanFollow, one_chunk_spots, piece_spots}
 use Rattle.split_core.specs.ChunkWork.{chunk_work}
-use Rattle.split_core.specs.laws.BegunLaws.{begin_short, begun_begins, begun_first, begun_first_place, begun_monotone, begun_on, begun_stays}
+use Rattle.split_core.specs.laws.BegunLaws.{begun_begins, begun_first, begun_first_place, begun_monotone, begun_on, begun_stays}
 use Rattle.split_core.specs.laws.ChunkLaws.{all_joined, begin_then_rest, decided_grows, first_pieces, start_by_size, start_grows, start_next}
 use Rattle.split_core.specs.laws.ChunkWorkLaws.{same_piece}
 use Rattle.split_core.proofs.ChunkAgreedLemmas.{far, none_before_first}
@@ -438,7 +438,7 @@ none_decided zero chunks x i within less = (
   λ y.
       goes_here 0 chunks None (x ++ y) i within refl
       (omega (arith, ap length (none_before_first chunks (length (x ++ y)) (x ++ y))))
-      (omega (arith, less, begin_short _ _ (decided_grows chunks 1 x y within (omega (arith, within)))))
+      (omega (arith, less, beginning_short _ _ (decided_grows chunks 1 x y within (omega (arith, within)))))
       ∙ ap (λ front. spot 0 (i - length front) ∷ []) (none_before_first chunks (length (x ++ y)) (x ++ y)),
 )
 none_decided (suc place) chunks x i within less = (
@@ -449,7 +449,7 @@ none_decided (suc place) chunks x i within less = (
         arith,
         less,
         ap (λ n. length (front_of chunks n x)) one,
-        begin_short _ _ (decided_grows chunks (suc place) x y (omega (arith, within)) (omega (arith, within))),
+        beginning_short _ _ (decided_grows chunks (suc place) x y (omega (arith, within)) (omega (arith, within))),
       )),
 ) where
   one : max (suc place) 1 ≡ suc place

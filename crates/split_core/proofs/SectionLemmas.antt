@@ -171,7 +171,7 @@ line_bytes_within delim n _ _ some (more x those enough past) =
 
 -- Texts that go on
 
-joined_one : (rest : List ℕ) → joined (unless_empty rest) ≡ rest
+pub joined_one : (rest : List ℕ) → joined (unless_empty rest) ≡ rest
 joined_one [] = refl
 joined_one (byte ∷ rest) = append-nil (byte ∷ rest)
 

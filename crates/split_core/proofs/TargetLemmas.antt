@@ -23,7 +23,7 @@ use Rattle.ports_core.specs.declared.file_writer.Opening.{Opening}
 use Rattle.ports_core.specs.declared.file_writer.Opening.TheVariants.{Late, AtOnce, Never}
 use Rattle.ports_core.specs.declared.file_writer.Tells.{Tells}
 use Rattle.ports_core.specs.declared.slot.State.TheVariants.{Closed}
-use Rattle.ports_core.proofs.FileWriterLemmas.{breaks_later, in_any, leaves_again, reaches_again, reaches_as, stops_wider, where_well}
+use Rattle.ports_core.proofs.FileWriterLemmas.{breaks_later, in_any, leaves_again, reaches_again, reaches_as, stops_wider, where_well, where_short}
 use Rattle.ports_core.proofs.PartLemmas.{out_begins, out_cut, out_more, part_begins_itself, part_trans, turn_between}
 use Rattle.ports_core.proofs.PartSteps.{there_from}
 use Rattle.ports_core.proofs.SlotSteps.{keeps_again, keeps_write, write_rose}
@@ -36,12 +36,9 @@ use Rattle.split_core.specs.Parts.{CutUp}
 use Rattle.split_core.specs.Split.{Filing, TellsNoSizes, has_bytes, manner_of}
 use Rattle.split_core.specs.inner.Sends.{AtAim, Brings, Files, IsOf, Changes, GoesOn, Sends, begun_by, empties_by, ends_by, manner_on, output_on, or_empty, with_full, with_rest, part_on, whole_on}
 use Rattle.split_core.proofs.FilesLemmas.{named_before}
+use Rattle.split_core.specs.laws.ChunkWorkLaws.{length-kept}
 
 -- The files
-
-where_named : {A B : Type 0} (fault : Option Fault) → IfSome fault (λ why. why ≡ Verdict Suffixes → A) → (A → B) → IfSome fault (λ why. why ≡ Verdict Suffixes → B)
-where_named None holds follows = tt
-where_named (Some why) holds follows = λ is. follows (holds is)
 
 -- names run out for what is begun alone, and a draft that ends late has none there
 pub files_go : {told : Bool} {writer next : WriterState} {change : Draft → Draft} {old new : List Slot} {fault : Option Fault}
@@ -51,7 +48,7 @@ pub files_go : {told : Bool} {writer next : WriterState} {change : Draft → Dra
 files_go {fault = fault} named goes = record {
   leaves = goes.leaves;
   reaches = goes.reaches;
-  named = where_named fault goes.short (λ ran manner draft writes. let short = ran manner draft writes in named manner draft writes short.none short.begun);
+  named = where_short fault goes.short (λ ran manner draft writes. let short = ran manner draft writes in named manner draft writes short.none short.begun);
   writes = goes.writes;
 }
 
@@ -72,7 +69,7 @@ pub files_again : {told : Bool} {one two three : WriterState} {first second : Dr
 files_again {told} {three = three} {first} {second} both {new = new} {fault} is begins never before after = record {
   leaves = leaves_again before.leaves after.leaves;
   reaches = λ manner draft writes. reaches_again (begins manner draft) (before.reaches manner draft writes) (reaches_as refl (ap (draft_part manner) (sym (is draft))) (after.reaches manner (first draft) (before.writes manner draft writes)));
-  named = where_named fault never (λ none manner draft writes. absurd (none manner (first draft) (before.writes manner draft writes)));
+  named = where_short fault never (λ none manner draft writes. absurd (none manner (first draft) (before.writes manner draft writes)));
   writes = where_well fault after.writes (λ more manner draft writes. subst (Writes manner three) (is draft) (more manner (first draft) (before.writes manner draft writes)));
 }
 
@@ -117,7 +114,7 @@ empties_begin false manner draft = by (made_of draft.opening draft.bytes) where
 pub file_ends : {told : Bool} {writer mid next : WriterState} (elide : Bool) {old between new : List Slot} {fault : Option Fault} → Files told writer (empties_by elide) old between mid None
     → Goes told mid (with_next Late) between new next fault → Files told writer (ends_by elide) old new next fault
 file_ends elide {fault = fault} emptied goes = files_again (ends_by elide) (late_after elide) (λ manner draft. empties_begin elide manner draft)
-    (where_named fault goes.short (λ ran manner draft writes. let none : [] ≡ [] ∷ [] = (ran manner draft writes).begun in cc)) emptied
+    (where_short fault goes.short (λ ran manner draft writes. let none : [] ≡ [] ∷ [] = (ran manner draft writes).begun in cc)) emptied
     (files_go (λ manner draft writes nameless none. absurd (cc)) goes)
 
 pub file_stops : {told : Bool} {writer next : WriterState} (elide : Bool) {old new : List Slot} {fault : Fault} → Files told writer (empties_by elide) old new next (Some fault) → Files told writer (ends_by elide) old new next (Some fault)
@@ -161,18 +158,11 @@ brings_files {told} {writer} {next} {elide} {dchange = dchange} {high} {old} {ne
       ((files.reaches (manner_of (filing_by writer)) (draft_by elide cut) (so_writes cut has)).there before (record { owns = at.owns; outputs = at.outputs }));
 }
 
--- files are no more than chunks
-kept_less : (elide : Bool) (pieces : List (List ℕ)) → length (kept elide pieces) ≤ length pieces
-kept_less false pieces = omega arith
-kept_less true [] = omega arith
-kept_less true ([] ∷ pieces) = omega (arith, kept_less true pieces)
-kept_less true ((byte ∷ bytes) ∷ pieces) = omega (arith, kept_less true pieces)
-
 pub has_names : {told : Bool} {writer next : WriterState} (elide : Bool) (place : ℕ) {dchange : Draft → Draft} {old new : List Slot} (fault : Option Fault)
     → Files told writer dchange old new next fault
     → IfSome fault (λ why. why ≡ Verdict Suffixes → (cut : CutUp) → GoesOn (record { place = place; aim = to_files writer elide }) cut → ⊥)
-has_names {writer = writer} elide place fault files = where_named fault files.named (λ none cut has.
-    let less : length (kept elide cut.full) ≤ place = omega (arith, kept_less elide cut.full, has.0.placed) in
+has_names {writer = writer} elide place fault files = where_short fault files.named (λ none cut has.
+    let less : length (kept elide cut.full) ≤ place = omega (arith, length-kept elide cut.full, has.0.placed) in
     let here : has_name writer.names.naming (length (kept elide cut.full)) ≡ true = named_before writer.names.naming _ place has.1 less in
     let there : has_name writer.names.naming (length (kept elide cut.full)) ≡ false = none (manner_of (filing_by writer)) (draft_by elide cut) has.0.has in
     false≢true (sym there ∙ here))
@@ -346,7 +336,7 @@ brings_then {told = told} {on} {high = high} {old} {mid} {new} {fault} first lat
   owns = λ place owns. second.owns place (first.owns place owns);
   slots = slots_again on old mid new fault first.slots second.slots;
   only = second.only;
-  named = where_named fault second.named (λ never x so. never x (later x so));
+  named = where_short fault second.named (λ never x so. never x (later x so));
   output = where_well fault second.output (λ more can. more (first.output can));
   ready = second.ready;
   begins = λ x so. part_trans _ _ _ (first.begins x so) (second.begins x (later x so));
@@ -376,7 +366,7 @@ brings_as {told = told} {on} {aim} {next} {low = low} {high} {low'} {high'} f {o
   owns = brings.owns;
   slots = brings.slots;
   only = brings.only;
-  named = where_named fault brings.named (λ never y also. never (f y) (so y also));
+  named = where_short fault brings.named (λ never y also. never (f y) (so y also));
   output = brings.output;
   ready = brings.ready;
   begins = λ y also. subst (λ low. Begins low (high' y)) (low_is y also) (subst (Begins (low (f y))) (high_is y also) (brings.begins (f y) (so y also)));

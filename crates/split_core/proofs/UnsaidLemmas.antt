@@ -1,7 +1,7 @@
 -- Chunks of an input that doesn't say its length.
 use Rattle.std.specs.Option.{is_none}
-use Rattle.std.proofs.lemmas.Bool.{cases_lt, false≢true, ltb-false, ltb-true}
-use Rattle.std.proofs.lemmas.List.{append-nil, get_or_past, drop_at, drop-append-le, take-append-drop, length-append, length-take}
+use Rattle.std.proofs.lemmas.Bool.{cases_lt, false≢true, ltb-false, ltb-true, or_cases, or_parts}
+use Rattle.std.proofs.lemmas.List.{append-nil, get_or_past, drop_at, drop-append-le, take-append-drop, length-append, length-take, nil_from_length}
 use Rattle.std.proofs.Common.{◌≡◌, ℕ, ◌+◌, ◌-◌, ◌<◌, ◌≤◌, max, zero, suc, Bool, true, false, ◌||◌, nat_lt, List, [], ◌∷◌, ◌++◌, ◌⊎◌, length, map, take, drop, replicate, get_or, ◌/◌, ◌*◌, Option, Some, None, Result, Ok, Err, inl, inr, refl, sym, ◌∙◌, ap, subst, arith, append_assoc}
 use Rattle.ports_core.specs.Part.{Begins, IsBeginning}
 use Rattle.ports_core.specs.Slot.{Slot}
@@ -32,6 +32,7 @@ use Rattle.split_core.specs.inner.Sends.{Brings, Changes, Ends as TargetEnds, Se
 use Rattle.split_core.specs.laws.BegunLaws.{begun_first, begun_of_none, begun_again, begun_begins, begun_grows, begun_monotone, begun_on, begun_stays, open_within}
 use Rattle.split_core.proofs.CutterLemmas.{cut_of, so_grows, fulls_are, grown, begin_so, cuts_again, cuts_nothing, cuts_wider, cutting, has_cut, name_of, no_line, open_early, some_of}
 use Rattle.split_core.proofs.TargetLemmas.{whole_draft, piece_full, brings_as, brings_then, brings_wider, sends_as, sends_none, sends_then, sends_wider}
+use Rattle.std.proofs.Math.Seq.{drop-nil}
 
 -- What is settled is written, stretch after stretch
 
@@ -53,21 +54,9 @@ settles_none {told} {cutter} {waiting} {end} {slots} ready = record {
   stands = λ z so. rw (append-nil z) so;
 }
 
-no_bytes : (x : List ℕ) → length x ≡ 0 → x ≡ []
-no_bytes [] none = refl
-no_bytes (byte ∷ x) none = absurd (omega (arith, none))
-
-or_true : (one other : Bool) → true ≡ (one || other) → (one ≡ true) ⊎ (other ≡ true)
-or_true true other is = inl refl
-or_true false other is = inr (sym is)
-
-or_false : (one other : Bool) → false ≡ (one || other) → (one ≡ false) × (other ≡ false)
-or_false true other is = absurd (false≢true is)
-or_false false other is = (refl, sym is)
-
 -- what comes goes on with what was cut off
 goes_on_so : (cutter : CutterState) (end : ℕ) (w : List ℕ) → BeginsBefore cutter end w → true ≡ (nat_lt cutter.at end || cutter.is_within) → open_from cutter.chunks.unit cutter.chunks.delim w < end
-goes_on_so cutter end w (has, all) short = elim (or_true (nat_lt cutter.at end) cutter.is_within short) [
+goes_on_so cutter end w (has, all) short = elim (or_cases (nat_lt cutter.at end) cutter.is_within (sym short)) [
   | inl before ↦ omega (arith, ltb-true _ _ before, has.at, open_within cutter.chunks.unit cutter.chunks.delim w)
   | inr within ↦ open_early cutter.chunks.unit cutter.chunks.delim end w all (sym has.within ∙ within)
 ]
@@ -129,8 +118,8 @@ module _ {told : Bool} {cutter now : CutterState} {waiting left : List ℕ} {end
   same_so : (z : List ℕ) → BeginsBefore cutter end z → (length left ≡ 0) ⊎ (false ≡ (nat_lt now.at end || now.is_within)) → all_before cutter waiting end z ≡ z ++ so_far.done
   same_so z so ends = let (has, all) = so_far.stands z so in let w = z ++ so_far.done in let unit = cutter.chunks.unit in let delim = cutter.chunks.delim in
       let here : begun_before unit delim end w ≡ w = ap (λ (chunks : Chunks). begun_before chunks.unit chunks.delim end w) (sym so_far.chunks) ∙ all in elim ends [
-        | inl none ↦ ap (begun_before unit delim end) (whole_so z ∙ ap (λ rest. w ++ rest) (no_bytes left none) ∙ append-nil w) ∙ here
-        | inr stops ↦ (let (before, within) = or_false (nat_lt now.at end) now.is_within stops in
+        | inl none ↦ ap (begun_before unit delim end) (whole_so z ∙ ap (λ rest. w ++ rest) (nil_from_length left none) ∙ append-nil w) ∙ here
+        | inr stops ↦ (let (before, within) = or_parts (nat_lt now.at end) now.is_within (sym stops) in
             let open_at : open_from unit delim w ≡ length w = ap (λ (chunks : Chunks). open_from chunks.unit chunks.delim w) (sym so_far.chunks) ∙ no_line now.chunks.unit now.chunks.delim w (sym has.within ∙ within) in
             ap (begun_before unit delim end) (whole_so z) ∙ begun_stays unit delim end w left (omega (arith, open_at, has.at, ltb-false _ _ before)) ∙ here)
       ]
@@ -173,7 +162,7 @@ module _ {told : Bool} {cutter now : CutterState} {waiting left : List ℕ} {siz
   pub rests_so : length left ≡ 0 → CutsHeld told cutter waiting size old slots now left None
   rests_so none = record {
     bound = omega (arith, so_far.at, ap length so_far.both, length-append so_far.done left);
-    cuts = rw (so_far.both ∙ ap (λ rest. so_far.done ++ rest) (no_bytes left none) ∙ append-nil so_far.done) so_far.cuts;
+    cuts = rw (so_far.both ∙ ap (λ rest. so_far.done ++ rest) (nil_from_length left none) ∙ append-nil so_far.done) so_far.cuts;
   }
 
 -- A piece
@@ -182,7 +171,7 @@ begun_later : (unit : Counted) (delim : ℕ) {place other : ℕ} (x : List ℕ) 
 begun_later unit delim {place} {other} x within all = same (begun_monotone unit delim x within) (begun_begins unit delim other x) where
   same : IsBeginning (begun_before unit delim place x) (begun_before unit delim other x) → IsBeginning (begun_before unit delim other x) x → begun_before unit delim other x ≡ x
   same (more, is) (rest, both) = let none : length rest ≡ 0 = omega (arith, ap length is, length-append (begun_before unit delim place x) more, ap length all, ap length both, length-append (begun_before unit delim other x) rest) in
-      sym (both ∙ ap (λ rest. begun_before unit delim other x ++ rest) (no_bytes rest none) ∙ append-nil (begun_before unit delim other x))
+      sym (both ∙ ap (λ rest. begun_before unit delim other x ++ rest) (nil_from_length rest none) ∙ append-nil (begun_before unit delim other x))
 
 decided_is : (on : Course) (chunks : Chunks) (x : List ℕ) → (work_on on chunks None).settled x ≡ part_on on (decided chunks (first_on on) None x)
 decided_is (in_files filing elide) chunks x = refl
@@ -273,23 +262,19 @@ start_some n size count some = elim (cases_lt 0 (size / n)) [
   | inr none ↦ (let e : size / n ≡ 0 = omega (arith, none) in omega (arith, div-add-mod' size n, ap (λ q. q * n) e, some))
 ]
 
-no_drop : (n : ℕ) → ◌≡◌ {A = List ℕ} (drop n []) []
-no_drop zero = refl
-no_drop (suc n) = refl
-
 none_of : (chunks : Chunks) (size place : ℕ) → chunk_at chunks size [] place ≡ []
-none_of chunks size place = ap (drop (length (before_chunk chunks size place []))) (begun_of_none chunks.unit chunks.delim (chunk_start chunks.count size (place + 1))) ∙ no_drop _
+none_of chunks size place = ap (drop (length (before_chunk chunks size place []))) (begun_of_none chunks.unit chunks.delim (chunk_start chunks.count size (place + 1))) ∙ drop-nil _
 
-pub none_ended : (chunks : Chunks) (size : ℕ) → 0 < chunks.count → 0 < size → ended chunks size [] ≡ 0
+none_ended : (chunks : Chunks) (size : ℕ) → 0 < chunks.count → 0 < size → ended chunks size [] ≡ 0
 none_ended chunks size count some = ended_only {chunks = chunks} {size = size} {x = []} (record {
   within = omega arith;
   before = omega (arith, start_first chunks.count size);
   next = λ less. omega (arith, start_some chunks.count size count some, passed_open chunks size [] some, open_within chunks.unit chunks.delim []);
 })
 
-nothing_cut : (chunks : Chunks) (size : ℕ) → 0 < chunks.count → 0 < size → chunks_within chunks size [] ≡ uncut []
-nothing_cut chunks size count some = ap (λ n. record { full = map (chunk_at chunks size []) (range_with_len 0 n); rest = chunk_at chunks size [] n }) (none_ended chunks size count some)
-    ∙ ap (λ rest. record { full = []; rest = rest }) (none_of chunks size 0)
+pub none_within : (chunks : Chunks) (size : ℕ) → 0 < chunks.count → 0 < size → chunks_within chunks size [] ≡ uncut []
+none_within chunks size count some = rw (none_ended chunks size count some)
+    (ap (λ rest. record { full = []; rest = rest }) (none_of chunks size 0))
 
 empty_map : (f : ℕ → List ℕ) (a n : ℕ) → ((i : ℕ) → f i ≡ []) → map f (range_with_len a n) ≡ replicate n []
 empty_map f a zero none = refl
@@ -310,9 +295,9 @@ first_cut chunks size z count fits all = by (cases_lt 0 size) where
   by (inl some) = let none = none_ended chunks size count some in
       let n : ended chunks size z - ended chunks size [] ≡ ended chunks size z = omega (arith, none) in
       let place : ended chunks size [] + 1 ≡ 1 = omega (arith, none) in
-      ap (λ n. with_fulls n (uncut z)) (sym n) ∙ ap (λ cut. with_fulls (ended chunks size z - ended chunks size []) (with_rest z cut)) (sym (nothing_cut chunks size count some))
+      ap (λ n. with_fulls n (uncut z)) (sym n) ∙ ap (λ cut. with_fulls (ended chunks size z - ended chunks size []) (with_rest z cut)) (sym (none_within chunks size count some))
       ∙ grown chunks size [] z count fits (ap (λ place. before_chunk chunks size place z) place ∙ all)
-  by (inr empty) = let none : z ≡ [] = no_bytes z (omega (arith, fits, empty)) in let e : size ≡ 0 = omega (arith, empty) in
+  by (inr empty) = let none : z ≡ [] = nil_from_length z (omega (arith, fits, empty)) in let e : size ≡ 0 = omega (arith, empty) in
       rw (none, e) (ap (λ n. with_fulls n (uncut [])) (ended_all chunks {size = 0} [] count (omega arith)) ∙ all_empty chunks count)
 
 -- what is written of it is the same, also where one chunk alone goes out

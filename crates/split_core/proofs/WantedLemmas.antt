@@ -18,9 +18,9 @@ use Rattle.split_core.specs.inner.Cutter.{said_work}
 use Rattle.split_core.specs.inner.Seen.{is_past_on}
 use Rattle.split_core.specs.laws.BegunLaws.{open_within}
 use Rattle.split_core.specs.laws.ChunkLaws.{passed_full, passed_open}
-use Rattle.split_core.specs.laws.WorkLaws.{lawful}
+use Rattle.split_core.specs.laws.WorkLaws.{lawful, work_lawful}
 use Rattle.split_core.proofs.AlikeLemmas.{complete_as}
-use Rattle.split_core.proofs.ChunkerLemmas.{cut_is, is_said, lawful_on, past_is}
+use Rattle.split_core.proofs.ChunkerLemmas.{cut_is, is_said, past_is}
 use Rattle.split_core.proofs.ChunkerWays.{holds_can, unsaid_open, works_so}
 use Rattle.split_core.proofs.RoundLemmas.{open_after}
 
@@ -33,7 +33,7 @@ complete_by (Some size) state x some holds = past_is (cut_is holds) ∙ elim hol
       (sym (holds.spare.joined ∙ ap (λ rest. holds.spare.used ++ rest) none ∙ append-nil holds.spare.used))
   | inr complete ↦ complete
       ∙ sym (ap (said_work state.cutter size).is_complete holds.spare.joined
-      ∙ ((lawful_on (course state.cutter) state.cutter.chunks (Some size) holds.cut.can).stays holds.spare.used holds.spare.rest complete).still)
+      ∙ ((work_lawful (course state.cutter) state.cutter.chunks (Some size) holds.cut.can).stays holds.spare.used holds.spare.rest complete).still)
 ]
 
 pub complete_is : (state : ChunkerState) (x : List ℕ) → is_some state.said ≡ true → Holds state x
@@ -74,7 +74,7 @@ few_missing chunk chunks size x piece n can few going spare = elim spare.enough 
           length-append spare.used spare.rest,
           length-append x piece,
           spare.long,
-          spare_within (chunk_work chunk chunks (Some size)) (length piece) n (x ++ piece) (lawful_on (in_output chunk) chunks (Some size) can) (inr (x, piece, refl, omega (arith), going)) spare,
+          spare_within (chunk_work chunk chunks (Some size)) (length piece) n (x ++ piece) (work_lawful (in_output chunk) chunks (Some size) can) (inr (x, piece, refl, omega (arith), going)) spare,
         ) in
         absurd (false≢true (sym going ∙ ap (λ x. has_ended chunks size x chunk) (sym (take_at x piece (length x) refl) ∙ ap (take (length x)) spare.joined ∙ take_at spare.used spare.rest (length x) same) ∙ complete))
   ]

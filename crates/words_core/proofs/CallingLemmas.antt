@@ -20,20 +20,17 @@ use Rattle.words_core.specs.Table.{OptionRow, ToolRow}
 use Rattle.words_core.specs.TeeWords.{TeeAsked, fresh, tee_asked, tee_by}
 use Rattle.words_core.specs.Value.{then_check}
 use Rattle.words_core.specs.Words.{settings_for, tool_settings}
+use Rattle.std.proofs.Math.Bool.{and-false}
 
 -- the first of these words says where `tail` begins
 abbrev pub begin : List OptionRow → Letters → List (List ℕ) → Bool
 begin rows letters ((byte ∷ text) ∷ words) = byte == 43 && is_start OwnName rows letters text
 begin rows letters words = false
 
-pub and_never : (test : Bool) → (test && false) ≡ false
-and_never true = refl
-and_never false = refl
-
 same_first : (rows : List OptionRow) (kind : Kind) (letters : Letters) (place byte : ℕ) (text : List ℕ) → (byte == 43 && is_start OwnName rows letters text) ≡ false
     → foremost OwnName rows kind letters place (byte ∷ text) ≡ foremost Cutters rows kind letters place (byte ∷ text)
 unfolding foremost
-same_first rows kind letters place byte text other = rw (other, and_never (byte == 43)) refl
+same_first rows kind letters place byte text other = rw (other, and-false (byte == 43)) refl
 
 pub same_words : (rows : List OptionRow) (kind : Kind) (letters : Letters) (words : List (List ℕ)) → begin rows letters words ≡ false
     → spelled rows words 1 (First OwnName kind letters) ≡ spelled rows words 1 (First Cutters kind letters)
@@ -45,12 +42,12 @@ same_words rows kind letters ((byte ∷ text) ∷ words) other = ap (onward (spe
 pub begins_never : (rows : List OptionRow) (words : List (List ℕ)) → begin rows Never words ≡ false
 begins_never rows [] = refl
 begins_never rows ([] ∷ words) = refl
-begins_never rows ((byte ∷ text) ∷ words) = and_never (byte == 43)
+begins_never rows ((byte ∷ text) ∷ words) = and-false (byte == 43)
 
 pub begins_head : (rows : List OptionRow) (words : List (List ℕ)) → begin rows OfHead words ≡ false
 begins_head rows [] = refl
 begins_head rows ([] ∷ words) = refl
-begins_head rows ((byte ∷ text) ∷ words) = and_never (byte == 43)
+begins_head rows ((byte ∷ text) ∷ words) = and-false (byte == 43)
 
 pub same_unknown : (name : List ℕ) (words : List (List ℕ)) (row : Option ToolRow) → option_map (λ row. row.tool) row ≡ None
     → tool_settings OwnName name words row ≡ tool_settings Cutters name words row

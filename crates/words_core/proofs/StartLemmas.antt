@@ -18,17 +18,13 @@ use Rattle.words_core.specs.Lettered.{are_of_tail, counted_with, is_lettered, is
 use Rattle.words_core.specs.Spelling.{foremost, given_at}
 use Rattle.words_core.specs.Table.{tail_table}
 use Rattle.words_core.specs.Value.{counted}
-use Rattle.words_core.proofs.CallingLemmas.{and_never}
 use Rattle.words_core.proofs.LetteredLemmas.{HasParts, not_empty, parts}
-
-or_true : (test : Bool) → (test || true) ≡ true
-or_true true = refl
-or_true false = refl
+use Rattle.std.proofs.Math.Bool.{and-false, or-true}
 
 with_unit : (text digits letters : List ℕ) → HasParts text digits letters → is_number digits ≡ true → are_of_tail letters ≡ true → is_start OwnName tail_table OfTail text ≡ true
 with_unit text digits letters is number of_tail =
     let some = (and_parts (nat_lt 0 (length digits)) (list_all is_ascii_digit digits) number).0 in
-    rw (is.0, is.1, of_tail, some, or_true (is_number text)) refl
+    rw (is.0, is.1, of_tail, some, or-true (is_number text)) refl
 
 -- what these ask
 asked_so : (sign : Sign) (text : List ℕ) {digits letters : List ℕ} (place amount : ℕ) → HasParts text digits letters → is_number digits ≡ true → value_of digits * (unit_in letters).1 ≡ amount
@@ -77,7 +73,7 @@ letters_start digits letters place amount number none of_tail many =
 
 not_all : (digits : List ℕ) (letter : ℕ) (letters : List ℕ) → is_ascii_digit letter ≡ false → list_all is_ascii_digit (digits ++ letter ∷ letters) ≡ false
 not_all [] letter letters other = rw other refl
-not_all (digit ∷ digits) letter letters other = rw (not_all digits letter letters other, and_never (is_ascii_digit digit)) refl
+not_all (digit ∷ digits) letter letters other = rw (not_all digits letter letters other, and-false (is_ascii_digit digit)) refl
 
 pub letters_last : (calling : Calling) (digits : List ℕ) (letter : ℕ) (letters : List ℕ) (place amount : ℕ) → is_number digits ≡ true → is_ascii_digit letter ≡ false → are_of_tail (letter ∷ letters) ≡ true → value_of digits * (unit_in (letter ∷ letters)).1 ≡ amount
     → foremost calling tail_table (Amount Lines) OfTail place (45 ∷ digits ++ letter ∷ letters) ≡ given_at place (counted_with (unit_in (letter ∷ letters)).0 place (switches tail_table place (letter ∷ letters)) (counted (sized Plain amount)))
@@ -85,6 +81,6 @@ unfolding foremost
 letters_last calling digits letter letters place amount number other of_tail many =
     let whole = and_parts (nat_lt 0 (length digits)) (list_all is_ascii_digit digits) number in
     let is = parts digits (letter ∷ letters) whole.1 (rw other refl) in
-    let no_number : is_number (digits ++ letter ∷ letters) ≡ false = rw (not_all digits letter letters other, and_never (nat_lt 0 (length (digits ++ letter ∷ letters)))) refl in
+    let no_number : is_number (digits ++ letter ∷ letters) ≡ false = rw (not_all digits letter letters other, and-false (nat_lt 0 (length (digits ++ letter ∷ letters)))) refl in
     let lettered : is_lettered tail_table OfTail (digits ++ letter ∷ letters) ≡ true = rw (is.0, is.1, of_tail, whole.0) refl in
     rw (no_number, lettered, asked_so Plain (digits ++ letter ∷ letters) place amount is number many) refl

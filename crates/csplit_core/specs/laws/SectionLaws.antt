@@ -169,7 +169,7 @@ plan_grows suppress closed end_of covers operands a b =
 
 -- What is put out grows with them
 
-bytes-append : (a b : List Line) → bytes_of (a ++ b) ≡ bytes_of a ++ bytes_of b
+pub bytes-append : (a b : List Line) → bytes_of (a ++ b) ≡ bytes_of a ++ bytes_of b
 bytes-append [] b = refl
 bytes-append (line ∷ a) b = ap (λ those. line.text ++ those) (bytes-append a b) ∙ sym
     (append_assoc line.text (bytes_of a) (bytes_of b))

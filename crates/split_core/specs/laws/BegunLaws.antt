@@ -17,10 +17,11 @@ use Rattle.split_core.specs.Chunks.{lines_before, begun_before, open_from}
 use Rattle.split_core.specs.inner.Dealt.{EachSome}
 use Rattle.split_core.specs.laws.DealLaws.{each_line}
 use Rattle.split_core.specs.laws.ShareLaws.{first_lines_begin}
+use Rattle.ports_core.proofs.AgreedLemmas.{beginning_short}
 
 -- What of a text begins before a place
 
-begun_none : (delim : ℕ) (lines : List (List ℕ)) → joined (lines_before 0 lines) ≡ []
+pub begun_none : (delim : ℕ) (lines : List (List ℕ)) → joined (lines_before 0 lines) ≡ []
 begun_none delim [] = refl
 begun_none delim (line ∷ lines) = refl
 
@@ -208,11 +209,8 @@ begun_begins unit delim place x =
     (begun_long unit delim (max place (length x)) x (omega arith))
     (begun_monotone unit delim x (omega arith))
 
-pub begin_short : (low high : List ℕ) → IsBeginning low high → length low ≤ length high
-begin_short low high (rest, is) = omega (arith, ap length is, length-append low rest)
-
 pub begun_within : (unit : Unit) (delim place : ℕ) (x : List ℕ) → length (begun_before unit delim place x) ≤ length x
-begun_within unit delim place x = begin_short _ _ (begun_begins unit delim place x)
+begun_within unit delim place x = beginning_short _ _ (begun_begins unit delim place x)
 
 pub begun_grows : (unit : Unit) (delim place : ℕ) (x y : List ℕ)
     → IsBeginning (begun_before unit delim place x) (begun_before unit delim place (x ++ y))
@@ -260,7 +258,7 @@ open_grows_lines delim x y =
     let on = first_lines-append delim (delimiters delim (x ++ y)) x y in
     let more = length-append (first_lines delim (delimiters delim (x ++ y)) x)
     (first_lines delim (delimiters delim (x ++ y) - delimiters delim x) y) in
-    let front = begin_short _ _ (first_lines_begin delim (delimiters delim x) (delimiters delim (x ++ y)) x
+    let front = beginning_short _ _ (first_lines_begin delim (delimiters delim x) (delimiters delim (x ++ y)) x
     (omega (arith, d))) in
     omega (arith, ap length on, more, front)
 

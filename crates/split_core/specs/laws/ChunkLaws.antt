@@ -16,7 +16,8 @@ use Rattle.ports_core.proofs.PartLemmas.{begins_trans}
 use Rattle.split_core.specs.Chunks.{chunk_start, begun_before, before_chunk, chunk_at, open_from, passed, has_ended, ended, chunks_within, chunks_of, pieces_in}
 use Rattle.split_core.specs.Parts.{CutUp}
 use Rattle.split_core.specs.inner.Chunks.{HaveEnded}
-use Rattle.split_core.specs.laws.BegunLaws.{begin_short, begun_again, begun_all, begun_begins, begun_first_place, begun_grows, begun_long, begun_monotone, begun_on, begun_stays, begun_within, open_grows, open_within}
+use Rattle.split_core.specs.laws.BegunLaws.{begun_again, begun_all, begun_begins, begun_first_place, begun_grows, begun_long, begun_monotone, begun_on, begun_stays, begun_within, open_grows, open_within}
+use Rattle.ports_core.proofs.AgreedLemmas.{beginning_short}
 
 -- Where chunks begin
 
@@ -282,7 +283,7 @@ pub before_later : (chunks : Chunks) (size : ℕ) (x : List ℕ) (place other : 
     → before_chunk chunks size place x ≡ x → before_chunk chunks size other x ≡ x
 before_later chunks size x place other within all = let unit = chunks.unit in let delim = chunks.delim in
     begin_same _ _ (begun_begins unit delim (chunk_start chunks.count size other) x)
-    (begin_short _ _ (subst (λ low. IsBeginning low (before_chunk chunks size other x)) all
+    (beginning_short _ _ (subst (λ low. IsBeginning low (before_chunk chunks size other x)) all
     (begun_monotone unit delim x (start_grows chunks.count size place other within))))
 
 -- so later chunks have nothing

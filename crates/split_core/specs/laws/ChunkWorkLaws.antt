@@ -164,6 +164,12 @@ pub kept-append : (elide : Bool) (front more : List (List ℕ))
 kept-append true front more = filter-append has_bytes front more
 kept-append false front more = refl
 
+pub length-kept : (elide : Bool) (pieces : List (List ℕ)) → length (kept elide pieces) ≤ length pieces
+length-kept false pieces = omega arith
+length-kept true [] = omega arith
+length-kept true ([] ∷ pieces) = omega (arith, length-kept true pieces)
+length-kept true ((byte ∷ bytes) ∷ pieces) = omega (arith, length-kept true pieces)
+
 pub shares_on : (elide : Bool) (state : State) {low high : CutUp} → GoesOn low high
     → SharesBegin (shares_of (draft_by elide low))
     (map (share Closed) (kept elide high.full) ++ map (share state) (unless_empty high.rest))

@@ -99,7 +99,7 @@ none_lawful work = record {
   stays = λ x y never. absurd (false≢true never);
 }
 
-work_lawful : (on : Course) (chunks : Chunking) (said : Option ℕ) → can_cut on chunks.count ≡ true
+pub work_lawful : (on : Course) (chunks : Chunking) (said : Option ℕ) → can_cut on chunks.count ≡ true
     → IsLawful (work_on on chunks said)
 work_lawful (in_files filing elide) chunks said can =
     chunks_lawful (record { chunks = chunks; elide = elide; filing = filing }) said (ltb-true _ _ can)

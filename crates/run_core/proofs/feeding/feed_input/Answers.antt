@@ -2,7 +2,7 @@ use Rattle.std.proofs.lemmas.List.{length-take-le, take_at}
 use Rattle.ports_core.proofs.LoadLemmas.{passed_at}
 use Rattle.std.proofs.Common.{◌&&◌, not, Err, inl, inr, ◌≡◌, ◌≤◌, drop, length, ◌++◌, ◌∙◌, [], true, false, sym, ap, refl, take, arith, append_assoc, append-nil, length-append}
 use Rattle.std.proofs.lemmas.Bool.{false≢true, not-false}
-use Rattle.ports_core.specs.Source.{gets_back, skips, Source, source_at}
+use Rattle.ports_core.specs.Source.{gets_back, Source, source_at}
 use Rattle.ports_core.specs.Work.{Work, IsSettled}
 use Rattle.ports_core.specs.Engine.{EndsWith, is_verdict}
 use Rattle.ports_core.proofs.SpareLemmas.{complete_used, spare_within, none_spare}
