@@ -21,8 +21,7 @@ use Rattle.split_core.specs.inner.Sends.{Brings}
 abbrev pub made : ChunkerState → Work
 made chunker = work_on (course chunker.cutter) chunker.cutter.chunks chunker.said
 
--- these bytes, `front` of them, were passed over, and with them the chunk at this place was begun; they end within a line,
--- if so
+-- this number of bytes was passed over; the chunk at this place was begun with them, and they may end within a line
 abbrev pub passed_to : ChunkerState → ℕ → ℕ → Bool → ChunkerState
 passed_to chunker front place within = record chunker {
   cutter = record chunker.cutter {
