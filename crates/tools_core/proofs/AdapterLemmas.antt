@@ -187,8 +187,8 @@ pub said_shown : (told : Bool) (slot : ℕ) (sources : List Source) {size : Opti
     → (told ≡ true → size ≡ count_shown (source_at sources slot).left)
     → (shown : Option (List ℕ)) × IsShown told (Some slot) sources shown × (size ≡ option_map length shown)
 said_shown true slot sources counts = ((source_at sources slot).left.shown, λ t. refl, counts refl)
-said_shown false slot sources {None} counts = (None, λ t. refl, refl)
-said_shown false slot sources {Some n} counts = (Some (replicate n 0), λ t. absurd (false≢true t), ap Some (sym (length-replicate n 0)))
+said_shown false slot sources {size = None} counts = (None, λ t. absurd (false≢true t), refl)
+said_shown false slot sources {size = Some n} counts = (Some (replicate n 0), λ t. absurd (false≢true t), ap Some (sym (length-replicate n 0)))
 
 -- no look was made
 pub only_looked_none : (most : ℕ) (source : Option ℕ) (sources : List Source) → OnlyLooked most source sources sources

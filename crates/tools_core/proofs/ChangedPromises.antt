@@ -49,7 +49,7 @@ judged_made task work name content (Some verdict) ends judged stay bare =
 
 module _ {split : Run} {asked : SplitAsked} {input : Input} {shown bytes : List ℕ}
     (whole : Completes split (Split asked)) (gives : GivesOther split input shown bytes) where
-  task : Task
+  abbrev task : Task
   task = split_task Cutters asked
 
   -- the run left this, of which each line tells what it met
