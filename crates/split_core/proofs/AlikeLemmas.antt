@@ -153,16 +153,18 @@ module _ {S : Type 0} (terms : Terms S) where
     outputs = subst (λ (part : Part). OutputsAt told start part before) (settled_as at.holds.alike) at.outputs;
   }
 
-  module _ {old : S} {told : Bool} {before after : List Slot} (due : List ℕ → Part)
-      (same : (x z : List ℕ) → AreAlike (terms.work old) x z → due x ≡ due z) where
-    puts_out : PutsOut terms old due told before after → PutsOut (as_if terms) old due told before after
-    puts_out puts start x at = subst (λ (part : Part). OutputsAt told start part after)
-        (sym (same x at.holds.other at.holds.alike)) (puts start at.holds.other (stands_so at))
+  puts_out : {old : S} {told : Bool} {before after : List Slot} (due : List ℕ → Part)
+      → ((x z : List ℕ) → AreAlike (terms.work old) x z → due x ≡ due z) → PutsOut terms old due told before after
+      → PutsOut (as_if terms) old due told before after
+  puts_out {told = told} {after = after} due same puts start x at =
+      subst (λ (part : Part). OutputsAt told start part after) (sym (same x at.holds.other at.holds.alike))
+      (puts start at.holds.other (stands_so at))
 
-    cuts_off : {why : Fault} → CutsOff terms old due told before after why
-        → CutsOff (as_if terms) old due told before after why
-    cuts_off {why} cuts start x at = rw (settled_as at.holds.alike, same x at.holds.other at.holds.alike)
-        (cuts start at.holds.other (stands_so at))
+  cuts_off : {old : S} {told : Bool} {before after : List Slot} {why : Fault} (due : List ℕ → Part)
+      → ((x z : List ℕ) → AreAlike (terms.work old) x z → due x ≡ due z) → CutsOff terms old due told before after why
+      → CutsOff (as_if terms) old due told before after why
+  cuts_off due same cuts start x at = rw (settled_as at.holds.alike, same x at.holds.other at.holds.alike)
+      (cuts start at.holds.other (stands_so at))
 
   -- its faults have the same causes
   met_so : (means : Means) (needs : Needs) (Lacks : Type 0) {Ends Or : Verdict → Type 0} (old new : List Slot)
@@ -182,58 +184,58 @@ module _ {S : Type 0} (terms : Terms S) where
   ends_there : {stage : S} (verdict : Verdict) → EndsThere terms stage verdict → EndsThere (as_if terms) stage verdict
   ends_there {stage} verdict ends x is = verdict_as is.alike ∙ ends is.other is.holds
 
-  module _ {told : Bool} {old new : S} {before after : List Slot} where
-    pub passes_as_if : {piece : List ℕ} (result : Result (Unit {0}) Fault)
-        → Passes terms told piece old new before after (IsMetWith terms piece old) result
-        → Passes (as_if terms) told piece old new before after (IsMetWith (as_if terms) piece old) result
-    passes_as_if {piece} (Ok done) passes = record {
-      same = passes.same;
-      size = passes.size;
-      holds = takes_in passes.same passes.holds;
-      outputs = puts_out (λ x. (terms.work old).settled (x ++ piece)) (λ x z alike. alike.settled piece) passes.outputs;
-      ready = passes.ready;
-      owns = passes.owns;
-      there = passes.there;
-      cut = tt;
-      met = tt;
-    }
-    passes_as_if {piece} (Err why) passes = record {
-      same = passes.same;
-      size = passes.size;
-      holds = tt;
-      outputs = tt;
-      ready = tt;
-      owns = passes.owns;
-      there = passes.there;
-      cut = cuts_off (λ x. (terms.work old).settled (x ++ piece)) (λ x z alike. alike.settled piece) passes.cut;
-      met = met_so (terms.work old).means (terms.work old).means.feeding _ _ _ why ends_with passes.met;
-    }
+  pub passes_as_if : {told : Bool} {piece : List ℕ} {old new : S} {before after : List Slot}
+      (result : Result (Unit {0}) Fault)
+      → Passes terms told piece old new before after (IsMetWith terms piece old) result
+      → Passes (as_if terms) told piece old new before after (IsMetWith (as_if terms) piece old) result
+  passes_as_if {piece = piece} {old} (Ok done) passes = record {
+    same = passes.same;
+    size = passes.size;
+    holds = takes_in passes.same passes.holds;
+    outputs = puts_out (λ x. (terms.work old).settled (x ++ piece)) (λ x z alike. alike.settled piece) passes.outputs;
+    ready = passes.ready;
+    owns = passes.owns;
+    there = passes.there;
+    cut = tt;
+    met = tt;
+  }
+  passes_as_if {piece = piece} {old} (Err why) passes = record {
+    same = passes.same;
+    size = passes.size;
+    holds = tt;
+    outputs = tt;
+    ready = tt;
+    owns = passes.owns;
+    there = passes.there;
+    cut = cuts_off (λ x. (terms.work old).settled (x ++ piece)) (λ x z alike. alike.settled piece) passes.cut;
+    met = met_so (terms.work old).means (terms.work old).means.feeding _ _ _ why ends_with passes.met;
+  }
 
-    pub finishes_as_if : (result : Result (Unit {0}) Fault)
-        → Finishes terms told old new before after (IsMetThere terms old) result
-        → Finishes (as_if terms) told old new before after (IsMetThere (as_if terms) old) result
-    finishes_as_if (Ok done) ends = record {
-      same = ends.same;
-      size = ends.size;
-      well = λ x is. verdict_as is.alike ∙ ends.well is.other is.holds;
-      outputs = puts_out (terms.work old).whole (λ x z alike. whole_as alike) ends.outputs;
-      writable = ends.writable;
-      owns = ends.owns;
-      there = ends.there;
-      cut = tt;
-      met = tt;
-    }
-    finishes_as_if (Err why) ends = record {
-      same = ends.same;
-      size = ends.size;
-      well = tt;
-      outputs = tt;
-      writable = tt;
-      owns = ends.owns;
-      there = ends.there;
-      cut = cuts_off (terms.work old).whole (λ x z alike. whole_as alike) ends.cut;
-      met = met_so (terms.work old).means (terms.work old).means.closing _ _ _ why ends_there ends.met;
-    }
+  pub finishes_as_if : {told : Bool} {old new : S} {before after : List Slot} (result : Result (Unit {0}) Fault)
+      → Finishes terms told old new before after (IsMetThere terms old) result
+      → Finishes (as_if terms) told old new before after (IsMetThere (as_if terms) old) result
+  finishes_as_if {old = old} (Ok done) ends = record {
+    same = ends.same;
+    size = ends.size;
+    well = λ x is. verdict_as is.alike ∙ ends.well is.other is.holds;
+    outputs = puts_out (terms.work old).whole (λ x z alike. whole_as alike) ends.outputs;
+    writable = ends.writable;
+    owns = ends.owns;
+    there = ends.there;
+    cut = tt;
+    met = tt;
+  }
+  finishes_as_if {old = old} (Err why) ends = record {
+    same = ends.same;
+    size = ends.size;
+    well = tt;
+    outputs = tt;
+    writable = tt;
+    owns = ends.owns;
+    there = ends.there;
+    cut = cuts_off (terms.work old).whole (λ x z alike. whole_as alike) ends.cut;
+    met = met_so (terms.work old).means (terms.work old).means.closing _ _ _ why ends_there ends.met;
+  }
 
   -- A front that was passed over is alike to one that it stands after.
   pub took_as : {before after : S} {x z : List ℕ} → AreAlike (terms.work before) x z → TookIn terms before after z

@@ -69,41 +69,43 @@ module _ (place : ℕ) (chunks : Chunks) (size : ℕ) (can : place < chunks.coun
   ends_in : start (place + 1) ≤ size
   ends_in = start_within chunks.count size (place + 1) (omega (arith, can)) (omega (arith, can))
 
-  module _ (x y : List ℕ) (before : length x < start place) where
-    taken : take size (x ++ y) ≡ x ++ take (size - length x) y
-    taken = ap (λ n. take n (x ++ y)) (omega (arith, before, later, ends_in)) ∙ take-append-add x y (size - length x)
+  taken : (x y : List ℕ) → length x < start place → take size (x ++ y) ≡ x ++ take (size - length x) y
+  taken x y before = ap (λ n. take n (x ++ y)) (omega (arith, before, later, ends_in))
+      ∙ take-append-add x y (size - length x)
 
-    begun_so : (at : ℕ) → start place ≤ start at → before_chunk chunks size at (x ++ take (size - length x) y)
-        ≡ x ++ begun_after (length x) y at
-    begun_so at past = begun_on chunks.unit chunks.delim (start at) x (take (size - length x) y)
-        (omega (arith, before, past, open_within chunks.unit chunks.delim x))
+  begun_so : (x y : List ℕ) (at : ℕ) → length x < start place → start place ≤ start at
+      → before_chunk chunks size at (x ++ take (size - length x) y) ≡ x ++ begun_after (length x) y at
+  begun_so x y at before past = begun_on chunks.unit chunks.delim (start at) x (take (size - length x) y)
+      (omega (arith, before, past, open_within chunks.unit chunks.delim x))
 
-    piece_so : get_or (pieces_in (chunks_within chunks size (take size (x ++ y)))) place [] ≡ piece_after (length x) y
-    piece_so = piece_is chunks size (take size (x ++ y)) place (omega (arith, can)) (take_within size (x ++ y))
-        ∙ ap (λ text. chunk_at chunks size text place) taken
-        ∙ ap (λ those. drop (length those) (before_chunk chunks size (place + 1) (x ++ take (size - length x) y)))
-        (begun_so place (omega arith))
-        ∙ ap (drop (length (x ++ first))) (begun_so (place + 1) later)
-        ∙ ap (λ n. drop n (x ++ second)) (length-append x first)
-        ∙ drop-append-add x second (length first) where
-          first : List ℕ
-          first = begun_after (length x) y place
+  piece_so : (x y : List ℕ) → length x < start place
+      → get_or (pieces_in (chunks_within chunks size (take size (x ++ y)))) place [] ≡ piece_after (length x) y
+  piece_so x y before = piece_is chunks size (take size (x ++ y)) place (omega (arith, can)) (take_within size (x ++ y))
+      ∙ ap (λ text. chunk_at chunks size text place) (taken x y before)
+      ∙ ap (λ those. drop (length those) (before_chunk chunks size (place + 1) (x ++ take (size - length x) y)))
+      (begun_so x y place before (omega arith))
+      ∙ ap (drop (length (x ++ first))) (begun_so x y (place + 1) before later)
+      ∙ ap (λ n. drop n (x ++ second)) (length-append x first)
+      ∙ drop-append-add x second (length first) where
+        first : List ℕ
+        first = begun_after (length x) y place
 
-          second : List ℕ
-          second = begun_after (length x) y (place + 1)
+        second : List ℕ
+        second = begun_after (length x) y (place + 1)
 
-  module _ (x z y : List ℕ) (long : length x ≡ length z) (before : length x < start place) where
-    as_long : length (x ++ y) ≡ length (z ++ y)
-    as_long = omega (arith, long, length-append x y, length-append z y)
+  as_long : (x z y : List ℕ) → length x ≡ length z → length (x ++ y) ≡ length (z ++ y)
+  as_long x z y long = omega (arith, long, length-append x y, length-append z y)
 
-    ends_so : has_ended chunks size (x ++ y) place ≡ has_ended chunks size (z ++ y) place
-    ends_so = elim (cases_lt (length (x ++ y)) size) [
-      | inl short ↦ ap (nat_le (start (place + 1))) (passed_open chunks size (x ++ y) short)
-          ∙ open_so chunks.unit chunks.delim (start (place + 1)) x z y long (omega (arith, before, later))
-          ∙ ap (nat_le (start (place + 1))) (sym (passed_open chunks size (z ++ y) (omega (arith, short, as_long))))
-      | inr full ↦ ap (nat_le (start (place + 1)))
-          (passed_full chunks size (x ++ y) full ∙ sym (passed_full chunks size (z ++ y) (omega (arith, full, as_long))))
-    ]
+  ends_so : (x z y : List ℕ) → length x ≡ length z → length x < start place
+      → has_ended chunks size (x ++ y) place ≡ has_ended chunks size (z ++ y) place
+  ends_so x z y long before = elim (cases_lt (length (x ++ y)) size) [
+    | inl short ↦ ap (nat_le (start (place + 1))) (passed_open chunks size (x ++ y) short)
+        ∙ open_so chunks.unit chunks.delim (start (place + 1)) x z y long (omega (arith, before, later))
+        ∙ ap (nat_le (start (place + 1)))
+        (sym (passed_open chunks size (z ++ y) (omega (arith, short, as_long x z y long))))
+    | inr full ↦ ap (nat_le (start (place + 1))) (passed_full chunks size (x ++ y) full
+        ∙ sym (passed_full chunks size (z ++ y) (omega (arith, full, as_long x z y long))))
+  ]
 
   -- as long as it hasn't begun, more can come
   pub goes_on : (x : List ℕ) → length x < start (place + 1) → has_ended chunks size x place ≡ false
@@ -124,7 +126,7 @@ module _ (place : ℕ) (chunks : Chunks) (size : ℕ) (can : place < chunks.coun
     complete = ends;
     verdict = λ y. ap (λ ended. if ended || (length (x ++ y) == size) then None else Some Changed) (ends y)
         ∙ ap (λ n. if has_ended chunks size (z ++ y) place || (n == size) then None else Some Changed)
-        (as_long x z y long before);
+        (as_long x z y long);
     unused = λ y n. (
       spare_so work lawful z x (goes_on x (omega (arith, before, later))) (λ y. sym (ends y)) y n,
       spare_so work lawful x z (goes_on z (omega (arith, before, long, later))) ends y n,

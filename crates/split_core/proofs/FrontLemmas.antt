@@ -25,10 +25,20 @@ use Rattle.split_core.proofs.FreshLemmas.{settled_none}
 use Rattle.split_core.proofs.UnsaidLemmas.{past_pieces, start_some}
 use Rattle.split_core.proofs.WantedLemmas.{made_by}
 
--- The engine that is to write this chunk, and that was fed nothing, stands as if it had been fed a text of no more bytes
--- than stand before the chunk.
-module _ (chunker : ChunkerState) (size chunk : ℕ) (said : chunker.said ≡ Some size)
-    (aim : chunker.cutter.target.aim ≡ to_output chunk) (fresh : Holds chunker []) where
+-- The engine is to write this chunk of an input of this size, and was fed nothing.
+pub record AsksFor (chunker : ChunkerState) (size chunk : ℕ) : Type 0 where
+  pub said : chunker.said ≡ Some size
+  pub aim : chunker.cutter.target.aim ≡ to_output chunk
+  pub fresh : Holds chunker []
+
+-- A text that it may have been fed: no more bytes than stand before the chunk. With them the chunk at a place was begun.
+record Begins (chunks : Chunks) (size chunk place : ℕ) (within : Bool) (z : List ℕ) : Type 0 where
+  before : length z ≤ chunk_start chunks.count size chunk
+  some : length z < chunk_start chunks.count size (chunk + 1)
+  so : within ≡ is_within chunks.unit chunks.delim z
+  placed : ended chunks size z ≡ place
+
+module _ {chunker : ChunkerState} {size chunk : ℕ} (asks : AsksFor chunker size chunk) where
   abbrev chunks : Chunks
   chunks = chunker.cutter.chunks
 
@@ -36,10 +46,10 @@ module _ (chunker : ChunkerState) (size chunk : ℕ) (said : chunker.said ≡ So
   start = chunk_start chunks.count size
 
   on : course chunker.cutter ≡ in_output chunk
-  on = ap course_of aim
+  on = ap course_of asks.aim
 
   none : IsSaid chunker size []
-  none = is_said said fresh
+  none = is_said asks.said asks.fresh
 
   can : nat_lt chunk chunks.count ≡ true
   can = sym (ap (λ on. can_cut on chunks.count) on) ∙ none.cut.can
@@ -48,7 +58,7 @@ module _ (chunker : ChunkerState) (size chunk : ℕ) (said : chunker.said ≡ So
   less = ltb-true _ _ can
 
   it : work chunker ≡ chunk_work chunk chunks (Some size)
-  it = made_by chunker (in_output chunk) [] fresh on ∙ ap (chunk_work chunk chunks) said
+  it = made_by chunker (in_output chunk) [] asks.fresh on ∙ ap (chunk_work chunk chunks) asks.said
 
   spare_none : chunker.spare ≡ 0
   spare_none = omega
@@ -60,85 +70,93 @@ module _ (chunker : ChunkerState) (size chunk : ℕ) (said : chunker.said ≡ So
   later : start chunk ≤ start (chunk + 1)
   later = start_grows chunks.count size chunk (chunk + 1) (omega arith)
 
-  module _ (place : ℕ) (within : Bool) (z : List ℕ) (before : length z ≤ start chunk)
-      (some : length z < start (chunk + 1)) (so : within ≡ is_within chunks.unit chunks.delim z) (placed : ended chunks size z ≡ place) where
-    abbrev next : ChunkerState
-    next = passed_to chunker (length z) place within
+  fits : {place : ℕ} {within : Bool} {z : List ℕ} → Begins chunks size chunk place within z → length z < size
+  fits begins = omega (arith, begins.some, ends_in)
 
-    fits : length z < size
-    fits = omega (arith, some, ends_in)
+  -- nothing is written of it
+  writes_none : {place : ℕ} {within : Bool} {z : List ℕ} → Begins chunks size chunk place within z
+      → (chunk_work chunk chunks (Some size)).settled z ≡ nothing
+  writes_none {z = z} begins =
+      ap (λ text. piece_at chunk (chunks_within chunks size text)) (take_all size z (omega (arith, fits begins)))
+      ∙ ap only_out
+      (past_pieces chunks size chunk z (begun_long chunks.unit chunks.delim (start chunk) z begins.before))
 
-    -- nothing is written of it
-    writes_none : (chunk_work chunk chunks (Some size)).settled z ≡ nothing
-    writes_none = ap (λ text. piece_at chunk (chunks_within chunks size text)) (take_all size z (omega (arith, fits)))
-        ∙ ap only_out (past_pieces chunks size chunk z (begun_long chunks.unit chunks.delim (start chunk) z before))
+  has_cut : {place : ℕ} {within : Bool} {z : List ℕ} → Begins chunks size chunk place within z
+      → HasCut (passed_to chunker (length z) place within).cutter z (chunks_within chunks size z)
+  has_cut {z = z} begins = record {
+    can = none.cut.can;
+    all = none.cut.all;
+    at = refl;
+    within = begins.so;
+    carries = record {
+      placed = length-map-range_with_len (chunk_at chunks size z) 0 (ended chunks size z) ∙ begins.placed;
+      has = subst (λ aim. CanHave aim (chunks_within chunks size z)) (sym asks.aim) tt;
+    };
+  }
 
-    has_cut : HasCut next.cutter z (chunks_within chunks size z)
-    has_cut = record {
-      can = none.cut.can;
-      all = none.cut.all;
-      at = refl;
-      within = so;
-      carries = record {
-        placed = length-map-range_with_len (chunk_at chunks size z) 0 (ended chunks size z) ∙ placed;
-        has = subst (λ aim. CanHave aim (chunks_within chunks size z)) (sym aim) tt;
-      };
-    }
+  holds_front : {place : ℕ} {within : Bool} {z : List ℕ} → Begins chunks size chunk place within z
+      → Holds (passed_to chunker (length z) place within) z
+  holds_front {place} {within} {z} begins =
+      subst (λ said. HoldsBy said (passed_to chunker (length z) place within) z) (sym asks.said) (record {
+        spare = record {
+          used = z;
+          rest = [];
+          joined = sym (append-nil z);
+          long = sym spare_none;
+          needed = inr (
+            z,
+            [],
+            sym (append-nil z),
+            omega arith,
+            ap (λ (those : Work). those.is_complete z) (ap (λ on. work_on on chunks (Some size)) on)
+                ∙ goes_on chunk chunks size less z begins.some,
+          );
+          enough = inl refl;
+        };
+        within = omega (arith, fits begins);
+        cut = has_cut begins;
+        waits = none.waits;
+      })
 
-    holds_front : Holds next z
-    holds_front = subst (λ said. HoldsBy said next z) (sym said) (record {
-      spare = record {
-        used = z;
-        rest = [];
-        joined = sym (append-nil z);
-        long = sym spare_none;
-        needed = inr (
-          z,
-          [],
-          sym (append-nil z),
-          omega arith,
-          ap (λ (those : Work). those.is_complete z) (ap (λ on. work_on on chunks (Some size)) on)
-              ∙ goes_on chunk chunks size less z some,
-        );
-        enough = inl refl;
-      };
-      within = omega (arith, fits);
-      cut = has_cut;
-      waits = none.waits;
-    })
+  took_in : {place : ℕ} {within : Bool} {z : List ℕ} → Begins chunks size chunk place within z
+      → TookIn ways.terms (way.Chunks chunker) (way.Chunks (passed_to chunker (length z) place within)) z
+  took_in {z = z} begins = record {
+    same = refl;
+    size = omega (arith, spare_none, ap length none.waits);
+    holds = holds_front begins;
+    ready = λ slots is. is;
+    owns = λ first slots is. is;
+    idle = ap (λ (those : Work). those.settled z) it ∙ writes_none begins
+        ∙ sym (ap (λ (those : Work). those.settled []) it
+        ∙ settled_none (in_output chunk) chunks (Some size) can (omega (arith, fits begins)));
+    going = inr (ap (λ (those : Work). those.is_complete z) it ∙ goes_on chunk chunks size less z begins.some);
+  }
 
-    took_in : TookIn ways.terms (way.Chunks chunker) (way.Chunks next) z
-    took_in = record {
-      same = refl;
-      size = omega (arith, spare_none, ap length none.waits);
-      holds = holds_front;
-      ready = λ slots is. is;
-      owns = λ first slots is. is;
-      idle = ap (λ (those : Work). those.settled z) it ∙ writes_none ∙ sym (ap (λ (those : Work). those.settled []) it
-          ∙ settled_none (in_output chunk) chunks (Some size) can (omega (arith, fits)));
-      going = inr (ap (λ (those : Work). those.is_complete z) it ∙ goes_on chunk chunks size less z some);
-    }
-
-    -- so it does where it was fed another one that is alike
-    took_other : (front : ℕ) (x : List ℕ) → front ≡ length x → AreAlike (chunk_work chunk chunks (Some size)) x z
-        → TookIn (as_if ways.terms) (way.Chunks chunker) (way.Chunks (passed_to chunker front place within)) x
-    took_other front x long alike = subst
-        (λ front. TookIn (as_if ways.terms) (way.Chunks chunker) (way.Chunks (passed_to chunker front place within)) x)
-        (sym (long ∙ alike.long)) (took_as ways.terms (subst (λ work. AreAlike work x z) (sym it) alike) took_in)
+  -- so it does where it was fed another one that is alike
+  took_other : {place : ℕ} {within : Bool} {z : List ℕ} → Begins chunks size chunk place within z
+      → (front : ℕ) (x : List ℕ) → front ≡ length x → AreAlike (chunk_work chunk chunks (Some size)) x z
+      → TookIn (as_if ways.terms) (way.Chunks chunker) (way.Chunks (passed_to chunker front place within)) x
+  took_other {place} {within} {z} begins front x long alike = subst
+      (λ front. TookIn (as_if ways.terms) (way.Chunks chunker) (way.Chunks (passed_to chunker front place within)) x)
+      (sym (long ∙ alike.long))
+      (took_as ways.terms (subst (λ work. AreAlike work x z) (sym it) alike) (took_in begins))
 
   -- where bytes are counted, all that stands before a chunk that has a byte
   pub takes_bytes : chunks.unit ≡ Bytes → start chunk < start (chunk + 1)
       → TakesFront chunker (start chunk, chunk, false)
-  takes_bytes unit some x long = took_other chunk false x (omega (arith, long)) (omega (arith, long, some))
-      (sym (ap (λ unit. is_within unit chunks.delim x) unit ∙ lt-leb _ _ (omega arith)))
-      (ended_only {chunks = chunks} {size = size} {x = x} (record {
-        within = omega (arith, less);
-        before = omega (arith, has_passed, long);
-        next = λ less. omega (arith, has_passed, long, some);
-      })) (start chunk) x long (same_alike _ x) where
-        has_passed : passed chunks size x ≡ length x
-        has_passed = passed_open chunks size x (omega (arith, long, some, ends_in))
-            ∙ ap (λ unit. open_from unit chunks.delim x) unit
+  takes_bytes unit some x long = took_other {z = x} (record {
+    before = omega (arith, long);
+    some = omega (arith, long, some);
+    so = sym (ap (λ unit. is_within unit chunks.delim x) unit ∙ lt-leb _ _ (omega arith));
+    placed = ended_only {chunks = chunks} {size = size} {x = x} (record {
+      within = omega (arith, less);
+      before = omega (arith, has_passed, long);
+      next = λ less. omega (arith, has_passed, long, some);
+    });
+  }) (start chunk) x long (same_alike _ x) where
+    has_passed : passed chunks size x ≡ length x
+    has_passed = passed_open chunks size x (omega (arith, long, some, ends_in))
+        ∙ ap (λ unit. open_from unit chunks.delim x) unit
 
   -- where lines are, all but the byte before it: as if it had been a text without a delimiter
   abbrev without : ℕ → List ℕ
@@ -149,29 +167,31 @@ module _ (chunker : ChunkerState) (size chunk : ℕ) (said : chunker.said ≡ So
   none_in (suc n) = rw (ne_eqb (chunks.delim + 1) chunks.delim (λ is. omega (arith, is))) (none_in n)
 
   pub takes_lines : chunks.unit ≡ Lines → 1 < start chunk → TakesFront chunker (start chunk - 1, 0, true)
-  takes_lines unit some x long = took_other 0 true z (omega (arith, size_z)) (omega (arith, size_z, later))
-      (sym (ap (λ unit. is_within unit chunks.delim z) unit ∙ lt-ltb _ _ (omega (arith, from_front, size_z))))
-      (ended_only {chunks = chunks} {size = size} {x = z} (record {
-        within = omega arith;
-        before = omega (arith, start_first chunks.count size);
-        next = λ more. omega (arith, has_passed, start_some chunks.count size (omega (arith, less)) fits_in);
-      })) n x long
-      (alike_before chunk chunks size less x z (omega (arith, long, size_z)) (omega (arith, long, some))) where
-        n : ℕ
-        n = start chunk - 1
+  takes_lines unit some x long = took_other {z = z} (record {
+    before = omega (arith, size_z);
+    some = omega (arith, size_z, later);
+    so = sym (ap (λ unit. is_within unit chunks.delim z) unit ∙ lt-ltb _ _ (omega (arith, from_front, size_z)));
+    placed = ended_only {chunks = chunks} {size = size} {x = z} (record {
+      within = omega arith;
+      before = omega (arith, start_first chunks.count size);
+      next = λ more. omega (arith, has_passed, start_some chunks.count size (omega (arith, less)) fits_in);
+    });
+  }) n x long (alike_before chunk chunks size less x z (omega (arith, long, size_z)) (omega (arith, long, some))) where
+    n : ℕ
+    n = start chunk - 1
 
-        z : List ℕ
-        z = without n
+    z : List ℕ
+    z = without n
 
-        size_z : length z + 1 ≡ start chunk
-        size_z = omega (arith, length-replicate n (chunks.delim + 1), some)
+    size_z : length z + 1 ≡ start chunk
+    size_z = omega (arith, length-replicate n (chunks.delim + 1), some)
 
-        fits_in : 0 < size
-        fits_in = omega (arith, some, later, ends_in)
+    fits_in : 0 < size
+    fits_in = omega (arith, some, later, ends_in)
 
-        from_front : open_from Lines chunks.delim z ≡ 0
-        from_front = none_open chunks.delim z (none_in n)
+    from_front : open_from Lines chunks.delim z ≡ 0
+    from_front = none_open chunks.delim z (none_in n)
 
-        has_passed : passed chunks size z ≡ 0
-        has_passed = passed_open chunks size z (omega (arith, size_z, later, ends_in))
-            ∙ ap (λ unit. open_from unit chunks.delim z) unit ∙ from_front
+    has_passed : passed chunks size z ≡ 0
+    has_passed = passed_open chunks size z (omega (arith, size_z, later, ends_in))
+        ∙ ap (λ unit. open_from unit chunks.delim z) unit ∙ from_front

@@ -6,12 +6,18 @@ use Rattle.split_core.proofs.chunker.Chunker.front.Goals as goal
 
 pub returns-in-Bytes : goal.returns-in-Bytes
 returns-in-Bytes c = subst (λ start. TakesFront c.args.self.now (start, c.in-Output.chunk, false))
-    (sym c.chunk_start-start.ensures) (rw (← c.self.view_is) (takes_bytes _ _ _ c.in_ok-size.was
-    (ap seen_aim c.in-Output.is) (rw (← c.self.view_is) at c.requires) c.in-Bytes.is
+    (sym c.chunk_start-start.ensures) (rw (← c.self.view_is) (takes_bytes (record {
+      said = c.in_ok-size.was;
+      aim = ap seen_aim c.in-Output.is;
+      fresh = rw (← c.self.view_is) at c.requires;
+    }) c.in-Bytes.is
     (omega (arith, c.chunk_start-start.ensures, c.chunk_start-end.ensures, c.if-start-end.true))))
 
 pub returns-in-Lines : goal.returns-in-Lines
 returns-in-Lines c = subst (λ start. TakesFront c.args.self.now (start - 1, 0, true))
-    (sym c.chunk_start-start.ensures) (rw (← c.self.view_is) (takes_lines _ _ _ c.in_ok-size.was
-    (ap seen_aim c.in-Output.is) (rw (← c.self.view_is) at c.requires) c.in-Lines.is
+    (sym c.chunk_start-start.ensures) (rw (← c.self.view_is) (takes_lines (record {
+      said = c.in_ok-size.was;
+      aim = ap seen_aim c.in-Output.is;
+      fresh = rw (← c.self.view_is) at c.requires;
+    }) c.in-Lines.is
     (omega (arith, c.chunk_start-start.ensures, c.if-start-gt1.true))))
