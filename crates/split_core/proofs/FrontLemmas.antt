@@ -1,5 +1,5 @@
 -- Lemmas on what is passed over before the one chunk that is written.
-use Rattle.std.proofs.Common.{◌≡◌, ℕ, ◌+◌, ◌<◌, nat_lt, Bool, true, false, List, [], length, Some, inl, inr, refl, sym, ◌∙◌, ap, subst, arith, get_or}
+use Rattle.std.proofs.Common.{◌≡◌, ℕ, ◌+◌, ◌<◌, nat_lt, Bool, true, false, List, [], length, Some, inl, inr, refl, sym, ◌∙◌, ap, arith, get_or}
 use Rattle.std.proofs.lemmas.Bool.{lt-leb, ltb-true}
 use Rattle.std.proofs.lemmas.List.{append-nil, length-append, nil_from_length, take_all}
 use Rattle.std.proofs.lemmas.List.FromFn.{length-map-range_with_len}
@@ -14,7 +14,7 @@ use Rattle.seg_core.specs.declared.cut.Chunks.{Chunks}
 use Rattle.seg_core.specs.declared.unit.Unit.TheVariants.{Bytes}
 use Rattle.split_core.specs.Chunks.{before_chunk, begun_before, chunk_at, chunk_start, chunks_within, ended, has_ended, is_within, open_from, passed, pieces_in}
 use Rattle.split_core.specs.ChunkWork.{chunk_work, piece_at}
-use Rattle.split_core.specs.ChunkerState.{CanHave, ChunkerState, HasCut, Holds, HoldsBy, IsSaid, course, course_of, can_cut, in_output, work, work_on}
+use Rattle.split_core.specs.ChunkerState.{ChunkerState, HasCut, Holds, IsSaid, course, course_of, can_cut, in_output, work, work_on}
 use Rattle.split_core.specs.Ways as ways
 use Rattle.split_core.specs.declared.splitter.Splitter.TheVariants as way
 use Rattle.split_core.specs.inner.Chunker.{StandsAfter, passed_to}
@@ -111,12 +111,12 @@ module _ (chunker : ChunkerState) (front place : ℕ) (stands : StandsAfter chun
         ∙ none_within_bytes chunks [] stands.unit ∙ sym (none_within_bytes chunks x stands.unit);
     carries = record {
       placed = count_full chunks stands.size place x less begins some stands.unit;
-      has = subst (λ aim. CanHave aim (chunks_within chunks stands.size x)) (sym stands.aim) tt;
+      has = rw stands.aim tt;
     };
   }
 
   pub holds_front : Holds next x
-  holds_front = subst (λ said. HoldsBy said next x) (sym stands.said) (record {
+  holds_front = rw stands.said (record {
     spare = record {
       used = x;
       rest = [];
@@ -155,5 +155,4 @@ pub loads_front : {told : Bool} {slot front place : ℕ} {Before : List ℕ → 
     → inside ≡ chunker → StandsAfter chunker front place → Holds chunker [] → PassesOver told slot front Before old new
     → Loads ways.terms told slot front (way.Chunks chunker) (way.Chunks (passed_to inside front place)) old new
 loads_front {front = front} {place} {chunker = chunker} is stands fresh passes = passes_so _ passes (λ x long so.
-    subst (λ next. TookIn ways.terms (way.Chunks chunker) (way.Chunks (passed_to next front place)) x) (sym is)
-    (took_in chunker front place stands fresh x long))
+    rw is (took_in chunker front place stands fresh x long))

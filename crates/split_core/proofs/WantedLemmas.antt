@@ -1,5 +1,5 @@
 -- Lemmas on when one chunk is complete, and on how many bytes are wanted until then.
-use Rattle.std.proofs.Common.{◌≡◌, ℕ, ◌+◌, ◌-◌, ◌≤◌, max, nat_lt, take, Bool, true, false, List, ◌++◌, length, Option, Some, None, inl, inr, refl, sym, ◌∙◌, ap, subst, arith}
+use Rattle.std.proofs.Common.{◌≡◌, ℕ, ◌+◌, ◌-◌, ◌≤◌, max, nat_lt, take, Bool, true, false, List, ◌++◌, length, Option, Some, None, inl, inr, refl, sym, ◌∙◌, ap, arith}
 use Rattle.std.specs.Option.{is_some}
 use Rattle.std.proofs.lemmas.Bool.{false≢true, cases_lt, leb-true}
 use Rattle.std.proofs.lemmas.List.{append-nil, length-append, take_at}
@@ -101,7 +101,7 @@ few_of_chunk state size chunk most said on is x piece after n holds going within
     omega (
       arith,
       few_missing chunk state.cutter.chunks size x piece n can (omega (arith, within, is, all_cut state size x said going holds))
-          (sym (ap (λ (those : Work). those.is_complete x) it) ∙ going) (subst (λ (those : Work). IsSpare those (x ++ piece) n) it spare),
+          (sym (ap (λ (those : Work). those.is_complete x) it) ∙ going) (rw it at spare),
     )
 
 pub few_of_files : (most : ℕ) (state : ChunkerState) (filing : Filing) (elide : Bool) → course state.cutter ≡ in_files filing elide

@@ -1,6 +1,4 @@
-use Rattle.std.proofs.Common.{IfSome, subst}
 use Rattle.ports_core.proofs.LoadLemmas.{loads_none, loads_still, passes_by}
-use Rattle.split_core.specs.inner.Chunker.{StandsAfter}
 use Rattle.split_core.proofs.FrontLemmas.{loads_front}
 use Rattle.split_core.proofs.chunker.Chunker.load.Goals as goal
 
@@ -13,5 +11,5 @@ returns-then-not-pass_over-clause-loads g c = loads_still _ c.requires.fresh c.r
 
 pub returns-clause-loads : goal.returns-clause-loads
 returns-clause-loads g c = loads_front c.self.view_is
-    (subst (λ found. IfSome found (λ found. StandsAfter c.args.self.now found.0 found.1)) c.in-Some.is c.front.ensures) c.requires.fresh
+    (rw c.in-Some.is at c.front.ensures) c.requires.fresh
     (passes_by _ c.pass_over.result c.if-not-pass_over.false c.pass_over.ensures.passes)
