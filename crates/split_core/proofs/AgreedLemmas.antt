@@ -1,7 +1,7 @@
 -- What all continuations agree on, of files.
 use Rattle.std.proofs.lemmas.Grind.{common_steps}
 use Rattle.std.proofs.lemmas.Bool.Decides.{nat_tests}
-use Rattle.std.proofs.Common.{◌≡◌, ℕ, ◌+◌, ◌-◌, ◌<◌, ◌≤◌, zero, suc, List, [], ◌∷◌, ◌++◌, get_or, length, map, drop, replicate, Bool, true, false, cond, refl, sym, ◌∙◌, ap, subst, arith, append_assoc, length-append, zero-add, rules}
+use Rattle.std.proofs.Common.{◌≡◌, ℕ, ◌+◌, ◌-◌, ◌<◌, ◌≤◌, zero, suc, List, [], ◌∷◌, ◌++◌, get_or, length, map, drop, replicate, Bool, true, false, cond, refl, sym, ◌∙◌, ap, arith, append_assoc, length-append, zero-add, rules}
 use Rattle.std.proofs.Math.Seq.{drop-append_seam}
 use Rattle.std.proofs.lemmas.Bool.{cases_lt, ne_eqb}
 use Rattle.std.proofs.lemmas.List.{append-nil, get_or_append_left, take_all, length-map, length-replicate}
@@ -60,12 +60,12 @@ count_named names place these those same = cc
 named_each : (names : Naming) (place : ℕ) (one : List ℕ) (those : List (List ℕ)) → has_name names (place + length those) ≡ true → named_bytes names place (one ∷ those) ≡ one ∷ those
 named_each names place one [] is = grind (arith, common_steps)
 named_each names place one (two ∷ those) is =
-    cc (named_before names place (place + suc (length those)) is (omega arith), named_each names (place + 1) two those (subst (λ n. has_name names n ≡ true) (one_on place (length those)) is))
+    cc (named_before names place (place + suc (length those)) is (omega arith), named_each names (place + 1) two those (rw (one_on place (length those)) at is))
 
 -- where all have names, none is left out
 pub each_named : (names : Naming) (those : List (List ℕ)) → are_named names (length those) ≡ true → named_bytes names 0 those ≡ those
 each_named names [] are = refl
-each_named names (one ∷ those) are = named_each names 0 one those (subst (λ n. has_name names n ≡ true) (sym (zero-add (length those))) are)
+each_named names (one ∷ those) are = named_each names 0 one those (rw (← zero-add (length those)) at are)
 
 pub shared_bytes : (filing : Filing) (state : State) (those : List (List ℕ))
     → map (λ (file : File). file.bytes) (named filing 0 (map (share state) those)) ≡ named_bytes filing.names 0 those

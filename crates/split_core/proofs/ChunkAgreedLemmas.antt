@@ -305,16 +305,15 @@ said_longest elide chunks size x place some within = elim (cases_lt (length x) s
         longest = λ front first second. tails_apart 0 1 (λ same. omega (arith, same))
             (kept elide (chunks_of chunks size x).full) (chunks_of chunks size x).rest one.0 two.0 one.1 two.1 place
             front
-            (subst (λ files. IsBeginning front (get_or files place [])) one.2 first)
-            (subst (λ files. IsBeginning front (get_or files place [])) two.2 second);
+            (rw one.2 at first)
+            (rw two.2 at second);
       })
   | inr full ↦ record {
     y = [];
     z = [];
     comes = (none_comes, eq-eqb _ _ (omega (arith, length-append x [], within, full)));
     also = (none_comes, eq-eqb _ _ (omega (arith, length-append x [], within, full)));
-    longest = λ front first second. beginning_short _ _ (subst (λ z. IsBeginning front
-        (get_or (files_by elide (chunks_of chunks size z)) place [])) (append-nil x) first);
+    longest = λ front first second. beginning_short _ _ (rw (append-nil x) at first);
   }
 ]
 
@@ -378,8 +377,7 @@ none_files elide chunks x y c some run long = by chunks.count refl where
   by (suc m) is = subst (IsTail c x) (sym (files_split elide chunks size (x ++ y) 0 m some refl (omega (arith, is))
       ∙ ap (λ front. front ++ kept elide (map f (range_with_len 0 (suc m)))) (none_kept elide)))
       (tail_kept elide c x (map f (range_with_len 0 (suc m)))
-      (subst (λ low. IsTail c (drop (length low) x) (map f (range_with_len 0 (suc m))))
-      (none_before_first chunks size x) (tail_is chunks size x y c 0 m run same past)))
+      (rw (none_before_first chunks size x) at (tail_is chunks size x y c 0 m run same past)))
 
 tail_runs : (c : ℕ) (r : List ℕ) (pieces : List (List ℕ)) (place : ℕ) → IsTail c r pieces
     → IsRun c (get_or pieces (suc place) [])
@@ -450,8 +448,7 @@ none_longest elide chunks (byte ∷ x) zero some =
         ap (λ before. length (get_or (before ++ unless_empty r) 0 [])) (none_kept elide),
         ap length (first_made r),
         beginning_short front r
-            (subst (λ files. IsBeginning front (get_or files 0 []))
-            (ap (λ z. files_by elide (chunks_of chunks (length z) z)) (append-nil (byte ∷ x)) ∙ file.1) first),
+            (rw (ap (λ z. files_by elide (chunks_of chunks (length z) z)) (append-nil (byte ∷ x)) ∙ file.1) at first),
       );
     }
 none_longest elide chunks (byte ∷ x) (suc place) some =
@@ -594,8 +591,7 @@ file_agreed : (plan : ChunksPlan) (said : Option ℕ) (x : List ℕ) (place : �
 file_agreed plan said x place some named fits =
     agree_by (chunks_work plan said) (chunks_settled plan said x) (suc place)
     (files_longest plan.elide plan.chunks said x place some fits)
-    (λ y front begins. subst (λ files. IsBeginning front (get_or files place []))
-    (whole_files plan said (x ++ y) some named) begins)
+    (λ y front begins. rw (whole_files plan said (x ++ y) some named) at begins)
     (omega (arith, ap (λ files. length (get_or files place [])) (settled_files plan said x some named)))
 
 quiet_agreed : (plan : ChunksPlan) (said : Option ℕ) (x : List ℕ) → 0 < plan.chunks.count

@@ -1,5 +1,5 @@
 -- Which files of chunks there are once some bytes came in, and when the output of one chunk is complete.
-use Rattle.std.proofs.Common.{◌≡◌, ℕ, ◌+◌, ◌-◌, ◌*◌, ◌<◌, ◌≤◌, max, zero, suc, Bool, true, false, List, [], ◌∷◌, ◌++◌, length, take, drop, map, get_or, replicate, Option, Some, None, ◌⊎◌, inl, inr, refl, sym, ◌∙◌, ap, subst, arith}
+use Rattle.std.proofs.Common.{◌≡◌, ℕ, ◌+◌, ◌-◌, ◌*◌, ◌<◌, ◌≤◌, max, zero, suc, Bool, true, false, List, [], ◌∷◌, ◌++◌, length, take, drop, map, get_or, replicate, Option, Some, None, ◌⊎◌, inl, inr, refl, sym, ◌∙◌, ap, arith}
 use Rattle.std.proofs.Math.Seq.{get_or-append_seam, take-append_seam}
 use Rattle.std.proofs.lemmas.Bool.{cases_lt, cond_both, eq-eqb, eqb-true, false≢true, leb-true, le-leb, ne_eqb}
 use Rattle.std.proofs.lemmas.List.{append-nil, drop-append-le, length-append, length-map, length-replicate, map-append, take-take}
@@ -132,8 +132,7 @@ none_goes_on elide chunks x byte some small = by chunks.count refl where
   f = chunk_at chunks (length w) w
 
   next : (more : List ℕ) × (f 0 ≡ x ++ byte ∷ more)
-  next = subst (λ low. (more : List ℕ) × (f 0 ≡ drop (length low) x ++ byte ∷ more))
-      (none_before_first chunks (length w) x) (next_is chunks (length w) x (replicate k byte) byte 0
+  next = rw (none_before_first chunks (length w) x) at (next_is chunks (length w) x (replicate k byte) byte 0
       (none_before_first chunks (length w) w ∙ sym (none_before_first chunks (length w) x)) past)
 
   by : (n : ℕ) → chunks.count ≡ n → GoesOnWith elide chunks None x x byte

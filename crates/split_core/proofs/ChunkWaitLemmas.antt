@@ -189,7 +189,6 @@ chunks_placed plan said some named = stretch_placed (beside_output (chunks_work 
 }) where
   front : (x : List ℕ) → AreFront (file_bytes (chunks_whole plan said x)) x
   front x = let size = size_by said x in let files = files_by plan.elide (in_the_end plan.chunks said x) in
-      subst (λ those. AreFront those x) (sym (whole_files plan said x some named))
-      (subst (AreFront files) (ap (λ front. front ++ drop size x)
+      rw (← whole_files plan said x some named) at (subst (AreFront files) (ap (λ front. front ++ drop size x)
       (joined_files plan.elide (in_the_end plan.chunks said x)
       ∙ all_joined plan.chunks size x some) ∙ take-append-drop size x) (are_front files (drop size x)))

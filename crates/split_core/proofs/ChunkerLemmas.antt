@@ -12,7 +12,7 @@ use Rattle.ports_core.specs.declared.verdict.Verdict.TheVariants.{Changed}
 use Rattle.ports_core.proofs.PartLemmas.{part_begins_itself}
 use Rattle.seg_core.specs.declared.cut.Chunks.{Chunks}
 use Rattle.split_core.specs.Chunks.{chunks_of, chunks_within, ended, has_ended}
-use Rattle.split_core.specs.ChunkerState.{AimState, Carries, ChunkerState, Course, CutterState, Holds, HoldsBy, IsSaid, TargetState, can_cut, course, course_of, in_files, in_output, to_files, to_output, work_on, total}
+use Rattle.split_core.specs.ChunkerState.{AimState, ChunkerState, Course, CutterState, Holds, HoldsBy, IsSaid, TargetState, can_cut, course, course_of, in_files, in_output, to_files, to_output, work_on, total}
 use Rattle.split_core.specs.inner.Chunker.{Changes, Comes, Ends, IsLike, Passes, TakesAs, made}
 use Rattle.split_core.specs.inner.Cutter.{Cuts, CutsAs, IsCut, part_so, said_work}
 use Rattle.split_core.specs.inner.Seen.{is_each_on, is_past_at, is_past_on}
@@ -154,8 +154,8 @@ module _ {chunker next : ChunkerState} {size : ℕ} {piece : List ℕ} {x : List
       rest = has.spare.rest ++ over;
       joined = joined_so;
       long = spare_on.long ∙ sym is;
-      needed = subst (λ (work : Work). IsNeeded work.is_complete 1 (has.spare.used ++ done)) (sym next_work) needed_so;
-      enough = subst (λ (work : Work). ((has.spare.rest ++ over) ≡ []) ⊎ (work.is_complete (has.spare.used ++ done) ≡ true)) (sym next_work) enough_so;
+      needed = rw (← next_work) at needed_so;
+      enough = rw (← next_work) at enough_so;
     };
     within = fits_done;
     cut = next_cut.cut;
@@ -198,7 +198,7 @@ module _ (chunker : ChunkerState) {size : ℕ} (said : chunker.said ≡ Some siz
       ap (λ used. part_so chunker.cutter size (used ++ bytes)) (used_is has) ∙ ap (part_on on) (sym (cut_of chunks size (used ++ bytes) (omega (arith, fits, has.cut.at, length-append used bytes)))) ∙ sym (settled_is on chunks size (used ++ bytes)) in
       let there : Begins (work.settled (used ++ bytes)) (work.settled (x ++ piece)) = elim has.spare.enough [
         | inl none ↦ (let e : (used ++ bytes) ++ more ≡ x ++ piece = append_assoc used bytes more ∙ ap (λ piece. used ++ piece) (sym both) ∙ ap (λ x. x ++ piece) (sym (has.spare.joined ∙ ap (λ rest. used ++ rest) none ∙ append-nil used)) in
-            subst (λ z. Begins (work.settled (used ++ bytes)) (work.settled z)) e (lawful.grows (used ++ bytes) more))
+            rw e at (lawful.grows (used ++ bytes) more))
         | inr complete ↦ (let e : used ++ (has.spare.rest ++ piece) ≡ x ++ piece = sym (append_assoc used has.spare.rest piece) ∙ ap (λ x. x ++ piece) (sym has.spare.joined) in
             let low : work.settled (used ++ bytes) ≡ work.settled used = (lawful.stays used bytes complete).settled_stays in
             let high : work.settled (x ++ piece) ≡ work.settled used = ap work.settled (sym e) ∙ (lawful.stays used (has.spare.rest ++ piece) complete).settled_stays in
@@ -290,7 +290,7 @@ module _ {chunker next : ChunkerState} {size : ℕ} (piece : List ℕ) {past : �
           (low_is chunker said can) (λ x holds. let has = is_said said holds in
           ap (λ used. part_so chunker.cutter size (used ++ cut_off)) (used_is has) ∙ ap (λ z. part_on (course chunker.cutter) (chunks_within chunker.cutter.chunks size z)) (sym (taken x has)) ∙ sym (settled_is (course chunker.cutter) chunker.cutter.chunks size (x ++ piece))
           ∙ ap (λ (work : Work). work.settled (x ++ piece)) (made_is chunker said)) takes.cuts.brings;
-      judged = λ x holds. let has = is_said said holds in let longer : size < length (x ++ piece) = longer_so x has in subst (λ work. IsSettled work (x ++ piece) Changed) (made_is chunker said) (
+      judged = λ x holds. let has = is_said said holds in let longer : size < length (x ++ piece) = longer_so x has in rw (← made_is chunker said) (
         each_course chunker.cutter.target.aim chunker.cutter.chunks size this (x ++ piece) ∙ lt-ltb _ _ longer,
         each_judges chunker.cutter.target.aim chunker.cutter.chunks size this (x ++ piece) (longer_differs size (x ++ piece) longer),
       );
@@ -369,7 +369,7 @@ ends_badly (to_output chunk) chunks size x short open_still = rw (open_still, sh
 module _ {chunker next : ChunkerState} {size : ℕ} {told : Bool} {old new : List Slot} (said : chunker.said ≡ Some size) (same : IsLike chunker next) (bound : total next ≤ total chunker) where
   end_comes : (fault : Option Fault) → TargetEnds told chunker.cutter.target old new next.cutter.target fault → Comes told chunker (made chunker).whole old new next fault
   end_comes fault ends = brings_as (λ x. chunks_within chunker.cutter.chunks size (take chunker.cutter.at x)) fault
-      (λ x holds. let has = is_said said holds in subst (λ used. Carries chunker.cutter.target (chunks_within chunker.cutter.chunks size used)) (sym (used_is has)) has.cut.carries)
+      (λ x holds. let has = is_said said holds in rw (← used_is has) at has.cut.carries)
       (low_is chunker said same.can) (λ x holds. whole_said (is_said said holds) ∙ ap (λ (work : Work). work.whole x) (made_is chunker said)) ends
 
   pub said_stops : {why : Fault} → TargetEnds told chunker.cutter.target old new next.cutter.target (Some why) → IsWrite why → Ends told chunker old new next (Some why)
@@ -399,8 +399,7 @@ module _ {chunker next : ChunkerState} {size : ℕ} {told : Bool} {old new : Lis
           | inl none ↦ sym (has.spare.joined ∙ ap (λ rest. has.spare.used ++ rest) none ∙ append-nil has.spare.used)
           | inr complete ↦ absurd (false≢true (sym open_still ∙ complete))
         ] in
-        subst (λ (work : Work). Judges work x Changed) (made_is chunker said)
-        (ends_badly chunker.cutter.target.aim chunker.cutter.chunks size x (omega (arith, short, has.cut.at, ap length used)) (ap (said_work chunker.cutter size).is_complete (sym used) ∙ open_still));
+        rw (made_is chunker said) at (ends_badly chunker.cutter.target.aim chunker.cutter.chunks size x (omega (arith, short, has.cut.at, ap length used)) (ap (said_work chunker.cutter size).is_complete (sym used) ∙ open_still));
   }
 
 past_so : (one two : AimState) (place : ℕ) → course_of two ≡ course_of one → is_past_at two place ≡ is_past_at one place

@@ -8,7 +8,7 @@ use Rattle.std.proofs.lemmas.List.{length-append}
 use Rattle.ports_core.specs.Engine.{EndsThere, EndsWith, IsMet, StandsAt, is_verdict}
 use Rattle.ports_core.specs.Engine as engine
 use Rattle.ports_core.specs.FileWriter.{Breaks, IsWrite}
-use Rattle.ports_core.specs.Part.{OutputsAt, Part, gets_bytes, writes}
+use Rattle.ports_core.specs.Part.{Part, gets_bytes, writes}
 use Rattle.ports_core.specs.Slot.{Slot, is_writable}
 use Rattle.ports_core.specs.Work.{IsSettled, IsSpare, Judges, Means, Needs, Work, on_output}
 use Rattle.ports_core.specs.declared.fault.Fault.{Fault}
@@ -94,15 +94,14 @@ at_aim : {told : Bool} {state : ChunkerState} {start : List Slot} {x : List ℕ}
     → AtAim told state.cutter.target.aim start ((made state).settled x) now
 at_aim {told} {state} {start} {x} {now} can at = record {
   owns = at.owns;
-  outputs = subst (λ (those : Work). OutputsAt told start (those.settled x) now) (works_so state can) at.outputs;
+  outputs = rw (works_so state can) at at.outputs;
 }
 
 -- How a call leaves the outputs that were to come to what is due.
 module _ {told : Bool} {old : ChunkerState} (new : ChunkerState) {before after : List Slot} (due : Work → List ℕ → Part)
     (can : can_cut (course old.cutter) old.cutter.chunks.count ≡ true) where
   went_out : Comes told old (due (made old)) before after new None → engine.PutsOut ways.terms (way.Chunks old) (due (work old)) told before after
-  went_out comes start x at = subst (λ (those : Work). OutputsAt told start (due those x) after) (sym (works_so old can))
-      (comes.reaches x at.holds start (at_aim can at)).outputs
+  went_out comes start x at = rw (← works_so old can) at (comes.reaches x at.holds start (at_aim can at)).outputs
 
   was_cut : {why : Fault} → Comes told old (due (made old)) before after new (Some why)
       → engine.CutsOff ways.terms (way.Chunks old) (due (work old)) told before after why
@@ -150,9 +149,7 @@ module _ (told : Bool) (old new : ChunkerState) (piece : List ℕ) (before after
     owns = passes.comes.owns;
     there = λ are. tt;
     cut = was_cut new (λ work x. work.settled (x ++ piece)) passes.same.can passes.comes;
-    met = subst (λ (those : Work). IsMet those.means those.means.feeding (true ≡ true) (EndsWith ways.terms piece (way.Chunks old)) before after why)
-        (sym (works_so old passes.same.can))
-        (met_feeding old.cutter.chunks _ before after why (λ is x holds. absurd (passes.comes.named is x holds)) (course old.cutter) old.said passes.comes.slots passes.comes.only);
+    met = rw (works_so old passes.same.can) (met_feeding old.cutter.chunks _ before after why (λ is x holds. absurd (passes.comes.named is x holds)) (course old.cutter) old.said passes.comes.slots passes.comes.only);
   }
 
   passes_lacking : LacksRoom old piece before after new
@@ -167,8 +164,7 @@ module _ (told : Bool) (old new : ChunkerState) (piece : List ℕ) (before after
     there = λ are. tt;
     cut = λ start x at. engine.cut refl (stopped_here (work old).means.output told start ((work old).settled x) ((work old).settled (x ++ piece))
         Memory before after at.outputs ((lawful (way.Chunks old)).grows x piece) lacks.slots tt tt);
-    met = subst (λ (those : Work). (those.means.feeding.memory ≡ true) × (true ≡ true)) (sym (works_so old lacks.same.can))
-        (feeds_memory (course old.cutter) old.cutter.chunks lacks.unsaid, refl);
+    met = rw (works_so old lacks.same.can) (feeds_memory (course old.cutter) old.cutter.chunks lacks.unsaid, refl);
   }
 
   passes_changed : total new ≤ total old + length piece
@@ -183,7 +179,7 @@ module _ (told : Bool) (old new : ChunkerState) (piece : List ℕ) (before after
     owns = changes.all.owns;
     there = λ are. tt;
     cut = was_judged new (λ work x. work.settled (x ++ piece)) changes.same.can changes.all;
-    met = λ x holds. subst (λ (those : Work). IsSettled those (x ++ piece) Changed) (sym (works_so old changes.same.can)) (changes.judged x holds);
+    met = λ x holds. rw (← works_so old changes.same.can) at (changes.judged x holds);
   }
 
 pub passes_by : (told : Bool) (old new : ChunkerState) (piece : List ℕ) (before after : List Slot) (result : Result (Unit {0}) Fault)
@@ -210,10 +206,9 @@ module _ (told : Bool) (old new : ChunkerState) (before after : List Slot) where
   ends_well aimed ends = record {
     same = same_work old new ends.same ends.comes.stays;
     size = ends.bound;
-    well = λ x holds. subst (λ (those : Work). those.verdict x ≡ None) (sym (works_so old ends.same.can)) (ends.well x holds);
+    well = λ x holds. rw (← works_so old ends.same.can) at (ends.well x holds);
     outputs = went_out new (λ work. work.whole) ends.same.can ends.comes;
-    writable = subst (λ (those : Work). writes those.means.output ≡ true → IsTrue (is_writable after 0)) (sym (works_so old ends.same.can))
-        (λ told_is. ends.comes.output (aimed_writable old.cutter.target.aim old.cutter.chunks old.said before aimed told_is));
+    writable = rw (works_so old ends.same.can) (λ told_is. ends.comes.output (aimed_writable old.cutter.target.aim old.cutter.chunks old.said before aimed told_is));
     owns = ends.comes.owns;
     there = λ are. tt;
     cut = tt;
@@ -231,9 +226,7 @@ module _ (told : Bool) (old new : ChunkerState) (before after : List Slot) where
     owns = ends.comes.owns;
     there = λ are. tt;
     cut = was_cut new (λ work. work.whole) ends.same.can ends.comes;
-    met = subst (λ (those : Work). IsMet those.means those.means.closing (Unit {0}) (EndsThere ways.terms (way.Chunks old)) before after why)
-        (sym (works_so old ends.same.can))
-        (met_closing old.cutter.chunks _ before after why (λ is x holds. absurd (ends.comes.named is x holds)) (course old.cutter) old.said ends.comes.slots ends.comes.only ends.only_write);
+    met = rw (works_so old ends.same.can) (met_closing old.cutter.chunks _ before after why (λ is x holds. absurd (ends.comes.named is x holds)) (course old.cutter) old.said ends.comes.slots ends.comes.only ends.only_write);
   }
 
   ends_changed : total new ≤ total old → Changes told old (made old).whole (λ x. Judges (made old) x Changed) before after new
@@ -247,7 +240,7 @@ module _ (told : Bool) (old new : ChunkerState) (before after : List Slot) where
     owns = changes.all.owns;
     there = λ are. tt;
     cut = was_judged new (λ work. work.whole) changes.same.can changes.all;
-    met = λ x holds. subst (λ (those : Work). Judges those x Changed) (sym (works_so old changes.same.can)) (changes.judged x holds);
+    met = λ x holds. rw (← works_so old changes.same.can) at (changes.judged x holds);
   }
 
 pub finishes_by : (told : Bool) (old new : ChunkerState) (before after : List Slot) (result : Result (Unit {0}) Fault)
@@ -333,4 +326,4 @@ spare_by (Some size) state x holds = holds.spare
 
 pub chunks_spare : (state : ChunkerState) (x : List ℕ) → Holds state x → IsSpare (work state) x state.spare
 chunks_spare state x holds =
-    subst (λ (those : Work). IsSpare those x state.spare) (sym (works_so state (holds_can state.said state x holds))) (spare_by state.said state x holds)
+    rw (← works_so state (holds_can state.said state x holds)) at (spare_by state.said state x holds)

@@ -61,8 +61,7 @@ cut_all limit = cuts_all (cuts_up)
 pub cut_two : (limit : Limit) {x first : List ℕ} (next : List ℕ) → is_full limit x ≡ true → first_part limit x ≡ first → x ≡ first ++ next → is_full limit next ≡ false → cut_up limit x ≡ cut_so (first ∷ []) next
 cut_two limit {x} {first} next full is both short =
     let after : after_first limit x ≡ next = ap (λ (front : List ℕ). drop (length front) x) is ∙ ap (drop (length first)) both ∙ drop-append_seam first next in
-    cut_once limit (subst (λ front. Cuts limit x (front ∷ []) next) is
-    (goes x [] next full (subst (λ those. Cuts limit those [] next) (sym after) (stops next short))))
+    cut_once limit (rw is at (goes x [] next full (subst (λ those. Cuts limit those [] next) (sym after) (stops next short))))
 
 -- the bytes of shares are those that were shared
 pub bytes_of_shares : (state : State) (those : List (List ℕ)) → map (λ (file : Share). file.bytes) (map (share state) those) ≡ those

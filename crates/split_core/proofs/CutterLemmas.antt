@@ -5,7 +5,7 @@ use Rattle.std.proofs.lemmas.List.{append-nil, take_all, take_at, take-append-dr
 use Rattle.std.proofs.Math.Seq.{take-add}
 use Rattle.std.proofs.Common.{◌≡◌, ℕ, ◌+◌, ◌-◌, ◌<◌, ◌≤◌, max, min, zero, suc, Bool, true, false, cond, eqb, nat_lt, List, [], ◌∷◌, ◌++◌, ◌⊎◌, length, take, drop, replicate, Option, Some, None, Ok, inl, inr, refl, sym, ◌∙◌, ap, subst, arith, append_assoc}
 use Rattle.ports_core.specs.Draft.{draft_part}
-use Rattle.ports_core.specs.Part.{Begins, only_out}
+use Rattle.ports_core.specs.Part.{Begins}
 use Rattle.ports_core.specs.Slot.{Slot}
 use Rattle.ports_core.specs.Work.{IsNeeded}
 use Rattle.ports_core.specs.declared.fault.Fault.{Fault}
@@ -102,7 +102,7 @@ name_of (in_output chunk) count place all less = tt
 
 full_begins : (on : Course) (cut : CutUp) → Begins (part_on on cut) (part_on on (with_full cut))
 full_begins (in_files filing elide) cut = subst (λ high. Begins (draft_part (manner_of filing) (draft_by elide cut)) (draft_part (manner_of filing) high)) (ends_full elide cut) (ends_begin elide (manner_of filing) (draft_by elide cut))
-full_begins (in_output chunk) cut = subst (λ piece. Begins (piece_at chunk cut) (only_out piece)) (sym (piece_full (pieces_in cut) chunk)) (part_begins_itself (piece_at chunk cut))
+full_begins (in_output chunk) cut = rw (piece_full (pieces_in cut) chunk) (part_begins_itself (piece_at chunk cut))
 
 pub fulls_begin : (on : Course) (cut : CutUp) (few more : ℕ) → Begins (part_on on (with_fulls few cut)) (part_on on (with_fulls (few + more) cut))
 fulls_begin on cut few zero = let e : few + 0 ≡ few = omega arith in rw e (part_begins_itself _)
@@ -147,7 +147,7 @@ module _ {told : Bool} {cutter now : CutterState} {size : ℕ} {old slots : List
     within = within ∙ so_far.within;
     sends = sends_wider (λ x so. let more = x.0 - (now.target.place + 1) in
         let e : suc k + more ≡ x.0 - cutter.target.place = omega (arith, later x.0 so.from so.is, so_far.from) in
-        subst (λ n. Begins (part_on (course cutter) (with_fulls (suc k) x.1)) (part_on (course cutter) (with_fulls n x.1))) e (fulls_begin (course cutter) x.1 (suc k) more)) (next_sends (Some why) stopped);
+        rw e at (fulls_begin (course cutter) x.1 (suc k) more)) (next_sends (Some why) stopped);
   }
 
 pub ends_so : {told : Bool} {cutter now : CutterState} {size : ℕ} {old slots : List Slot} → Ending told cutter size old slots now
@@ -400,7 +400,7 @@ cuts_ok {told} {cutter} {mid} {next} {size} text {y} {old} {new = new} is step c
       brings = brings_as (λ x. x) None so (λ x has. refl) (λ x has. refl) sends.brings;
       stands = λ x has within. record {
         cut = has_cut y (ends.chunks ∙ step.chunks) sends.brings.stays (ends.at ∙ step.at) (ends.within ∙ step.within) step.some has.cut
-            (subst (λ chunks. Carries next.target (chunks_within chunks size (x ++ y))) (sym (ends.chunks ∙ step.chunks)) (sends.carries x (so x (has, within))));
+            (rw (← (ends.chunks ∙ step.chunks)) at (sends.carries x (so x (has, within))));
         fits = within;
       };
     }
@@ -410,7 +410,7 @@ begun_rest : (cutter : CutterState) (end : ℕ) (text : List ℕ) {y : List ℕ}
 begun_rest cutter end text is = rw is (begun_begins cutter.chunks.unit cutter.chunks.delim _ text)
 
 fulls_follow : (on : Course) (cut : CutUp) (n : ℕ) → Begins (part_on on cut) (part_on on (with_fulls n cut))
-fulls_follow on cut n = let e : 0 + n ≡ n = omega arith in subst (λ n. Begins (part_on on cut) (part_on on (with_fulls n cut))) e (fulls_begin on cut 0 n)
+fulls_follow on cut n = let e : 0 + n ≡ n = omega arith in rw e at (fulls_begin on cut 0 n)
 
 module _ {cutter : CutterState} {size : ℕ} (text : List ℕ) {y : List ℕ} (is_cut : y ≡ cut_to cutter (end_so cutter size) text) (some : 0 < length text) where
   so_more : (x : List ℕ) → IsCut cutter size x × (length (x ++ text) ≤ size) → CutsOn cutter size y x
@@ -420,16 +420,14 @@ module _ {cutter : CutterState} {size : ℕ} (text : List ℕ) {y : List ℕ} (i
   to_all : (on : Course) (x : List ℕ) → CutsOn cutter size y x → length (x ++ text) ≤ size → Begins (part_on on (chunks_within cutter.chunks size (x ++ y))) (part_on on (chunks_within cutter.chunks size (x ++ text)))
   to_all on x (is, place, within, all) fits = let (rest, both) = begun_rest cutter (end_so cutter size) text is_cut in
       let e : (x ++ y) ++ rest ≡ x ++ text = append_assoc x y rest ∙ ap (λ more. x ++ more) (sym both) in
-      subst (λ z. Begins (part_on on (chunks_within cutter.chunks size (x ++ y))) (part_on on (chunks_within cutter.chunks size z))) e
-      (so_grows on cutter.chunks size (x ++ y) rest place.some (omega (arith, ap length e, fits)))
+      rw e at (so_grows on cutter.chunks size (x ++ y) rest place.some (omega (arith, ap length e, fits)))
 
   pub cuts_none : {told : Bool} {next : CutterState} {old new : List Slot} {why : Fault} → next.chunks ≡ cutter.chunks → next.at ≤ cutter.at + length text → Changes told cutter.target (with_rest y) old new next.target (Some why) → Cuts told cutter size text old new next (Some why)
   cuts_none {why = why} chunks bound stopped = record {
     chunks = chunks;
     bound = bound;
     brings = brings_wider (λ x so. let so_on = so_more x so in let (is, place, within, all) = so_on in let on = course cutter in
-        part_trans _ _ _ (subst (λ cut. Begins (part_on on (with_rest y (chunks_within cutter.chunks size x))) (part_on on cut)) (grown cutter.chunks size x y place.some within all)
-        (fulls_follow on (with_rest y (chunks_within cutter.chunks size x)) (ended cutter.chunks size (x ++ y) - ended cutter.chunks size x))) (to_all on x so_on so.1))
+        part_trans _ _ _ (rw (grown cutter.chunks size x y place.some within all) at (fulls_follow on (with_rest y (chunks_within cutter.chunks size x)) (ended cutter.chunks size (x ++ y) - ended cutter.chunks size x))) (to_all on x so_on so.1))
         (brings_as {Also = λ x. IsCut cutter size x × (length (x ++ text) ≤ size)} (λ x. x) (Some why) (λ x so. let so_on = so_more x so in (so.0, so_on.1)) (λ x so. refl) (λ x so. refl) (changes_cut y (Some why) stopped).brings);
     stands = tt;
   }

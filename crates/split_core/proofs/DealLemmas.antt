@@ -107,7 +107,7 @@ first_seen {delim} {x} {ahead} {at} sees is some = (
   (omega (arith, first.within, length-window ahead.passed x sees.within)),
 ) where
   first : IsFirstAt delim (take ahead.width (drop ahead.passed x)) at
-  first = subst (λ n. IsFirstAt delim (take ahead.width (drop ahead.passed x)) n) (sym is) (first_marked (take ahead.width (drop ahead.passed x)) (subst (λ n. 0 < n) sees.marked some))
+  first = rw (← is) at (first_marked (take ahead.width (drop ahead.passed x)) (subst (λ n. 0 < n) sees.marked some))
 
 pub sees_rest : {delim : ℕ} {x : List ℕ} {ahead : Ahead} (at : ℕ) {mask : ℕ} → Sees delim x ahead → at < ahead.width → mask ≡ ahead.mask / 2 ^ at / 2 → Sees delim (drop (ahead.passed + at + 1) x) (record { passed = 0; width = ahead.width - (at + 1); mask = mask })
 sees_rest {delim} {x} {ahead} at sees inside is = grind (arith, common_steps, sees, length-drop, mask_after, window) where
@@ -136,8 +136,7 @@ seen_at sees some = first_seen sees (lowest_bit sees (omega (arith, some))) (ome
 -- a line that was split off, and the rest
 pub split_line : {delim : ℕ} {x y : List ℕ} (line : List ℕ) {rest : List ℕ} {ahead : Ahead} → x ≡ y → Sees delim x ahead → ahead.mask ≢ 0 → line ≡ take (ahead.passed + count_trailing_zeros 64 ahead.mask + 1) x → rest ≡ drop (ahead.passed + count_trailing_zeros 64 ahead.mask + 1) x → IsFirstLine delim y line rest
 split_line {delim} {x} line {ahead} same sees some front back =
-    rw (front, back) (subst (λ text. IsFirstLine delim text (take (ahead.passed + count_trailing_zeros 64 ahead.mask + 1) x) (drop (ahead.passed + count_trailing_zeros 64 ahead.mask + 1) x)) same
-    (first_line (seen_at sees some).0))
+    rw (front, back) (rw (← same) (first_line (seen_at sees some).0))
 
 pub split_rest : {delim : ℕ} {x rest : List ℕ} {ahead : Ahead} → Sees delim x ahead → ahead.mask ≢ 0 → rest ≡ drop (ahead.passed + count_trailing_zeros 64 ahead.mask + 1) x
     → Sees delim rest (record { passed = 0; width = ahead.width - (count_trailing_zeros 64 ahead.mask + 1); mask = ahead.mask / 2 ^ count_trailing_zeros 64 ahead.mask / 2 })
@@ -251,7 +250,7 @@ pub ends_open : {delim n start : ℕ} {piece : List ℕ} {gathered now : List (L
 ends_open {delim} {n} {start} {piece} {gathered} {next} {reached} line so_far same none some is reached_is =
     let more : length line ≢ 0 = eqb-false (length line) 0 some in
     ended
-    (open_line line (subst (λ those. Dealing delim n start piece gathered next reached those) (sym same) so_far) (ap (delimiters delim) same ∙ none) (omega (arith, more)) is reached_is)
+    (open_line line (rw (← same) at so_far) (ap (delimiters delim) same ∙ none) (omega (arith, more)) is reached_is)
 
 -- a line that is the first of what was left stands at its beginning
 pub first_taken : {delim : ℕ} {left x : List ℕ} (line : List ℕ) {rest : List ℕ} → IsFirstLine delim x line rest → left ≡ x → take (length line) left ≡ line

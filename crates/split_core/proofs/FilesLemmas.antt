@@ -23,7 +23,7 @@ use Rattle.ports_core.proofs.PartLemmas.{IsNoOpen, begins_itself, begins_trans, 
 use Rattle.ports_core.proofs.SlotSteps.{keeps_again, keeps_close, keeps_open, keeps_write, open_rose, rose_later, write_rose, writable_before, writable_elsewhere, writable_within, written_writable, opened_writable, broken_there, written_size, short_size, broken_size}
 use Rattle.split_core.specs.Split.{Filing, Share, TellsNoSizes, is_verbose, output_by, share}
 use Rattle.split_core.specs.FilesState.{FilesState, filing_in}
-use Rattle.split_core.specs.Round.{AreReady, OwnsFiles, output_at}
+use Rattle.split_core.specs.Round.{AreReady, output_at}
 use Rattle.split_core.specs.laws.ShareLaws.{kept_file, told_begins}
 use Rattle.ports_core.proofs.OpenLemmas.{IsNextName, StopsOpening, stops_opening}
 use Rattle.ports_core.proofs.FileWriterLemmas.{breaks_later, can_tell}
@@ -147,7 +147,7 @@ longer low more (rest, is) = (rest ++ more, ap (λ bytes. bytes ++ more) is ∙ 
 out_in : (filing : Filing) {some many most : ℕ} (part last : ℕ → Share) (bytes : List ℕ) {why : Fault} → many ≤ most → HasBegun filing some many bytes why → Begins (part_by filing part some) (part_by filing last most)
     → IsBeginning (told_of_files (output_by filing.verbose) (files_by filing part some) ++ bytes) (told_of_files (output_by filing.verbose) (files_by filing last most))
 out_in filing {some} {most = most} part last bytes few begun begins = elim begun.some_of [
-  | inl none ↦ subst (λ out. IsBeginning out (told_of_files (output_by filing.verbose) (files_by filing last most))) (sym (ap (λ bytes. told_of_files (output_by filing.verbose) (files_by filing part some) ++ bytes) none ∙ append-nil _)) begins.out
+  | inl none ↦ rw (← (ap (λ bytes. told_of_files (output_by filing.verbose) (files_by filing part some) ++ bytes) none ∙ append-nil _)) at begins.out
   | inr line ↦ by filing.verbose (next_due filing [] part last (name_at filing.names some) (refl, omega (arith, line.0, few))) line.1
 ] where
   by : (verbose : Bool) → IsNext (record { out = []; files = files_by filing part some }) (part_by filing last most) (name_at filing.names some) → IsBeginning bytes (told_before (output_by verbose) (name_at filing.names some))
@@ -186,7 +186,7 @@ halts_in {before = before} {filing} {few = few} {many} {from} {to} place part so
           let left = grow_trans place (max to end) below back (omega arith) (omega arith) (omega arith) (omega arith) in record {
             part = record { out = out; files = files_by filing part some };
             above = record { out = subst (IsBeginning (part_by filing first fewest).out) (sym out_is) (longer _ bytes (grow_begins filing risen).out); files = (grow_begins filing risen).files };
-            below = record { out = subst (λ out. IsBeginning out (part_by filing last most).out) (sym out_is) (out_in filing part last bytes back.more begun (grow_begins filing left)); files = (grow_begins filing left).files };
+            below = record { out = rw (← out_is) at (out_in filing part last bytes back.more begun (grow_begins filing left)); files = (grow_begins filing left).files };
             place = place;
             order = record { done = done last left; untouched = untouched first risen };
             lines = lines_in filing first part last fewest out bytes place back.more begun (grow_begins filing risen) out_is;
@@ -195,7 +195,7 @@ halts_in {before = before} {filing} {few = few} {many} {from} {to} place part so
             marks = marks_by (IsDue filing some many) _ why reached now (λ name due. next_due filing out part last name (due.0, omega (arith, due.1, back.more))) marks;
             from = subst (IsAt why (length before) place) (sym (length-map-range_with_len (λ i. file_at filing i (part i)) 0 some)) came;
           };
-      own = λ other is. elim (subst (λ (those : Fault). IsAt those (length before) place some) is came) [
+      own = λ other is. elim (rw is at came) [
         | inl none ↦ absurd (omega (arith, none, outputs.standard))
         | inr same ↦ omega (arith, same, after)
       ];
@@ -231,7 +231,7 @@ stops_in_order stop = stop.stops _ _ _ _ 0 (grow_same _ _ _ _) (grow_same _ _ _ 
 
 pub stopped_as : (output : Output) (told : Bool) {before : List Slot} {low low' high high' : Part} {why : Fault} {now : List Slot} → low ≡ low' → high ≡ high' → StoppedBetween output told before low high why now → StoppedBetween output told before low' high' why now
 stopped_as output told {before} {low} {high' = high'} {why} {now} is_low is_high stop =
-    subst (λ part. StoppedBetween output told before part high' why now) is_low (subst (λ part. StoppedBetween output told before low part why now) is_high stop)
+    rw is_low at (subst (λ part. StoppedBetween output told before low part why now) is_high stop)
 
 -- Steps in a row
 
@@ -271,7 +271,7 @@ adds_then {told} {files} {between} {next} {first} {second} {from} {to} {low} {hi
       leaves before had has at are = rw (← count, ← one.opened, ← one.filing) (other.leaves before (λ i. had i ++ first i) has (record {
         owns = one.owned (length before) at.owns;
         outputs = subst (λ filing. OutputsAt told before (part_by filing (all_open (λ i. had i ++ first i)) (length between.outputs)) mid) (sym one.filing)
-            (subst (λ n. OutputsAt told before (part_by (filing_in files) (all_open (λ i. had i ++ first i)) n) mid) (sym one.opened) (one.leaves before had _ at (λ i. refl)));
+            (rw (← one.opened) at (one.leaves before had _ at (λ i. refl)));
         none = λ i past. cc (at.none i (omega (arith, past, one.opened)), one.outside i (inr (omega (arith, past, one.opened))));
       }) (λ i. are i ∙ sym (append_assoc (had i) (first i) (second i))))
 
@@ -302,8 +302,7 @@ adds_wider {files = files} {some} {more} {from} {to} low most rest {new = new} {
     stops = λ start last fewest all end front back.
         let count : max (max (length files.outputs) to) most ≡ max (length files.outputs) most = omega arith in
         (adds.leaves before had _ at (λ i. refl)).stops start last fewest all (max most end) front (grow_trans (to - 1) (max most end)
-        (subst (λ n. Grow low most (all_open (λ i. had i ++ some i)) (max (length files.outputs) to) (all_open has) n) count
-        (grow_by low most rest (max (length files.outputs) to) none
+        (rw count at (grow_by low most rest (max (length files.outputs) to) none
         (λ i. is i ∙ ap (λ bytes. had i ++ bytes) (are i) ∙ sym (append_assoc (had i) (some i) (rest i))))) back
         (omega arith) (omega arith) (omega arith) (omega arith));
     own = (adds.leaves before had _ at (λ i. refl)).own;
@@ -331,8 +330,7 @@ module _ {told : Bool} {files between next : FilesState} {old mid new : List Slo
 -- all of them got it
 pub sent_all : {told : Bool} {files next : FilesState} {old new : List Slot} (place : ℕ) {most : ℕ} (more : ℕ → List ℕ) → ((i : ℕ) → most ≤ i → more i ≡ []) → place ≡ most
     → Adds told files (up_to place more) 0 place old next new (Ok tt) → Adds told files more 0 most old next new (Ok tt)
-sent_all {told} {files} {next} {old} {new} place {most} more none is adds = subst (λ n. Adds told files more 0 n old next new (Ok tt)) is
-    (subst (λ those. Adds told files those 0 place old next new (Ok tt)) (fun_ext (λ i. grind (arith, nat_tests, is, none i))) adds)
+sent_all {told} {files} {next} {old} {new} place {most} more none is adds = rw (← is) (subst (λ those. Adds told files those 0 place old next new (Ok tt)) (fun_ext (λ i. grind (arith, nat_tests, is, none i))) adds)
 
 -- Opening
 
@@ -412,8 +410,8 @@ pub reached : (told : Bool) (files : FilesState) {old new : List Slot} (place : 
 reached told files {old} {new} place ready here is = record {
   adds = record {
     filing = refl;
-    owned = λ first owns. subst (λ n. OwnsFiles (with_opened n files) first new) size (owned_opened (next_name files.names) ready.drawn is first (owned_same size first owns));
-    ready = subst (λ n. AreReady (with_opened n files) new) size (ready_opened (next_name files.names) (told_ready told ready) is);
+    owned = λ first owns. rw size at (owned_opened (next_name files.names) ready.drawn is first (owned_same size first owns));
+    ready = rw size at (ready_opened (next_name files.names) (told_ready told ready) is);
     opened = omega (arith, here, length-append files.outputs (length old ∷ []));
     sound = keeps_again old mid new (keeps_write 0 _ old mid refl) (keeps_open _ mid new is);
     caused = tt;
@@ -452,8 +450,7 @@ reached told files {old} {new} place ready here is = record {
       → OutputsAt told before (part_by (filing_in files) (all_open has) (max (length files.outputs) (place + 1))) new
   leaves before had has at are =
       let count : max (length files.outputs) (place + 1) ≡ length files.outputs + 1 = omega (arith, here) in
-      subst (λ n. OutputsAt told before (part_by (filing_in files) (all_open has) n) new) (sym count)
-      (subst (λ those. OutputsAt told before (part_with output those) new) (list before had has at are)
+      rw (← count) at (subst (λ those. OutputsAt told before (part_with output those) new) (list before had has at are)
       (subst (λ out. OutputsAt told before (record { out = out; files = files_by (filing_in files) (all_open had) (length files.outputs) ++ next ∷ [] }) new) (out had)
       (file_more told before _ mid new (next_name files.names) Fresh (out_more told before (part_by (filing_in files) (all_open had) (length files.outputs)) old mid (line_next files.tells files.names) at.outputs refl) is)))
 
@@ -467,7 +464,7 @@ reached_not told files {names} {old} {new} place {why} ready here named same uno
   caused = caused;
 } where
   has : IsTrue (has_next files.names)
-  has = subst (λ n. has_name files.names.naming n ≡ true) (here ∙ sym ready.drawn) named
+  has = rw (here ∙ sym ready.drawn) at named
 
   fails : OpensNone told files.tells files.names names old new why
   fails = unopened has
@@ -512,8 +509,7 @@ changes : (told : Bool) (change : Slot → Slot) (makes : File → File) → Mak
     → ((i : ℕ) → (i ≡ place → ⊥) → low i ≡ high i) → makes (file_at (filing_in files) place (low place)) ≡ file_at (filing_in files) place (high place)
     → OutputsAt told before (part_by (filing_in files) high (length files.outputs)) new
 changes told change makes fits files {before} {now} {new} {low} high place stands at within is other here =
-    subst (λ out. OutputsAt told before (record { out = out; files = files_by (filing_in files) high (length files.outputs) }) new) (told_same (filing_in files) low high (length files.outputs))
-    (subst (λ those. OutputsAt told before (record { out = told_of_files (output_by (is_verbose files.tells)) (files_by (filing_in files) low (length files.outputs)); files = those }) new) (changed_by makes _ _ 0 (length files.outputs) place (zero-add place) within (λ i differs. ap (file_at (filing_in files) i) (other i differs)) here)
+    rw (told_same (filing_in files) low high (length files.outputs)) at (subst (λ those. OutputsAt told before (record { out = told_of_files (output_by (is_verbose files.tells)) (files_by (filing_in files) low (length files.outputs)); files = those }) new) (changed_by makes _ _ 0 (length files.outputs) place (zero-add place) within (λ i differs. ap (file_at (filing_in files) i) (other i differs)) here)
     (file_changes told change makes fits before (part_by (filing_in files) low (length files.outputs)) now new place at
     (is ∙ ap (λ slot. changed_at slot change now) stands)))
 
@@ -539,7 +535,7 @@ written told {files} {old} {new} place bytes (Ok done) ready within is = record 
   sound = keeps_write (output_at files place) (told_of told bytes) old new is;
   caused = tt;
   outside = none_outside place bytes;
-  leaves = λ before had has at are. subst (λ n. OutputsAt told before (part_by (filing_in files) (all_open has) n) new) (let count : length files.outputs ≡ max (length files.outputs) (place + 1) = omega arith in count) (writes told place bytes within is at are);
+  leaves = λ before had has at are. rw (let count : length files.outputs ≡ max (length files.outputs) (place + 1) = omega arith in count) at (writes told place bytes within is at are);
 }
 written told {files} {old} {new} place bytes (Err _) ready within (short.broke n cut) = record {
   filing = refl;
@@ -644,7 +640,7 @@ pub sent : {told : Bool} {files between : FilesState} {old mid new : List Slot} 
     → Opens told files place (place + 1) old between mid (Ok tt) → slot ≡ output_at between place
     → Wrote told slot bytes mid new (fault_in result) → Adds told files (only_at place bytes) place (place + 1) old between new result
 sent {told} {between = between} {mid = mid} {new} {place} bytes result reached slot_is wrote = adds_then result reached.adds (written told place bytes result reached.adds.ready (sent_within reached)
-    (subst (λ at. Wrote told at bytes mid new (fault_in result)) slot_is wrote)) (omega arith) (omega arith) (omega arith)
+    (rw slot_is at wrote)) (omega arith) (omega arith) (omega arith)
 
 -- a file that couldn't be reached stops the write to it as well
 pub sent_unreached : {told : Bool} {files next : FilesState} {old new : List Slot} {place : ℕ} (bytes : List ℕ) {why : Fault} → Opens told files place (place + 1) old next new (Err why)

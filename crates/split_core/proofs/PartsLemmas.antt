@@ -3,12 +3,12 @@ use Rattle.std.proofs.lemmas.Grind.{common_steps}
 use Rattle.std.proofs.Common.{◌≡◌, ℕ, ◌+◌, ◌-◌, ◌<◌, ◌≤◌, suc, List, [], ◌∷◌, ◌++◌, ◌⊎◌, length, map, Bool, true, false, Option, Some, None, IfSome, IsTrue, Result, Ok, Err, OnOk, IfErr, IfOk, inl, inr, refl, sym, ◌∙◌, ap, subst, arith, length-append, take, drop, append_assoc, not, cond, rules}
 use Rattle.std.proofs.lemmas.List.{append-nil, drop-take, take-append-drop, length-map, map-append}
 use Rattle.std.proofs.Math.Seq.{take-length, drop-append_seam}
-use Rattle.ports_core.specs.Draft.{Manner, Draft, share, Share, made_of, shares_of, draft_part, output_of, part_with, with_bytes, with_next}
+use Rattle.ports_core.specs.Draft.{Manner, Draft, share, Share, made_of, shares_of, draft_part, output_of, with_bytes, with_next}
 use Rattle.ports_core.specs.Engine.{CutsOff, EndsWith, EndsThere, IsMet, StandsAt, is_verdict}
 use Rattle.ports_core.specs.Engine as engine
 use Rattle.ports_core.specs.FileWriter.{Leaves, Reaches, WriterState, Writes, At, Breaks, CanCount, CanTell, Goes, IsCurrent, IsReady as CanWrite, IsWrite, is_file, manner_in}
 use Rattle.ports_core.specs.Name.{Naming, has_name}
-use Rattle.ports_core.specs.Part.{Begins as PartBegins, OutputsAt, writes}
+use Rattle.ports_core.specs.Part.{writes}
 use Rattle.ports_core.specs.Slot.{Slot, is_writable}
 use Rattle.ports_core.specs.Turn.{fault_in}
 use Rattle.ports_core.specs.inner.Shares.{SharesBegin}
@@ -68,7 +68,7 @@ module _ (late : Bool) (needs : Needs) (Lacks : Type 0) (Why : Verdict → Type 
       → Breaks manner old new fault → (fault ≡ fault_is.Verdict Suffixes → Why Suffixes)
       → IsMet (split_means verbose late) needs Lacks Why old new fault
   met_files Memory memory files same breaks ends = memory
-  met_files (Write slot) memory files same (out, rose) ends = (λ none. subst (λ output. writes output ≡ true) same (out none), (λ none. absurd (cc)), rose)
+  met_files (Write slot) memory files same (out, rose) ends = (λ none. rw same at (out none), (λ none. absurd (cc)), rose)
   met_files (Open slot) memory files same breaks ends = (refl, files, breaks)
   met_files (fault_is.Verdict Suffixes) memory files same breaks ends = ends refl
   met_files fault memory files same breaks ends = absurd breaks
@@ -231,14 +231,13 @@ module _ {state : PartsState} {x taken : List ℕ} {after : Draft} {are : ℕ ×
   stands_so next limit naming same writes = record {
     lacks = rw (limit, cut_is, ap (λ (those : ℕ × Bool × List ℕ). those.0) same, ap (λ (those : ℕ × Bool × List ℕ). those.1) same) comes.lacks;
     waits = rw (limit, cut_is) (ap (λ (those : ℕ × Bool × List ℕ). those.2) same ∙ comes.waits);
-    writes = subst (λ names. Writes (manner_of names) next.writer (draft_of next.limit (x ++ taken))) (sym naming) (subst (λ limit. Writes (manner_of (filing_of state)) next.writer (draft_of limit (x ++ taken))) (sym limit) (subst (Writes (manner_of (filing_of state)) next.writer) (sym draft_so) writes));
+    writes = subst (λ names. Writes (manner_of names) next.writer (draft_of next.limit (x ++ taken))) (sym naming) (rw (← limit) at (subst (Writes (manner_of (filing_of state)) next.writer) (sym draft_so) writes));
   }
 
 -- so far that is a beginning of what the whole piece leads to
 below : {state : PartsState} {x : List ℕ} (piece : List ℕ) (bytes : ℕ) {after : Draft} {are : ℕ × Bool × List ℕ} → Comes state x (take bytes piece) after are
     → SharesBegin (shares_of after) (settled_parts state.limit (x ++ piece))
-below {state} {x} piece bytes comes = subst (λ low. SharesBegin (shares_of low) (settled_parts state.limit (x ++ piece))) (draft_so comes)
-    (subst (λ all. SharesBegin (settled_parts state.limit (x ++ take bytes piece)) (settled_parts state.limit all))
+below {state} {x} piece bytes comes = rw (← draft_so comes) (subst (λ all. SharesBegin (settled_parts state.limit (x ++ take bytes piece)) (settled_parts state.limit all))
     (append_assoc x (take bytes piece) (drop bytes piece) ∙ ap (λ those. x ++ those) (take-append-drop bytes piece))
     (settled_grow state.limit (x ++ take bytes piece) (drop bytes piece)))
 
@@ -265,7 +264,7 @@ takes_not {told} {state} {taken = taken} {change} {new = new} begins moves = rec
   short = λ is x stands.
       let ran = moves.goes.short is (manner_of (filing_of state)) (draft_of state.limit x) stands.writes in record {
         none = short_count (filing_of state) (change (draft_of state.limit x)) (settled_parts state.limit (x ++ taken)) ran.none (begins x stands) ran.begun;
-        all = λ before at. subst (λ files. OutputsAt told before (part_with (output_by (filing_of state).verbose) files) new) (short_files (filing_of state) (change (draft_of state.limit x)) (settled_parts state.limit (x ++ taken)) ran.none (begins x stands)) (ran.all before at);
+        all = λ before at. rw (short_files (filing_of state) (change (draft_of state.limit x)) (settled_parts state.limit (x ++ taken)) ran.none (begins x stands)) at (ran.all before at);
       };
 }
 
@@ -288,7 +287,7 @@ module _ {state : PartsState} (piece : List ℕ) (bytes left : ℕ) (has_line : 
   }
 
   pub goes_on : {told : Bool} {fresh next : PartsState} {old new : List Slot} → Extends told state (take bytes piece) old new fresh None → next ≡ record fresh { left = left; has_line = has_line } → Takes told state (take bytes piece) old new next None
-  goes_on {told} {old = old} {new} extends is = subst (λ those. Takes told state (take bytes piece) old new those None) (sym is) (takes_so goes_to (moves_as left has_line extends))
+  goes_on {told} {old = old} {new} extends is = rw (← is) at (takes_so goes_to (moves_as left has_line extends))
 
   pub goes_stopped : {told : Bool} {fresh : PartsState} {old new : List Slot} {f : Fault} → Extends told state (take bytes piece) old new fresh (Some f) → Takes told state piece old new fresh (Some f)
   goes_stopped extends = takes_not (λ x stands. below piece bytes (goes_to x stands)) extends
@@ -359,7 +358,7 @@ waits_on told state piece leads ready = takes_so {change = λ draft. draft} (λ 
 no_room : (told : Bool) (state : PartsState) (piece : List ℕ) {slots : List Slot} → IsReady state slots → Takes told state piece slots slots state (Some Memory)
 no_room told state piece {slots} ready =
     let moves : Moves told state (numbers state) (with_bytes []) slots slots state (Some Memory) = record { limit = refl; same = tt; goes = goes_lacking ready.writer refl } in
-    takes_not (λ x stands. subst (λ bytes. SharesBegin (shares_of (late (full_of state x) bytes)) (settled_parts state.limit (x ++ piece))) (sym (append-nil (begun_of state x))) (settled_grow state.limit x piece)) moves
+    takes_not (λ x stands. rw (← append-nil (begun_of state x)) at (settled_grow state.limit x piece)) moves
 
 pub waited : (told : Bool) (state next : PartsState) (piece : List ℕ) (slots : List Slot) (result : Result ℕ Fault) → 0 < length piece → LeadsOn state piece Waits
     → IsReady state slots → IfOk result (λ n. n ≡ length piece)
@@ -391,7 +390,7 @@ module _ {told : Bool} {state mid : PartsState} {first : List ℕ} {old wet : Li
   lacks_as : {new : List Slot} → Stands state x → LacksNames told mid (x ++ first) more wet new → LacksNames told state x (first ++ more) old new
   lacks_as {new} stands ran = record {
     none = rw (← append_assoc x first more, ← one.limit, ← one.leaves.naming) ran.none;
-    all = λ before at. subst (λ part. OutputsAt told before part new) high_as (ran.all before (subst (λ part. At told mid.writer before part wet) (sym low_as) ((one.reaches x stands).there before at)));
+    all = λ before at. rw high_as at (ran.all before (subst (λ part. At told mid.writer before part wet) (sym low_as) ((one.reaches x stands).there before at)));
   }
 
 takes_again : {told : Bool} {state mid next : PartsState} (first more : List ℕ) {old wet new : List Slot} (fault : Option Fault)
@@ -460,7 +459,7 @@ held_stops {state = state} limit stopped broke = record {
   leaves = stopped.leaves;
   broke = broke;
   reaches = λ x stands. let manner = manner_of (filing_of state) in stops_wider (stopped.reaches manner (draft_of state.limit x) stands.writes)
-      (subst (λ part. PartBegins (draft_part manner (with_bytes state.waiting (draft_of state.limit x))) part) (whole_so state stands) (next_begins manner Never (with_bytes state.waiting (draft_of state.limit x))));
+      (rw (whole_so state stands) at (next_begins manner Never (with_bytes state.waiting (draft_of state.limit x))));
 }
 
 pub some_broke : (result : Result (Unit {0}) Fault) → IfErr result IsWrite → IfSome (fault_in result) IsWrite
@@ -542,7 +541,7 @@ module _ (told : Bool) (state next : PartsState) (piece : List ℕ) (old new : L
 -- the end
 
 end_met : (state : PartsState) (old new : List Slot) (f : Fault) → IsWrite f → TellsNoSizes state.writer.tells → Breaks (manner_in state.writer) old new f → IsMet (work state).means (work state).means.closing (Unit {0}) (EndsThere ways.terms (way.Parts state)) old new f
-end_met state old new f (slot, is) tells breaks = rw is (let (out, rose) = rw is at breaks in (λ none. subst (λ output. writes output ≡ true) (ap output_of tells) (out none), (λ none. absurd (cc)), rose))
+end_met state old new f (slot, is) tells breaks = rw is (let (out, rose) = rw is at breaks in (λ none. rw (ap output_of tells) at (out none), (λ none. absurd (cc)), rose))
 
 pub finishes_by : (told : Bool) (state next : PartsState) (old new : List Slot) (result : Result (Unit {0}) Fault) → IsReady state old → Finishes told state old new next (fault_in result)
     → engine.Finishes ways.terms told (way.Parts state) (way.Parts next) old new (engine.IsMetThere ways.terms (way.Parts state)) result

@@ -149,7 +149,7 @@ passes_by told old new piece before after (Ok u) deals = record {
   same = same_work old new deals.delim deals.count deals.elide deals.adds.filing;
   size = omega arith;
   holds = takes_in told deals;
-  outputs = λ start x at. subst (λ part. OutputsAt told start part after) (made_is told old piece at) (left_by told old piece at (Ok u) deals.adds);
+  outputs = λ start x at. rw (made_is told old piece at) at (left_by told old piece at (Ok u) deals.adds);
   ready = deals.adds.ready;
   owns = deals.adds.owned;
   there = λ are. tt;
@@ -184,7 +184,7 @@ finishes_by told round old new (Ok u) closes = record {
   same = refl;
   size = omega arith;
   well = λ x holds. refl;
-  outputs = λ before x at. subst (λ part. OutputsAt told before part new) (closed_part at.holds) (closes.closed before _ (stand_at told round at));
+  outputs = λ before x at. rw (closed_part at.holds) at (closes.closed before _ (stand_at told round at));
   writable = part.told_writable round.files.tells new closes.output;
   owns = closes.owned;
   there = λ are. tt;
@@ -227,14 +227,14 @@ module _ (told : Bool) (names : Naming) (tells : Tells) {count : ℕ} {files nex
   -- what is there then is all that must be written of no input
   pub opens_all : {part : Part} → part_by (filing_in (no_files names tells)) (all_open (λ i. [])) (max 0 count) ≡ part → (before : List Slot) → OutputsAt told before nothing old
       → (OnOk result (OutputsAt told before part new)) × (IfErr result (λ why. StoppedBetween (output_by (is_verbose tells)) told before nothing part why new))
-  opens_all {part} made before at = by result ((subst (λ (those : FilesState). Opens told those 0 count old next new result) is opens).adds.leaves before (λ i. []) (λ i. []) (record {
+  opens_all {part} made before at = by result ((rw is at opens).adds.leaves before (λ i. []) (λ i. []) (record {
     owns = subst (λ place. OwnsFiles (no_files names tells) place old) (omega (arith, outputs_count told before nothing old at)) (none_owned names tells);
-    outputs = subst (λ part. OutputsAt told before part old) (sym (nothing_part (output_by (is_verbose tells)))) at;
+    outputs = rw (← nothing_part (output_by (is_verbose tells))) at at;
     none = λ i past. refl;
   }) (λ i. refl)) where
     by : (result : Result (Unit {0}) Fault) → Leaves told before (filing_in (no_files names tells)) (all_open (λ i. [])) 0 (all_open (λ i. [])) (max 0 count) 0 count new result
         → (OnOk result (OutputsAt told before part new)) × (IfErr result (λ why. StoppedBetween (output_by (is_verbose tells)) told before nothing part why new))
-    by (Ok done) leaves = (subst (λ those. OutputsAt told before those new) made leaves, tt)
+    by (Ok done) leaves = (rw made at leaves, tt)
     by (Err why) leaves = (tt, stopped_as (output_by (is_verbose tells)) told (nothing_part (output_by (is_verbose tells))) made (stops_in_order leaves))
 
 -- where all files have names, the work is what was asked for

@@ -94,7 +94,7 @@ pub emptied : {told : Bool} {writer next : WriterState} (elide : Bool) {old new 
 emptied {writer = writer} elide kept none goes = rw kept (files_as
     (λ draft now. let is = none_made writer.tells draft.opening draft.bytes writer.current none now in sym (ap (λ made. begun_by made draft) is))
     (files_go (λ manner draft writes nameless begun. let is = none_made writer.tells draft.opening draft.bytes writer.current none writes.current in
-    subst (λ those. manner.has_name (length those) ≡ false) (ap (λ made. draft.ended ++ made) is ∙ append-nil draft.ended) nameless) goes))
+    rw (ap (λ made. draft.ended ++ made) is ∙ append-nil draft.ended) at nameless) goes))
 
 late_after : (elide : Bool) (draft : Draft) → with_next Late (empties_by elide draft) ≡ ends_by elide draft
 late_after true draft = refl
@@ -127,11 +127,11 @@ filing_same writer next leaves = cc (leaves.naming, leaves.tells)
 
 at_aim : (output : Output) (told : Bool) (next : WriterState) (elide : Bool) (before : List Slot) (low : Part) {mid high : Part} (new : List Slot) (fault : Option Fault) → mid ≡ high
     → IsThere output told (At told next before mid new) before low mid new fault → IsThere output told (AtAim told (to_files next elide) before high new) before low high new fault
-at_aim output told next elide before low new None is at = record { owns = at.owns; outputs = subst (λ part. OutputsAt told before part new) is at.outputs }
-at_aim output told next elide before low new (Some why) is stops = subst (λ high. StoppedInTurn output told before low high why new) is stops
+at_aim output told next elide before low new None is at = record { owns = at.owns; outputs = rw is at at.outputs }
+at_aim output told next elide before low new (Some why) is stops = rw is at stops
 
 slots_as : {manner other : Manner} (old new : List Slot) (fault : Option Fault) → other ≡ manner → KeepsOrBreaks other old new fault → KeepsOrBreaks manner old new fault
-slots_as old new fault same slots = subst (λ manner. KeepsOrBreaks manner old new fault) same slots
+slots_as old new fault same slots = rw same at slots
 
 of_files : (filing : Filing) (elide : Bool) (fault : Option Fault) → IfSome fault (IsOf (in_files filing elide))
 of_files filing elide None = tt
@@ -251,7 +251,7 @@ none_files (file ∷ files) begins = absurd begins
 -- it broke among these bytes
 out_stops : (told : Bool) (before : List Slot) (had more : List ℕ) {high : List ℕ} (n : ℕ) {old new : List Slot} → had ++ more ≡ high → OutputsAt told before (only_out had) old → BrokeAfter told old new 0 more n
     → StoppedInTurn gets_bytes told before (only_out had) (only_out high) (Write 0) new
-out_stops told before had more {high} n {old} {new} is at broke = let stops = out_cut told before (only_out had) old new more n at broke in subst (λ high. StoppedInTurn gets_bytes told before (only_out had) (only_out high) (Write 0) new) is (record {
+out_stops told before had more {high} n {old} {new} is at broke = let stops = out_cut told before (only_out had) old new more n at broke in rw (← is) (record {
   part = stops.part;
   above = stops.above;
   below = stops.below;
@@ -266,7 +266,7 @@ out_stops told before had more {high} n {old} {new} is at broke = let stops = ou
 
 out_there : (told : Bool) (chunk : ℕ) (before : List Slot) (had more : List ℕ) {high : List ℕ} (old new : List Slot) (fault : Option Fault) → had ++ more ≡ high → OutputsAt told before (only_out had) old → Wrote told 0 more old new fault
     → IsThere gets_bytes told (AtAim told (to_output chunk) before (only_out high) new) before (only_out had) (only_out high) new fault
-out_there told chunk before had more old new None is at wrote = record { owns = tt; outputs = subst (λ high. OutputsAt told before (only_out high) new) is (out_more told before (only_out had) old new more at wrote) }
+out_there told chunk before had more old new None is at wrote = record { owns = tt; outputs = rw is at (out_more told before (only_out had) old new more at wrote) }
 out_there told chunk before had more old new (Some _) is at (short.broke n cut) = out_stops told before had more n is at cut
 
 out_slots : (told : Bool) (chunk : ℕ) (more : List ℕ) (old new : List Slot) (fault : Option Fault) → IsTrue (is_writable old 0) → Wrote told 0 more old new fault
@@ -313,7 +313,7 @@ brings_none {told} {chunk} {high = high} {slots} can is = record {
   output = λ can. can;
   ready = can;
   begins = λ cut has. subst (Begins (piece_at chunk cut)) (is cut) (part_begins_itself (piece_at chunk cut));
-  reaches = λ cut has before at. record { owns = tt; outputs = subst (λ part. OutputsAt told before part slots) (is cut) at.outputs };
+  reaches = λ cut has before at. record { owns = tt; outputs = rw (is cut) at at.outputs };
 }
 
 pub output_next : {told : Bool} {chunk place : ℕ} {slots : List Slot} → IsTrue (is_writable slots 0)
@@ -369,9 +369,8 @@ brings_as {told = told} {on} {aim} {next} {low = low} {high} {low'} {high'} f {o
   named = where_short fault brings.named (λ never y also. never (f y) (so y also));
   output = brings.output;
   ready = brings.ready;
-  begins = λ y also. subst (λ low. Begins low (high' y)) (low_is y also) (subst (Begins (low (f y))) (high_is y also) (brings.begins (f y) (so y also)));
-  reaches = λ y also before at. subst (λ low. IsThere (output_on on) told (AtAim told next before (high' y) new) before low (high' y) new fault) (low_is y also)
-      (subst (λ high. IsThere (output_on on) told (AtAim told next before high new) before (low (f y)) high new fault) (high_is y also)
+  begins = λ y also. rw (low_is y also) at (subst (Begins (low (f y))) (high_is y also) (brings.begins (f y) (so y also)));
+  reaches = λ y also before at. rw (low_is y also) at (subst (λ high. IsThere (output_on on) told (AtAim told next before high new) before (low (f y)) high new fault) (high_is y also)
       (brings.reaches (f y) (so y also) before (subst (λ part. AtAim told aim before part old) (sym (low_is y also)) at)));
 }
 
@@ -386,7 +385,7 @@ pub sends_then : {X : Type 0} {told : Bool} {one two three : TargetState} {So La
     → ((x : X) → So x → Carries two (middle x) → Later x) → Sends told two Later middle high mid new three fault → Sends told one So low high old new three fault
 sends_then {told = told} {two = two} {three} {Later = Later} {middle = middle} {high} {mid = mid} {new} {fault} first later second = record {
   brings = brings_then first.brings (λ x so. later x so (first.carries x so))
-      (subst (λ on. Brings told on two.aim three.aim Later (λ x. part_on on (middle x)) (λ x. part_on on (high x)) mid new fault) first.brings.stays second.brings);
+      (rw first.brings.stays at second.brings);
   carries = where_well fault second.carries (λ has x so. has x (later x so (first.carries x so)));
 }
 

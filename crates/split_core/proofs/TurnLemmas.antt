@@ -1,6 +1,6 @@
 -- Lemmas on one turn of lines that are dealt, as a stage.
 use Rattle.std.proofs.lemmas.Grind.{common_steps}
-use Rattle.std.proofs.Common.{◌≡◌, ℕ, ◌<◌, Bool, true, false, IsTrue, List, [], ◌++◌, get_or, Ok, Err, Result, OnOk, IfErr, refl, ◌∙◌, ap, subst, arith}
+use Rattle.std.proofs.Common.{◌≡◌, ℕ, ◌<◌, Bool, true, false, IsTrue, List, [], ◌++◌, get_or, Ok, Err, Result, OnOk, IfErr, refl, ◌∙◌, ap, arith}
 use Rattle.std.proofs.Math.Nat.{mod-add-mod, mod-mod}
 use Rattle.std.proofs.lemmas.List.FromFn.{get_or-map-range_with_len}
 use Rattle.seg_core.proofs.Delimiters.{delimiters-append}
@@ -10,7 +10,6 @@ use Rattle.ports_core.specs.Part.{OutputsAt, Part, StoppedBetween, gets_bytes}
 use Rattle.ports_core.specs.Slot.{Slot, is_writable, told_of, with_written}
 use Rattle.ports_core.specs.Work.{on_output}
 use Rattle.ports_core.specs.Turn.{fault_in}
-use Rattle.ports_core.specs.Write.{BrokeAfter}
 use Rattle.ports_core.specs.inner.Write.{Wrote}
 use Rattle.ports_core.specs.inner.Write as short
 use Rattle.ports_core.specs.declared.fault.Fault.{Fault}
@@ -38,7 +37,7 @@ pub wrote_so : (told : Bool) {bytes due : List ℕ} (old new : List Slot) (resul
     → OnOk result (new ≡ with_written 0 (told_of told due) old) × IfErr result (StopsShort told due old new)
 wrote_so told old new (Ok u) same wrote = (wrote ∙ ap (λ those. with_written 0 (told_of told those) old) same, tt)
 wrote_so told old new (Err why) same (short.broke n broke) =
-    (tt, stop.broke n (subst (λ those. BrokeAfter told old new 0 those n) same broke))
+    (tt, stop.broke n (rw same at broke))
 
 -- What a piece leaves
 
@@ -78,8 +77,7 @@ passes_by told old new piece before after (Ok u) can picks = record {
   same = same_work old new picks.delim picks.count picks.place;
   size = omega arith;
   holds = takes_in picks;
-  outputs = λ start x at. subst (λ part. OutputsAt told start part after) (went_out piece at.holds)
-      (out_more told start _ before after (due old piece) at.outputs picks.out);
+  outputs = λ start x at. rw (went_out piece at.holds) at (out_more told start _ before after (due old piece) at.outputs picks.out);
   ready = written_writable before after 0 0 _ can picks.out;
   owns = λ first own. tt;
   there = λ are. tt;
@@ -95,8 +93,7 @@ passes_by told old new piece before after (Err why) can picks = record {
   owns = λ first own. tt;
   there = λ are. tt;
   cut = λ start x at. cut (unjudged picks.cut)
-      (subst (λ part. StoppedBetween gets_bytes told start ((work old).settled x) part why after) (went_out piece at.holds)
-      (between told _ at.outputs picks.cut));
+      (rw (went_out piece at.holds) at (between told _ at.outputs picks.cut));
   met = met (EndsWith ways.terms piece (way.Turn old)) can picks.cut;
 }
 

@@ -52,7 +52,7 @@ parts_placed limit filing = stretch_placed (beside_output (parts_work limit fili
   rest = λ x. x;
   parts = λ x. refl;
   front = λ x. subst (AreFront (file_bytes ((parts_work limit filing).whole x))) (joined_parts limit x)
-      (subst (λ files. AreFront files (joined (parts limit x))) (sym (shared_bytes filing Closed (parts limit x))) (named_front filing.names 0 (parts limit x)));
+      (rw (← shared_bytes filing Closed (parts limit x)) at (named_front filing.names 0 (parts limit x)));
   are = λ x. refl;
   nowhere = λ x i less. absurd (omega (arith, less));
   there = λ x i past. ap (spots_from 1 (file_bytes ((parts_work limit filing).whole x))) (omega arith);
@@ -279,7 +279,7 @@ found_by k false is later less = found_after is (later k less)
 find : {delim n file : ℕ} (place : ℕ) (x : List ℕ) {k : ℕ} → k < length (dealt n file place (lines_of delim x)) → Found delim n file place x k
 find place [] less = search rules
 find {delim} {n} {file} place (byte ∷ x) {k} less = found_by k (eqb (place % n) file) refl (λ m within. find (cond (eqb byte delim) (place + 1) place) x within)
-    (subst (λ those. k < length those) (dealt_first (eqb byte delim) n file place byte (lines_of delim x)) less)
+    (rw (dealt_first (eqb byte delim) n file place byte (lines_of delim x)) at less)
 
 -- The files
 
@@ -326,10 +326,10 @@ dealt_filled : (delim n : ℕ) (elide : Bool) (filing : Filing) (x : List ℕ) (
 dealt_filled delim n elide filing x zero offset less = absurd (omega (arith, less))
 dealt_filled delim n elide filing x (suc file) offset less =
     let there = there_by (has_name filing.names (0 + file)) (get_or (dealt_files delim elide n x) file [])
-    (subst (λ those. offset < length those) (ap (λ files. get_or files file []) (shared_bytes filing Closed (dealt_files delim elide n x))
-    ∙ named_at filing.names 0 (dealt_files delim elide n x) file) less) in
+    (rw (ap (λ files. get_or files file []) (shared_bytes filing Closed (dealt_files delim elide n x))
+    ∙ named_at filing.names 0 (dealt_files delim elide n x) file) at less) in
     let within : file < n = grind (arith, common_steps, there.1, cases_lt, get_or_past, dealt_files_are, length-map-range_with_len, opened_by-most) in
-    let found = find 0 x (subst (λ those. offset < length those) (file_is delim elide n x file within) there.1) in (
+    let found = find 0 x (rw (file_is delim elide n x file within) at there.1) in (
       found.i,
       found.within,
       goes_there delim n filing.names x found.i found.within

@@ -9,7 +9,7 @@ use Rattle.ports_core.specs.declared.fault.Fault.{Fault}
 use Rattle.seg_core.specs.declared.cut.Chunks.{Chunks}
 use Rattle.split_core.specs.Chunks.{before_chunk, pieces_in, begun_before, chunk_at, chunk_start, chunks_of, chunks_within, decided, ended, is_within, open_from}
 use Rattle.split_core.specs.Parts.{CutUp, uncut}
-use Rattle.split_core.specs.ChunkerState.{AimState, Carries, ChunkerState, Course, course_of, to_files, to_output, CutterState, HasCut, Holds, HoldsBy, IsAimed, IsUnsaid, TargetState, can_cut, course, first_on, in_files, in_output, work_on}
+use Rattle.split_core.specs.ChunkerState.{AimState, Carries, ChunkerState, Course, course_of, to_files, to_output, CutterState, Holds, HoldsBy, IsAimed, IsUnsaid, TargetState, can_cut, course, first_on, in_files, in_output, work_on}
 use Rattle.split_core.specs.Split.{manner_of}
 use Rattle.split_core.specs.ChunkWork.{draft_by}
 use Rattle.ports_core.specs.Draft.{draft_part}
@@ -103,8 +103,7 @@ module _ {told : Bool} {cutter now : CutterState} {waiting left : List ℕ} {end
         begin_so (course cutter) (uncut (w ++ cut_to now end front)) (uncut (all_before cutter waiting end z)) (record {
           more = [];
           full = refl;
-          rest = subst (λ low. IsBeginning low (all_before cutter waiting end z)) (ap (λ (chunks : Chunks). begun_before chunks.unit chunks.delim end (w ++ front)) (sym so_far.chunks) ∙ on)
-              (subst (λ x. IsBeginning (begun_before unit delim end (w ++ front)) (begun_before unit delim end x)) all (begun_grows unit delim end (w ++ front) rest));
+          rest = rw (ap (λ (chunks : Chunks). begun_before chunks.unit chunks.delim end (w ++ front)) (sym so_far.chunks) ∙ on) at (subst (λ x. IsBeginning (begun_before unit delim end (w ++ front)) (begun_before unit delim end x)) all (begun_grows unit delim end (w ++ front) rest));
         })) (on_more (Some why) writes.sends);
     stands = tt;
   }
@@ -222,16 +221,16 @@ module _ {told : Bool} {chunker next : ChunkerState} {piece : List ℕ} {end : �
   passes_unsaid fault settles = record {
     same = record { can = can; said = same; chunks = settles.chunks };
     bound = omega (arith, settles.bound, spare, length-append chunker.waiting piece);
-    comes = brings_as (cut_front chunker) fault (λ x holds. let has = is_unsaid said holds in subst (λ end. BeginsBefore chunker.cutter end (cut_front chunker x)) (sym (end_is chunker piece ends has)) (front_before has piece))
+    comes = brings_as (cut_front chunker) fault (λ x holds. let has = is_unsaid said holds in rw (← end_is chunker piece ends has) at (front_before has piece))
         (λ x holds. sym (decided_is (course chunker.cutter) chunker.cutter.chunks x) ∙ ap (λ (work : Work). work.settled x) (made_none chunker said))
         (λ x holds. let has = is_unsaid said holds in ap (λ z. part_on (course chunker.cutter) (uncut z)) (to_is chunker piece ends has) ∙ sym (decided_is (course chunker.cutter) chunker.cutter.chunks (x ++ piece)) ∙ ap (λ (work : Work). work.settled (x ++ piece)) (made_none chunker said)) settles.sends.brings;
     stands = where_well fault settles.stands (λ later x holds. let has = is_unsaid said holds in
-        let (cut, left) = later (cut_front chunker x) (subst (λ end. BeginsBefore chunker.cutter end (cut_front chunker x)) (sym (end_is chunker piece ends has)) (front_before has piece)) in
+        let (cut, left) = later (cut_front chunker x) (rw (← end_is chunker piece ends has) at (front_before has piece)) in
         let stays = settles.sends.brings.stays in
         let on : cut_front next (x ++ piece) ≡ cut_front chunker (x ++ piece) = ap (λ (chunks : Chunks). before_chunk chunks (length (x ++ piece)) (first_on (course next.cutter)) (x ++ piece)) settles.chunks ∙ ap (λ on. before_chunk chunker.cutter.chunks (length (x ++ piece)) (first_on on) (x ++ piece)) stays in
         let z = cut_front chunker (x ++ piece) in
         unsaid_is (same ∙ said) (record {
-          cut = rw on (subst (λ z. HasCut next.cutter z (uncut z)) (to_is chunker piece ends has) cut);
+          cut = rw on (rw (to_is chunker piece ends has) at cut);
           waits = left ∙ ap (λ z. drop (length z) (cut_front chunker x ++ (chunker.waiting ++ piece))) (to_is chunker piece ends has) ∙ ap (drop (length z)) (came_more has piece) ∙ ap (λ z. drop (length z) (x ++ piece)) (sym on);
           spare = spare ∙ has.spare;
         }));
@@ -384,8 +383,7 @@ module _ {told : Bool} {cutter mid : CutterState} {waiting : List ℕ} {size : �
         all = rw (stays, ends.chunks) so.cut.all;
         at = ends.at ∙ so.cut.at;
         within = rw ends.chunks (ends.within ∙ so.cut.within);
-        carries = subst (λ chunks. Carries mid.target (chunks_within chunks size z)) (sym ends.chunks)
-            (carries_same cutter.chunks size z mid.target.place mid.target.aim (some_so so) (omega (arith, so.all)) (ap (λ on. before_chunk cutter.chunks size (first_on on) z) stays ∙ settled_cut so) (sends.carries z so));
+        carries = rw (← ends.chunks) at (carries_same cutter.chunks size z mid.target.place mid.target.aim (some_so so) (omega (arith, so.all)) (ap (λ on. before_chunk cutter.chunks size (first_on on) z) stays ∙ settled_cut so) (sends.carries z so));
       };
       fits = omega (arith, so.all);
     },
@@ -397,7 +395,7 @@ module _ {told : Bool} {cutter mid : CutterState} {waiting : List ℕ} {size : �
       → Brings told (course cutter) cutter.target.aim next (IsSettled cutter waiting size) (λ z. part_on (course cutter) (uncut z)) (λ z. part_on (course cutter) (chunks_within cutter.chunks size (z ++ waiting))) old new fault
   brings_rest {next} {new} fault ends brings = let stays = (ends_first None ends).brings.stays in
       brings_then (brings_first None ends) (λ z so. so) (brings_as (λ z. z) fault (mid_cut ends) (λ z so. ap (λ chunks. part_on (course cutter) (chunks_within chunks size z)) ends.chunks) (λ z so. ap (λ chunks. part_on (course cutter) (chunks_within chunks size (z ++ waiting))) ends.chunks)
-      (subst (λ on. Brings told on mid.target.aim next (λ z. IsCut mid size z × (length (z ++ waiting) ≤ size)) (λ z. part_on on (chunks_within mid.chunks size z)) (λ z. part_on on (chunks_within mid.chunks size (z ++ waiting))) wet new fault) stays brings))
+      (rw (← stays) brings))
 
   pub held_not_cut : {next : CutterState} {left : List ℕ} {new : List Slot} {why : Fault} → EndsFull told cutter size old wet mid None → CutsHeld told mid waiting size wet new next left (Some why) → EndsHeld told cutter waiting size old new next left (Some why)
   held_not_cut {why = why} ends cuts = record {
@@ -412,8 +410,8 @@ module _ {told : Bool} {cutter mid : CutterState} {waiting : List ℕ} {size : �
     chunks = chunks ∙ cuts.cuts.chunks ∙ ends.chunks;
     bound = omega (arith, at, cuts.bound, ends.at);
     brings = brings_then first (λ z so. so) (brings_as (λ z. chunks_within cutter.chunks size (z ++ waiting)) fault
-        (λ z so. let (has, fits) = mid_cut ends z so in subst (λ chunks. Carries later.target (chunks_within chunks size (z ++ waiting))) (cuts.cuts.chunks ∙ ends.chunks) ((cuts.cuts.stands z has fits).cut.carries)) (λ z so. refl) (λ z so. refl)
-        (subst (λ on. Brings told on later.target.aim next.target.aim (Carries later.target) (part_on on) (whole_on on) between new fault) first.stays last));
+        (λ z so. let (has, fits) = mid_cut ends z so in rw (cuts.cuts.chunks ∙ ends.chunks) at ((cuts.cuts.stands z has fits).cut.carries)) (λ z so. refl) (λ z so. refl)
+        (rw first.stays at last));
   }
 
 -- as the stage ends

@@ -283,8 +283,7 @@ pub before_later : (chunks : Chunks) (size : ℕ) (x : List ℕ) (place other : 
     → before_chunk chunks size place x ≡ x → before_chunk chunks size other x ≡ x
 before_later chunks size x place other within all = let unit = chunks.unit in let delim = chunks.delim in
     begin_same _ _ (begun_begins unit delim (chunk_start chunks.count size other) x)
-    (beginning_short _ _ (subst (λ low. IsBeginning low (before_chunk chunks size other x)) all
-    (begun_monotone unit delim x (start_grows chunks.count size place other within))))
+    (beginning_short _ _ (rw all at (begun_monotone unit delim x (start_grows chunks.count size place other within))))
 
 -- so later chunks have nothing
 pub chunk_none : (chunks : Chunks) (size : ℕ) (x : List ℕ) (place : ℕ) → before_chunk chunks size place x ≡ x

@@ -62,9 +62,7 @@ goes_past chunks size x y more some within ends =
       begun = before_chunk chunks size place x
 
       next : IsBeginning x (before_chunk chunks size (place + 1) (x ++ y))
-      next = subst (λ low. IsBeginning low (before_chunk chunks size (place + 1) (x ++ y)))
-          (before_next chunks size x place some less here)
-          (begun_grows chunks.unit chunks.delim (chunk_start chunks.count size (place + 1)) x y)
+      next = rw (before_next chunks size x place some less here) at (begun_grows chunks.unit chunks.delim (chunk_start chunks.count size (place + 1)) x y)
 
       first : IsBeginning (drop (length begun) x) (f (0 + place))
       first = subst (λ n. IsBeginning (drop (length begun) x) (f n)) (omega arith)
@@ -104,8 +102,7 @@ chunks_go_on chunks size x y some = by (begun_grows Bytes 0 size x y) where
 
   by : IsBeginning (take size x) (take size (x ++ y))
       → GoesOn (chunks_of chunks size x) (chunks_of chunks size (x ++ y))
-  by (rest, is) = subst (λ low. GoesOn low (chunks_of chunks size (x ++ y))) (again x)
-      (subst (GoesOn (chunks_of chunks size (take size x))) (ap (chunks_of chunks size) (sym is) ∙ again (x ++ y))
+  by (rest, is) = rw (again x) at (subst (GoesOn (chunks_of chunks size (take size x))) (ap (chunks_of chunks size) (sym is) ∙ again (x ++ y))
       (goes_within chunks size (take size x) rest some
       (omega (arith, sym (ap length is), take_within size (x ++ y)))))
 
@@ -242,8 +239,7 @@ pieces_on {low} {high} on =
 pub piece_on : (place : ℕ) {low high : CutUp} → GoesOn low high
     → IsBeginning (get_or (pieces_in low) place []) (get_or (pieces_in high) place [])
 piece_on place {low} {high} on =
-    subst (λ pieces. IsBeginning (get_or (pieces_in low) place []) (get_or pieces place []))
-    (sym (pieces_on on)) (piece_step low.full on.more low.rest high.rest place on.rest)
+    rw (← pieces_on on) at (piece_step low.full on.more low.rest high.rest place on.rest)
 
 pub same_piece : (front one other : List (List ℕ)) (place : ℕ) → place < length front
     → get_or (front ++ one) place [] ≡ get_or (front ++ other) place []

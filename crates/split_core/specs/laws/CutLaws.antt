@@ -1,6 +1,6 @@
 -- Laws that traits cite: laws of parts that follow one another: what a text that goes on is cut into.
 use Rattle.std.proofs.lemmas.Grind.{common_steps}
-use Rattle.std.proofs.Common.{◌≡◌, ℕ, ◌+◌, ◌<◌, ◌≤◌, zero, suc, List, [], ◌∷◌, ◌++◌, length, take, Bool, true, false, cond, nat_lt, refl, sym, subst, arith, length-append, length-drop, rules}
+use Rattle.std.proofs.Common.{◌≡◌, ℕ, ◌+◌, ◌<◌, ◌≤◌, zero, suc, List, [], ◌++◌, length, take, Bool, true, false, cond, nat_lt, refl, sym, subst, arith, length-append, length-drop, rules}
 use Rattle.std.proofs.lemmas.Bool.{ltb-true}
 use Rattle.std.proofs.lemmas.Bool.Decides.{nat_tests}
 use Rattle.std.proofs.lemmas.List.{append-nil, take-append-le, drop-append-le, length-take, length-take-le}
@@ -139,8 +139,7 @@ pub cuts_on : {limit : Limit} (x y : List ℕ) {parts : List (List ℕ)} (more :
     → Cuts limit (rest ++ y) more left → Cuts limit (x ++ y) (parts ++ more) left
 cuts_on x y more (stops _ short) then = then
 cuts_on {limit} x y more {left} (goes _ parts _ full after) then =
-    subst (λ first. Cuts limit (x ++ y) (first ∷ (parts ++ more)) left) (first-append limit x y full)
-    (goes (x ++ y) (parts ++ more) left (full-append limit x y full)
+    rw (first-append limit x y full) at (goes (x ++ y) (parts ++ more) left (full-append limit x y full)
     (subst (λ those. Cuts limit those (parts ++ more) left) (sym (after-append limit x y full))
     (cuts_on (after_first limit x) y more after then)))
 

@@ -62,23 +62,19 @@ first_lines_begin delim k n x less = (
 
 whole_begins_by : (delim : ℕ) (x y : List ℕ) (k m : ℕ) → delimiters delim x ≡ k → delimiters delim (x ++ y) ≡ m
     → IsBeginning (whole_lines delim x) (whole_lines delim (x ++ y))
-whole_begins_by delim x y (suc k) (suc m) here all = subst (λ low. IsBeginning low (whole_lines delim (x ++ y)))
-    (sym (whole_of_lines delim x (omega arith)
-    ∙ sym (first_lines-full delim (delimiters delim x) x y (omega arith))))
-    (subst (λ high. IsBeginning (first_lines delim (delimiters delim x) (x ++ y)) high)
+whole_begins_by delim x y (suc k) (suc m) here all = rw (← (whole_of_lines delim x (omega arith)
+    ∙ sym (first_lines-full delim (delimiters delim x) x y (omega arith)))) at (subst (λ high. IsBeginning (first_lines delim (delimiters delim x) (x ++ y)) high)
     (sym (whole_of_lines delim (x ++ y) (omega arith)))
     (first_lines_begin delim (delimiters delim x) (delimiters delim (x ++ y)) (x ++ y)
     (omega (arith, delimiters-append delim x y))))
-whole_begins_by delim x y zero (suc m) here all = subst (λ low. IsBeginning low (whole_lines delim (x ++ y)))
-    (sym (whole_of_none delim x here)) (
-      _,
-      whole_of_lines delim (x ++ y) (omega arith) ∙ first_lines-append delim (delimiters delim (x ++ y)) x y
-          ∙ ap (λ front. front ++ first_lines delim (delimiters delim (x ++ y) - delimiters delim x) y)
-          (first_lines-short delim (delimiters delim (x ++ y)) x (omega arith)),
-    )
+whole_begins_by delim x y zero (suc m) here all = rw (whole_of_none delim x here) (
+  _,
+  whole_of_lines delim (x ++ y) (omega arith) ∙ first_lines-append delim (delimiters delim (x ++ y)) x y
+      ∙ ap (λ front. front ++ first_lines delim (delimiters delim (x ++ y) - delimiters delim x) y)
+      (first_lines-short delim (delimiters delim (x ++ y)) x (omega arith)),
+)
 whole_begins_by delim x y zero zero here all =
-    subst (λ low. IsBeginning low (whole_lines delim (x ++ y))) (sym (whole_of_none delim x here))
-    (y, whole_of_none delim (x ++ y) all)
+    rw (whole_of_none delim x here) (y, whole_of_none delim (x ++ y) all)
 whole_begins_by delim x y (suc k) zero here all = absurd (omega (arith, delimiters-append delim x y))
 
 pub whole_begins : (delim : ℕ) (x y : List ℕ) → IsBeginning (whole_lines delim x) (whole_lines delim (x ++ y))
@@ -203,6 +199,5 @@ shares_fewer (share ∷ low) (whole ∷ high) begins = omega (arith, shares_fewe
 
 -- a text that goes on has no fewer parts
 pub parts_grow : (limit : Limit) (x y : List ℕ) → length (parts limit x) ≤ length (parts limit (x ++ y))
-parts_grow limit x y = subst (λ n. n ≤ length (parts limit (x ++ y))) (settled_count limit x)
-    (subst (λ n. length (settled_parts limit x) ≤ n) (settled_count limit (x ++ y))
+parts_grow limit x y = rw (settled_count limit x) at (subst (λ n. length (settled_parts limit x) ≤ n) (settled_count limit (x ++ y))
     (shares_fewer _ _ (settled_grow limit x y)))

@@ -1,6 +1,5 @@
-use Rattle.std.proofs.Common.{ap, sym, refl, subst, ◌∙◌, arith}
+use Rattle.std.proofs.Common.{ap, sym, refl, ◌∙◌, arith}
 use Rattle.seg_core.specs.Line.{LinesLeft, delimiters}
-use Rattle.split_core.specs.inner.Ahead.{IsFirstLine}
 use Rattle.split_core.proofs.DealLemmas.{none_seen, seen_at, split_line, split_rest}
 use Rattle.split_core.proofs.complete_lines.CompleteLines.next.Goals as goal
 
@@ -17,5 +16,4 @@ pub invariant_of-self : goal.invariant_of-self
 invariant_of-self c = split_rest c.find-ahead.ensures.sees c.if-ahead-eq0.false c.split_at.ensures.back
 
 pub returns-clause-some : goal.returns-clause-some
-returns-clause-some c = subst (λ (left : LinesLeft). IsFirstLine left.delim left.text c.split_at.result.0.now c.split_at.result.1.now) c.self.view_is
-    (split_line _ refl c.find-ahead.ensures.sees c.if-ahead-eq0.false c.split_at.ensures.front c.split_at.ensures.back)
+returns-clause-some c = rw (← c.self.view_is) (split_line _ refl c.find-ahead.ensures.sees c.if-ahead-eq0.false c.split_at.ensures.front c.split_at.ensures.back)

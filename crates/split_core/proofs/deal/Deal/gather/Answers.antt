@@ -1,6 +1,6 @@
-use Rattle.std.proofs.Common.{List, ℕ, ◌++◌, length, sym, ap, ◌∙◌, ◌≡◌, subst, arith, take_all}
+use Rattle.std.proofs.Common.{List, ℕ, ◌++◌, length, sym, ap, ◌∙◌, subst, arith, take_all}
 use Rattle.ports_core.specs.Slot.{changed_at}
-use Rattle.seg_core.specs.Line.{LinesLeft, delimiters}
+use Rattle.seg_core.specs.Line.{LinesLeft}
 use Rattle.split_core.specs.inner.Dealt.{DealState, Gathers}
 use Rattle.split_core.proofs.DealLemmas.{by_delimiter, line_goes_on, line_goes_round, first_taken, ends_here, ends_open}
 use Rattle.split_core.proofs.deal.Deal.gather.Goals as goal
@@ -34,5 +34,5 @@ returns-then-is_empty-clause-gathers c = subst
     (ends_here _ c.lines.invariant.0 (c.rest-open.ensures ∙ ap (λ (left : LinesLeft). left.text) c.in_default.ensures.stays) (sym c.if-is_empty.ensures))
 
 pub returns-clause-gathers : goal.returns-clause-gathers
-returns-clause-gathers c = ends_open _ c.lines.invariant.0 (c.rest-open.ensures ∙ ap (λ (left : LinesLeft). left.text) c.in_default.ensures.stays) (subst (λ d. delimiters d c.lines.lines.text ≡ 0) c.lines.invariant.2 c.in_default.ensures.none) (sym c.if-is_empty.ensures)
+returns-clause-gathers c = ends_open _ c.lines.invariant.0 (c.rest-open.ensures ∙ ap (λ (left : LinesLeft). left.text) c.in_default.ensures.stays) (rw c.lines.invariant.2 at c.in_default.ensures.none) (sym c.if-is_empty.ensures)
     (c.in_ok-append_to-2.ensures.ok ∙ ap (λ (line : List ℕ). changed_at c.lines.next (λ had. had ++ line) c.lines.self-inside.gathered.items) (take_all (length c.rest-open.result.now) c.rest-open.result.now (omega arith))) (omega (arith, c.max-2.ensures))

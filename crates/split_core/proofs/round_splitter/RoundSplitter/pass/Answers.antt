@@ -1,7 +1,6 @@
-use Rattle.std.proofs.Common.{◌∙◌, ℕ, List, [], get_or, length, refl, subst}
+use Rattle.std.proofs.Common.{◌∙◌, [], length, refl}
 use Rattle.std.proofs.lemmas.List.{get_or_past}
 use Rattle.ports_core.proofs.HandedOn.{result_is}
-use Rattle.split_core.specs.inner.Sharing.{Adds}
 use Rattle.split_core.specs.inner.Ways.{Deals}
 use Rattle.split_core.proofs.FilesLemmas.{no_room}
 use Rattle.split_core.proofs.PartsLemmas.{on_ok}
@@ -23,8 +22,5 @@ returns g c = rw (← c.self.view_is) (record {
   count = c.gather.ensures.count;
   elide = refl;
   next = on_ok c.write.result c.in_ok-reached.ensures.gathers.next_is;
-  adds = subst (λ (more : List (List ℕ)). Adds g.O.Outs.told c.self.inside.files (λ place. get_or more place []) 0 (length more) (g.O.Outs.slots c.args.outs.now) c.write.new.self
-      (g.O.Outs.slots c.write.new.outs) c.write.result)
-      (c.first.ensures ∙ first_gathered c.self.inside.deal.delim (length c.self.inside.deal.gathered) c.self.inside.deal.next c.args.piece.now c.in_ok-reached.ensures.gathers.gathered_is c.in_ok-reached.ensures.gathers.reached_is)
-      c.write.ensures;
+  adds = rw (c.first.ensures ∙ first_gathered c.self.inside.deal.delim (length c.self.inside.deal.gathered) c.self.inside.deal.next c.args.piece.now c.in_ok-reached.ensures.gathers.gathered_is c.in_ok-reached.ensures.gathers.reached_is) at c.write.ensures;
 })

@@ -1,6 +1,4 @@
-use Rattle.std.proofs.Common.{sym, subst}
 use Rattle.std.proofs.lemmas.Bool.{lt-ltb}
-use Rattle.ports_core.specs.Part.{OutputsAt, Part}
 use Rattle.split_core.specs.ChunkerState.{in_files, in_output}
 use Rattle.split_core.proofs.FreshLemmas.{lacks_memory, settled_none}
 use Rattle.split_core.proofs.splitter.Splitter.open.Goals as goal
@@ -12,10 +10,10 @@ returns-in_err-chunker-in-Chunks-clause-cut g c = lacks_memory g.O.Outs.told _ _
 
 pub returns-in_ok-chunker-in-Chunks-clause-outputs : goal.returns-in_ok-chunker-in-Chunks-clause-outputs
 returns-in_ok-chunker-in-Chunks-clause-outputs g c before outputs = rw c.in-Chunks.is
-    (subst (λ (part : Part). OutputsAt g.O.Outs.told before part (g.O.Outs.slots c.args.outs.now)) (sym (settled_none (in_files _ c.args.elide) c.in-Chunks.chunks c.args.said
-    (lt-ltb _ _ (rw c.in-Chunks.is at c.requires.some)) c.requires.long)) outputs)
+    (rw (settled_none (in_files _ c.args.elide) c.in-Chunks.chunks c.args.said
+    (lt-ltb _ _ (rw c.in-Chunks.is at c.requires.some)) c.requires.long) outputs)
 
 pub returns-in_ok-chunker-in-Chunk-clause-outputs : goal.returns-in_ok-chunker-in-Chunk-clause-outputs
 returns-in_ok-chunker-in-Chunk-clause-outputs g c before outputs = rw c.in-Chunk.is
-    (subst (λ (part : Part). OutputsAt g.O.Outs.told before part (g.O.Outs.slots c.args.outs.now)) (sym (settled_none (in_output c.in-Chunk.place) c.in-Chunk.chunks c.args.said
-    (lt-ltb _ _ (rw c.in-Chunk.is at c.requires.some)) c.requires.long)) outputs)
+    (rw (← (settled_none (in_output c.in-Chunk.place) c.in-Chunk.chunks c.args.said
+    (lt-ltb _ _ (rw c.in-Chunk.is at c.requires.some)) c.requires.long)) at outputs)
