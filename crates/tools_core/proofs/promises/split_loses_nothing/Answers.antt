@@ -28,7 +28,7 @@ returns c = record {
   turn = λ one split alone asked place n delim input splits too elide. turn_alone splits too elide;
   turn_lines = λ one asked place n delim k input splits. turn_lines k splits;
   together = λ runs asked chunks input some each. all_alone runs asked chunks input some each;
-  changed = λ split asked chunks input shown bytes. cut_as_shown;
-  chunk_changed = λ one asked place chunks input shown bytes. chunk_as_shown;
+  changed = λ split asked chunks input shown bytes whole gives is. cut_as_shown whole gives is;
+  chunk_changed = λ one asked place chunks input shown bytes whole gives is. chunk_as_shown whole gives is;
   turns = λ runs asked n delim input some each. all_turns runs asked n delim input some each;
 }
