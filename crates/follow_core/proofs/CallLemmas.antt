@@ -1,17 +1,17 @@
 -- What a call on a name gives, by what the calls in it give: bytes under headers, and lines; the open file, and where the name leads.
 use Rattle.std.proofs.lemmas.Grind.{common_steps}
-use Rattle.std.proofs.Common.{subst₂, ◌≡◌, ℕ, Bool, List, [], ◌∷◌, ◌++◌, ◌⊎◌, inl, inr, ◌∙◌, ap, subst, ◌+◌, ◌<◌, length, take, true, false, not, if◌then◌else◌, Some, None, Option, refl, sym, arith, append_assoc, length-append, ◌-◌, ◌≤◌, drop, bytes_eq, nat_lt, is_none, option_map, suc, zero, IsTrue, is_some, rules}
-use Rattle.ports_core.specs.Slot.{Slot, with_written, with_broken, told_of, is_open, changed_at}
-use Rattle.ports_core.specs.Message.{OnError, SaysFor, SaysOn, PrintsOn}
+use Rattle.std.proofs.Common.{◌≡◌, ℕ, Bool, List, [], ◌∷◌, ◌++◌, inl, inr, ◌∙◌, ap, subst, ◌+◌, ◌<◌, length, take, true, false, not, if◌then◌else◌, Some, None, Option, refl, sym, arith, append_assoc, length-append, bytes_eq, is_none, rules}
+use Rattle.ports_core.specs.Slot.{Slot, with_written, with_broken, told_of}
+use Rattle.ports_core.specs.Message.{OnError, SaysFor, SaysOn}
 use Rattle.ports_core.specs.Text.{line_of, message_of}
 use Rattle.ports_core.specs.declared.calling.Calling.{Calling}
 use Rattle.ports_core.specs.declared.calling.Calling.TheVariants.{Cutters, OwnName}
 use Rattle.ports_core.specs.declared.reason.Reason.{Reason}
 use Rattle.ports_core.proofs.MessageLemmas.{printed_open}
-use Rattle.follow_core.specs.Sharing.{CameTo, WroteBy, CanPrint}
+use Rattle.follow_core.specs.Sharing.{CameTo, WroteBy}
 use Rattle.follow_core.specs.Telling.{IsFailure, Tells, TellsAll, failure_text, tail_by}
-use Rattle.std.proofs.lemmas.List.{append-nil, take-append-le, take-append-drop, take_all, length-drop, length-take-le, drop-drop as drop_drop}
-use Rattle.std.proofs.Math.Seq.{take-append-add, take-add}
+use Rattle.std.proofs.lemmas.List.{append-nil, take-append-le}
+use Rattle.std.proofs.Math.Seq.{take-append-add}
 use Rattle.std.proofs.Math.Bool.{and-false}
 use Rattle.ports_core.specs.Write.{BrokeAfter}
 use Rattle.ports_core.specs.Text.{header_of}
@@ -19,29 +19,9 @@ use Rattle.ports_core.specs.declared.fault.Fault.{Fault}
 use Rattle.ports_core.proofs.WriteLemmas.{broke_later, none_written, written_both}
 use Rattle.follow_core.specs.Followed.{has_header, is_empty, is_last}
 use Rattle.follow_core.specs.Printing.{PrinterState, Short, broke as short_broke, no_room}
-use Rattle.std.proofs.lemmas.Bool.Decides.{nat_tests}
-use Rattle.follow_core.specs.declared.notice.Notice.TheVariants.{Truncated}
-use Rattle.follow_core.specs.inner.Giving.{IsFront, AreGiven, ArePut, BrokeAt, Came, CanGoOn, Copies, Ends, FailsToRead, Follows, IfBroke, Keeps, HoldsMany, IsPast, Noted, Puts, Starts, WereFound, change_between, fault_by, notes_past, over_by, printer_under, text_under}
-use Rattle.follow_core.specs.declared.visitor.Stop.{Stop}
-use Rattle.follow_core.specs.Standing.{IsLong}
-use Rattle.follow_core.specs.Reading.{AllGive, AreRead, IsRead, IsWhole, none_read, one_more}
-use Rattle.follow_core.specs.Event.{Begins, begins_none, Event, all_but, bytes_in, gives, notes}
-use Rattle.follow_core.specs.Look.{Fate, sound, unmeasured, unsought, unread, failed_by}
-use Rattle.follow_core.proofs.EventLemmas.{begins_after, begins_all, begins_bytes, begins_more, bytes-append, lines-append}
-use Rattle.watch_core.specs.declared.watch.Broken.{Broken}
-use Rattle.watch_core.specs.declared.watch.Broken.TheVariants.{Len, Read}
-use Rattle.watch_core.specs.Watched.{GaveFrom, Watched, breaks, no_name, Finds, Reopens, is_readable, is_watchable, open_contents, opens, watched_at}
-use Rattle.follow_core.specs.declared.visitor.Stop.TheVariants.{Broke, Over}
-use Rattle.std.proofs.lemmas.Bool.{and_parts, false≢true}
-use Rattle.ports_core.proofs.InputsLemmas.{changed_elsewhere}
-use Rattle.ports_core.proofs.SlotLemmas.{changed_at-again, length-changed_at, changed_there}
-use Rattle.follow_core.specs.inner.Visits.{KeepsOthers}
-use Rattle.watch_core.proofs.NameLemmas.{broke_so, watchable_within}
+use Rattle.follow_core.specs.inner.Giving.{IsFront, ArePut, Came, Puts, printer_under, text_under}
 use Rattle.follow_core.specs.Notice.{notice_of}
-use Rattle.watch_core.specs.Snapshot.{Snapshot, Found, holds_many, latest, reads_as}
-use Rattle.watch_core.specs.declared.watch.Seen.{Seen}
 use Rattle.follow_core.specs.declared.notice.Notice.{Notice}
-use Rattle.follow_core.specs.Version.{held_at}
 use Rattle.ports_core.specs.declared.fault.Fault.TheVariants as fault
 
 -- lines that following says, one after another
@@ -66,7 +46,7 @@ failure_said true place name says = λ output error others are. let said = says 
 failure_said false place name says = λ output error others are. let said = says output error others are in (said.0, opening_said place name said.1, said.2)
 
 -- no notice is such a message
-no_failure : (notice : Notice) (name : List ℕ) → IsFailure (notice_of notice name) → ⊥
+pub no_failure : (notice : Notice) (name : List ℕ) → IsFailure (notice_of notice name) → ⊥
 no_failure notice name failure = grind (arith, common_steps)
 
 pub tells_state : (told : Bool) (calling : Calling) (lines : List (List ℕ)) (old new : Slot) → TellsAll told calling lines old new → new.state ≡ old.state
@@ -127,7 +107,7 @@ text_after told first second old new (Some why) one short = short_after first on
 pub wrote_none : (told : Bool) (calling : Calling) {slots : List Slot} → WroteBy told calling [] [] slots slots None
 wrote_none told calling = search rules
 
-wrote_text : (told : Bool) (calling : Calling) (text : List ℕ) {old : List Slot} (new : List Slot) (over : Option Fault) → CameTo told text old new over → WroteBy told calling text [] old new over
+pub wrote_text : (told : Bool) (calling : Calling) (text : List ℕ) {old : List Slot} (new : List Slot) (over : Option Fault) → CameTo told text old new over → WroteBy told calling text [] old new over
 wrote_text told calling text new over came = grind (arith, common_steps)
 
 pub wrote_line : {told : Bool} {calling : Calling} {line : List ℕ} {old new : List Slot} → OnError (Tells told calling line) old new → WroteBy told calling [] (line ∷ []) old new None
@@ -148,7 +128,7 @@ wrote_after told calling text more lines further {old} new over same also first 
 pub came_none : {told : Bool} {printer : PrinterState} {name : List ℕ} {slots : List Slot} → Came told printer false name [] [] slots printer slots None
 came_none {told} {printer} = search rules
 
-came_after : {told opened : Bool} {printer mid after : PrinterState} {name first second : List ℕ} {lines more : List (List ℕ)} {old now new : List Slot}
+pub came_after : {told opened : Bool} {printer mid after : PrinterState} {name first second : List ℕ} {lines more : List (List ℕ)} {old now new : List Slot}
     {over : Option Fault} → Came told printer opened name first lines old mid now None → Came told mid false name second more now after new over
     → Came told printer opened name (first ++ second) (lines ++ more) old after new over
 came_after {opened} {printer} {name} {first} {second} {over} one two =
@@ -164,7 +144,7 @@ put_after : {done first : List ℕ} (bytes due : List ℕ) (over : Option Fault)
 put_after bytes due None same is = λ i. same i ++ is i
 put_after {done} bytes due (Some why) same (rest, is) = (rest, (λ i. sym same i ++ is i) ∙ sym (append_assoc done bytes rest))
 
-puts_after : {told opened : Bool} {printer mid after : PrinterState} {name first second : List ℕ} {old now new : List Slot} {over : Option Fault}
+pub puts_after : {told opened : Bool} {printer mid after : PrinterState} {name first second : List ℕ} {old now new : List Slot} {over : Option Fault}
     → Puts told opened printer name first old mid now None → Puts told false mid name second now after new over
     → Puts told opened printer name (first ++ second) old after new over
 puts_after {second} {over} one two = record {
@@ -173,7 +153,7 @@ puts_after {second} {over} one two = record {
   came = came_after one.came two.came;
 }
 
-puts_nothing : {told : Bool} {printer : PrinterState} {name : List ℕ} {slots : List Slot} → Puts told false printer name [] slots printer slots None
+pub puts_nothing : {told : Bool} {printer : PrinterState} {name : List ℕ} {slots : List Slot} → Puts told false printer name [] slots printer slots None
 puts_nothing = record { bytes = []; are = refl; came = came_none }
 
 front_same : {X : Type 0} {given due : List X} → given ≡ due → IsFront given due
@@ -206,481 +186,3 @@ puts_none {told} {printer} {bytes} {new} {why} is short = record {
   are = front_same refl;
   came = record { printer_is = λ none. absurd (cc); slots = wrote_text told printer.calling _ new (Some why) (short_more bytes (rw is at short)) };
 }
-
--- events that are given
-
-given_as : (events : List Event) {due other : List Event} (before more : List Event) (stop : Option Stop) → due ≡ other → IfBroke stop (before ≡ more) → AreGiven stop events due before → AreGiven stop events other more
-given_as events before more None same also given = given ∙ same
-given_as events before more (Some (Broke why)) same also given = given ∙ also
-given_as events before more (Some (Over why)) same also given = subst (Begins events) same given
-
--- what is due may be said in another way
-pub due_by : {told_in told opened : Bool} {Is : List Event → Type 0} {printer after : PrinterState} {name : List ℕ} {due other before more : List Event} {old new : List Slot}
-    {stop : Option Stop} → (told_in ≡ true → (due ≡ other) × IfBroke stop (before ≡ more)) → Ends told_in Is told opened printer name due before old after new stop
-    → Ends told_in Is told opened printer name other more old after new stop
-due_by {before} {more} {stop} same ends = record { events = ends.events; are = λ t. given_as ends.events before more stop (same t).0 (same t).1 (ends.are t); found = ends.found; came = ends.came }
-
-pub if_broke : {A B : Type 0} (stop : Option Stop) → (A → B) → IfBroke stop A → IfBroke stop B
-if_broke None so broke = tt
-if_broke (Some (Broke why)) so broke = so broke
-if_broke (Some (Over why)) so broke = tt
-
-pub due_as : {told_in told opened : Bool} {Is : List Event → Type 0} {printer after : PrinterState} {name : List ℕ} {due other before more : List Event} {old new : List Slot}
-    {stop : Option Stop} → (told_in ≡ true → (due ≡ other) × (before ≡ more)) → Ends told_in Is told opened printer name due before old after new stop
-    → Ends told_in Is told opened printer name other more old after new stop
-due_as {before} {more} {stop} same = due_by (λ t. ((same t).0, broke stop (same t).1)) where
-  broke : (stop : Option Stop) → before ≡ more → IfBroke stop (before ≡ more)
-  broke None is = tt
-  broke (Some (Broke why)) is = is
-  broke (Some (Over why)) is = tt
-
-early : (events due before more : List Event) (stop : Stop) → AreGiven (Some stop) events due before → AreGiven (Some stop) events (due ++ more) before
-early events due before more (Broke why) given = given
-early events due before more (Over why) given = begins_more more given
-
--- what stops the first of two steps stops both
-pub stops_early : {told_in told opened : Bool} {Is : List Event → Type 0} {printer after : PrinterState} {name : List ℕ} {due before : List Event} (more : List Event)
-    {old new : List Slot} {stop : Stop} → Ends told_in Is told opened printer name due before old after new (Some stop)
-    → Ends told_in Is told opened printer name (due ++ more) before old after new (Some stop)
-stops_early {due} {before} more {stop} ends = record { events = ends.events; are = λ t. early ends.events due before more stop (ends.are t); found = ends.found; came = ends.came }
-
-given_both : {done first : List Event} (events due before : List Event) (stop : Option Stop) → done ≡ first → AreGiven stop events due before
-    → AreGiven stop (done ++ events) (first ++ due) (first ++ before)
-given_both events due before None same is = λ i. same i ++ is i
-given_both events due before (Some (Broke why)) same is = λ i. same i ++ is i
-given_both {first} events due before (Some (Over why)) same is = subst (λ front. Begins (front ++ events) (first ++ due)) (sym same) (begins_after first is)
-
--- once the first is done, both end as the second
-pub goes_after : {told_in told opened : Bool} {First Second : List Event → Type 0} (Is : List Event → Type 0) {printer mid after : PrinterState} {name : List ℕ} {first none second before : List Event}
-    {old now new : List Slot} {stop : Option Stop} → ((events more : List Event) → First events → Second more → Is (events ++ more))
-    → Ends told_in First told opened printer name first none old mid now None
-    → Ends told_in Second told false mid name second before now after new stop
-    → Ends told_in Is told opened printer name (first ++ second) (first ++ before) old after new stop
-goes_after {told} {opened} Is {printer} {after} {name} {second} {before} {old} {new} {stop} joins one two = record {
-  events = one.events ++ two.events;
-  are = λ t. given_both two.events second before stop (one.are t) (two.are t);
-  found = joins one.events two.events one.found two.found;
-  came = subst₂ (λ bytes lines. Came told printer opened name bytes lines old after new (over_by stop)) (sym (bytes-append one.events two.events))
-      (sym (lines-append name one.events two.events)) (came_after one.came two.came);
-}
-
-pub nothing_due : {told_in told : Bool} {Is : List Event → Type 0} {printer : PrinterState} {name : List ℕ} {before : List Event} {slots : List Slot} → Is []
-    → Ends told_in Is told false printer name [] before slots printer slots None
-nothing_due found = record { events = []; are = λ t. refl; found = found; came = came_none }
-
--- a call failed before anything was given
-pub broke_first : {told_in told : Bool} {Is : List Event → Type 0} {printer : PrinterState} {name : List ℕ} {due : List Event} {slots : List Slot} {why : Fault} → Is []
-    → Ends told_in Is told false printer name due [] slots printer slots (Some (Broke why))
-broke_first found = record { events = []; are = λ t. refl; found = found; came = came_none }
-
--- there was no memory for the first line
-pub over_first : {told_in told : Bool} {Is : List Event → Type 0} {printer : PrinterState} {name : List ℕ} {due before : List Event} {slots : List Slot} → Is []
-    → Ends told_in Is told false printer name due before slots printer slots (Some (Over fault.Memory))
-over_first {told} {printer} {slots} found = record {
-  events = [];
-  are = λ t. begins_none;
-  found = found;
-  came = record { printer_is = λ none. absurd (cc); slots = wrote_text told printer.calling _ slots (Some fault.Memory) no_memory };
-}
-
--- what is so of what was given may be said in another way
-pub found_as : {told_in told opened : Bool} {Is Other : List Event → Type 0} {printer after : PrinterState} {name : List ℕ} {due before : List Event} {old new : List Slot}
-    {stop : Option Stop} → ((events : List Event) → Is events → Other events) → Ends told_in Is told opened printer name due before old after new stop
-    → Ends told_in Other told opened printer name due before old after new stop
-found_as so ends = record { events = ends.events; are = ends.are; found = so ends.events ends.found; came = ends.came }
-
--- what is so whatever files tell
-pub untold : {told_in told opened : Bool} {Is : List Event → Type 0} {printer after : PrinterState} {name : List ℕ} {due before : List Event} {old new : List Slot}
-    {stop : Option Stop} → Ends true Is told opened printer name due before old after new stop → Ends told_in Is told opened printer name due before old after new stop
-untold ends = record { events = ends.events; are = λ t. ends.are refl; found = ends.found; came = ends.came }
-
--- what reads gave
-
-pub all_give : {Tells Told : Notice → Type 0} {Is Other : List ℕ → Type 0} (events : List Event) → ((notice : Notice) → Tells notice → Told notice)
-    → ((bytes : List ℕ) → Is bytes → Other bytes) → AllGive Tells Is events → AllGive Told Other events
-all_give [] told so all = tt
-all_give (notes notice ∷ events) told so all = (told notice all.0, all_give events told so all.1)
-all_give (gives bytes ∷ events) told so all = (so bytes all.0, all_give events told so all.1)
-
-noted_gives : (Tells : Notice → Type 0) (Is : List ℕ → Type 0) (events : List Event) → Noted Tells events → AllGive Tells Is events
-noted_gives Tells Is events noted = all_give events (λ notice tells. tells) (λ bytes none. absurd none) noted
-
-pub noted_as : {One Other : Notice → Type 0} (events : List Event) → ((notice : Notice) → One notice → Other notice) → Noted One events → Noted Other events
-noted_as events so = all_give events so (λ bytes none. none)
-
-give_both : (Tells : Notice → Type 0) (Is : List ℕ → Type 0) (events more : List Event) → AllGive Tells Is events → AllGive Tells Is more → AllGive Tells Is (events ++ more)
-give_both Tells Is [] more first second = second
-give_both Tells Is (notes notice ∷ events) more first second = (first.0, give_both Tells Is events more first.1 second)
-give_both Tells Is (gives bytes ∷ events) more first second = (first.0, give_both Tells Is events more first.1 second)
-
--- from places among others
-read_from : {One Other : Option ℕ → ℕ → Type 0} {snapshot : Snapshot} {name bytes : List ℕ} → ((file : Option ℕ) (from : ℕ) → One file from → Other file from)
-    → IsRead One snapshot name bytes → IsRead Other snapshot name bytes
-read_from so is = record { file = is.file; from = is.from; end = is.end; begins = so is.file is.from is.begins; read = is.read }
-
-whole_from : {One Other : Option ℕ → ℕ → Type 0} {snapshot : Snapshot} {name bytes : List ℕ} {fate : Fate} → ((file : Option ℕ) (from : ℕ) → One file from → Other file from)
-    → IsWhole One snapshot name fate bytes → IsWhole Other snapshot name fate bytes
-whole_from so whole = record {
-  is = record { file = whole.is.file; from = whole.is.from; end = whole.is.end; begins = so whole.is.file whole.is.from whole.is.begins; read = whole.is.read };
-  ends = whole.ends;
-}
-
--- of a name that came through it is so whatever becomes of it later
-sound_whole : {Begin : Option ℕ → ℕ → Type 0} {snapshot : Snapshot} {name bytes : List ℕ} (fate : Fate) → IsWhole Begin snapshot name sound bytes → IsWhole Begin snapshot name fate bytes
-sound_whole fate whole = record {
-  is = whole.is;
-  ends = elim whole.ends [
-    | inl long ↦ inl long
-    | inr (inl over) ↦ inr (inl over)
-    | inr (inr failed) ↦ absurd (cc)
-  ];
-}
-
-pub found_from : {Tells Told : Notice → Type 0} {One Other : Option ℕ → ℕ → Type 0} (snapshot : Snapshot) (name : List ℕ) (fate : Fate) (stop : Option Stop)
-    → ((notice : Notice) → Tells notice → Told notice) → ((file : Option ℕ) (from : ℕ) → One file from → Other file from)
-    → (events : List Event) → WereFound Tells One snapshot name fate stop events → WereFound Told Other snapshot name fate stop events
-found_from snapshot name fate None told so events found = all_give events told (λ bytes. whole_from so) found
-found_from snapshot name fate (Some (Broke why)) told so events (can, found) = (can, all_give events told (λ bytes. whole_from so) found)
-found_from snapshot name fate (Some (Over why)) told so events (all, begins, found) = (all, begins, all_give all told (λ bytes. read_from so) found)
-
-pub noted_found : (Tells : Notice → Type 0) (Begin : Option ℕ → ℕ → Type 0) (snapshot : Snapshot) (name : List ℕ) (fate : Fate) (over : Option Fault) (events : List Event) → Noted Tells events → WereFound Tells Begin snapshot name fate (option_map Over over) events
-noted_found Tells Begin snapshot name fate None events noted = noted_gives Tells (IsWhole Begin snapshot name sound) events noted
-noted_found Tells Begin snapshot name fate (Some why) events noted = (events, begins_all events, noted_gives Tells (IsRead Begin snapshot name) events noted)
-
--- two steps, of which the first was done
-pub found_both : (Tells : Notice → Type 0) (Begin : Option ℕ → ℕ → Type 0) (snapshot : Snapshot) (name : List ℕ) (one fate : Fate) (stop : Option Stop) (events more : List Event)
-    → WereFound Tells Begin snapshot name one None events → WereFound Tells Begin snapshot name fate stop more → WereFound Tells Begin snapshot name fate stop (events ++ more)
-found_both Tells Begin snapshot name one fate None events more first second = give_both Tells (IsWhole Begin snapshot name sound) events more first second
-found_both Tells Begin snapshot name one fate (Some (Broke why)) events more first (can, second) = (can, give_both Tells (IsWhole Begin snapshot name fate) events more (all_give events (λ notice tells. tells) (λ bytes. sound_whole fate) first) second)
-found_both Tells Begin snapshot name one fate (Some (Over why)) events more first (all, begins, second) =
-    (events ++ all, begins_after events begins, give_both Tells (IsRead Begin snapshot name) events all (all_give events (λ notice tells. tells) (λ bytes whole. whole.is) first) second)
-
--- bytes that were put are one event
-
-one_event : {told opened : Bool} {printer after : PrinterState} {name bytes : List ℕ} {old new : List Slot} {over : Option Fault}
-    → Came told printer opened name bytes [] old after new over → Came told printer opened name (bytes_in (gives bytes ∷ [])) [] old after new over
-one_event {told} {opened} {printer} {after} {name} {bytes} {old} {new} {over} came = subst (λ those. Came told printer opened name those [] old after new over) (sym (append-nil bytes)) came
-
--- a header alone is no event
-
-none_put : (over : Option Fault) {bytes : List ℕ} → ArePut over bytes [] → bytes ≡ []
-none_put None is = is
-none_put (Some why) {bytes = []} is = refl
-none_put (Some why) {bytes = byte ∷ bytes} (rest, is) = absurd (cc)
-
-pub header_only : {told_in told opened : Bool} {Is : List Event → Type 0} {printer after : PrinterState} {name : List ℕ} {before : List Event} {old new : List Slot} (over : Option Fault)
-    → Is [] → Puts told opened printer name [] old after new over
-    → Ends told_in Is told opened printer name [] before old after new (option_map Over over)
-header_only {told} {opened} {printer} {after} {name} {old} {new} None found put =
-    record { events = []; are = λ t. refl; found = found; came = subst (λ bytes. Came told printer opened name bytes [] old after new None) (none_put None put.are) put.came }
-header_only {told} {opened} {printer} {after} {name} {old} {new} (Some why) found put =
-    record { events = []; are = λ t. begins_none; found = found; came = subst (λ bytes. Came told printer opened name bytes [] old after new (Some why)) (none_put (Some why) put.are) put.came }
-
--- copying, read by read
-
-next_bytes : (contents : List ℕ) {read_old read_new : List ℕ} (tail : List ℕ) {from at n : ℕ} → from ≤ at → n ≤ length read_old → length read_new ≡ length read_old → GaveFrom contents at read_old read_new n
-    → take (at - from) (drop from contents) ++ take n (read_new ++ tail) ≡ take ((at + n) - from) (drop from contents)
-next_bytes contents {read_new} tail {from} {at} {n} past few long gave =
-    let count : (at + n) - from ≡ (at - from) + n = omega (arith, past) in
-    let place : from + (at - from) ≡ at = omega (arith, past) in
-    ap (λ piece. take (at - from) (drop from contents) ++ piece) (take-append-le n read_new tail (omega (arith, few, long)) ∙ gave.front ∙ ap (λ k. take n (drop k contents)) (sym place) ∙ ap (take n) (sym (drop_drop (at - from) from contents)))
-    ∙ sym (ap (λ k. take k (drop from contents)) count ∙ take-add (at - from) n (drop from contents))
-
--- What was copied so far, or a beginning of it where following ends.
-pub record Copied (told_in told : Bool) (snapshot : Snapshot) (contents : List ℕ) (opened : Option ℕ) (known : List ℕ) (from : ℕ) (name : List ℕ)
-    (printer : PrinterState) (old : List Slot) (after : PrinterState) (new : List Slot) (at : ℕ) (over : Option Fault) : Type 0 where
-  pub bytes : List ℕ
-  pub puts : Puts told false printer name bytes old after new over
-  pub are : told_in ≡ true → bytes ≡ take (at - from) (drop from contents)
-  pub read : AreRead snapshot known opened from bytes at
-
-pub copied_none : {told_in told : Bool} {snapshot : Snapshot} {contents : List ℕ} {opened : Option ℕ} {known : List ℕ} {from : ℕ} {name : List ℕ} {printer : PrinterState} {slots : List Slot}
-    → Copied told_in told snapshot contents opened known from name printer slots printer slots from None
-copied_none {contents} {from} = record {
-  bytes = [];
-  puts = puts_nothing;
-  are = λ t. ap (λ n. take n (drop from contents)) (let e : 0 ≡ from - from = omega arith in e);
-  read = none_read;
-}
-
--- a piece more, or a beginning of it
-pub copied_more : {told_in told : Bool} {snapshot : Snapshot} {contents now_contents : List ℕ} {opened : Option ℕ} {known : List ℕ} {from at n : ℕ} {name : List ℕ} {printer mid after : PrinterState}
-    {old now new : List Slot} {read_old read_new : List ℕ} (tail : List ℕ) {over : Option Fault} → from ≤ at → contents ≡ now_contents → n ≤ length read_old
-    → length read_new ≡ length read_old → (told_in ≡ true → GaveFrom now_contents at read_old read_new n) → Found snapshot known (reads_as opened at (take n read_new))
-    → Copied told_in told snapshot contents opened known from name printer old mid now at None
-    → Puts told false mid name (take n (read_new ++ tail)) now after new over
-    → Copied told_in told snapshot contents opened known from name printer old after new (at + n) over
-copied_more {snapshot} {contents} {opened} {known} {from} {at} {n} {read_old} {read_new} tail past same few long gave found so_far put = record {
-  bytes = so_far.bytes ++ take n (read_new ++ tail);
-  puts = puts_after so_far.puts put;
-  are = λ t. ap (λ front. front ++ take n (read_new ++ tail)) (so_far.are t)
-      ∙ next_bytes contents tail past few long (subst (λ those. GaveFrom those at read_old read_new n) (sym same) (gave t));
-  read = subst₂ (λ piece more. AreRead snapshot known opened from (so_far.bytes ++ piece) (at + more)) (sym front) (length-take-le n read_new (omega (arith, few, long)))
-      (one_more (take n read_new) so_far.read found);
-} where
-  front : take n (read_new ++ tail) ≡ take n read_new
-  front = take-append-le n read_new tail (omega (arith, few, long))
-
--- how the outputs can be used after a call
-
-use_after : (told : Bool) (text : List ℕ) (output error : Slot) (others new : List Slot) (stop : Option Stop)
-    → CameTo told text (output ∷ error ∷ others) new (over_by stop) → CanPrint (output ∷ error ∷ others) → CanGoOn stop new
-use_after told text output error others new None is can = search rules
-use_after told text output error others new (Some (Broke why)) is can = search rules
-use_after told text output error others new (Some (Over why)) (short_broke n part) can = grind (arith, common_steps)
-use_after told text output error others new (Some (Over why)) (no_room n within is) can = grind (arith, common_steps)
-
-came_can : {told opened : Bool} {printer after : PrinterState} {name bytes : List ℕ} {lines : List (List ℕ)} {old new : List Slot} (stop : Option Stop)
-    → Came told printer opened name bytes lines old after new (over_by stop) → CanPrint old → CanGoOn stop new
-came_can {old = []} stop came can = search rules
-came_can {old = output ∷ []} stop came can = search rules
-came_can {told} {lines} {old = output ∷ error ∷ others} stop came can =
-    let (last, said, text) = came.slots output error others refl in
-    use_after told _ _ _ _ _ stop text (can.0, ap is_open (tells_state told _ lines error last said) ∙ can.1)
-
-pub ends_can : {told_in told opened : Bool} {Is : List Event → Type 0} {printer after : PrinterState} {name : List ℕ} {due before : List Event} {old new : List Slot}
-    {stop : Option Stop} → Ends told_in Is told opened printer name due before old after new stop → CanPrint old → CanGoOn stop new
-ends_can {stop} ends can = came_can stop ends.came can
-
--- a line was told
-pub tells : {told_in told : Bool} {printer : PrinterState} {name text : List ℕ} {found : Notice} {before : List Event} {old new : List Slot} → text ≡ notice_of found name → PrintsOn told text old new
-    → Ends told_in (Noted (λ notice. notice ≡ found)) told false printer name (notes found ∷ []) before old printer new None
-tells {printer} {found} is prints = record {
-  events = notes found ∷ [];
-  are = λ t. refl;
-  found = (refl, tt);
-  came = record {
-    printer_is = λ none. rw (and-false printer.headers) refl;
-    slots = rw (and-false printer.headers) (wrote_line (λ output error others are. let said = prints output error others are in
-        (said.0, record { said = _; is = inl (no_failure found _, is); printed = said.1 }, said.2)));
-  };
-}
-
--- that a file is shorter was told
-pub past_noted : {told_in told : Bool} {printer after : PrinterState} {name : List ℕ} {position len : ℕ} {before : List Event} {old new : List Slot} (stop : Option Stop)
-    → len < position → Ends told_in (Noted (λ notice. notice ≡ Truncated)) told false printer name (notes Truncated ∷ []) before old after new stop
-    → Ends told_in (Noted (IsPast position len)) told false printer name (notes_past position len) before old after new stop
-past_noted {position} {len} stop short ends =
-    let is : nat_lt len position ≡ true = grind (arith, nat_tests) in
-    rw is (found_as (λ events noted. noted_as events (λ notice same. (same, short)) noted) ends)
-
-pub opens_same : (names : List Watched) (place : ℕ) → changed_at place (opens (watched_at names place).opened) names ≡ names
-opens_same [] place = refl
-opens_same (name ∷ names) zero = refl
-opens_same (name ∷ names) (suc place) = ap (λ rest. name ∷ rest) (opens_same names place)
-
--- the file that was opened
-pub opened_there : (names : List Watched) (place : ℕ) {file : Option ℕ} → IsTrue (is_watchable names place) → watched_at (changed_at place (opens file) names) place ≡ record (watched_at names place) { opened = file }
-opened_there names place {file} can = changed_there no_name place (opens file) names (watchable_within names place can)
-
--- and the names that stay
-pub keeps_others : {place : ℕ} (change : Watched → Watched) {old new : List Watched} → new ≡ changed_at place change old → KeepsOthers place old new
-keeps_others {place} change {old} is = grind (arith, common_steps, length-changed_at, changed_elsewhere)
-
-pub reopens_as : {told : Bool} {seen seen_old : List Snapshot} {now old new : List Watched} {place : ℕ} {is_there : Bool} → seen ≡ seen_old → now ≡ old → Reopens told (latest seen) now new place is_there → Reopens told (latest seen_old) old new place is_there
-reopens_as {told} {seen} {old} {new} {place} {is_there} s w reopens = search rules
-
-pub some_of : (file : Option ℕ) → is_some file ≡ true → (id : ℕ) × (file ≡ Some id)
-some_of None some = absurd (false≢true some)
-some_of (Some id) some = (id, refl)
-
-pub none_of : {X : Type 0} (x : Option X) → is_some x ≡ false → x ≡ None
-none_of None is = refl
-none_of (Some x) is = cc
-
-pub contents_open : (snapshot : Snapshot) (watched : Watched) → open_contents snapshot watched ≡ held_at snapshot watched.opened
-contents_open snapshot watched = cc
-
--- the file that was opened is that to which the name leads
-pub opened_led : {told : Bool} {snapshot : Snapshot} {old new : List Watched} {place : ℕ} {name : List ℕ} {is_there : Bool} → IsTrue (is_watchable old place)
-    → Reopens told snapshot old new place is_there → (watched_at old place).name ≡ name → told ≡ true → (watched_at new place).opened ≡ snapshot.leads name
-opened_led {snapshot} {old} {place} can reopens is t = ap (λ those. (watched_at those place).opened) reopens.names
-    ∙ ap (λ (w : Watched). w.opened) (opened_there old place can) ∙ reopens.leads t ∙ ap snapshot.leads is
-
--- a name that broke
-
--- a call failed on the names as they were
-pub broke_at : {place : ℕ} {old now new : List Watched} {fate : Fate} {why : Fault} (how : Option ℕ → Broken) → failed_by fate None ≡ Some (how (watched_at old place).opened)
-    → now ≡ old → why ≡ fault_by place fate → new ≡ changed_at place (breaks how) now → BrokeAt place old new fate why
-broke_at {place} {old} {fate} how is same fault broken = record {
-  broke = ap is_some is;
-  fault_is = fault;
-  names = broken ∙ ap (changed_at place (breaks how)) same ∙ sym (broke_so old place how refl)
-      ∙ ap (λ failed. changed_at place (λ watched. record watched { opened = None; failed = failed }) old) (sym is);
-}
-
--- a file of it was opened before
-pub broke_opened : {place : ℕ} (file : Option ℕ) {old mid new : List Watched} {fate : Fate} {why : Fault} → mid ≡ changed_at place (opens file) old
-    → BrokeAt place mid new fate why → BrokeAt place old new fate why
-broke_opened {place} file {old} {fate} opened broke = record {
-  broke = broke.broke;
-  fault_is = broke.fault_is;
-  names = broke.names ∙ ap (changed_at place (λ watched. record watched { opened = None; failed = failed_by fate None })) opened
-      ∙ changed_at-again place (opens file) (λ watched. record watched { opened = None; failed = failed_by fate None }) old;
-}
-
--- calls that follow one another on the watch: a file was opened, and then a call on it kept the names, or broke this one
-pub follows_from : {told : Bool} {led file : Option ℕ} (place : ℕ) (old : List Watched) {mid : List Watched} (new : List Watched) (fate : Fate) (stop : Option Stop)
-    → mid ≡ changed_at place (opens file) old → (told ≡ true → file ≡ led) → Keeps place mid new fate stop → Follows told led place old new fate stop
-follows_from {file} place old new fate None opened leads keeps = (file, keeps ∙ opened, leads)
-follows_from {file} place old new fate (Some (Broke why)) opened leads keeps = broke_opened file opened keeps.0
-follows_from {file} place old new fate (Some (Over why)) opened leads keeps = (file, keeps ∙ opened)
-
-pub follows_stop : (told : Bool) (led file : Option ℕ) (place : ℕ) (old : List Watched) {mid : List Watched} (new : List Watched) (fate : Fate) (stop : Stop)
-    → mid ≡ changed_at place (opens file) old → Keeps place mid new fate (Some stop) → Follows told led place old new fate (Some stop)
-follows_stop told led file place old new fate (Broke why) opened keeps = broke_opened file opened keeps.0
-follows_stop told led file place old new fate (Over why) opened keeps = (file, keeps ∙ opened)
-
--- a look at which a call can fail is the same while the call goes on
-pub breaks_at : {seen seen_old : List Snapshot} → seen ≡ seen_old → (latest seen).breaks ≡ true → (latest seen_old).breaks ≡ true
-breaks_at saw can = ap (λ those. (latest those).breaks) (sym saw) ∙ can
-
--- what was found is what the files were found to be when the call began
-pub found_at : {seen seen_old : List Snapshot} {now old : List Watched} (place from : ℕ) (bytes : List ℕ) → seen ≡ seen_old → now ≡ old
-    → Found (latest seen) (watched_at now place).name (reads_as (watched_at now place).opened from bytes) → Found (latest seen_old) (watched_at old place).name (reads_as (watched_at old place).opened from bytes)
-found_at place from bytes saw same = subst₂ (λ (those : List Snapshot) (names : List Watched). Found (latest those) (watched_at names place).name (reads_as (watched_at names place).opened from bytes)) saw same
-
-pub long_at : {seen seen_old : List Snapshot} {now old : List Watched} (place len : ℕ) → seen_old ≡ seen → old ≡ now → HoldsMany (latest seen_old) (watched_at old place) len → HoldsMany (latest seen) (watched_at now place) len
-long_at place len saw same = subst₂ (λ (those : List Snapshot) (names : List Watched). HoldsMany (latest those) (watched_at names place) len) saw same
-
--- of an open file it says how much it was found to hold
-pub is_held : (snapshot : Snapshot) (name : List ℕ) (len : ℕ) (opened : Option ℕ) → Found snapshot name (holds_many opened len) → IsLong false snapshot name opened len
-is_held snapshot name len None found = λ no. absurd (false≢true no)
-is_held snapshot name len (Some file) found = found
-
-pub held_many : (by_name : Bool) (snapshot : Snapshot) (name : List ℕ) (len : ℕ) (opened : Option ℕ) → is_some opened ≡ true → IsLong by_name snapshot name opened len → Found snapshot name (holds_many opened len)
-held_many by_name snapshot name len None some long = absurd (false≢true some)
-held_many by_name snapshot name len (Some file) some long = long
-
-pub opened_is : (names : List Watched) (place : ℕ) → IsTrue (is_readable names place) → is_some (watched_at names place).opened ≡ true
-opened_is names place readable = (and_parts (is_some (watched_at names place).opened) (is_watchable names place) readable).0
-
--- ways out of copying
-
--- all was written, or the file has no more
-pub all_taken : (contents : List ℕ) (from at : ℕ) {len : ℕ} → len ≡ length contents → len ≤ at → take (at - from) (drop from contents) ≡ drop from contents
-all_taken contents from at size past = take_all (at - from) (drop from contents) (let long = length-drop from contents in omega (arith, size, past, long))
-
-none_left : (bytes : List ℕ) → bytes ≡ [] → length bytes ≡ 0
-none_left bytes is = ap length is
-
--- a read before the end gives some
-pub some_read : (contents : List ℕ) {at len n : ℕ} {old new : List ℕ} → len ≡ length contents → at < len → n ≡ 0 → 0 < length old → GaveFrom contents at old new n → ⊥
-some_read contents {at} size below none room gave =
-    let empty = none_left (drop at contents) (gave.ended none room).0 in let long = length-drop at contents in absurd (omega (arith, empty, long, size, below))
-
--- what comes before the place of a read that failed
-taken_before : (contents : List ℕ) {from at : ℕ} → from ≤ at → at ≤ length contents
-    → gives (take (at - from) (drop from contents)) ∷ [] ≡ all_but (length contents - at) (gives (drop from contents) ∷ [])
-taken_before contents {from} {at} past within =
-    ap (λ n. gives (take n (drop from contents)) ∷ []) (let long = length-drop from contents in omega (arith, past, within, long))
-
-module _ {told_in told : Bool} {snapshot : Snapshot} {name : List ℕ} {from place : ℕ} {watched : List Watched} {printer : PrinterState} {slots : List Slot} where
-  pub copies_all : (at : ℕ) {watched_new : List Watched} {after : PrinterState} {slots_new : List Slot}
-      → (told_in ≡ true → take (at - from) (drop from (open_contents snapshot (watched_at watched place))) ≡ drop from (open_contents snapshot (watched_at watched place)))
-      → Copied told_in told snapshot (open_contents snapshot (watched_at watched place)) (watched_at watched place).opened (watched_at watched place).name from name printer slots after slots_new at None
-      → (((len : ℕ) × Found snapshot (watched_at watched place).name (holds_many (watched_at watched place).opened len) × (len ≤ at)) ⊎ Found snapshot (watched_at watched place).name (reads_as (watched_at watched place).opened at []))
-      → watched_new ≡ watched
-      → Copies told_in told snapshot from place name watched printer slots watched_new after slots_new None
-  copies_all at all copied over same = record {
-    at = at;
-    ends = record {
-      events = gives copied.puts.bytes ∷ [];
-      are = λ t. ap (λ bytes. gives bytes ∷ []) (copied.puts.are ∙ copied.are t ∙ all t);
-      found = (
-        record {
-          is = record { file = (watched_at watched place).opened; from = from; end = at; begins = (refl, refl); read = rw copied.puts.are copied.read };
-          ends = elim over [ inl long ↦ inl long | inr none ↦ inr (inl none) ];
-        },
-        tt,
-      );
-      came = one_event copied.puts.came;
-    };
-    keeps = same;
-  }
-
-  pub copies_part : (at : ℕ) {len : ℕ} {now watched_new : List Watched} {after : PrinterState} {slots_new : List Slot} {why : Fault} → from ≤ at → at < len
-      → (told_in ≡ true → len ≡ length (open_contents snapshot (watched_at watched place)))
-      → Copied told_in told snapshot (open_contents snapshot (watched_at watched place)) (watched_at watched place).opened (watched_at watched place).name from name printer slots after slots_new at None
-      → now ≡ watched → why ≡ fault.Read place → watched_new ≡ changed_at place (breaks (λ file. Read file at)) now → snapshot.breaks ≡ true
-      → Copies told_in told snapshot from place name watched printer slots watched_new after slots_new (Some (Broke why))
-  copies_part at past below size copied same fault broken can = record {
-    at = at;
-    ends = record {
-      events = gives copied.puts.bytes ∷ [];
-      are = λ t. ap (λ bytes. gives bytes ∷ []) (copied.puts.are ∙ copied.are t) ∙ (let long = size t in taken_before _ past (omega (arith, below, long)));
-      found = (
-        can,
-        (
-          record {
-            is = record { file = (watched_at watched place).opened; from = from; end = at; begins = (refl, refl); read = rw copied.puts.are copied.read };
-            ends = inr (inr refl);
-          },
-          tt,
-        ),
-      );
-      came = one_event copied.puts.came;
-    };
-    keeps = (broke_at (λ file. Read file at) refl same fault broken, refl);
-  }
-
-  pub copies_short : (at : ℕ) {watched_new : List Watched} {after : PrinterState} {slots_new : List Slot} {why : Fault}
-      → Copied told_in told snapshot (open_contents snapshot (watched_at watched place)) (watched_at watched place).opened (watched_at watched place).name from name printer slots after slots_new at (Some why)
-      → watched_new ≡ watched
-      → Copies told_in told snapshot from place name watched printer slots watched_new after slots_new (Some (Over why))
-  copies_short at copied same = record {
-    at = at;
-    ends = record {
-      events = gives copied.puts.bytes ∷ [];
-      are = λ t. begins_bytes (longer copied.puts.bytes (at - from) copied.puts.are (copied.are t));
-      found = (gives copied.bytes ∷ [], begins_bytes copied.puts.are, (record { file = (watched_at watched place).opened; from = from; end = at; begins = (refl, refl); read = copied.read }, tt));
-      came = one_event copied.puts.came;
-    };
-    keeps = same;
-  } where
-    longer : (part : List ℕ) {bytes all : List ℕ} (n : ℕ) → IsFront part bytes → bytes ≡ take n all → IsFront part all
-    longer part {all} n (rest, is) taken = (rest ++ drop n all, sym (take-append-drop n all) ∙ ap (λ front. front ++ drop n all) (sym taken ∙ is) ∙ append_assoc part rest (drop n all))
-
--- ways out of the start part
-
-module _ {told_in told seeks : Bool} {snapshot : Snapshot} {start : List ℕ → List ℕ} {place : ℕ} {name : List ℕ} {watched : List Watched} {printer : PrinterState} {slots : List Slot} where
-  pub starts_unmeasured : {watched_new : List Watched} {why : Fault} → why ≡ fault.Read place → watched_new ≡ changed_at place (breaks (λ file. Len file)) watched → snapshot.breaks ≡ true
-      → Starts told_in told seeks snapshot start place name watched printer slots watched_new printer slots (Some (Broke why))
-  starts_unmeasured fault broken can = record {
-    fate = unmeasured (watched_at watched place).opened;
-    ends = broke_first (can, tt);
-    keeps = (broke_at (λ file. Len file) refl refl fault broken, refl);
-    met = λ by_name. refl;
-  }
-
-  pub starts_unsought : {now watched_new : List Watched} {inside : PrinterState} {why : Fault} → inside ≡ printer → now ≡ watched → why ≡ fault.Read place → FailsToRead place now watched_new → seeks ≡ true → snapshot.breaks ≡ true
-      → Starts told_in told seeks snapshot start place name watched printer slots watched_new inside slots (Some (Broke why))
-  starts_unsought viewed same fault (from, broken) sought can = rw viewed (record {
-    fate = unsought (watched_at watched place).opened from;
-    ends = broke_first (can, tt);
-    keeps = (broke_at (λ file. Read file from) refl same fault broken, refl);
-    met = λ by_name. sought;
-  })
-
-  pub starts_copied : {seen : Snapshot} {now watched_new : List Watched} {from : ℕ} {inside after : PrinterState} {slots_new : List Slot} (stop : Option Stop) → inside ≡ printer → seen ≡ snapshot → now ≡ watched
-      → (told_in ≡ true → drop from (open_contents snapshot (watched_at watched place)) ≡ start (open_contents snapshot (watched_at watched place)))
-      → Copies told_in told seen from place name now inside slots watched_new after slots_new stop
-      → Starts told_in told seeks snapshot start place name watched printer slots watched_new after slots_new stop
-  starts_copied {from} stop viewed saw same part copied = let copies = rw (viewed, saw, same) at copied in let contents = open_contents snapshot (watched_at watched place) in
-      let holds = contents_open snapshot (watched_at watched place) in record {
-        fate = unread (watched_at watched place).opened copies.at;
-        ends = found_as (found_from snapshot (watched_at watched place).name (unread (watched_at watched place).opened copies.at) stop (λ notice told. told) (λ file from begins. tt))
-            (due_as (λ t. let due = ap (λ those. gives those ∷ []) (part t ∙ ap start holds) in
-            (due, ap (all_but (length contents - copies.at)) due ∙ ap (λ those. all_but (length those - copies.at) (gives (start (held_at snapshot (watched_at watched place).opened)) ∷ [])) holds)) copies.ends);
-        keeps = copies.keeps;
-        met = unread_meets stop;
-      } where
-        unread_meets : (stop : Option Stop) → IfBroke stop ((by_name : Bool) → true ≡ true)
-        unread_meets None = tt
-        unread_meets (Some (Broke why)) = λ by_name. refl
-        unread_meets (Some (Over why)) = tt
-
--- what was found to have changed is what changed
-pub change_seen : {told : Bool} (snapshot : Snapshot) {old now : List Watched} (place : ℕ) {name : List ℕ} {found : Option Seen} {id : Option ℕ} {result : Option Notice} → result ≡ change_between id (option_map (λ (file : Seen). file.id) found) → id ≡ (watched_at now place).opened → now ≡ old
-    → (watched_at old place).name ≡ name → (told ≡ true → Finds snapshot (watched_at old place).name found) → told ≡ true → change_between (watched_at old place).opened (snapshot.leads name) ≡ result
-change_seen snapshot {old} place {name} {found} {id} is opened same named finds t = search rules

@@ -24,7 +24,7 @@ use Rattle.follow_core.specs.Reading.{IsSeen, LeftOpen}
 use Rattle.follow_core.specs.Standing.{IsLong, StandsAt}
 use Rattle.follow_core.proofs.RunLemmas.{last_from-append}
 use Rattle.ports_core.specs.declared.fault.Fault.TheVariants as fault
-use Rattle.follow_core.proofs.CallLemmas.{broke_at, broke_first, contents_open, due_as, due_by, follows_from, follows_stop, found_as, found_both, found_from, goes_after, if_broke, is_held, noted_as, noted_found, nothing_due, opened_there, opens_same, stops_early, untold}
+use Rattle.follow_core.proofs.CallGivesLemmas.{broke_at, broke_first, contents_open, due_as, due_by, follows_from, follows_stop, found_as, found_both, found_from, goes_after, if_broke, is_held, noted_as, noted_found, nothing_due, opened_there, opens_same, stops_early, untold}
 
 -- what came to the open file
 

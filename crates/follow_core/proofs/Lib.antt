@@ -1,8 +1,11 @@
 pub mod RunLemmas
 pub mod LookLemmas
+pub mod LookGivesLemmas
 pub mod AgreeLemmas
 pub mod EventLemmas
 pub mod CallLemmas
+pub mod CallGivesLemmas
 pub mod CatchLemmas
 pub mod StartLemmas
 pub mod FollowLemmas
+pub mod LookedLemmas

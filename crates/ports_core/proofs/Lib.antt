@@ -21,6 +21,7 @@ pub mod PartSteps
 pub mod ShareLemmas
 pub mod OpenLemmas
 pub mod FileWriterLemmas
+pub mod FileBegunLemmas
 pub mod WriterSteps
 pub mod FormLemmas
 pub mod DecimalLemmas

@@ -1,6 +1,6 @@
 -- Lemmas on what an engine takes in without a read.
 use Rattle.std.proofs.lemmas.Grind.{common_steps}
-use Rattle.std.proofs.Common.{◌≡◌, ℕ, ◌<◌, ◌≤◌, ◌^◌, max, zero, suc, not, ◌&&◌, Bool, true, false, IsTrue, List, [], ◌∷◌, length, take, drop, replicate, Option, Some, None, if◌then◌else◌, inl, refl, sym, ◌∙◌, ap, subst, arith}
+use Rattle.std.proofs.Common.{◌≡◌, ℕ, ◌<◌, ◌≤◌, ◌^◌, max, zero, suc, not, ◌&&◌, Bool, true, false, IsTrue, List, [], ◌∷◌, length, take, replicate, if◌then◌else◌, inl, refl, sym, ◌∙◌, ap, subst, arith}
 use Rattle.std.proofs.lemmas.Bool.{false≢true}
 use Rattle.std.proofs.lemmas.List.{length-replicate, length-take-le, nil_from_length, take-append-drop}
 use Rattle.ports_core.specs.Slot.{changed_at}

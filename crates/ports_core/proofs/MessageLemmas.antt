@@ -9,7 +9,7 @@ use Rattle.ports_core.specs.declared.reason.Reason.{Reason}
 use Rattle.ports_core.specs.declared.whole.WriteCut.{WriteCut}
 use Rattle.ports_core.specs.declared.fault.Fault.{Fault}
 use Rattle.ports_core.specs.declared.fault.Fault.TheVariants.{Memory}
-use Rattle.ports_core.specs.Message.{Prints, whole, cut, passed, PrintsOn, Says, SaysAll, SaysFor, SaysOn, Tells, TellsIf, TellsOn}
+use Rattle.ports_core.specs.Message.{Prints, whole, cut, passed, PrintsOn, Says, SaysAll, SaysOn, Tells, TellsIf, TellsOn}
 
 pub prints_on : (told : Bool) {text : List ℕ} {old new : List Slot} (result : Result (Unit {0}) WriteCut) → (slot_at old 1).is_broken ≡ false → OnOk result (new ≡ with_written 1 (told_of told text) old) → IfErr result (λ at. BrokeAfter told old new 1 text at.written) → PrintsOn told text old new
 prints_on told {text} (Ok u) sound out broke output error since is = grind (arith, common_steps)

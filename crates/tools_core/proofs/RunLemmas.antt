@@ -6,7 +6,7 @@ use Rattle.ports_core.specs.declared.fault.Fault.{Fault}
 use Rattle.ports_core.specs.declared.tool.Tool.{Tool}
 use Rattle.words_core.specs.declared.settings.Settings.{Settings}
 use Rattle.words_core.specs.declared.tail_words.TailSettings.{TailSettings}
-use Rattle.follow_core.proofs.FollowLemmas.{ends_by, most_made}
+use Rattle.follow_core.proofs.LookedLemmas.{ends_by, most_made}
 use Rattle.words_core.specs.declared.settings.Settings.TheVariants.{Head, Tail, Split, Csplit, Tee, About}
 use Rattle.words_core.specs.declared.settings.Topic.{Topic}
 use Rattle.words_core.specs.CsplitWords.{HasBadOperand, csplit_asked, CsplitAsked}

@@ -1,4 +1,4 @@
-use Rattle.follow_core.proofs.LookLemmas.{names_stay}
+use Rattle.follow_core.proofs.LookGivesLemmas.{names_stay}
 use Rattle.follow_core.proofs.laws.forgiven_names_stay.Goals as goal
 
 pub returns : goal.returns

@@ -2,7 +2,7 @@ use Rattle.ports_core.proofs.Runs.{as_status}
 use Rattle.std.proofs.Common.{Bor, arith, ℕ, List, map, ◌∙◌, ap, sym, if◌then◌else◌}
 use Rattle.follow_core.specs.Ending.{stopped, looked, no_room, shows_by}
 use Rattle.follow_core.specs.Look.{ways_of}
-use Rattle.follow_core.proofs.FollowLemmas.{ends_by, most_made, open_holds, watched_are}
+use Rattle.follow_core.proofs.LookedLemmas.{ends_by, most_made, open_holds, watched_are}
 use Rattle.follow_core.proofs.run.follow_files.Goals as goal
 
 pub returns-in-Ok-make_looks : goal.returns-in-Ok-make_looks

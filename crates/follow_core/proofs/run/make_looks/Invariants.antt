@@ -5,7 +5,7 @@ use Rattle.ports_core.specs.declared.calling.Calling.{Calling}
 use Rattle.follow_core.specs.Sharing.{HasError}
 use Rattle.follow_core.specs.FollowState.{CanLook, Holds}
 use Rattle.follow_core.specs.Look.{Ways}
-use Rattle.follow_core.proofs.FollowLemmas.{Progress}
+use Rattle.follow_core.proofs.LookedLemmas.{Progress}
 use Rattle.follow_core.proofs.run.make_looks.Given as goal
 
 abbrev pub invariant-loop-made : goal.invariant-loop-made

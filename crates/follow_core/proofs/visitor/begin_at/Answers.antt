@@ -1,6 +1,6 @@
 use Rattle.std.proofs.Common.{arith}
 use Rattle.std.proofs.lemmas.Grind.{common_steps}
-use Rattle.follow_core.proofs.CallLemmas.{due_as, nothing_due, past_noted}
+use Rattle.follow_core.proofs.CallGivesLemmas.{due_as, nothing_due, past_noted}
 use Rattle.follow_core.proofs.visitor.begin_at.Goals as goal
 
 pub returns-then-len-position-clause-ends : goal.returns-then-len-position-clause-ends

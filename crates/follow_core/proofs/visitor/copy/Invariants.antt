@@ -2,7 +2,7 @@ use Rattle.std.proofs.Common.{◌≡◌, ◌-◌, ◌<◌, ◌≤◌, IsTrue, No
 use Rattle.watch_core.specs.Snapshot.{latest}
 use Rattle.watch_core.specs.Watched.{open_contents, watched_at}
 use Rattle.ports_core.specs.Slot.{is_writable}
-use Rattle.follow_core.proofs.CallLemmas.{Copied}
+use Rattle.follow_core.proofs.CallGivesLemmas.{Copied}
 use Rattle.follow_core.proofs.visitor.copy.Given as goal
 
 abbrev pub invariant-loop-at : goal.invariant-loop-at

@@ -1,5 +1,5 @@
 use Rattle.std.proofs.Common.{◌∙◌}
-use Rattle.follow_core.proofs.CallLemmas.{over_first, tells}
+use Rattle.follow_core.proofs.CallGivesLemmas.{over_first, tells}
 use Rattle.follow_core.proofs.visitor.tell.Goals as goal
 
 pub returns-in-Ok-clause-ends : goal.returns-in-Ok-clause-ends

@@ -3,7 +3,7 @@ use Rattle.watch_core.specs.Watched.{added}
 use Rattle.follow_core.specs.declared.follow.Stage.TheVariants.{Looking}
 use Rattle.follow_core.specs.FollowState.{FollowState}
 use Rattle.follow_core.specs.Standing.{NameState, texts}
-use Rattle.follow_core.proofs.FollowLemmas.{added_begins}
+use Rattle.follow_core.proofs.LookedLemmas.{added_begins}
 use Rattle.follow_core.proofs.follow.Follow.begin.Goals as goal
 
 pub returns-in_ok-first-in-Fresh-clause-begins : goal.returns-in_ok-first-in-Fresh-clause-begins

@@ -1,7 +1,7 @@
 use Rattle.std.proofs.Common.{sym, ◌∙◌, arith}
 use Rattle.std.proofs.lemmas.List.{with_items_is}
 use Rattle.std.proofs.lemmas.Grind.{common_steps}
-use Rattle.follow_core.proofs.FollowLemmas.{makes_all, makes_few, makes_look}
+use Rattle.follow_core.proofs.LookedLemmas.{makes_all, makes_few, makes_look}
 use Rattle.follow_core.proofs.follow.Follow.make_look.Goals as goal
 
 pub returns-in-Err-clause-makes : goal.returns-in-Err-clause-makes

@@ -1,6 +1,6 @@
 use Rattle.std.proofs.lemmas.Grind.{common_steps}
 use Rattle.std.proofs.Common.{arith}
-use Rattle.follow_core.proofs.LookLemmas.{left_visited}
+use Rattle.follow_core.proofs.LookGivesLemmas.{left_visited}
 use Rattle.follow_core.specs.Look.{ways_of}
 use Rattle.follow_core.proofs.name.Name.visit.Goals as goal
 

@@ -6,8 +6,8 @@ use Rattle.follow_core.specs.Event.{begins_none}
 use Rattle.follow_core.specs.Look.{sound}
 use Rattle.follow_core.specs.inner.Giving.{Noted, Nothing}
 use Rattle.follow_core.specs.declared.visitor.Stop.TheVariants.{Over}
-use Rattle.follow_core.proofs.CallLemmas.{ends_can, follows_from, follows_stop, header_only, long_at, stops_early, opened_there}
-use Rattle.follow_core.proofs.LookLemmas.{first_gave, first_long, first_missing, first_started, first_unopened, gave_fails, gave_through}
+use Rattle.follow_core.proofs.CallGivesLemmas.{ends_can, follows_from, follows_stop, header_only, long_at, stops_early, opened_there}
+use Rattle.follow_core.proofs.LookGivesLemmas.{first_gave, first_long, first_missing, first_started, first_unopened, gave_fails, gave_through}
 use Rattle.follow_core.proofs.visitor.Visitor.first.Goals as goal
 
 pub returns-then-by_name-clause-visits : goal.returns-then-by_name-clause-visits

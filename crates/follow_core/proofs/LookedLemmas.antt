@@ -1,0 +1,600 @@
+-- Looks at all names, one after another
+use Rattle.std.proofs.Common.{◌≡◌, ℕ, zero, suc, ◌<◌, ◌≤◌, ◌+◌, ◌-◌, Bool, true, false, IsTrue, if◌then◌else◌, ◌||◌, List, [], ◌∷◌, ◌++◌, length, take, slice_index_or, refl, sym, ◌∙◌, ap, subst, arith, inl, inr, ◌⊎◌, Option, Some, subst₂, Err, not, ◌&&◌, map, Ok, Result, None, is_some, rules}
+use Rattle.std.proofs.Math.Bool.{or-false as or_none, and-false as and_none}
+use Rattle.std.proofs.lemmas.Bool.{or_parts, cases_lt, and_parts, false≢true, not-true}
+use Rattle.std.proofs.lemmas.List.{append-nil, get_or-map, length-append, length-map, take_all, get_or-append-add, get_or_append_left, map-append, take-append-le}
+use Rattle.std.proofs.Math.Seq.{take-append_seam}
+use Rattle.ports_core.specs.Slot.{Slot, adds}
+use Rattle.follow_core.specs.FollowState.{AllReady, Begun, CanLook, FollowState, Holds, IsCause, IsOther, LooksOn, StandsIn, StopsOn, goes_on_at, is_alive, is_alive_from, new_state, nothing, lacks_memory, output_broke, Halted, SawOrNot, opened_follow}
+use Rattle.follow_core.specs.Followed.{any_failed}
+use Rattle.follow_core.specs.Look.{Look, Ways, snapshots, ways_of}
+use Rattle.follow_core.specs.Share.{shares_at_look_from, shares_of}
+use Rattle.follow_core.specs.inner.Visits.{StandFrom, VisitedTo, VisitsAll, any_goes_on, goes_on_as, AddsSome, Begins, MakesLook, LookedAll}
+use Rattle.follow_core.specs.Printing.{PrinterState, Short}
+use Rattle.follow_core.specs.Reading.{AreAtLook, looks_more, no_looks}
+use Rattle.follow_core.specs.Sharing.{CanPrint}
+use Rattle.follow_core.specs.inner.Giving.{IsFront, HasStopped}
+use Rattle.follow_core.specs.Standing.{AllStand, CanVisit, NoneGoesOn, NameState, Stands, no_state, state_at, texts, AreWatched, IsFollowed, IsWatched}
+use Rattle.follow_core.proofs.CallLemmas.{no_memory}
+use Rattle.ports_core.specs.declared.fault.Fault.{Fault}
+use Rattle.watch_core.specs.Snapshot.{Snapshot, latest}
+use Rattle.watch_core.specs.Watched.{Watched, watched_at, added, no_name}
+use Rattle.follow_core.specs.declared.name.Standing.{Standing}
+use Rattle.follow_core.specs.declared.name.Standing.TheVariants.{New, Followed, Left}
+use Rattle.follow_core.proofs.LookLemmas.{last_file}
+use Rattle.follow_core.proofs.RunLemmas.{failed-append, shares_more}
+use Rattle.follow_core.specs.declared.follow.Stage.{Stage}
+use Rattle.follow_core.specs.declared.follow.Stage.TheVariants.{Fresh, Looking, Over}
+use Rattle.follow_core.specs.Version.{open_after}
+use Rattle.watch_core.proofs.NameLemmas.{latest-last}
+use Rattle.follow_core.specs.declared.start.Start.{Start}
+use Rattle.ports_core.specs.declared.calling.Calling.{Calling}
+use Rattle.follow_core.specs.Ending.{AreMost, FollowEndsAs, FollowEndsBy, is_over, until_over, Made, StoppedIn, seen_first}
+use Rattle.ports_core.specs.declared.fault.Fault.TheVariants as fault
+use Rattle.ports_core.specs.declared.reason.Reason.{Reason}
+use Rattle.follow_core.proofs.FollowLemmas.{nothing_shared, all_both, text_there, same_length, unbroken_watched, watched_there}
+
+-- A look at all names more, and one that was stopped.
+
+-- names that are looked at
+
+-- as many names
+length_names : (follow : FollowState) {names : List (List ℕ)} → texts follow.names ≡ names → length follow.names ≡ length names
+length_names follow same = sym (length-map follow.names (λ (n : NameState). n.text)) ∙ ap length same
+
+-- they stand as the looks before left them
+stand_from : {told_in told : Bool} {calling : Calling} {ways : Ways} {headers : Bool} {names : List (List ℕ)} {looks : List Look} {first : List Slot} {follow : FollowState}
+    {watched : List Watched} {slots : List Slot} → follow.stage ≡ Looking → Holds told_in told calling ways headers names looks first follow watched slots
+    → StandFrom told_in (ways_of ways.first follow.by_name follow.start) looks follow.first follow.names watched
+stand_from {told_in} {ways} {looks} {follow} {watched} looking holds =
+    let (stand, many) = subst (StandsIn told_in ways looks follow.names watched) looking holds.stand in
+    subst (λ way. StandFrom told_in way looks follow.first follow.names watched) holds.asked
+    (record { numbered = λ some. holds.numbered looking (subst (λ n. 0 < n) (length_names follow holds.same) some); stand = stand; many = many })
+
+look_made : {told_in told : Bool} {snapshot : Snapshot} {old : FollowState} {names : List NameState} {watched watched_new : List Watched} {printer : PrinterState}
+    {slots slots_new : List Slot} {failed : Bool} → old.stage ≡ Looking
+    → VisitsAll told_in told snapshot old.by_name old.start old.first old.names watched old.printer slots names watched_new printer slots_new (Ok failed)
+    → LooksOn told_in told snapshot old watched slots (record old { names = names; printer = printer; has_failed = old.has_failed || failed }) watched_new slots_new
+look_made {told_in} {told} {snapshot} {old} {names} {watched} {watched_new} {printer} {slots} {slots_new} {failed} looking visits calling ways headers asked looks first holds = (
+  visited.fates,
+  record {
+    asked = holds.asked;
+    same = visited.same ∙ holds.same;
+    numbered = holds.numbered;
+    stand = subst (StandsIn told_in ways (looks ++ look ∷ []) names watched_new) (sym looking) (
+      (λ place within. visited.done visited.fates front place (omega (arith, within, many))),
+      visits.count ∙ stood.many ∙ ap (λ n. ways.first + n) many,
+    );
+    shares = holds.shares ++ visited.shares;
+    are = λ t. ap (λ those. those ++ visited.shares) (holds.are t) ∙ ap (λ those. shares_of ways asked looks ++ those)
+        (visited.are t visited.fates front ∙ ap (shares_at_look_from ways looks look ways.first) (take_all (length old.names) (texts old.names) (omega (arith, size)) ∙ holds.same)) ∙ sym (shares_more ways asked looks look);
+    found = looks_more holds.found (subst (λ those. AreAtLook looks look ways.first those visited.shares)
+        (take_all (length old.names) (texts old.names) (omega (arith, size)) ∙ holds.same) (visited.found visited.fates front));
+    shared = all_both holds.shared visited.shared;
+    failed = failed-append holds.shares visited.shares ∙ ap (λ before. before || any_failed visited.shares) holds.failed
+        ∙ ap (λ now. old.has_failed || now) visited.is_failed;
+  },
+) where
+  stood : StandFrom told_in (ways_of ways.first old.by_name old.start) looks old.first old.names watched
+  stood = stand_from looking holds
+
+  visited : VisitedTo told_in told ways looks snapshot (length old.names) old.names old.printer slots printer slots_new watched_new names failed
+  visited = subst (λ way. VisitedTo told_in told way looks snapshot (length old.names) old.names old.printer slots printer slots_new watched_new names failed) (sym holds.asked)
+      (visits.visited ways.first looks stood)
+
+  look : Look
+  look = record { snapshot = snapshot; fates = visited.fates }
+
+  front : IsFront visited.fates visited.fates
+  front = ([], sym (append-nil visited.fates))
+
+  many : length old.names ≡ length names
+  many = same_length old.names names visited.same
+
+  size : length (texts old.names) ≡ length old.names
+  size = length-map old.names (λ (n : NameState). n.text)
+
+look_stopped : {told_in told : Bool} {snapshot : Snapshot} {old : FollowState} {names : List NameState} {watched watched_new : List Watched}
+    {printer : PrinterState} {slots slots_new : List Slot} {why : Fault} → old.stage ≡ Looking
+    → VisitsAll told_in told snapshot old.by_name old.start old.first old.names watched old.printer slots names watched_new printer slots_new (Err why)
+    → StopsOn told_in told snapshot old watched slots watched_new slots_new why
+look_stopped {told_in} {told} {snapshot} {old} {watched_new} {slots} {slots_new} {why} looking visits calling ways headers names looks first holds =
+    let (whole, part, begun, printer, reached, shared, short) = visits.stopped ways.first looks (stand_from looking holds) in record {
+      shares = holds.shares;
+      are = holds.are;
+      found = holds.found;
+      whole = whole;
+      part = part;
+      begun = subst₂ (λ way those. Begun told_in way those looks snapshot watched_new whole part) (sym holds.asked) holds.same begun;
+      printer = printer;
+      reached = reached;
+      shared = all_both holds.shared shared;
+      short = short;
+    }
+
+-- whatever looks were made, the names broke just where they tell so
+abbrev pub Unbroken : (told_in told : Bool) → FollowState → List Watched → List Slot → List Watched → Type 0
+Unbroken told_in told old watched slots watched_new = (calling : Calling) (ways : Ways) (headers : Bool) (names : List (List ℕ)) (looks : List Look) (first : List Slot)
+    → Holds told_in told calling ways headers names looks first old watched slots → AreWatched ways looks names watched_new
+
+-- names that were added
+
+added_at : (before : List Watched) (names : List (List ℕ)) {place : ℕ} → place < length names → watched_at (before ++ map added names) (length before + place) ≡ added (slice_index_or names place [])
+added_at before names {place} within = get_or-append-add before (map added names) place no_name ∙ get_or-map added names place [] no_name within
+
+added_stand : (told : Bool) (ways : Ways) (before : List Watched) (names : List (List ℕ)) → ways.first ≡ length before → AllStand told ways [] (map new_state names) (before ++ map added names)
+added_stand told ways before names first_is place within =
+    let inside : place < length names = subst (λ n. place < n) (length-map names new_state) within in
+    subst (λ (n : NameState). Stands told ways [] (ways.first + place) n.text (watched_at (before ++ map added names) (ways.first + place)) n.standing) (sym (get_or-map new_state names place [] no_state inside))
+    (subst (λ w. Stands told ways [] (ways.first + place) (slice_index_or names place []) w New) (sym (ap (λ n. watched_at (before ++ map added names) (n + place)) first_is ∙ added_at before names inside)) (refl, refl))
+
+can_at : (text : List ℕ) (standing : Standing) → CanVisit (record { text = text; standing = standing }) (added text)
+can_at text New = (refl, refl)
+can_at text (Followed position) = (refl, refl)
+can_at text Left = tt
+
+added_ready : (names : List NameState) {first : ℕ} (before : List Watched) → (0 < length names → first ≡ length before) → AllReady names first (before ++ map added (texts names))
+added_ready names {first} before first_is place within = subst (CanVisit (state_at names place)) (sym there) (can_at (state_at names place).text (state_at names place).standing) where
+  there : watched_at (before ++ map added (texts names)) (first + place) ≡ added (state_at names place).text
+  there = ap (λ n. watched_at (before ++ map added (texts names)) (n + place)) (first_is (omega (arith, within)))
+      ∙ added_at before (texts names) (subst (λ n. place < n) (sym (length-map names (λ (n : NameState). n.text))) within)
+      ∙ ap added (get_or-map (λ (n : NameState). n.text) names place no_state [] within)
+
+-- following stands as before, but that its names are watched, after those that were
+pub record IsAdded (old mid : FollowState) (watched watched_mid : List Watched) : Type 0 where
+  pub fresh : old.stage ≡ Fresh
+  pub mid_is : mid ≡ record old { stage = Looking; first = mid.first }
+  pub watched_is : watched_mid ≡ watched ++ map added (texts old.names)
+  pub first_is : 0 < length old.names → mid.first ≡ length watched
+
+held_added : {told_in told : Bool} {calling : Calling} {ways : Ways} {headers : Bool} {names : List (List ℕ)} {looks : List Look} {first : List Slot} {old mid : FollowState} {watched watched_mid : List Watched} {slots : List Slot} → IsAdded old mid watched watched_mid
+    → Holds told_in told calling ways headers names looks first old watched slots → Holds told_in told calling ways headers names looks first mid watched_mid slots
+held_added {told_in} {told} {calling} {ways} {headers} {names} {looks} {first} {old} {watched} {watched_mid} {slots} is holds =
+    subst (λ (f : FollowState). Holds told_in told calling ways headers names looks first f watched_mid slots) (sym is.mid_is) (record {
+      asked = holds.asked;
+      same = holds.same;
+      numbered = λ looking some. is.first_is (subst (λ n. 0 < n) (sym (length_names old holds.same)) some) ∙ new.2;
+      stand = (
+        subst (λ those. AllStand told_in ways those old.names watched_mid) (sym new.0)
+            (subst (λ those. AllStand told_in ways [] those watched_mid) (sym new.1) (subst (AllStand told_in ways [] (map new_state (texts old.names))) (sym is.watched_is) (added_stand told_in ways watched (texts old.names) (sym new.2)))),
+        ap length is.watched_is ∙ length-append watched (map added (texts old.names)) ∙ ap (λ n. n + length (map added (texts old.names))) new.2
+            ∙ ap (λ n. ways.first + n) (length-map (texts old.names) added ∙ length-map old.names (λ (n : NameState). n.text)),
+      );
+      shares = holds.shares;
+      are = holds.are;
+      found = holds.found;
+      shared = holds.shared;
+      failed = holds.failed;
+    }) where
+      new : (looks ≡ []) × (old.names ≡ map new_state (texts old.names)) × (length watched ≡ ways.first)
+      new = subst (StandsIn told_in ways looks old.names watched) is.fresh holds.stand
+
+-- a name that others added is before them
+other_added : {old mid : FollowState} {watched watched_mid : List Watched} → IsAdded old mid watched watched_mid → (number : ℕ) → IsOther old watched number → IsOther mid watched_mid number × (watched_at watched_mid number ≡ watched_at watched number)
+other_added {old} {watched} {watched_mid} is number other = search (rules, get_or_append_left)
+
+pub added_begins : {told_in : Bool} {old mid : FollowState} {watched watched_mid : List Watched} → IsAdded old mid watched watched_mid → Begins told_in old watched mid watched_mid
+added_begins {old} {mid} {watched} {watched_mid} is = record {
+  stage = ap (λ (f : FollowState). f.stage) is.mid_is;
+  ready = subst (λ (f : FollowState). AllReady f.names f.first watched_mid) (sym is.mid_is) (subst (AllReady old.names mid.first) (sym is.watched_is) (added_ready old.names watched is.first_is));
+  others = other_added is;
+  holds = λ told calling ways headers names looks first slots holds. held_added is holds;
+}
+
+-- whether a further look can give something
+
+open_there : {ways : Ways} (looks : List Look) {place : ℕ} {name : List ℕ} {watched : Watched} {position : ℕ} → IsFollowed true ways looks place name watched position → (by_name : Bool) → ways.by_name ≡ by_name → (by_name || is_some (open_after ways.by_name name (snapshots looks))) ≡ true
+open_there looks followed true is = refl
+open_there [] followed false is = absurd (false≢true (sym followed.begun))
+open_there {ways} (before ∷ looks) {name} followed false is =
+    ap is_some (last_file ways name before looks ∙ sym (followed.stands refl).file) ∙ followed.there refl is
+
+goes_on_there : (ways : Ways) (looks : List Look) (place : ℕ) (name : List ℕ) (watched : Watched) (standing : Standing) → Stands true ways looks place name watched standing → goes_on_as ways.by_name standing ≡ goes_on_at ways looks place name
+goes_on_there ways looks place name watched New stands = sym (ap (λ those. goes_on_at ways those place name) stands.0 ∙ or_none ways.by_name)
+goes_on_there ways looks place name watched (Followed position) stands =
+    sym (ap (λ dropped. not dropped && (ways.by_name || is_some (open_after ways.by_name name (snapshots looks)))) stands.kept ∙ open_there looks stands ways.by_name refl)
+goes_on_there ways looks place name watched Left stands = search (rules, and_none)
+
+alive_from : (ways : Ways) (looks : List Look) (from : ℕ) (names : List NameState) → ((place : ℕ) → place < length names → goes_on_as ways.by_name (state_at names place).standing ≡ goes_on_at ways looks (from + place) (state_at names place).text) → any_goes_on ways.by_name names ≡ is_alive_from ways looks from (texts names)
+alive_from ways looks from [] all = refl
+alive_from ways looks from (name ∷ names) all =
+    ap (λ rest. goes_on_as ways.by_name name.standing || rest) (alive_from ways looks (1 + from) names (λ place within. all (suc place) (omega arith) ∙ ap (λ at. goes_on_at ways looks at (state_at names place).text) (omega arith)))
+    ∙ ap (λ one. one || is_alive_from ways looks (1 + from) (texts names)) (all 0 (omega arith) ∙ ap (λ at. goes_on_at ways looks at name.text) (omega arith))
+
+new_there : {names : List NameState} {place : ℕ} → place < length names → names ≡ map new_state (texts names) → (state_at names place).standing ≡ New
+new_there {names} {place} within new =
+    let inside : place < length (texts names) = subst (λ n. place < n) (sym (length-map names (λ (n : NameState). n.text))) within in
+    ap (λ (those : List NameState). (state_at those place).standing) new
+    ∙ ap (λ (n : NameState). n.standing) (get_or-map new_state (texts names) place [] no_state inside)
+
+fresh_alive : (ways : Ways) {looks : List Look} {names : List NameState} → looks ≡ [] → names ≡ map new_state (texts names) → (place : ℕ) → place < length names → goes_on_as ways.by_name (state_at names place).standing ≡ goes_on_at ways looks (ways.first + place) (state_at names place).text
+fresh_alive ways {names} none new place within = search (rules, new_there, or_none)
+
+pub alive_is : {told : Bool} {calling : Calling} {ways : Ways} {headers : Bool} {names : List (List ℕ)} {looks : List Look} {first slots : List Slot} {follow : FollowState} {watched : List Watched} → Holds true told calling ways headers names looks first follow watched slots → any_goes_on follow.by_name follow.names ≡ is_alive ways names looks
+alive_is {ways} {looks} {follow} {watched} holds = search (rules, alive_from, fresh_alive, goes_on_there)
+
+-- none of the names goes on
+
+none_before : (by_name : Bool) (names : List NameState) (place : ℕ) → place < length names → any_goes_on by_name names ≡ false → goes_on_as by_name (state_at names place).standing ≡ false
+none_before by_name [] place within none = absurd (omega (arith, within))
+none_before by_name (name ∷ names) zero within none = (or_parts (goes_on_as by_name name.standing) (any_goes_on by_name names) none).0
+none_before by_name (name ∷ names) (suc place) within none = none_before by_name names place (omega (arith, within)) (or_parts (goes_on_as by_name name.standing) (any_goes_on by_name names) none).1
+
+no_more_of : (told : Bool) (ways : Ways) (looks : List Look) (place : ℕ) (name : List ℕ) (watched : Watched) (standing : Standing) → Stands told ways looks place name watched standing → 0 < length looks
+    → goes_on_as ways.by_name standing ≡ false → (is_some watched.failed ≡ true) ⊎ ((ways.by_name ≡ false) × (watched.opened ≡ None))
+no_more_of told ways looks place name watched New stands some none = absurd (let empty = ap length stands.0 in omega (arith, some, empty))
+no_more_of told ways looks place name watched (Followed position) stands some none = absurd (false≢true (sym none))
+no_more_of told ways looks place name watched Left stands some none = elim stands.why [
+  | inl (dropped, broke, closed) ↦ inl (ap is_some broke.call ∙ dropped)
+  | inr missed ↦ inr (missed.way, missed.closed)
+]
+
+pub none_going : {told_in told : Bool} {calling : Calling} {ways : Ways} {headers : Bool} {names : List (List ℕ)} {looks : List Look} {first slots : List Slot} {follow : FollowState} {watched : List Watched}
+    → Holds told_in told calling ways headers names looks first follow watched slots → 0 < length looks → any_goes_on follow.by_name follow.names ≡ false → NoneGoesOn ways watched
+none_going {told_in} {ways} {looks} {follow} {watched} holds some none = stage follow.stage holds.stand where
+  way : ways.by_name ≡ follow.by_name
+  way = ap (λ (those : Ways). those.by_name) holds.asked
+
+  stage : (stage : Stage) → StandsIn told_in ways looks follow.names watched stage → NoneGoesOn ways watched
+  stage Fresh stand = absurd (let empty = ap length stand.0 in omega (arith, some, empty))
+  stage Looking stand = λ place within.
+      let inside : place < length follow.names = (let as_many = stand.1 in omega (arith, as_many, within)) in
+      no_more_of told_in ways looks (ways.first + place) (state_at follow.names place).text (watched_at watched (ways.first + place)) (state_at follow.names place).standing (stand.0 place inside) some
+      (rw way (none_before follow.by_name follow.names place inside none))
+  stage Over stand = absurd stand
+
+-- why a look was stopped
+
+-- following isn't over
+can_print : (old : FollowState) (watched : List Watched) (slots : List Slot) → (old.stage ≡ Over → ⊥) → CanLook old watched slots → CanPrint slots
+can_print old watched slots live can = by old.stage live can where
+  by : (stage : Stage) → (stage ≡ Over → ⊥) → CanLook (record old { stage = stage }) watched slots → CanPrint slots
+  by Fresh live can = can
+  by Looking live can = can.1
+  by Over live can = absurd (live refl)
+
+cause_is : {old : FollowState} {slots slots_new : List Slot} {why : Fault} (watched : List Watched) → (old.stage ≡ Over → ⊥) → CanLook old watched slots → HasStopped why slots_new → IsCause old slots slots_new why
+cause_is {old} {slots} {slots_new} watched live can (inl memory, error) = subst (IsCause old slots slots_new) (sym memory) lacks_memory
+cause_is {old} {slots} {slots_new} watched live can (inr (is, broken), error) = subst (IsCause old slots slots_new) (sym is) (output_broke (not-true _ (and_parts _ _ (can_print old watched slots live can).0).1, broken))
+
+-- by what the names broke
+
+-- a name that was only added
+just_added : (before : List Watched) (names : List (List ℕ)) (watched rest : List Watched) {place : ℕ} → before ++ map added names ≡ watched ++ rest → length before + place < length watched → place < length names
+    → watched_at watched (length before + place) ≡ added (slice_index_or names place [])
+just_added before names watched rest {place} are within inside =
+    sym (get_or_append_left watched rest no_name (length before + place) within) ∙ ap (λ those. watched_at those (length before + place)) (sym are) ∙ added_at before names inside
+
+-- before the first look none broke, of those that were added
+none_broken : {ways : Ways} {looks : List Look} (names : List (List ℕ)) (before watched : List Watched) → looks ≡ [] → length before ≡ ways.first → IsFront watched (before ++ map added names) → AreWatched ways looks names watched
+none_broken {ways} names before watched none first_is (rest, are) = subst (λ (those : List Look). AreWatched ways those names watched) (sym none) (
+  (let size = sizes in omega (arith, size, first_is)),
+  (λ above. absurd (omega (arith, above))),
+  subst (λ n. (place : ℕ) → n + place < length watched → IsWatched ways [] (n + place) (slice_index_or names place []) (watched_at watched (n + place))) first_is
+      (λ place within. let is = just_added before names watched rest are within (let size = sizes in omega (arith, size, within)) in
+      unbroken_watched (ap (λ (w : Watched). w.name) is) (ap (λ (w : Watched). w.failed) is) refl),
+) where
+  sizes : length before + length names ≡ length watched + length rest
+  sizes = ap (λ n. length before + n) (sym (length-map names added)) ∙ sym (length-append before (map added names)) ∙ ap length are ∙ length-append watched rest
+
+pub watched_are : {told_in told : Bool} {calling : Calling} {ways : Ways} {headers : Bool} {names : List (List ℕ)} {looks : List Look} {first slots : List Slot} {follow : FollowState} {watched : List Watched} → Holds told_in told calling ways headers names looks first follow watched slots → AreWatched ways looks names watched
+watched_are {told_in} {ways} {names} {looks} {follow} {watched} holds = stage follow.stage holds.stand where
+  count : length follow.names ≡ length names
+  count = length_names follow holds.same
+
+  stage : (stage : Stage) → StandsIn told_in ways looks follow.names watched stage → AreWatched ways looks names watched
+  stage Fresh stand = none_broken names watched watched stand.0 stand.2 (map added names, refl)
+  stage Looking stand = (
+    (let as_many = stand.1 ∙ ap (λ n. ways.first + n) count in omega (arith, as_many)),
+    (λ above. stand.1 ∙ ap (λ n. ways.first + n) count),
+    λ place within.
+        let inside : place < length follow.names = (let as_many = stand.1 in omega (arith, as_many, within)) in
+        subst (λ those. IsWatched ways looks (ways.first + place) (slice_index_or those place []) (watched_at watched (ways.first + place))) holds.same
+        (rw (text_there follow.names follow.names refl inside)
+        (watched_there told_in (state_at follow.names place).text (watched_at watched (ways.first + place)) (state_at follow.names place).standing (stand.0 place inside))),
+  )
+  stage Over stand = absurd stand
+
+-- A look from where following stands
+
+-- there was no memory to begin one: some names were added, or all, and no call was made on one
+pub makes_none : {told_in told : Bool} {snapshot : Snapshot} {seen seen_new : List Snapshot} {old new : FollowState} {watched watched_new : List Watched}
+    {slots : List Slot} {why : Fault} → Unbroken told_in told old watched slots watched_new
+    → ((number : ℕ) → IsOther old watched number → watched_at watched_new number ≡ watched_at watched number)
+    → (old.stage ≡ Over → ⊥) → CanLook old watched slots → why ≡ fault.Memory → seen_new ≡ seen
+    → MakesLook told_in told snapshot seen old watched slots seen_new new watched_new slots (Err why)
+makes_none {told} {old} {watched} {slots} unbroken others live can is same = record {
+  looked = tt;
+  stopped = λ calling ways headers names looks first holds. record {
+    shares = holds.shares;
+    are = holds.are;
+    found = holds.found;
+    whole = [];
+    part = [];
+    begun = nothing (unbroken calling ways headers names looks first holds);
+    printer = old.printer;
+    reached = slots;
+    shared = rw (append-nil holds.shares) holds.shared;
+    short = rw is (record { slots = λ output error others at. (error, refl, subst (λ those. Short told [] those slots fault.Memory) at no_memory) });
+  };
+  seen_is = tt;
+  saw = inl same;
+  stage = tt;
+  ready = tt;
+  can = tt;
+  cause = rw is lacks_memory;
+  error = (can_print old watched slots live can).1;
+  others = others;
+}
+
+pub makes_few : {told_in told : Bool} {snapshot : Snapshot} {seen seen_new : List Snapshot} {old new : FollowState} {watched watched_new : List Watched}
+    {slots : List Slot} {why : Fault} → old.stage ≡ Fresh → AddsSome (texts old.names) watched watched_new
+    → (old.stage ≡ Over → ⊥) → CanLook old watched slots → why ≡ fault.Memory → seen_new ≡ seen
+    → MakesLook told_in told snapshot seen old watched slots seen_new new watched_new slots (Err why)
+makes_few {told_in} {old} {watched} {watched_new} fresh adds = makes_none
+    (λ calling ways headers names looks first holds.
+    let stand = subst (StandsIn told_in ways looks old.names watched) fresh holds.stand in
+    none_broken names watched watched_new stand.0 stand.2 (subst (λ those. IsFront watched_new (watched ++ map added those)) holds.same adds.front))
+    (λ number other. ap (λ those. watched_at those number) adds.kept.1
+    ∙ get_or_append_left watched adds.kept.0 no_name number (subst (λ stage. IsOther (record old { stage = stage }) watched number) fresh other))
+
+pub makes_all : {told_in told : Bool} {snapshot : Snapshot} {seen seen_new : List Snapshot} {old mid new : FollowState}
+    {watched watched_mid watched_new : List Watched} {slots : List Slot} {why : Fault} → Begins told_in old watched mid watched_mid → watched_new ≡ watched_mid
+    → (old.stage ≡ Over → ⊥) → CanLook old watched slots → why ≡ fault.Memory → seen_new ≡ seen
+    → MakesLook told_in told snapshot seen old watched slots seen_new new watched_new slots (Err why)
+makes_all {told} {slots} begins same = makes_none
+    (λ calling ways headers names looks first holds. subst (AreWatched ways looks names) (sym same) (watched_are (begins.holds told calling ways headers names looks first slots holds)))
+    (λ number other. ap (λ those. watched_at those number) same ∙ (begins.others number other).1)
+
+-- the names were looked at, once they were watched and the watch saw what the files hold
+pub makes_look : {told_in told : Bool} {shows shows_mid : ℕ → Snapshot} {seen seen_mid seen_turned seen_new : List Snapshot} {old inside mid : FollowState} {names names_new names_now : List NameState} {watched watched_mid watched_turned watched_new : List Watched} {printer : PrinterState} {slots slots_new : List Slot} {result : Result Bool Fault} → (old.stage ≡ Over → ⊥) → CanLook old watched slots → inside ≡ mid
+    → Begins told_in old watched mid watched_mid → shows_mid ≡ shows → seen_mid ≡ seen → seen_turned ≡ seen_mid ++ shows_mid (length seen_mid) ∷ []
+    → watched_turned ≡ watched_mid → names ≡ inside.names → names_now ≡ names_new → seen_new ≡ seen_turned
+    → VisitsAll told_in told (latest seen_turned) inside.by_name inside.start inside.first names watched_turned inside.printer slots names_now watched_new printer
+    slots_new result
+    → MakesLook told_in told (shows (length seen)) seen old watched slots seen_new
+    (record inside { names = names_new; printer = printer }) watched_new slots_new result
+makes_look {told_in} {told} {shows} {shows_mid} {seen} {seen_mid} {seen_turned} {seen_new} {old} {inside} {names_new} {watched} {watched_mid} {watched_turned} {watched_new} {printer} {slots} {slots_new} {result} live can view begin shows_same seen_same turned watched_same names_are names_now seen_is visits =
+    by result made where
+      begins : Begins told_in old watched inside watched_mid
+      begins = subst (λ (f : FollowState). Begins told_in old watched f watched_mid) (sym view) begin
+
+      next : shows_mid (length seen_mid) ≡ shows (length seen)
+      next = ap (λ (those : ℕ → Snapshot). those (length seen_mid)) shows_same ∙ ap (λ (those : List Snapshot). shows (length those)) seen_same
+
+      snapshot : Snapshot
+      snapshot = shows (length seen)
+
+      saw : seen_new ≡ seen ++ snapshot ∷ []
+      saw = seen_is ∙ turned ∙ ap (λ (those : List Snapshot). those ++ shows_mid (length seen_mid) ∷ []) seen_same ∙ ap (λ one. seen ++ one ∷ []) next
+
+      Seen : Result Bool Fault → Type 0
+      Seen those = VisitsAll told_in told snapshot inside.by_name inside.start inside.first inside.names watched_mid inside.printer slots names_new watched_new printer slots_new those
+
+      made : Seen result
+      made = subst₂ (λ (s : Snapshot) w. VisitsAll told_in told s inside.by_name inside.start inside.first inside.names w inside.printer slots names_new watched_new printer slots_new result)
+          (ap latest turned ∙ latest-last seen_mid (shows_mid (length seen_mid)) ∙ next) watched_same
+          (subst₂ (λ these now. VisitsAll told_in told (latest seen_turned) inside.by_name inside.start inside.first these watched_turned inside.printer slots now watched_new printer slots_new result) names_are names_now visits)
+
+      others : {those : Result Bool Fault} → Seen those → (number : ℕ) → IsOther old watched number → watched_at watched_new number ≡ watched_at watched number
+      others visits number other =
+          let (others, same) = begins.others number other in visits.others number (subst (λ stage. IsOther (record inside { stage = stage }) watched_mid number) begins.stage others) ∙ same
+
+      by : (result : Result Bool Fault) → Seen result → MakesLook told_in told snapshot seen old watched slots seen_new
+          (record inside { names = names_new; printer = printer }) watched_new slots_new result
+      by (Ok failed) visits = record {
+        looked = λ calling ways headers names looks first holds. look_made begins.stage visits calling ways headers names looks first (begins.holds told calling ways headers names looks first slots holds);
+        stopped = tt;
+        seen_is = saw;
+        saw = tt;
+        stage = begins.stage;
+        ready = visits.ready;
+        can = visits.can;
+        cause = tt;
+        error = visits.can.1;
+        others = others visits;
+      }
+      by (Err why) visits = record {
+        looked = tt;
+        stopped = λ calling ways headers names looks first holds. look_stopped begins.stage visits calling ways headers names looks first (begins.holds told calling ways headers names looks first slots holds);
+        seen_is = tt;
+        saw = inr saw;
+        stage = tt;
+        ready = tt;
+        can = tt;
+        cause = cause_is watched live can visits.error;
+        error = visits.error.1;
+        others = others visits;
+      }
+
+-- as many looks were made, and then a further one can give something, or not
+pub record Progress (told_in told : Bool) (calling : Calling) (ways : Ways) (headers : Bool) (names : List (List ℕ)) (shows : ℕ → Snapshot) (first : List Slot) (made : ℕ)
+    (going : Bool) (follow : FollowState) (seen : List Snapshot) (watched : List Watched) (slots : List Slot) : Type 0 where
+  pub looks : List Look
+  pub count : length looks ≡ made
+  pub observed : seen ≡ snapshots looks
+  pub is_made : Made told_in ways names shows looks
+  pub alive : told_in ≡ true → 0 < length looks → is_alive ways names looks ≡ going
+  pub ends : going ≡ false → NoneGoesOn ways watched
+  pub holds : Holds told_in told calling ways headers names looks first follow watched slots
+
+made_more : {told_in : Bool} {ways : Ways} {names : List (List ℕ)} {shows : ℕ → Snapshot} {looks : List Look} (look : Look) → look.snapshot ≡ shows (length looks)
+    → Made told_in ways names shows looks → (told_in ≡ true → 0 < length looks → is_alive ways names looks ≡ true)
+    → Made told_in ways names shows (looks ++ look ∷ [])
+made_more {told_in} {ways} {names} {shows} {looks} look is before alive = record {
+  saw = map-append (λ (l : Look). l.snapshot) looks (look ∷ []) ∙ (λ i. before.saw i ++ is i ∷ []) ∙ ap (seen_first shows) (sym long);
+  alive = λ t n above below. by t n above (cases_lt n (length looks)) (subst (λ m. n < m) long below);
+} where
+  long : length (looks ++ look ∷ []) ≡ suc (length looks)
+  long = length-append looks (look ∷ []) ∙ omega arith
+
+  by : told_in ≡ true → (n : ℕ) → 0 < n → (n < length looks) ⊎ (length looks ≤ n) → n < suc (length looks) → is_alive ways names (take n (looks ++ look ∷ [])) ≡ true
+  by t n above (inl below) inside = ap (is_alive ways names) (take-append-le n looks (look ∷ []) (omega arith)) ∙ before.alive t n above below
+  by t n above (inr past) inside =
+      let at : n ≡ length looks = omega (arith, past, inside) in
+      ap (λ m. is_alive ways names (take m (looks ++ look ∷ []))) at ∙ ap (is_alive ways names) (take-append_seam looks (look ∷ [])) ∙ alive t (subst (λ m. 0 < m) at above)
+
+module _ {told_in told : Bool} {calling : Calling} {ways : Ways} {headers : Bool} {names : List (List ℕ)} {shows : ℕ → Snapshot} {first : List Slot} where
+  -- the next look sees what the watch shows then
+  next_is : {made : ℕ} {now : ℕ → Snapshot} {going : Bool} {follow : FollowState} {seen : List Snapshot} {watched : List Watched} {slots : List Slot} → now ≡ shows
+      → (p : Progress told_in told calling ways headers names shows first made going follow seen watched slots) → now (length seen) ≡ shows (length p.looks)
+  next_is {seen} same p = ap (λ (f : ℕ → Snapshot). f (length seen)) same ∙ ap shows (ap length p.observed ∙ length-map p.looks (λ (l : Look). l.snapshot))
+
+  pub one_more : {made : ℕ} {now : ℕ → Snapshot} {old new : FollowState} {seen seen_new : List Snapshot} {watched watched_new : List Watched} {slots slots_new : List Slot}
+      {going : Bool} {next : ℕ} → now ≡ shows → Progress told_in told calling ways headers names shows first made true old seen watched slots
+      → LooksOn told_in told (now (length seen)) old watched slots new watched_new slots_new → seen_new ≡ seen ++ now (length seen) ∷ []
+      → ((told : Bool) (calling : Calling) (ways : Ways) (headers : Bool) (names : List (List ℕ)) (looks : List Look) (first slots : List Slot) (watched : List Watched)
+      → Holds true told calling ways headers names looks first new watched slots → going ≡ is_alive ways names looks)
+      → ((told_in told : Bool) (calling : Calling) (ways : Ways) (headers : Bool) (names : List (List ℕ)) (looks : List Look) (first slots : List Slot) (watched : List Watched)
+      → Holds told_in told calling ways headers names looks first new watched slots → 0 < length looks → going ≡ false → NoneGoesOn ways watched)
+      → suc made ≡ next → Progress told_in told calling ways headers names shows first next going new seen_new watched_new slots_new
+  one_more {now} {new} {seen} {watched_new} {slots_new} same p looks_on more alive none is =
+      let (fates, holds) = looks_on calling ways headers names p.looks first p.holds in
+      let look : Look = record { snapshot = now (length seen); fates = fates } in record {
+        looks = p.looks ++ look ∷ [];
+        count = length-append p.looks (look ∷ []) ∙ ap (λ n. n + 1) p.count ∙ omega (arith, is);
+        observed = more ∙ ap (λ front. front ++ look.snapshot ∷ []) p.observed ∙ sym (map-append (λ (l : Look). l.snapshot) p.looks (look ∷ []));
+        is_made = made_more look (next_is same p) p.is_made p.alive;
+        alive = λ t above. sym (alive told calling ways headers names (p.looks ++ look ∷ []) first slots_new watched_new
+            (subst (λ known. Holds known told calling ways headers names (p.looks ++ look ∷ []) first new watched_new slots_new) t holds));
+        ends = none told_in told calling ways headers names (p.looks ++ look ∷ []) first slots_new watched_new holds (let long = length-append p.looks (look ∷ []) in omega (arith, long));
+        holds = holds;
+      }
+
+  pub one_stopped : {made : ℕ} {now : ℕ → Snapshot} {count : ℕ} {old : FollowState} {seen seen_new : List Snapshot} {watched watched_new : List Watched}
+      {slots slots_new : List Slot} {why : Fault} → now ≡ shows → Progress told_in told calling ways headers names shows first made true old seen watched slots
+      → SawOrNot seen (now (length seen)) seen_new → made < count → StopsOn told_in told (now (length seen)) old watched slots watched_new slots_new why
+      → StoppedIn told_in told calling ways headers names count shows first seen_new watched_new slots_new why
+  one_stopped {count} {seen_new} {watched_new} {slots_new} {why} same p saw below stops = record {
+    looks = p.looks;
+    saw = subst₂ (λ those s. SawOrNot those s seen_new) p.observed (next_is same p) saw;
+    made = p.is_made;
+    within = subst (λ n. n < count) (sym p.count) below;
+    alive = p.alive;
+    halted = subst (λ s. Halted told_in told calling ways headers names p.looks s first watched_new slots_new why) (next_is same p)
+        (stops calling ways headers names p.looks first p.holds);
+  }
+
+  -- no further look was made: as many were asked for, or it could give nothing
+  pub ended : {made count : ℕ} {going : Bool} {follow : FollowState} {seen : List Snapshot} {watched : List Watched} {slots : List Slot} → made ≤ count
+      → (made < count → (0 < made) × (going ≡ false)) → Progress told_in told calling ways headers names shows first made going follow seen watched slots
+      → LookedAll told_in told calling ways headers names count shows first follow seen watched slots
+  ended within over p = let count = p.count in record {
+    looks = p.looks;
+    observed = p.observed;
+    made = p.is_made;
+    within = omega (arith, count, within);
+    over = λ fewer. let (some, stops) = over (omega (arith, count, fewer)) in let above : 0 < length p.looks = omega (arith, count, some) in (above, (λ t. p.alive t above ∙ stops), p.ends stops);
+    holds = p.holds;
+  }
+
+-- as long as no look begins
+pub still_made : {told_in told : Bool} {calling : Calling} {ways : Ways} {headers : Bool} {names : List (List ℕ)} {shows : ℕ → Snapshot} {first : List Slot} {made : ℕ} {going : Bool} {follow : FollowState} {seen now : List Snapshot}
+    {watched watched_now : List Watched} {slots : List Slot} → watched_now ≡ watched → now ≡ seen → Progress told_in told calling ways headers names shows first made going follow seen watched slots
+    → Progress told_in told calling ways headers names shows first made going follow now watched_now slots
+still_made {told_in} {told} {calling} {ways} {headers} {names} {shows} {first} {made} {going} {follow} {slots} same saw so_far =
+    subst₂ (λ those names_now. Progress told_in told calling ways headers names shows first made going follow those names_now slots) (sym saw) (sym same) so_far
+
+-- before the first look none was made
+pub none_made : {told_in told : Bool} {calling : Calling} {ways : Ways} {headers : Bool} {names : List (List ℕ)} {shows : ℕ → Snapshot} {first : List Slot} {follow : FollowState} {seen : List Snapshot} {watched : List Watched}
+    {slots : List Slot} → seen ≡ [] → Holds told_in told calling ways headers names [] first follow watched slots → Progress told_in told calling ways headers names shows first 0 true follow seen watched slots
+none_made unseen holds = record {
+  looks = [];
+  count = refl;
+  observed = unseen;
+  is_made = record { saw = refl; alive = λ t n above below. absurd (omega (arith, below)) };
+  alive = λ t above. absurd (omega (arith, above));
+  ends = λ over. absurd (false≢true (sym over));
+  holds = holds;
+}
+
+-- how many looks there are until a process is gone
+
+pub until_step : (process : Option ℕ) (shows : ℕ → Snapshot) (from left : ℕ) → 0 < left → is_over process (shows from) ≡ false
+    → until_over process shows from left ≡ 1 + until_over process shows (from + 1) (left - 1)
+until_step process shows from zero some runs = absurd (omega (arith, some))
+until_step process shows from (suc left) some runs = let less : suc left - 1 ≡ left = omega arith in rw (runs, less) refl
+
+until_least : (process : Option ℕ) (shows : ℕ → Snapshot) (from left : ℕ) → 0 < left → 0 < until_over process shows from left
+until_least process shows from zero some = some
+until_least process shows from (suc left) some = by (is_over process (shows from)) where
+  by : (over : Bool) → 0 < (if over then 1 else 1 + until_over process shows (from + 1) left)
+  by true = omega arith
+  by false = omega arith
+
+until_within : (process : Option ℕ) (shows : ℕ → Snapshot) (from left : ℕ) → until_over process shows from left ≤ left
+until_within process shows from zero = omega arith
+until_within process shows from (suc left) = by (is_over process (shows from)) (until_within process shows (from + 1) left) where
+  by : (over : Bool) → until_over process shows (from + 1) left ≤ left → (if over then 1 else 1 + until_over process shows (from + 1) left) ≤ suc left
+  by true rest = omega arith
+  by false rest = omega (arith, rest)
+
+until_found : (process : Option ℕ) (shows : ℕ → Snapshot) (from left : ℕ) → until_over process shows from left < left
+    → (last : ℕ) × (from + until_over process shows from left ≡ suc last) × IsTrue (is_over process (shows last))
+until_found process shows from zero fewer = absurd (omega (arith, fewer))
+until_found process shows from (suc left) fewer = by (is_over process (shows from)) (until_found process shows (from + 1) left) refl fewer where
+  by : (over : Bool) → (until_over process shows (from + 1) left < left → (last : ℕ) × (from + 1 + until_over process shows (from + 1) left ≡ suc last) × IsTrue (is_over process (shows last))) → is_over process (shows from) ≡ over → (if over then 1 else 1 + until_over process shows (from + 1) left) < suc left
+      → (last : ℕ) × (from + (if over then 1 else 1 + until_over process shows (from + 1) left) ≡ suc last) × IsTrue (is_over process (shows last))
+  by true rest is fewer = (from, omega arith, is)
+  by false rest is fewer = let (last, at, over) = rest (omega (arith, fewer)) in (last, omega (arith, at), over)
+
+-- at least those that were made
+pub most_made : (told : Bool) (process : Option ℕ) (shows : ℕ → Snapshot) (count made : ℕ) → made ≤ count → (told ≡ true → made ≤ until_over process shows 0 count)
+    → (most : ℕ) × AreMost told process shows count most × (made ≤ most)
+most_made false process shows count made within left = (count, record { are = λ t. absurd (false≢true t); within = omega arith; found = λ fewer. absurd (omega (arith, fewer)) }, within)
+most_made true process shows count made within left =
+    (until_over process shows 0 count, record { are = λ t. refl; within = until_within process shows 0 count; found = λ fewer. let (last, at, over) = until_found process shows 0 count fewer in (last, omega (arith, at), over) }, left refl)
+
+pub until_some : (process : Option ℕ) (shows : ℕ → Snapshot) {made count : ℕ} → until_over process shows 0 count ≡ made + until_over process shows made (count - made) → made < count
+    → made + 1 ≤ until_over process shows 0 count
+until_some process shows {made} {count} is below = let some = until_least process shows made (count - made) (omega (arith, below)) in omega (arith, is, some)
+
+-- one more, before which the process isn't gone
+pub until_more : (process : Option ℕ) {shows now : ℕ → Snapshot} {made count seen : ℕ} {gone : Bool} → until_over process shows 0 count ≡ made + until_over process shows made (count - made) → made < count
+    → gone ≡ is_over process (now seen) → gone ≡ false → now ≡ shows → seen ≡ made → until_over process shows 0 count ≡ made + 1 + until_over process shows (made + 1) (count - (made + 1))
+until_more process {shows} {now} {made} {count} {seen} is below told runs same at =
+    let next = until_step process shows made (count - made) (omega (arith, below)) (ap (is_over process) (sym ((λ i. same i (at i)))) ∙ sym told ∙ runs) in
+    let less : count - made - 1 ≡ count - (made + 1) = omega arith in
+    let rest = ap (until_over process shows (made + 1)) less in omega (arith, is, next, rest)
+
+-- the last one, before which it is gone
+pub until_last : {told : Bool} {process : Option ℕ} {shows now : ℕ → Snapshot} {made count seen : ℕ} {gone : Bool} → (told ≡ true → until_over process shows 0 count ≡ made + until_over process shows made (count - made)) → made < count
+    → (IsTrue gone → IsTrue (is_over process (now seen))) → gone ≡ true → now ≡ shows → seen ≡ made → AreMost told process shows count (made + 1)
+until_last {process} {shows} {now} {made} {count} {seen} is below found gone same at =
+    let over : is_over process (shows made) ≡ true = ap (is_over process) (sym (λ i. same i (at i))) ∙ found gone in record {
+      are = λ t. let all = is t in let one = last_is (count - made) (omega (arith, below)) over in omega (arith, all, one);
+      within = omega (arith, below);
+      found = λ fewer. (made, omega arith, over);
+    } where
+      last_is : (left : ℕ) → 0 < left → is_over process (shows made) ≡ true → until_over process shows made left ≡ 1
+      last_is zero some over = absurd (omega (arith, some))
+      last_is (suc left) some over = rw over refl
+
+-- a whole run
+
+pub ends_by : {told_in told : Bool} {breaks_for : ℕ → Reason → Bool} {calling : Calling} {ways : Ways} {headers : Bool} {names : List (List ℕ)} {count : ℕ} {shows : ℕ → Snapshot} {first : List Slot} {seen : List Snapshot} {watched : List Watched} {new : List Slot} {status : ℕ}
+    (process : Option ℕ) (most : ℕ) → AreMost told_in process shows count most → FollowEndsAs told_in told breaks_for calling ways headers names most shows first seen watched new status
+    → FollowEndsBy process told_in told breaks_for calling ways headers names count shows first seen watched new status
+ends_by (Some process) most are ends = (most, are, ends)
+ends_by {told_in} {told} {breaks_for} {calling} {ways} {headers} {names} {count} {shows} {first} {seen} {watched} {new} {status} None most are ends =
+    subst (λ n. FollowEndsAs told_in told breaks_for calling ways headers names n shows first seen watched new status) (no_fewer (cases_lt most count)) ends where
+      no_fewer : (most < count) ⊎ (count ≤ most) → most ≡ count
+      no_fewer (inl fewer) = absurd (false≢true (are.found fewer).2)
+      no_fewer (inr all) = let within = are.within in omega (arith, all, within)
+
+texts_of_new : (names : List (List ℕ)) → texts (map new_state names) ≡ names
+texts_of_new [] = refl
+texts_of_new (name ∷ names) = ap (λ rest. name ∷ rest) (texts_of_new names)
+
+pub open_holds : {told_in told by_name : Bool} {calling : Calling} {start : Start} {headers : Bool} {names : List (List ℕ)} {follow : FollowState} {watched : List Watched} {slots : List Slot} → follow ≡ opened_follow calling by_name start headers names → watched ≡ [] → Holds told_in told calling (ways_of 0 by_name start) headers names [] slots follow watched slots
+open_holds {told_in} {told} {by_name} {calling} {start} {headers} {names} {watched} {slots} is unwatched = subst (λ (f : FollowState). Holds told_in told calling (ways_of 0 by_name start) headers names [] slots f watched slots) (sym is) (record {
+  asked = refl;
+  same = texts_of_new names;
+  numbered = λ looking some. refl;
+  stand = (refl, ap (map new_state) (sym (texts_of_new names)), ap length unwatched);
+  shares = [];
+  are = λ t. refl;
+  found = no_looks;
+  shared = nothing_shared;
+  failed = refl;
+})
